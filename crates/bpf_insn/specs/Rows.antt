@@ -1,0 +1,23 @@
+-- What reading a unit gives, by its fields, and what reading bytes gives.
+use Rattle.std.specs.Prelude.{◌≡◌, ◌*◌, ◌++◌, List, ℕ, drop, Result, Ok, IfOk}
+use Rattle.bpf_insn.specs.declared.insn.Insn.{Insn}
+use Rattle.bpf_insn.specs.declared.fields.Fields.{Fields}
+use Rattle.bpf_insn.specs.declared.rows.UnitFault.{UnitFault}
+use Rattle.bpf_insn.specs.Spelling.{HasSpelling, row_of, spelling_of}
+use Rattle.bpf_insn.specs.Code.{units_of}
+
+-- what was read is an instruction of the table, and these are its fields
+abbrev pub Reads : Fields → Result Insn UnitFault → Type 0
+Reads fields r = IfOk r (λ i. HasSpelling i × (row_of i ≡ fields))
+
+-- an instruction with these fields is the one that was read
+abbrev pub OnlyReads : Fields → Result Insn UnitFault → Insn → Type 0
+OnlyReads fields r i = HasSpelling i → row_of i ≡ fields → r ≡ Ok i
+
+-- what was read is an instruction of the table, and the bytes begin with its spelling
+abbrev pub Finds : List ℕ → Result Insn UnitFault → Type 0
+Finds bytes r = IfOk r (λ i. HasSpelling i × (bytes ≡ spelling_of i ++ drop (8 * units_of i) bytes))
+
+-- an instruction with whose spelling the bytes begin is the one that was read
+abbrev pub OnlyFinds : List ℕ → Result Insn UnitFault → Insn → Type 0
+OnlyFinds bytes r i = (more : List ℕ) → HasSpelling i → bytes ≡ spelling_of i ++ more → r ≡ Ok i

@@ -1,0 +1,15 @@
+-- How a code is kept: what stands at each of its units, and how many instructions there are.
+use Rattle.std.specs.Prelude.{ℕ, ◌≡◌, List, length, Option}
+use Rattle.std.specs.Option.{option_to_list}
+use Rattle.std.specs.List.{flat_map}
+use Rattle.bpf_insn.specs.declared.insn.Insn.{Insn}
+use Rattle.bpf_insn.specs.Code.{IsCode, slots}
+
+-- the instructions at the units
+abbrev pub insns_of : List (Option Insn) → List Insn
+insns_of units = flat_map option_to_list units
+
+pub record IsStored (units : List (Option Insn)) (count : ℕ) : Type 0 where
+  pub whole : slots (insns_of units) ≡ units
+  pub is_code : IsCode (insns_of units)
+  pub counted : length (insns_of units) ≡ count

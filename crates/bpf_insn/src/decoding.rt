@@ -1,0 +1,56 @@
+//! A code from its bytes.
+
+ghost use Rattle.std.specs.Prelude.{◌≡◌, ◌≢◌, ◌≤◌, ◌<◌, ◌/◌, ◌%◌, ◌↔◌, List, length, IfOk, IfErr, IsErrOf};
+ghost use Rattle.bpf_insn.specs.Code.{IsImage, unit_limit};
+ghost use Rattle.bpf_insn.specs.Decoding.{HasFault, IsCodeUnlessMemory, IsWhole, IsShort};
+
+use crate::code::{Code, UNIT_LIMIT};
+use crate::fault::DecodeFault;
+use crate::insn::Insn;
+use crate::reading::first_insn;
+use std::alloc::Allocator;
+
+/// The code of a whole number of units, unit by unit.
+fn decode_units<A: Allocator>(alloc: A, image: &[u8]) -> Result<Code<A>, DecodeFault>
+    requires whole { IsWhole image.now }
+    requires short { IsShort image.now }
+    ensures found { IfOk result (λ code. IsImage code image.now) }
+    ensures only { (code : List Insn) → IsImage code image.now → IsCodeUnlessMemory result code }
+    ensures fault { IfErr result (HasFault image.now) }
+{
+    let mut code = Code::with_capacity(alloc, image.len() / 8)?;
+    let mut rest = image;
+    while !rest.is_empty() {
+        let insn = match first_insn(rest) {
+            Ok(insn) => insn,
+            Err(fault) => return Err(fault.at(code.units())),
+        };
+        code.push(insn)?;
+        let (_, behind) = rest.split_at(8 * insn.units());
+        rest = behind;
+    }
+    Ok(code)
+}
+
+/// The code that bytes are the image of. It reads each unit once. The faults, in this order:
+/// `Length` for a number of bytes that is not a multiple of 8, `TooLong` above 4,096 units, and
+/// then the first unit at which no instruction of the table begins: `Opcode`, `HalfWide`,
+/// `Register` or `Reserved`, the first of these that is so. `NoMemory` comes where memory ran out.
+pub fn decode<A: Allocator>(alloc: A, image: &[u8]) -> Result<Code<A>, DecodeFault>
+    // What is decoded is spelled so, and what is spelled so is decoded, unless memory runs out.
+    ensures found { IfOk result (λ code. IsImage code image.now) }
+    ensures only { (code : List Insn) → IsImage code image.now → IsCodeUnlessMemory result code }
+
+    // When each fault comes.
+    ensures length { IsErrOf result DecodeFault.Length ↔ (length image.now % 8 ≢ 0) }
+    ensures too_long { IsErrOf result DecodeFault.TooLong ↔ (IsWhole image.now × (unit_limit < length image.now / 8)) }
+    ensures fault { IfErr result (HasFault image.now) }
+{
+    if image.len() % 8 != 0 {
+        return Err(DecodeFault::Length);
+    }
+    if image.len() / 8 > UNIT_LIMIT {
+        return Err(DecodeFault::TooLong);
+    }
+    decode_units(alloc, image)
+}

@@ -1,0 +1,72 @@
+-- Lines that run one after another, and texts that are written in parts.
+use Rattle.std.proofs.Common.{◌≡◌, List, [], ◌∷◌, ◌++◌, ℕ, Option, Some, None, inl, inr, IfSome, length, eqb, false, refl, ap, ◌∙◌, sym, subst, append_assoc}
+use Rattle.std.specs.Io.KnownBytes.{Appends}
+use Rattle.sdbm_addr.specs.declared.KeyBytes.{KeyBytes}
+use Rattle.sdbm_addr.specs.declared.PageSize.{PageSize}
+use Rattle.store_cmd.specs.Moves.{State}
+use Rattle.std.proofs.lemmas.Bool.{false≢true}
+use Rattle.dbm_tool.specs.Lines.{pieces_of}
+use Rattle.sdbm_addr.specs.Database.{Database}
+use Rattle.store_cmd.specs.declared.Command.{Command}
+use Rattle.store_cmd.specs.declared.Reply.{Reply}
+use Rattle.store_cmd.proofs.MovesLemmas.{Moves-unique}
+use Rattle.desk_core.specs.Desk.{state_of}
+use Rattle.dbm_tool.specs.Commands.{command_of, reply_text}
+use Rattle.dbm_tool.specs.Script.{Runs, RunsScript, IsScriptRun, Asks, Adds}
+
+pub Appends-Appends : (a b c : Option (List ℕ)) (x y z : List ℕ) → Appends a b x → Appends b c y → z ≡ x ++ y → Appends a c z
+Appends-Appends None b c x y z p q e = tt
+Appends-Appends (Some a) None c x y z p q e = absurd p
+Appends-Appends (Some a) (Some b) None x y z p q e = absurd q
+Appends-Appends (Some a) (Some b) (Some c) x y z p q e = q ∙ ap (λ xs. xs ++ y) p ∙ append_assoc a x y ∙ ap (λ xs. a ++ xs) (sym e)
+
+-- what holds of the bytes that were read holds of the known ones
+pub known_read : (known : Option (List ℕ)) (read : List ℕ) (P : List ℕ → Type 0) → IfSome known (λ input. read ≡ input) → P read → IfSome known P
+known_read None read P h p = tt
+known_read (Some x) read P h p = subst P h p
+
+-- more lines
+pub Runs-append : (A : Type 0) (size : PageSize) (kind : KeyBytes) (s mid s' : State) (lines more : List (List ℕ)) (text added : List ℕ) → Runs A size kind s lines text mid → Runs A size kind mid more added s'
+    → Runs A size kind s (lines ++ more) (text ++ added) s'
+Runs-append A size kind s mid s' [] more text added r q =
+    subst (λ (x : List ℕ). Runs A size kind s more (x ++ added) s') (sym r.0) (subst (λ (m : State). Runs A size kind m more added s') r.1 q)
+Runs-append A size kind s mid s' ([] ∷ lines) more text added r q = Runs-append A size kind s mid s' lines more text added r q
+Runs-append A size kind s mid s' ((c ∷ cs) ∷ lines) more text added r q =
+    (r.0, (r.1.0 ++ added, (r.1.1.0, (r.1.1.1.0, (Runs-append A size kind r.1.1.0 mid s' lines more r.1.0 added r.1.1.1.1.0 q, ap (λ xs. xs ++ added) r.1.1.1.1.1 ∙ append_assoc r.0 (10 ∷ r.1.0) added)))))
+
+-- one line that is not empty
+pub line_runs : (A : Type 0) (size : PageSize) (kind : KeyBytes) (s s' : State) (line : List ℕ) (words : List (List ℕ)) (old mid new : List ℕ) → eqb (length line) 0 ≡ false → words ≡ pieces_of 32 line
+    → Adds old mid (λ added. Asks A size kind s (command_of words) added s') → new ≡ mid ++ 10 ∷ [] → Adds old new (λ added. Runs A size kind s (line ∷ []) added s')
+line_runs A size kind s s' [] words old mid new some is adds more = absurd (false≢true (sym some))
+line_runs A size kind s s' (c ∷ cs) words old mid new some is adds more = record {
+  added = adds.added ++ 10 ∷ [];
+  is = more ∙ ap (λ xs. xs ++ 10 ∷ []) adds.is ∙ append_assoc old adds.added (10 ∷ []);
+  holds = (adds.added, ([], (s', (subst (λ (ws : List (List ℕ)). Asks A size kind s (command_of ws) adds.added s') is adds.holds, ((refl, refl), refl)))));
+}
+
+-- ---- one text and one state
+
+-- what a line does, and the text of its answer, are determined
+Asks-unique : (A : Type 0) (size : PageSize) (kind : KeyBytes) (s : State) (command : Option (Command A)) (t u : List ℕ) (a b : State) → Asks A size kind s command t a → Asks A size kind s command u b → (t ≡ u) × (a ≡ b)
+Asks-unique A size kind s None t u a b x y = (x.0 ∙ sym y.0, x.1 ∙ sym y.1)
+Asks-unique A size kind s (Some command) t u a b (inl x) (inl y) =
+    let same = Moves-unique size kind s command x.0 y.0 a b x.1.1.0 y.1.1.0 in
+    (x.1.1.1 ∙ ap (λ (r : Reply A). reply_text r) same.0 ∙ sym y.1.1.1, same.1)
+Asks-unique A size kind s (Some command) t u a b (inl x) (inr y) = absurd (y.0 x.1.0)
+Asks-unique A size kind s (Some command) t u a b (inr x) (inl y) = absurd (x.0 y.1.0)
+Asks-unique A size kind s (Some command) t u a b (inr x) (inr y) = (x.1.0 ∙ sym y.1.0, x.1.1 ∙ sym y.1.1)
+
+pub Runs-unique : (A : Type 0) (size : PageSize) (kind : KeyBytes) (s : State) (lines : List (List ℕ)) (t u : List ℕ) (a b : State) → Runs A size kind s lines t a → Runs A size kind s lines u b → (t ≡ u) × (a ≡ b)
+Runs-unique A size kind s [] t u a b x y = (x.0 ∙ sym y.0, x.1 ∙ sym y.1)
+Runs-unique A size kind s ([] ∷ lines) t u a b x y = Runs-unique A size kind s lines t u a b x y
+Runs-unique A size kind s ((c ∷ cs) ∷ lines) t u a b x y =
+    let first = Asks-unique A size kind s (command_of (pieces_of 32 (c ∷ cs))) x.0 y.0 x.1.1.0 y.1.1.0 x.1.1.1.0 y.1.1.1.0 in
+    let there : Runs A size kind x.1.1.0 lines y.1.0 b = subst (λ (m : State). Runs A size kind m lines y.1.0 b) (sym first.1) y.1.1.1.1.0 in
+    let rest = Runs-unique A size kind x.1.1.0 lines x.1.0 y.1.0 a b x.1.1.1.1.0 there in
+    (x.1.1.1.1.1 ∙ ap (λ xs. xs ++ 10 ∷ x.1.0) first.0 ∙ ap (λ xs. y.0 ++ 10 ∷ xs) rest.0 ∙ sym y.1.1.1.1.1, rest.1)
+
+pub IsScriptRun-from : (A : Type 0) (db : Database) (input text : List ℕ) (s' : State) → RunsScript A db input text s' → IsScriptRun A db input text s'
+IsScriptRun-from A db input text s' runs = record {
+  runs = runs;
+  only = λ other s also. Runs-unique A db.size db.kind (state_of db) (pieces_of 10 input) other text s s' also runs;
+}

@@ -1,0 +1,20 @@
+-- A byte more in a hash: the sum so far counts 65599 times.
+use Rattle.std.proofs.Common.{◌≡◌, ℕ, suc, ◌+◌, ◌*◌, ◌^◌, List, [], ◌∷◌, ◌++◌, length, ap, ◌∙◌, arith, length-append}
+use Rattle.std.proofs.Math.Nat.{pow-suc}
+use Rattle.sdbm_addr.specs.declared.KeyBytes.{KeyBytes}
+use Rattle.sdbm_addr.specs.Hash.{byte_weight, weighted_sum}
+
+one_more : (n : ℕ) → n + 1 ≡ suc n
+one_more n = omega arith
+
+moved : (w p s b : ℕ) → w * (p * 65599) + (s * 65599 + b) ≡ (w * p + s) * 65599 + b
+moved w p s b = omega arith
+
+pub weighted_sum-push : (kind : KeyBytes) (xs : List ℕ) (b : ℕ) → weighted_sum kind (xs ++ b ∷ []) ≡ weighted_sum kind xs * 65599 + byte_weight kind b
+weighted_sum-push kind [] b = omega arith
+weighted_sum-push kind (x ∷ xs) b =
+    let long : length (xs ++ b ∷ []) ≡ length xs + 1 = length-append xs (b ∷ []) in
+    let more : 65599 ^ length (xs ++ b ∷ []) ≡ 65599 ^ length xs * 65599 = ap (λ n. 65599 ^ n) (long ∙ one_more (length xs)) ∙ pow-suc 65599 (length xs) in
+    ap (λ p. byte_weight kind x * p + weighted_sum kind (xs ++ b ∷ [])) more
+    ∙ ap (λ s. byte_weight kind x * (65599 ^ length xs * 65599) + s) (weighted_sum-push kind xs b)
+    ∙ moved (byte_weight kind x) (65599 ^ length xs) (weighted_sum kind xs) (byte_weight kind b)

@@ -1,0 +1,43 @@
+//! Hashes of keys, and the numbers of directory bits (Yigit, sdbm 1990: hash.c and sdbm.c). Nothing here takes memory.
+ghost use Rattle.std.specs.Prelude.{◌≡◌, ◌<◌, ◌≤◌, ◌^◌, ◌-◌, ◌+◌, ◌*◌, cond};
+ghost use Rattle.sdbm_addr.specs.Hash.{hash_of, byte_weight};
+
+use crate::KeyBytes;
+
+/// The hash of a key: each byte times 65599 to the number of bytes after it, summed modulo 2^32.
+pub fn hash(key: &[u8], kind: KeyBytes) -> u32
+    ensures { result ≡ hash_of kind key.now }
+{
+    let mut sum: u32 = 0;
+    for byte in key {
+        sum = sum.wrapping_mul(65599).wrapping_add(weight(kind, *byte));
+    }
+    sum
+}
+
+/// The number whose lowest bits, as many as the depth, are ones. The depth is 31 at most.
+pub fn mask(depth: u8) -> u32
+    requires { depth ≤ 31 }
+    ensures { result ≡ 2 ^ depth - 1 }
+{
+    (1u32 << depth) - 1
+}
+
+/// The directory bit of a prefix with a letter more: `side` is the next bit of the hash. The prefix's own bit is below 2^31 - 1, as
+/// that of every word of at most 30 letters.
+pub fn child(bit: u32, side: bool) -> u32
+    requires { bit < 2 ^ 31 - 1 }
+    ensures { result ≡ 2 * bit + cond side 2 1 }
+{
+    2 * bit + if side { 2 } else { 1 }
+}
+
+// What a byte counts as, modulo 2^32.
+fn weight(kind: KeyBytes, byte: u8) -> u32
+    ensures { result ≡ byte_weight kind byte }
+{
+    match kind {
+        KeyBytes::Signed if byte >= 128 => byte as u32 + 0xFFFF_FF00,
+        _ => byte as u32,
+    }
+}

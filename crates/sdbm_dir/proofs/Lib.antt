@@ -1,0 +1,2 @@
+pub mod BitmapLemmas
+mod Examples

@@ -1,0 +1,133 @@
+//! The directory: which prefixes of hashes are split, a bit for each, and the place to which a hash leads
+//! (Yigit, sdbm 1990: sdbm.c, `getpage`).
+#![tactic(auto)]
+
+ghost use Rattle.std.specs.Prelude.{◌≡◌, ◌<◌, ◌≤◌, ◌^◌, ◌-◌, ◌%◌, OnOk, OnErr, Ok};
+ghost use Rattle.std.specs.FinSet as set;
+ghost use Rattle.sdbm_addr.specs.Directory.{IsDirectory, IsDepth, hash_prefix, word_number, page_of};
+ghost use Rattle.sdbm_dir.specs.Bits.{bit_of};
+ghost use Rattle.sdbm_dir.specs.Words.{word_of, HasParent};
+
+#[cfg(test)]
+mod tests;
+
+use sdbm_addr::{child, mask};
+use std::alloc::{AllocError, Allocator};
+use std::marker::Model;
+
+/// A directory grows by blocks of so many bytes (the original's `DBLKSIZ`).
+const BLOCK_BYTES: usize = 4096;
+
+/// Where a hash leads.
+#[derive(Clone, Copy, Debug, PartialEq, Eq)]
+pub struct Place {
+    /// The number of the page.
+    pub page: u32,
+    /// The length of the hash's shortest prefix that is not split, 31 at most.
+    pub depth: u8,
+    /// The directory bit of that prefix, which a split of the page would set.
+    pub bit: u32,
+}
+
+/// The prefixes that are split, seen as their set and the number of bits that there is room for. Bits past the room are
+/// unset.
+#[derive(Drop)]
+pub struct Dir<A: Allocator> {
+    bits: Vec<u8, A>,
+}
+
+impl<A: Allocator> Model for Dir<A> {
+    ghost use Rattle.sdbm_dir.specs.Bitmap.{IsBitmap};
+    ghost use Rattle.sdbm_dir.specs.Marks.{Marks, coded_marks, marks_of};
+
+    ghost Value = { Marks };
+
+    ghost coded = { coded_marks };
+
+    ghost view = { λ a. marks_of a.bits.items };
+
+    ghost invariant = { λ a. IsBitmap a.bits.items };
+}
+
+impl<A: Allocator> Dir<A> {
+    /// A directory without split prefixes, in which each hash leads to page 0. It takes no memory.
+    pub fn empty(alloc: A) -> Self
+        ensures splits { result.splits ≡ set.empty }
+        ensures room { result.room ≡ 0 }
+    {
+        Dir {
+            bits: Vec::new(alloc),
+        }
+    }
+
+    /// Whether the prefix with this number is split.
+    pub fn is_split(&self, bit: u32) -> bool
+        ensures value { result ≡ set.contains self.now.splits (word_of bit) }
+        ensures directory { IsDirectory self.now.splits }
+    {
+        is_set(self.bits.as_slice(), bit)
+    }
+
+    /// Makes room for a bit, in whole blocks. It is the only call here that takes memory, and takes none where there is room.
+    /// After the error the directory is as it was.
+    pub fn grow_for(&mut self, bit: u32) -> Result<(), AllocError>
+        ensures splits { self.new.splits ≡ self.old.splits }
+        ensures room { OnOk result (bit < self.new.room) }
+        ensures kept { self.old.room ≤ self.new.room }
+        ensures unneeded { bit < self.old.room → (result ≡ Ok tt) × (self.new ≡ self.old) }
+        ensures err { OnErr result (self.new ≡ self.old) }
+    {
+        let blocks = bit as usize / 8 / BLOCK_BYTES + 1;
+        let size = blocks * BLOCK_BYTES;
+        if size > self.bits.len() {
+            self.bits.resize(size, 0)?;
+        }
+        Ok(())
+    }
+
+    /// Marks a prefix of at most 30 letters as split, all of whose own prefixes are. There must be room for its bit; this takes no
+    /// memory.
+    pub fn mark(&mut self, bit: u32)
+        requires grown { bit < self.old.room }
+        requires shallow { bit < 2 ^ 31 - 1 }
+        requires parent { HasParent self.old.splits bit }
+        ensures splits { self.new.splits ≡ set.insert self.old.splits (word_of bit) }
+        ensures room { self.new.room ≡ self.old.room }
+    {
+        let byte = bit as usize / 8;
+        self.bits[byte] |= 1 << (bit % 8);
+    }
+
+    /// The place to which a hash leads: its shortest prefix, from the lowest bit on, that is not split. The prefix is the
+    /// number of the page, the hash's lowest bit being the page number's.
+    pub fn place(&self, hash: u32) -> Place
+        ensures depth { IsDepth self.now.splits hash result.depth }
+        ensures shallow { result.depth ≤ 31 }
+        ensures page { result.page ≡ page_of self.now.splits hash }
+        ensures low_bits { result.page ≡ hash % 2 ^ result.depth }
+        ensures bit { result.bit ≡ word_number (hash_prefix result.depth hash) }
+        ensures directory { IsDirectory self.now.splits }
+    {
+        let mut bit = 0;
+        let mut depth = 0u8;
+        while self.is_split(bit) {
+            bit = child(bit, (hash >> depth) & 1 == 1);
+            depth += 1;
+        }
+        Place {
+            page: hash & mask(depth),
+            depth,
+            bit,
+        }
+    }
+}
+
+// Whether a bit is set; past the end it is not.
+fn is_set(bytes: &[u8], bit: u32) -> bool
+    ensures { result ≡ bit_of bytes.now bit }
+{
+    match bytes.get(bit as usize / 8) {
+        Some(byte) => (*byte >> (bit % 8)) & 1 == 1,
+        None => false,
+    }
+}

@@ -1,0 +1,4 @@
+pub mod KeptLemmas
+pub mod InstallLemmas
+pub mod PutLemmas
+pub mod PlanLemmas

@@ -1,0 +1,5 @@
+pub mod Plan
+pub mod Faults
+pub mod Room
+pub mod Routes
+pub mod Installed

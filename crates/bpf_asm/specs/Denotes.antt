@@ -1,0 +1,75 @@
+-- Which code a text denotes (own): a relation on the meanings of all its lines.
+use Rattle.std.specs.Prelude.{ℕ, ℤ, pos, ◌≡◌, ◌+◌, ◌≤◌, List, [], ◌∷◌, ◌++◌, take, map, Option, Some, None, slice_get}
+use Rattle.std.specs.List.{sum_by}
+use Rattle.bpf_insn.specs.declared.insn.Insn.{Insn}
+use Rattle.bpf_insn.specs.declared.insn.Insn.TheVariants as insns
+use Rattle.bpf_insn.specs.Code.{units_of, unit_count, unit_limit}
+use Rattle.bpf_asm.specs.Text.{lines}
+use Rattle.bpf_asm.specs.Lines.{Meaning, Blank, Mark, Plain, Aimed, meaning}
+
+-- the units of a line's instruction
+abbrev pub units : Option Meaning → ℕ
+units None = 0
+units (Some Blank) = 0
+units (Some (Mark name)) = 0
+units (Some (Plain i)) = units_of i
+units (Some (Aimed i name)) = units_of i
+
+-- the units above the line at a place, places counted from 0
+abbrev pub units_above : List (Option Meaning) → ℕ → ℕ
+units_above ms i = sum_by units (take i ms)
+
+-- the line at this place is the label
+abbrev pub MarksAt : List (Option Meaning) → List ℕ → ℕ → Type 0
+MarksAt ms name i = slice_get ms i ≡ Some (Some (Mark name))
+
+-- no label stands twice
+abbrev pub Once : List (Option Meaning) → Type 0
+Once ms = (i j : ℕ) (name : List ℕ) → MarksAt ms name i → MarksAt ms name j → i ≡ j
+
+-- a label has this number: the units above it
+abbrev pub Stands : List (Option Meaning) → List ℕ → ℕ → Type 0
+Stands ms name place = (i : ℕ) × MarksAt ms name i × (place ≡ units_above ms i)
+
+-- a jump with this distance
+abbrev pub with_distance : Insn → ℤ → Insn
+with_distance (insns.Branch t w d s n) m = insns.Branch t w d s m
+with_distance (insns.Jump n) m = insns.Jump m
+with_distance (insns.JumpFar n) m = insns.JumpFar m
+with_distance i m = i
+
+-- The instructions of a line that begins at the unit `own`, among the lines `ms`. A jump to a label goes from
+-- the next unit forward to the label's number.
+abbrev pub Yields : List (Option Meaning) → ℕ → Option Meaning → List Insn → Type 0
+Yields ms own None here = ⊥
+Yields ms own (Some Blank) here = here ≡ []
+Yields ms own (Some (Mark name)) here = here ≡ []
+Yields ms own (Some (Plain i)) here = here ≡ i ∷ []
+Yields ms own (Some (Aimed i name)) here = (distance : ℕ) × Stands ms name (own + 1 + distance) × (here ≡ with_distance i (pos distance) ∷ [])
+
+-- the code of the lines `below`, the first of which begins at the unit `own`
+abbrev pub Gives : List (Option Meaning) → ℕ → List (Option Meaning) → List Insn → Type 0
+Gives ms own [] code = code ≡ []
+Gives ms own (m ∷ below) code = (here : List Insn) × (rest : List Insn) × Yields ms own m here × (code ≡ here ++ rest) × Gives ms (own + units m) below rest
+
+-- lines with these meanings denote the code
+pub record Says (ms : List (Option Meaning)) (code : List Insn) : Type 0 where
+  pub once : Once ms
+  pub gives : Gives ms 0 ms code
+  pub short : unit_count code ≤ unit_limit
+
+-- what the lines of a text say
+abbrev pub meanings : List ℕ → List (Option Meaning)
+meanings text = map meaning (lines text)
+
+-- the text denotes the code
+abbrev pub Denotes : List ℕ → List Insn → Type 0
+Denotes text code = Says (meanings text) code
+
+-- the text denotes no code
+abbrev pub DenotesNone : List ℕ → Type 0
+DenotesNone text = (code : List Insn) → Denotes text code → ⊥
+
+-- every code that the text denotes is this one
+abbrev pub IsOnlyCode : List ℕ → List Insn → Type 0
+IsOnlyCode text code = (other : List Insn) → Denotes text other → other ≡ code

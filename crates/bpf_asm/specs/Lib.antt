@@ -1,0 +1,9 @@
+pub mod Text
+pub mod Words
+pub mod Mnemonics
+pub mod Lines
+pub mod Views
+pub mod Denotes
+pub mod Emitted
+pub mod Fault
+pub mod Printed

@@ -1,0 +1,27 @@
+-- The parts of a text: its lines, and what is left of a line without its comment and margins.
+use Rattle.std.specs.Prelude.{ℕ, ◌-◌, ◌==◌, ◌||◌, Bool, List, length, take, drop}
+use Rattle.std.specs.List.{slice_split, before_first, prefix_len, suffix_len}
+
+-- The lines, which line feeds separate: one more than there are line feeds (own).
+abbrev pub lines : List ℕ → List (List ℕ)
+lines text = slice_split (λ b. b == 10) text
+
+-- A line without its comment, which begins at the first ';' (own).
+abbrev pub uncommented : List ℕ → List ℕ
+uncommented line = before_first (λ b. b == 59) line
+
+-- spaces and tabs
+abbrev pub is_margin : ℕ → Bool
+is_margin b = (b == 32) || (b == 9)
+
+-- without the spaces and tabs in front
+abbrev pub trimmed_front : List ℕ → List ℕ
+trimmed_front xs = drop (prefix_len is_margin xs) xs
+
+-- without the spaces and tabs behind
+abbrev pub trimmed_back : List ℕ → List ℕ
+trimmed_back xs = take (length xs - suffix_len is_margin xs) xs
+
+-- without the spaces and tabs at both ends
+unfoldable pub trimmed : List ℕ → List ℕ
+trimmed xs = trimmed_back (trimmed_front xs)

@@ -1,0 +1,107 @@
+//! Why a text is no code.
+
+ghost use Rattle.std.specs.Prelude.{◌≡◌};
+
+use std::alloc::{AllocError, AllocFailed};
+use std::error::Error;
+use std::fmt;
+
+/// What is wrong with a line. Where several are, the first of these is told, memory aside.
+#[derive(Clone, Copy, Debug, PartialEq, Eq)]
+pub enum FaultKind {
+    /// Memory ran out.
+    NoMemory,
+    /// The line is no label, and its first word names no instruction.
+    Mnemonic,
+    /// There are too many or too few operands, or one is not of the form that the instruction takes.
+    Operand,
+    /// A number does not fit its field.
+    Number,
+    /// A label that is nowhere defined, or the definition of one that was defined above.
+    Label,
+    /// A jump to a label at or above it.
+    Backward,
+    /// The instruction would end past the 4,096th unit.
+    TooLong,
+}
+
+impl fmt::Display for FaultKind {
+    ghost use Rattle.std.specs.Prelude.{Some};
+    ghost use Rattle.bpf_asm.specs.Fault.{kind_text};
+
+    ghost output = { λ kind. Some (kind_text kind) };
+
+    fn fmt<W: fmt::Write>(&self, f: &mut fmt::Formatter<W>) -> fmt::Result {
+        match self {
+            FaultKind::NoMemory => write!(f, "NoMemory"),
+            FaultKind::Mnemonic => write!(f, "Mnemonic"),
+            FaultKind::Operand => write!(f, "Operand"),
+            FaultKind::Number => write!(f, "Number"),
+            FaultKind::Label => write!(f, "Label"),
+            FaultKind::Backward => write!(f, "Backward"),
+            FaultKind::TooLong => write!(f, "TooLong"),
+        }
+    }
+}
+
+/// The first fault of a text. It prints as `line N: KIND`, and as `NoMemory` where memory ran out.
+#[derive(Clone, Copy, Debug, PartialEq, Eq)]
+pub struct AsmFault {
+    /// The line, counted from 1, and 0 where memory ran out.
+    pub line: usize,
+    pub kind: FaultKind,
+}
+
+impl fmt::Display for AsmFault {
+    ghost use Rattle.std.specs.Prelude.{Some};
+    ghost use Rattle.bpf_asm.specs.Fault.{fault_text};
+
+    ghost output = { λ fault. Some (fault_text fault) };
+
+    fn fmt<W: fmt::Write>(&self, f: &mut fmt::Formatter<W>) -> fmt::Result {
+        let line = self.line;
+        let kind = self.kind;
+        match kind {
+            FaultKind::NoMemory => write!(f, "{kind}"),
+            _ => write!(f, "line {line}: {kind}"),
+        }
+    }
+}
+
+impl Error for AsmFault {}
+
+impl From<AllocError> for AsmFault {
+    ghost use Rattle.bpf_asm.specs.declared.fault.FaultKind.TheVariants.{NoMemory};
+
+    ghost from_gives = { λ _ e. e.kind ≡ NoMemory };
+
+    fn from(_e: AllocError) -> AsmFault {
+        AsmFault {
+            line: 0,
+            kind: FaultKind::NoMemory,
+        }
+    }
+}
+
+impl<T: Drop> From<AllocFailed<T>> for AsmFault {
+    ghost use Rattle.bpf_asm.specs.declared.fault.FaultKind.TheVariants.{NoMemory};
+
+    ghost from_gives = { λ _ e. e.kind ≡ NoMemory };
+
+    fn from(_e: AllocFailed<T>) -> AsmFault {
+        AsmFault {
+            line: 0,
+            kind: FaultKind::NoMemory,
+        }
+    }
+}
+
+impl From<AllocError> for FaultKind {
+    ghost use Rattle.bpf_asm.specs.declared.fault.FaultKind.TheVariants.{NoMemory};
+
+    ghost from_gives = { λ _ kind. kind ≡ NoMemory };
+
+    fn from(_e: AllocError) -> FaultKind {
+        FaultKind::NoMemory
+    }
+}

@@ -1,0 +1,86 @@
+//! Where labels stand.
+
+ghost use Rattle.std.specs.Prelude.{◌≡◌, ◌≤◌, map, IfOk, OnOk};
+ghost use Rattle.bpf_asm.specs.Denotes.{units};
+ghost use Rattle.bpf_asm.specs.Emitted.{definition_of, IsTableOf, Defines, Records};
+ghost use Rattle.bpf_asm.specs.Views.{view_line};
+
+use crate::line::Line;
+use std::alloc::{AllocError, Allocator};
+use std::collections::HashMap;
+use std::hash::{BuildHasherDefault, FoldHasher};
+
+/// Where a label is defined: the place of its line, from 0, and the number of the next unit.
+#[derive(Clone, Copy, Debug, PartialEq, Eq)]
+pub struct Definition {
+    pub line: usize,
+    pub unit: usize,
+}
+
+/// The labels of a text.
+pub type Labels<'a, A> = HashMap<&'a [u8], Definition, BuildHasherDefault<FoldHasher>, A>;
+
+/// Where a label is defined, if it is.
+pub fn find_label<A: Allocator>(labels: &Labels<'_, A>, name: &[u8]) -> Option<Definition>
+    ensures { result ≡ definition_of labels.now name.now }
+{
+    labels.get(&name).copied()
+}
+
+/// How many units a line has.
+pub fn line_units(line: &Line<'_>) -> usize
+    ensures value { result ≡ units (view_line line.now) }
+    ensures few { result ≤ 2 }
+{
+    match line {
+        Line::Plain(insn) | Line::Aimed(insn, _) => insn.units(),
+        _ => 0,
+    }
+}
+
+/// Puts a label into the table, unless it is there.
+fn define<'a, A: Allocator + Copy>(
+    labels: &mut Labels<'a, A>,
+    name: &'a [u8],
+    place: Definition,
+) -> Result<(), AllocError>
+    ensures { OnOk result (Defines labels.old labels.new name.now place) }
+{
+    match find_label(labels, name) {
+        Some(_) => Ok(()),
+        None => {
+            labels.insert(name, place)?;
+            Ok(())
+        }
+    }
+}
+
+/// The same of a line, where it is a label.
+fn record_line<'a, A: Allocator + Copy>(
+    labels: &mut Labels<'a, A>,
+    line: &Line<'a>,
+    place: Definition,
+) -> Result<(), AllocError>
+    ensures { OnOk result (Records labels.old labels.new (view_line line.now) place) }
+{
+    match line {
+        Line::Label(name) => define(labels, name, place),
+        _ => Ok(()),
+    }
+}
+
+/// The labels of all lines. Of two lines with one label the first counts.
+pub fn find_labels<'a, A: Allocator + Copy>(
+    alloc: A,
+    lines: &[Line<'a>],
+) -> Result<Labels<'a, A>, AllocError>
+    ensures { IfOk result (IsTableOf (map view_line lines.now)) }
+{
+    let mut labels = HashMap::new(alloc);
+    let mut unit = 0;
+    for (at, line) in lines.iter().enumerate() {
+        record_line(&mut labels, line, Definition { line: at, unit })?;
+        unit += line_units(line);
+    }
+    Ok(labels)
+}

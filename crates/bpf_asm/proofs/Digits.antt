@@ -86,7 +86,7 @@ unfolding distance
 distance_back (pos n) h = ap (option_map (λ m. pos m)) (numeral_decimal n (omega arith))
 distance_back (negsuc n) h = ap (option_map (λ m. neg_ℤ (pos m))) (numeral_decimal (suc n) (omega arith))
 
-widened : (k : ℤ) → FitsSigned w16 k → FitsSigned w32 k
+pub widened : (k : ℤ) → FitsSigned w16 k → FitsSigned w32 k
 widened (pos n) h = omega arith
 widened (negsuc n) h = omega arith
 

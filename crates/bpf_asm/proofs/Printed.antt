@@ -37,7 +37,7 @@ use Rattle.bpf_asm.specs.Lines.{Meaning, Blank, Plain, meaning, meaning_of_body,
 use Rattle.bpf_asm.specs.Denotes.{MarksAt, Gives, meanings, Denotes}
 use Rattle.bpf_asm.specs.Printed.{register_text, operand_text, distance_text, address_text, long_text, pair_text, insn_text, line_text, text_of}
 use Rattle.bpf_asm.proofs.Mnemonics.{found_passes}
-use Rattle.bpf_asm.proofs.Digits.{word_back, not_register, near_back, far_back, not_name, long_back}
+use Rattle.bpf_asm.proofs.Digits.{word_back, not_register, near_back, far_back, not_name, long_back, widened}
 use Rattle.bpf_asm.proofs.WordTexts.{Free, is_stop, free_append, by_index, seam, IsWord, word_of, IsBody, body_of, pair_body, body_line, line_meaning, line_body, two_words, three_words}
 
 -- ---- registers
@@ -85,10 +85,6 @@ operand_word (Imm k) h = number_word k h
 distance_word : (k : ℤ) → FitsSigned w32 k → IsWord (distance_text k)
 distance_word (pos n) h = record { first = 43; more = decimal n; is = refl; free = (refl, decimal_free n (omega arith)) }
 distance_word (negsuc n) h = record { first = 45; more = decimal (suc n); is = refl; free = (refl, decimal_free (suc n) (omega arith)) }
-
-widened : (k : ℤ) → FitsSigned w16 k → FitsSigned w32 k
-widened (pos n) h = omega arith
-widened (negsuc n) h = omega arith
 
 address_word : (r : ℕ) (k : ℤ) → r ≤ 10 → FitsSigned w16 k → IsWord (address_text r k)
 address_word r k h f = record {

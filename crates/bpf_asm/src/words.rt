@@ -7,6 +7,7 @@ ghost use Rattle.bpf_asm.specs.Words.{register, is_numeral, numeral, magnitude, 
 
 use crate::fault::FaultKind;
 
+/// The register that is named.
 pub fn read_register(bytes: &[u8]) -> Option<u8>
     ensures value { result ≡ register bytes.now }
     ensures few { IfSome result (λ r. r ≤ 10) }

@@ -1,9 +1,9 @@
 //! Decodes images and prints what they hold.
 //!
 //! Each line of standard input is an image in hex, `.` for none, and a text. The line printed for
-//! it is the text with the instructions or the fault. The images with assembler text are those of
-//! LLVM's assembler, and so is the text: `stdout` has the instruction that it names. The images
-//! named `image` and their answers are an independent decoder's.
+//! it is the text with the instructions or the fault. The images with an instruction as text were
+//! confirmed by LLVM's assembler and disassembler: `stdout` has the instruction that the text names.
+//! The images named `image` and their answers are an independent decoder's.
 #![tactic(auto)]
 
 #[cfg(test)]

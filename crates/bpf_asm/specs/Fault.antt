@@ -1,5 +1,5 @@
 -- A fault's text (own).
-use Rattle.std.specs.Prelude.{ℕ, ◌++◌, List, codes}
+use Rattle.std.specs.Prelude.{ℕ, ◌≡◌, ◌<◌, ◌++◌, List, codes}
 use Rattle.std.specs.Fmt.{decimal}
 use Rattle.bpf_asm.specs.declared.fault.FaultKind.{FaultKind}
 use Rattle.bpf_asm.specs.declared.fault.FaultKind.TheVariants.{NoMemory, Mnemonic, Operand, Number, Label, Backward, TooLong}
@@ -22,3 +22,8 @@ at_line line kind = codes "line " ++ (decimal line ++ (codes ": " ++ kind_text k
 
 abbrev pub fault_text : AsmFault → List ℕ
 fault_text fault = at_line fault.line fault.kind
+
+-- the line of a fault, counted from 1; want of memory has no line, and 0 in its place
+abbrev pub IsLineOf : FaultKind → ℕ → Type 0
+IsLineOf NoMemory line = line ≡ 0
+IsLineOf kind line = 0 < line

@@ -9,6 +9,7 @@ ghost use Rattle.bpf_insn.specs.Code.{units_of, unit_count, unit_limit};
 ghost use Rattle.bpf_asm.specs.Lines.{Meaning, HasSpellingIn};
 ghost use Rattle.bpf_asm.specs.Denotes.{units, with_distance, Once, Yields, Says, meanings, Denotes, DenotesNone, IsOnlyCode};
 ghost use Rattle.bpf_asm.specs.Emitted.{IsTableOf, IsDefinition, IsSecond, Emits, Refuses};
+ghost use Rattle.bpf_asm.specs.Fault.{IsLineOf};
 ghost use Rattle.bpf_asm.specs.Views.{view_line};
 
 use crate::fault::{AsmFault, FaultKind};
@@ -136,11 +137,12 @@ fn emit<A: Allocator, B: Allocator>(
     requires spelled { All (λ l. HasSpellingIn (view_line l)) lines.now }
     ensures ok { IfOk result (Says (map view_line lines.now)) }
     ensures fault { IfErr result (λ e. (e.kind ≡ FaultKind.NoMemory) ⊎ ((code : List Insn) → Says (map view_line lines.now) code → ⊥)) }
+    ensures line { IfErr result (λ e. IsLineOf e.kind e.line) }
 {
     let mut code = Code::new(alloc);
     for (at, line) in lines.iter().enumerate() {
         if let Err(kind) = emit_line(&mut code, labels, at, line) {
-            return Err(AsmFault { line: at + 1, kind });
+            return Err(AsmFault::at(at + 1, kind));
         }
     }
     Ok(code)
@@ -173,6 +175,7 @@ pub fn assemble<A: Allocator + Copy>(alloc: A, text: &str) -> Result<Code<A>, As
     ensures ok { IfOk result (Denotes text.now) }
     ensures only { IfOk result (IsOnlyCode text.now) }
     ensures fault { IfErr result (λ e. (e.kind ≡ FaultKind.NoMemory) ⊎ DenotesNone text.now) }
+    ensures line { IfErr result (λ e. IsLineOf e.kind e.line) }
 {
     let lines = read_lines(alloc, text.as_bytes())?;
     let labels = find_labels(alloc, &lines)?;

@@ -1,6 +1,7 @@
 //! Why a text is no code.
 
-ghost use Rattle.std.specs.Prelude.{◌≡◌};
+ghost use Rattle.std.specs.Prelude.{◌≡◌, ◌<◌};
+ghost use Rattle.bpf_asm.specs.Fault.{IsLineOf};
 
 use std::alloc::{AllocError, AllocFailed};
 use std::error::Error;
@@ -52,6 +53,20 @@ pub struct AsmFault {
     pub kind: FaultKind,
 }
 
+impl AsmFault {
+    /// The fault of a line. Want of memory is the fault of none.
+    pub(crate) fn at(line: usize, kind: FaultKind) -> AsmFault
+        requires { 0 < line }
+        ensures kind { result.kind ≡ kind }
+        ensures line { IsLineOf result.kind result.line }
+    {
+        match kind {
+            FaultKind::NoMemory => AsmFault { line: 0, kind },
+            _ => AsmFault { line, kind },
+        }
+    }
+}
+
 impl fmt::Display for AsmFault {
     ghost use Rattle.std.specs.Prelude.{Some};
     ghost use Rattle.bpf_asm.specs.Fault.{fault_text};
@@ -73,7 +88,7 @@ impl Error for AsmFault {}
 impl From<AllocError> for AsmFault {
     ghost use Rattle.bpf_asm.specs.declared.fault.FaultKind.TheVariants.{NoMemory};
 
-    ghost from_gives = { λ _ e. e.kind ≡ NoMemory };
+    ghost from_gives = { λ _ e. (e.kind ≡ NoMemory) × (e.line ≡ 0) };
 
     fn from(_e: AllocError) -> AsmFault {
         AsmFault {
@@ -86,7 +101,7 @@ impl From<AllocError> for AsmFault {
 impl<T: Drop> From<AllocFailed<T>> for AsmFault {
     ghost use Rattle.bpf_asm.specs.declared.fault.FaultKind.TheVariants.{NoMemory};
 
-    ghost from_gives = { λ _ e. e.kind ≡ NoMemory };
+    ghost from_gives = { λ _ e. (e.kind ≡ NoMemory) × (e.line ≡ 0) };
 
     fn from(_e: AllocFailed<T>) -> AsmFault {
         AsmFault {

@@ -2,7 +2,6 @@
 
 ghost use Rattle.std.specs.Prelude.{◌≡◌, ◌≤◌, length, IsTrue};
 ghost use Rattle.bpf_insn.specs.Spelling.{is_unary, is_narrow};
-ghost use Rattle.bpf_asm.specs.Text.{is_margin};
 ghost use Rattle.bpf_asm.specs.Mnemonics.{is_row, is_part, takes_number};
 ghost use Rattle.bpf_asm.specs.Lines.{instruction, meaning, meaning_of_body, statement, head_len, HasSpellingIn};
 ghost use Rattle.bpf_asm.specs.Views.{view_line, Reads, ReadsSpelled};
@@ -10,7 +9,7 @@ ghost use Rattle.bpf_asm.specs.Views.{view_line, Reads, ReadsSpelled};
 use crate::fault::FaultKind;
 use crate::operands::{read_address, read_operand, read_three, read_two, register_operand};
 use crate::row::{Row, row_named};
-use crate::text::{cut, trim};
+use crate::text::{cut, margin, trim};
 use crate::words::{is_name, read_far, read_long, read_near, read_word};
 use bpf_insn::{Insn, Op, Operand, Size, Test, Width};
 
@@ -247,12 +246,6 @@ fn read_row(row: Row, rest: &[u8]) -> Result<Line<'_>, FaultKind>
         Row::Call => call(rest),
         Row::Exit => exit(rest),
     }
-}
-
-fn margin(b: u8) -> bool
-    ensures { result ≡ is_margin b }
-{
-    b == b' ' || b == b'\t'
 }
 
 /// How many bytes stand before a space or a tab.

@@ -2,7 +2,7 @@
 
 ghost use Rattle.std.specs.Prelude.{◌≡◌, ◌∷◌, [], ◌==◌, ◌<◌, ◌≤◌, length, MatchOption};
 ghost use Rattle.std.specs.List.{slice_split, position_or_len, before_first};
-ghost use Rattle.bpf_asm.specs.Text.{trimmed_front, trimmed_back, trimmed};
+ghost use Rattle.bpf_asm.specs.Text.{is_margin, trimmed_front, trimmed_back, trimmed};
 
 #[tactic(auto, using(std::proofs::lemmas::List::Sums::position_or_len_is))]
 fn position_or_len(bytes: &[u8], at: u8) -> usize
@@ -32,12 +32,19 @@ pub fn cut(bytes: &[u8], at: u8) -> (&[u8], Option<&[u8]>)
     }
 }
 
+/// Whether a byte is a space or a tab.
+pub fn margin(b: u8) -> bool
+    ensures { result ≡ is_margin b }
+{
+    b == b' ' || b == b'\t'
+}
+
 #[tactic(auto, using(std::proofs::lemmas::List::Sums::prefix_len_is))]
 fn trim_front(bytes: &[u8]) -> &[u8]
     ensures { result.now ≡ trimmed_front bytes.now }
 {
     for (i, b) in bytes.iter().enumerate() {
-        if *b != b' ' && *b != b'\t' {
+        if !margin(*b) {
             return &bytes[i..];
         }
     }
@@ -48,7 +55,7 @@ fn trim_back(bytes: &[u8]) -> &[u8]
     ensures { result.now ≡ trimmed_back bytes.now }
 {
     let mut n = bytes.len();
-    while n > 0 && (bytes[n - 1] == b' ' || bytes[n - 1] == b'\t') {
+    while n > 0 && margin(bytes[n - 1]) {
         n -= 1;
     }
     &bytes[..n]

@@ -8,7 +8,7 @@ use Rattle.bpf_asm.proofs.assembling.emit.Goals as goal
 pub returns-in-Err-clause-fault : goal.returns-in-Err-clause-fault
 returns-in-Err-clause-fault g c =
     let ms = map view_line c.args.lines.now in
-    refused_line ms c.args.labels.now c.loop-at.at _ c.loop-at.code c.loop-at.invariant c.requires.table (line_at view_line c.args.lines.now c.loop-at.at _ (omega arith)) c.in-Err.kind c.in-Err.ensures.fault
+    rw c.at.ensures.kind (refused_line ms c.args.labels.now c.loop-at.at _ c.loop-at.code c.loop-at.invariant c.requires.table (line_at view_line c.args.lines.now c.loop-at.at _ (omega arith)) c.in-Err.kind c.in-Err.ensures.fault)
 
 pub loop-at-preserved : goal.loop-at-preserved
 loop-at-preserved g c =

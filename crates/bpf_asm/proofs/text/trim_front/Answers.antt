@@ -5,8 +5,8 @@ use Rattle.bpf_asm.specs.Text.{is_margin}
 use Rattle.bpf_asm.proofs.Cuts.{rest_is}
 use Rattle.bpf_asm.proofs.text.trim_front.Goals as goal
 
-pub returns-then-b-ne9 : goal.returns-then-b-ne9
-returns-then-b-ne9 c =
+pub returns-then-not-margin : goal.returns-then-not-margin
+returns-then-not-margin c =
     let e = prefix_len_is is_margin c.args.bytes.now c.loop-i.i 0 (omega arith) c.loop-i.invariant (λ h. search rules) in
     rest_is c.args.bytes.now c.loop-i.i ∙ ap (λ n. drop n c.args.bytes.now) (sym e)
 

@@ -1,7 +1,9 @@
 pub mod Hash
 pub mod Directory
+pub mod DirectoryFile
 pub mod Pairs
 pub mod Layout
 pub mod Splitting
 pub mod Database
 pub mod Lending
+pub mod Files

@@ -93,7 +93,7 @@ key_at pairs i = (slice_index_or pairs i ([], [])).0
 abbrev pub value_at : List Pair → ℕ → List ℕ
 value_at pairs i = (slice_index_or pairs i ([], [])).1
 
--- the first pair with the key is pair i
+-- pair i has the key, and the value that a look-up finds
 pub record IsPlace (pairs : List Pair) (key : List ℕ) (i : ℕ) : Type 0 where
   pub in_range : i < length pairs
   pub has_key : key_at pairs i ≡ key

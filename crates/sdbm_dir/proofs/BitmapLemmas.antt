@@ -10,7 +10,7 @@ use Rattle.std.specs.Cmp.{eq_by_cmp_equiv}
 use Rattle.std.specs.FinSet as set
 use Rattle.sdbm_addr.specs.Directory.{Word, word_cmp, Splits, IsDirectory, word_number, hash_bit, hash_prefix, IsDepth}
 use Rattle.sdbm_addr.proofs.DirectoryLemmas.{words_total, same_word, eq_word, contains-insert, word_number-injective, word_number-short}
-use Rattle.sdbm_dir.specs.Bits.{bit_of}
+use Rattle.sdbm_addr.specs.DirectoryFile.{bit_of}
 use Rattle.sdbm_dir.specs.Words.{word_from, word_of, HasParent}
 use Rattle.sdbm_dir.specs.Bitmap.{splits_below, splits_of}
 

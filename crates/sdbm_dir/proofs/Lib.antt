@@ -1,2 +1,3 @@
 pub mod BitmapLemmas
+pub mod FileLemmas
 mod Examples

@@ -2,7 +2,7 @@
 use Rattle.std.specs.Prelude.{◌≡◌, ℕ, zero, suc, ◌*◌, ◌%◌, ◌^◌, ◌≤◌, cond, List, length}
 use Rattle.std.specs.FinSet as set
 use Rattle.sdbm_addr.specs.Directory.{Splits, IsDirectory}
-use Rattle.sdbm_dir.specs.Bits.{bit_of}
+use Rattle.sdbm_addr.specs.DirectoryFile.{bit_of}
 use Rattle.sdbm_dir.specs.Words.{word_of}
 
 -- the words with a number below n whose bits are set

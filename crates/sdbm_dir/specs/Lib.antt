@@ -1,4 +1,5 @@
-pub mod Bits
 pub mod Words
 pub mod Bitmap
 pub mod Marks
+pub mod Faults
+pub mod Ends

@@ -2,21 +2,35 @@
 //! (Yigit, sdbm 1990: sdbm.c, `getpage`).
 #![tactic(auto)]
 
-ghost use Rattle.std.specs.Prelude.{◌≡◌, ◌<◌, ◌≤◌, ◌^◌, ◌-◌, ◌%◌, OnOk, OnErr, Ok};
+ghost use Rattle.std.specs.Prelude.{◌≡◌, ◌<◌, ◌≤◌, ◌^◌, ◌-◌, ◌%◌, OnOk, OnErr, IfOk, IfErr, Ok};
 ghost use Rattle.std.specs.FinSet as set;
 ghost use Rattle.sdbm_addr.specs.Directory.{IsDirectory, IsDepth, hash_prefix, word_number, page_of};
-ghost use Rattle.sdbm_dir.specs.Bits.{bit_of};
+ghost use Rattle.sdbm_addr.specs.DirectoryFile.{SpellsDirectory, AreDirectoryBytes};
 ghost use Rattle.sdbm_dir.specs.Words.{word_of, HasParent};
+ghost use Rattle.sdbm_dir.specs.Faults.{AreFaultless, IsDirFault};
 
+mod bitmap;
 #[cfg(test)]
 mod tests;
 
+use bitmap::{
+    BLOCK_BYTES, end_of, has_deep_bit, has_orphan_bit, is_set, used_blocks, whole_blocks,
+};
 use sdbm_addr::{child, mask};
 use std::alloc::{AllocError, Allocator};
 use std::marker::Model;
 
-/// A directory grows by blocks of so many bytes (the original's `DBLKSIZ`).
-const BLOCK_BYTES: usize = 4096;
+/// Why bytes give no directory.
+#[derive(Clone, Copy, Debug, PartialEq, Eq)]
+pub enum DirFault {
+    /// A bit is set that no prefix of at most 30 letters has: its number is 2^31 - 1 or above.
+    TooDeep,
+    /// A bit b above 0 is set and that of its parent, (b - 1) / 2, is not: a prefix is split and the one that is a letter
+    /// shorter is not.
+    DirOrphan,
+    /// The bytes spell a directory, and no memory is left for it.
+    NoMemory,
+}
 
 /// Where a hash leads.
 #[derive(Clone, Copy, Debug, PartialEq, Eq)]
@@ -58,6 +72,39 @@ impl<A: Allocator> Dir<A> {
         Dir {
             bits: Vec::new(alloc),
         }
+    }
+
+    /// The directory that the bytes of a `.dir` file spell: bit b modulo 8, lowest first, of byte b / 8 is set where the prefix
+    /// with the number b is split (Yigit, sdbm 1990: sdbm.c, `getdbit`). They may be any bytes, of any number; zeros at their end
+    /// say nothing. Memory is taken for the blocks up to the highest bit that is set.
+    ///
+    /// # Errors
+    /// `TooDeep` where a bit is set whose number is too high, else `DirOrphan` where one is set without its parent's, else
+    /// `NoMemory` where no memory is left.
+    pub fn from_bytes(alloc: A, bytes: &[u8]) -> Result<Self, DirFault>
+        ensures ok { IfOk result (λ dir. SpellsDirectory bytes.now dir.splits) }
+        ensures faultless { IfOk result (λ _. AreFaultless bytes.now) }
+        ensures fault { IfErr result (IsDirFault bytes.now) }
+    {
+        let end = end_of(bytes);
+        if has_deep_bit(bytes, end) {
+            return Err(DirFault::TooDeep);
+        }
+        if has_orphan_bit(bytes, end) {
+            return Err(DirFault::DirOrphan);
+        }
+        match whole_blocks(alloc, &bytes[..end]) {
+            Ok(bits) => Ok(Dir { bits }),
+            Err(_) => Err(DirFault::NoMemory),
+        }
+    }
+
+    /// The bytes of the directory's `.dir` file: those that spell it, in whole blocks of 4,096 bytes up to the one of the highest
+    /// bit that is set, and none where no bit is. It takes no memory. The room is read from its end as far as that bit.
+    pub fn bytes(&self) -> &[u8]
+        ensures { AreDirectoryBytes self.now.splits result.now }
+    {
+        used_blocks(self.bits.as_slice())
     }
 
     /// Whether the prefix with this number is split.
@@ -119,15 +166,5 @@ impl<A: Allocator> Dir<A> {
             depth,
             bit,
         }
-    }
-}
-
-// Whether a bit is set; past the end it is not.
-fn is_set(bytes: &[u8], bit: u32) -> bool
-    ensures { result ≡ bit_of bytes.now bit }
-{
-    match bytes.get(bit as usize / 8) {
-        Some(byte) => (*byte >> (bit % 8)) & 1 == 1,
-        None => false,
     }
 }

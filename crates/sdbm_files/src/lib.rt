@@ -1,24 +1,35 @@
 //! The two files of a database as one value: the directory of `.dir`, and the pages of `.pag` that have pairs, by number.
 #![tactic(auto)]
 
-ghost use Rattle.std.specs.Prelude.{◌≡◌, ◌≤◌, ◌%◌, ◌^◌, IfOk, OnOk, IfErr, OnErr, IfSome};
+ghost use Rattle.std.specs.Prelude.{◌≡◌, ◌≢◌, ◌≤◌, ◌%◌, ◌^◌, IfOk, OnOk, IfErr, OnErr, IfSome};
 ghost use Rattle.std.specs.Option.{option_map};
 ghost use Rattle.std.specs.FinMap as map;
 ghost use Rattle.sdbm_addr.specs.Hash.{hash_of};
 ghost use Rattle.sdbm_addr.specs.Directory.{IsDepth, hash_prefix, page_of, word_number};
-ghost use Rattle.sdbm_addr.specs.Database.{map_of, empty_database, IsDatabase};
+ghost use Rattle.sdbm_addr.specs.Database.{map_of, empty_database, Database, IsDatabase};
+ghost use Rattle.sdbm_addr.specs.Files.{SpellsDatabase};
 ghost use Rattle.sdbm_files.specs.Installed.{installed, IsInstallable};
+ghost use Rattle.sdbm_files.specs.Opened.{IsOpenFault, SpellsNoDatabase};
 
+mod opening;
 mod pages;
+mod sink;
+mod widening;
+mod writing;
 
+pub use opening::OpenFault;
+use opening::{keep_pages, misplaced, read_dir, read_pages};
 use pages::{Pages, copy_pairs, count_pairs, grow_all, mark_all, put_page, put_pages, sort_pairs};
 use sdbm_addr::{Bytes, KeyBytes, PageSize, hash};
 use sdbm_dir::{Dir, Place};
 use sdbm_page::Page;
 use sdbm_split::Plan;
+pub use sink::{MemSink, Sink, SinkFault};
 use std::alloc::{AllocError, Allocator};
 use std::collections::HashMap;
 use std::marker::Model;
+pub use widening::widen;
+pub use writing::WriteFault;
 
 /// A database, seen as how its keys hash, how large its pages are, which prefixes are split, and the pairs of each page. All
 /// pairs stand on the pages to which their keys lead. Pages without pairs are not kept.
@@ -56,6 +67,54 @@ impl<A: Allocator + Copy> Image<A> {
             dir: Dir::empty(alloc),
             pages: HashMap::new(alloc),
         }
+    }
+
+    /// The database that the bytes of `.dir` and `.pag` spell (Yigit, sdbm 1990), with keys that hash so and pages of a size; the
+    /// files do not say which. They may be any bytes. Free bytes of pages may be anything, and pages without pairs and zeros of
+    /// `.dir` may stand at the end; none of these is kept.
+    ///
+    /// # Errors
+    /// `PagLength` where `.pag` has no whole number of pages; else `Page` with the lowest number of a page that is none, and why;
+    /// else `Dir` where the bytes of `.dir` are no directory, and why; else `Misplaced` with the lowest number of a page with a key
+    /// that leads to another page. `NoMemory` where memory is refused on the way.
+    pub fn open(
+        alloc: A,
+        dir: &[u8],
+        pag: &[u8],
+        kind: KeyBytes,
+        size: PageSize,
+    ) -> Result<Self, OpenFault>
+        ensures database { IfOk result (λ image. SpellsDatabase image dir.now pag.now) }
+        ensures kind { IfOk result (λ image. image.kind ≡ kind) }
+        ensures size { IfOk result (λ image. image.size ≡ size) }
+        ensures only { IfOk result (λ image. (db : Database) → db.kind ≡ kind → db.size ≡ size → SpellsDatabase db dir.now pag.now → db ≡ image) }
+        ensures fault { IfErr result (IsOpenFault kind size dir.now pag.now) }
+        ensures none { IfErr result (λ fault. fault ≢ OpenFault.NoMemory → SpellsNoDatabase kind size dir.now pag.now) }
+    {
+        if pag.len() % size.bytes() != 0 {
+            return Err(OpenFault::PagLength);
+        }
+        let read = match read_pages(alloc, pag, size) {
+            Ok(read) => read,
+            Err(fault) => return Err(fault),
+        };
+        let splits = match read_dir(alloc, dir) {
+            Ok(splits) => splits,
+            Err(fault) => return Err(fault),
+        };
+        if let Some(number) = misplaced(&splits, kind, read.as_slice()) {
+            return Err(OpenFault::Misplaced(number));
+        }
+        let Ok(pages) = keep_pages(alloc, size, read) else {
+            return Err(OpenFault::NoMemory);
+        };
+        Ok(Image {
+            alloc,
+            kind,
+            size,
+            dir: splits,
+            pages,
+        })
     }
 
     /// How the keys hash.

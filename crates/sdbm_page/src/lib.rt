@@ -1,33 +1,58 @@
 //! A page of a `.pag` file (Yigit, sdbm 1990: pair.c): pairs of a key and a value, in the order in which they were added, which
-//! together go into 1,024 or 8,192 bytes. For now it is kept as the list of its pairs.
+//! together go into 1,024 or 8,192 bytes. It is kept as the bytes that stand in the file, and edited in place.
 #![tactic(auto)]
 
-ghost use Rattle.std.specs.Prelude.{◌≡◌, ◌+◌, ◌<◌, ◌≤◌, ◌↔◌, [], length, remove, IsTrue, IfOk, OnOk, OnErr, IfNone, IfSome, None};
+ghost use Rattle.std.specs.Prelude.{◌≡◌, ◌≢◌, ◌+◌, ◌<◌, ◌≤◌, ◌↔◌, [], length, drop, remove, IsTrue, IfOk, IfErr, IfNone, IfSome, None};
 ghost use Rattle.std.specs.List.{sum_by};
 ghost use Rattle.std.specs.Borrow.{sem};
+ghost use Rattle.sdbm_addr.specs.Layout.{Spells, bytes_of_page};
+ghost use Rattle.sdbm_addr.specs.Pairs.{value_of, key_at, value_at, footprint, page_bytes, pair_limit, with_pair, HasDistinctKeys, IsLaid, IsPlace};
+ghost use Rattle.sdbm_page.specs.Fields.{IsLow, IsExtent, IsValueRange, pairs_in};
+ghost use Rattle.sdbm_page.specs.Faults.{IsLayout, IsPageFault, SpellsNone};
 ghost use Rattle.sdbm_page.specs.Lending.{LendsValue};
-ghost use Rattle.sdbm_addr.specs.Pairs.{value_of, key_at, value_at, footprint, page_bytes, pair_limit, with_pair, IsLaid, IsPlace};
+ghost use Rattle.sdbm_page.specs.declared.PageFault.TheVariants.{NoMemory};
 
-use sdbm_addr::{Bytes, PageSize, clone_pairs};
+mod edits;
+mod fields;
+mod layout;
+
+use edits::{clear, put_pair, take_pair};
+use fields::{end_at, key_in, key_start, number_at, value_in, value_start};
+use layout::{Layout, layout_of};
+use sdbm_addr::PageSize;
 use std::alloc::{AllocError, Allocator};
 use std::marker::Model;
 
+/// Why bytes give no page. The faults are tested in this order.
+#[derive(Clone, Copy, Debug, PartialEq, Eq)]
+pub enum PageFault {
+    /// The count of offsets is odd, or above what a page of the size may have.
+    Count,
+    /// An offset lies above the one before it, a pair is larger than a pair may be, or the pairs reach into the index.
+    Offsets,
+    /// A key stands twice.
+    DoubleKey,
+    /// No memory is left for the page. It is taken before keys are compared.
+    NoMemory,
+}
+
 /// A page, seen as its size and the list of its pairs. Its pairs always fit, and each is small enough; that keys are distinct
-/// is kept by those who add to it.
+/// is kept by those who add to it. Free bytes are zeros.
 #[derive(Drop)]
 pub struct Page<A: Allocator> {
     size: PageSize,
-    pairs: Vec<(Bytes<A>, Bytes<A>), A>,
+    bytes: Vec<u8, A>,
 }
 
 impl<A: Allocator> Model for Page<A> {
-    ghost use Rattle.sdbm_addr.specs.Pairs.{Content, IsLaid};
+    ghost use Rattle.sdbm_addr.specs.Pairs.{Content};
+    ghost use Rattle.sdbm_page.specs.Fields.{pairs_in, IsOwn};
 
     ghost Value = { Content };
 
-    ghost view = { λ a. record { size = a.size; pairs = a.pairs.items } };
+    ghost view = { λ a. record { size = a.size; pairs = pairs_in a.size a.bytes.items } };
 
-    ghost invariant = { λ a. IsLaid a.size a.pairs.items };
+    ghost invariant = { λ a. IsOwn a.size a.bytes.items };
 }
 
 impl<A: Allocator> Page<A> {
@@ -36,10 +61,26 @@ impl<A: Allocator> Page<A> {
         ensures size { IfOk result (λ page. page.size ≡ size) }
         ensures pairs { IfOk result (λ page. page.pairs ≡ []) }
     {
-        Ok(Page {
-            size,
-            pairs: Vec::new(alloc),
-        })
+        let bytes = vec![in alloc; 0u8; size.bytes()]?;
+        Ok(Page { size, bytes })
+    }
+
+    /// The page that bytes spell, as many as a page of the size has. Its free bytes may be anything, and are cleared.
+    pub fn from_bytes(alloc: A, bytes: &[u8], size: PageSize) -> Result<Self, PageFault>
+        requires { length bytes.now ≡ page_bytes size }
+        ensures size { IfOk result (λ page. page.size ≡ size) }
+        ensures page { IfOk result (λ page. Spells size bytes.now page.pairs) }
+        ensures fault { IfErr result (IsPageFault size bytes.now) }
+        ensures none { IfErr result (λ fault. fault ≢ NoMemory → SpellsNone size bytes.now) }
+    {
+        let layout = layout_of(bytes, size)?;
+        let Ok(page) = Self::cleared(alloc, bytes, size, layout) else {
+            return Err(PageFault::NoMemory);
+        };
+        if !page.has_distinct_keys() {
+            return Err(PageFault::DoubleKey);
+        }
+        Ok(page)
     }
 
     /// How large the page is.
@@ -49,19 +90,26 @@ impl<A: Allocator> Page<A> {
         self.size
     }
 
+    /// The page's bytes, as they are written: free ones are zeros.
+    pub fn bytes(&self) -> &[u8]
+        ensures { result.now ≡ bytes_of_page self.now.size self.now.pairs }
+    {
+        self.bytes.as_slice()
+    }
+
     /// How many pairs there are.
     pub fn len(&self) -> usize
         ensures count { result ≡ length self.now.pairs }
         ensures laid { IsLaid self.now.size self.now.pairs }
     {
-        self.pairs.len()
+        number_at(self.bytes.as_slice(), 0) / 2
     }
 
     /// Whether there is no pair.
     pub fn is_empty(&self) -> bool
         ensures { IsTrue result ↔ (self.now.pairs ≡ []) }
     {
-        self.pairs.is_empty()
+        self.len() == 0
     }
 
     /// The key of pair `i`, which is below `len`.
@@ -69,7 +117,7 @@ impl<A: Allocator> Page<A> {
         requires { i < length self.now.pairs }
         ensures { result.now ≡ key_at self.now.pairs i }
     {
-        self.pairs[i].0.as_slice()
+        key_in(self.bytes.as_slice(), i)
     }
 
     /// The value of pair `i`, which is below `len`.
@@ -77,7 +125,7 @@ impl<A: Allocator> Page<A> {
         requires { i < length self.now.pairs }
         ensures { result.now ≡ value_at self.now.pairs i }
     {
-        self.pairs[i].1.as_slice()
+        value_in(self.bytes.as_slice(), i)
     }
 
     /// The value of pair `i`, which is below `len`, to be written over in place. Its length and all else on the page stay.
@@ -86,26 +134,44 @@ impl<A: Allocator> Page<A> {
         ensures* writes_back { sem 𝓛 (LendsValue A.row A.Allocator self.entry i result) }
         ensures value { result.now ≡ value_at self.old.pairs i }
     {
-        self.pairs[i].1.as_mut_slice()
+        let (start, end) = self.value_range(i);
+        self.bytes.slice_mut(start..end)
     }
 
-    /// Where the first pair with a key stands, or none where the key is absent.
+    /// Where a pair with a key stands, whose value is the one that a look-up finds, or none where the key is absent.
     pub fn find(&self, key: &[u8]) -> Option<usize>
         ensures found { IfSome result (λ i. IsPlace self.now.pairs key.now i) }
         ensures absent { IfNone result (value_of self.now.pairs key.now ≡ None) }
     {
-        place_in(self.pairs.as_slice(), key)
+        for i in 0..self.len() {
+            if self.key(i) == key {
+                return Some(i);
+            }
+        }
+        None
     }
 
     /// Whether a pair of so many bytes more goes on the page: with its two offsets, beside the others and the count.
     pub fn fits(&self, need: usize) -> bool
         ensures { IsTrue result ↔ (sum_by footprint self.now.pairs + need + 4 + 2 ≤ page_bytes self.now.size) }
     {
-        let room = self.size.bytes() - 2 - footprint(self.pairs.as_slice());
+        let room = self.low() - (4 * self.len() + 2);
         if room < 4 {
             return false;
         }
         need <= room - 4
+    }
+
+    /// Adds a pair as the last one. The pair goes on the page, is small enough, and its key is absent.
+    pub fn add(&mut self, key: &[u8], value: &[u8])
+        requires fits { sum_by footprint self.old.pairs + footprint (key.now, value.now) + 2 ≤ page_bytes self.old.size }
+        requires small { length key.now + length value.now ≤ pair_limit self.old.size }
+        requires absent { value_of self.old.pairs key.now ≡ None }
+        ensures { self.new ≡ with_pair self.old key.now value.now }
+    {
+        let count = self.len();
+        let low = self.low();
+        put_pair(self.bytes.as_mut_slice(), count, low, key, value);
     }
 
     /// Takes pair `i` out, which is below `len`. The others keep their order.
@@ -113,62 +179,90 @@ impl<A: Allocator> Page<A> {
         requires { i < length self.old.pairs }
         ensures { self.new ≡ record { size = self.old.size; pairs = remove self.old.pairs i } }
     {
-        let _pair = self.pairs.remove(i);
+        let count = self.len();
+        let low = self.low();
+        let (end, start) = self.extent(i);
+        take_pair(self.bytes.as_mut_slice(), count, i, low, start, end - start);
+    }
+}
+
+// How bytes become a page.
+impl<A: Allocator> Page<A> {
+    // The page of bytes that are laid out, whatever the keys are, with free bytes cleared.
+    fn cleared(alloc: A, bytes: &[u8], size: PageSize, layout: Layout) -> Result<Self, AllocError>
+        requires long { length bytes.now ≡ page_bytes size }
+        requires layout { IsLayout size bytes.now layout.count layout.low }
+        ensures { IfOk result (λ page. page ≡ record { size = size; pairs = pairs_in size bytes.now }) }
+    {
+        let mut copy = Vec::from_slice(alloc, bytes)?;
+        clear(copy.as_mut_slice(), 4 * layout.count + 2, layout.low);
+        Ok(Page { size, bytes: copy })
+    }
+
+    // Whether no key comes twice.
+    fn has_distinct_keys(&self) -> bool
+        ensures { IsTrue result ↔ HasDistinctKeys self.now.pairs }
+    {
+        for i in 0..self.len() {
+            if self.comes_behind(self.key(i), i + 1) {
+                return false;
+            }
+        }
+        true
+    }
+
+    // Whether a pair from place `start` on has the key.
+    fn comes_behind(&self, key: &[u8], start: usize) -> bool
+        requires { start ≤ length self.now.pairs }
+        ensures { IsTrue result ↔ (value_of (drop start self.now.pairs) key.now ≢ None) }
+    {
+        for i in start..self.len() {
+            if self.key(i) == key {
+                return true;
+            }
+        }
+        false
+    }
+}
+
+// Where pairs stand.
+impl<A: Allocator> Page<A> {
+    // Where the last pair ends.
+    fn low(&self) -> usize
+        ensures { IsLow self.now result }
+    {
+        end_at(self.bytes.as_slice(), self.len())
+    }
+
+    // Where pair `i` ends, and where its value starts.
+    fn extent(&self, i: usize) -> (usize, usize)
+        requires { i < length self.now.pairs }
+        ensures { IsExtent self.now i result.0 result.1 }
+    {
+        let bytes = self.bytes.as_slice();
+        (end_at(bytes, i), value_start(bytes, i))
+    }
+
+    // Where the value of pair `i` starts, and where it ends.
+    fn value_range(&self, i: usize) -> (usize, usize)
+        requires { i < length self.now.pairs }
+        ensures { IsValueRange self.now i result.0 result.1 }
+    {
+        let bytes = self.bytes.as_slice();
+        (value_start(bytes, i), key_start(bytes, i))
     }
 }
 
 impl<A: Allocator + Copy> Page<A> {
-    /// Adds a copy of a pair as the last one. The pair goes on the page, is small enough, and its key is absent. Where no memory
-    /// is left for it, the page stays as it is.
-    pub fn add(&mut self, key: &[u8], value: &[u8]) -> Result<(), AllocError>
-        requires fits { sum_by footprint self.old.pairs + footprint (key.now, value.now) + 2 ≤ page_bytes self.old.size }
-        requires small { length key.now + length value.now ≤ pair_limit self.old.size }
-        requires absent { value_of self.old.pairs key.now ≡ None }
-        ensures ok { OnOk result (self.new ≡ with_pair self.old key.now value.now) }
-        ensures err { OnErr result (self.new ≡ self.old) }
-    {
-        let alloc = *self.pairs.allocator();
-        let key = Bytes::from_slice(alloc, key)?;
-        let value = Bytes::from_slice(alloc, value)?;
-        match self.pairs.push((key, value)) {
-            Ok(()) => Ok(()),
-            Err(_) => Err(AllocError),
-        }
-    }
-
     /// An equal page, or the error where no memory is left for it.
     pub fn try_clone(&self) -> Result<Self, AllocError>
         ensures { IfOk result (λ copy. copy ≡ self.now) }
     {
-        let alloc = *self.pairs.allocator();
+        let alloc = *self.bytes.allocator();
+        let bytes = Vec::from_slice(alloc, self.bytes.as_slice())?;
         Ok(Page {
             size: self.size,
-            pairs: clone_pairs(alloc, self.pairs.as_slice())?,
+            bytes,
         })
     }
-}
-
-// Where the first pair with a key stands.
-fn place_in<A: Allocator>(pairs: &[(Bytes<A>, Bytes<A>)], key: &[u8]) -> Option<usize>
-    ensures found { IfSome result (λ i. IsPlace pairs.now key.now i) }
-    ensures absent { IfNone result (value_of pairs.now key.now ≡ None) }
-{
-    for (i, pair) in pairs.iter().enumerate() {
-        if pair.0.as_slice() == key {
-            return Some(i);
-        }
-    }
-    None
-}
-
-// What pairs take on a page, its count of offsets left out.
-fn footprint<A: Allocator>(pairs: &[(Bytes<A>, Bytes<A>)]) -> usize
-    requires { sum_by footprint pairs.now + 2 ≤ 8192 }
-    ensures { result ≡ sum_by footprint pairs.now }
-{
-    let mut taken = 0;
-    for pair in pairs {
-        taken += pair.0.as_slice().len() + pair.1.as_slice().len() + 4;
-    }
-    taken
 }

@@ -45,7 +45,7 @@ pub fn whole_page<A: Allocator + Copy>(
     ensures bits { IfOk result (λ plan. plan.bits.items ≡ []) }
 {
     let mut leaf = copy_without(page, own)?;
-    leaf.add(key, value)?;
+    leaf.add(key, value);
     Ok(Plan {
         leaf,
         twins: Vec::new(alloc),
@@ -173,11 +173,11 @@ fn gather<A: Allocator + Copy>(
     let mut made = Page::empty(alloc, page.page_size())?;
     for i in 0..page.len() {
         if leads_to(routes[i], number) {
-            made.add(page.key(i), page.record(i))?;
+            made.add(page.key(i), page.record(i));
         }
     }
     if ends_at(path, number) {
-        made.add(key, value)?;
+        made.add(key, value);
     }
     Ok(made)
 }

@@ -20,7 +20,7 @@ fn plan_of_two<A: Allocator + Copy>(
     requires second { length second.now ≤ 8 }
 {
     let mut page = Page::empty(alloc, size)?;
-    page.add(first, &[0; 600])?;
+    page.add(first, &[0; 600]);
     let place = Place {
         page: 0,
         depth: 0,

@@ -9,8 +9,8 @@ use std::alloc::{AllocError, Global};
 use std::process::Abort;
 use std::test::Fail;
 
-// Takes all memory of a heap but for the last blocks, which are the smaller ones.
-fn fill<'a>(
+/// Takes all memory of a heap but for the last blocks, which are the smaller ones.
+pub fn fill<'a>(
     alloc: Global,
     heap: &'a LocalHeap,
     spared: usize,

@@ -4,8 +4,8 @@ use sdbm_page::Page;
 use std::alloc::{AllocError, Allocator, Global};
 use std::test::Fail;
 
-// Adds a pair where it goes on the page, and tells whether it does.
-fn add_if_room<A: Allocator + Copy>(
+/// Adds a pair where it goes on the page, and tells whether it does.
+pub fn add_if_room<A: Allocator + Copy>(
     page: &mut Page<A>,
     key: &[u8],
     value: &[u8],
@@ -17,7 +17,7 @@ fn add_if_room<A: Allocator + Copy>(
     if !page.fits(key.len() + value.len()) || page.find(key).is_some() {
         return Ok(false);
     }
-    page.add(key, value)?;
+    page.add(key, value);
     Ok(true)
 }
 

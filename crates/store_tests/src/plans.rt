@@ -29,8 +29,8 @@ pub struct PlanCase {
     pub bits: &'static [u32],
 }
 
-// Stores zero bytes under a key, and gives the answer.
-fn put(
+/// Stores zero bytes under a key, and gives the answer.
+pub fn put(
     alloc: Global,
     desk: &mut Desk<Global>,
     key: &[u8],

@@ -1,25 +1,14 @@
-use Rattle.std.proofs.Common.{◌≡◌, ◌<◌, ◌≤◌, ◌+◌, ◌*◌, ◌%◌, ◌^◌, ◌/◌, ◌==◌, ℕ, List, length, get_or, arith, subst, sym, ap, ◌∙◌, inl, inr, refl}
-use Rattle.std.proofs.lemmas.Bool.{cases_lt}
-use Rattle.std.proofs.lemmas.List.{get_or_past}
-use Rattle.std.specs.Int.{bit_at}
+use Rattle.std.proofs.Common.{◌≡◌, ◌<◌, ◌≤◌, ◌+◌, ◌*◌, ◌^◌, ◌/◌, ℕ, List, length, get_or, arith, subst, sym, ap, ◌∙◌, refl}
 use Rattle.sdbm_addr.specs.Directory.{IsDirectory, Splits}
 use Rattle.sdbm_dir.specs.Bitmap.{splits_of, IsBitmap}
 use Rattle.sdbm_dir.specs.Marks.{Marks}
 use Rattle.sdbm_dir.proofs.BitmapLemmas.{splits_of-same}
+use Rattle.sdbm_dir.proofs.FileLemmas.{bits_same, padded}
 use Rattle.sdbm_dir.proofs.Dir.grow_for.Goals as goal
 
 grown : (old new : List ℕ) (size len : ℕ) → len ≡ length old → length old < size → length new ≡ size
     → ((k : ℕ) (d : ℕ) → k < size → k < len → get_or new k d ≡ get_or old k d) → ((k : ℕ) (d : ℕ) → len ≤ k → k < size → get_or new k d ≡ 0) → splits_of new ≡ splits_of old
-grown old new size len is l e low high = splits_of-same old new (λ n. ap (λ x. bit_at x (n % 8) == 1) (at (n / 8)))
-  where
-    at : (k : ℕ) → get_or new k 0 ≡ get_or old k 0
-    at k = elim (cases_lt k (length old)) as (λ _. get_or new k 0 ≡ get_or old k 0) [
-      | inl i ↦ low k 0 (omega arith) (omega arith)
-      | inr i ↦ elim (cases_lt k size) as (λ _. get_or new k 0 ≡ get_or old k 0) [
-        | inl j ↦ high k 0 (omega arith) j ∙ sym (get_or_past old k 0 i)
-        | inr j ↦ get_or_past new k 0 (omega arith) ∙ sym (get_or_past old k 0 i)
-      ]
-    ]
+grown old new size len is l e low high = splits_of-same old new (bits_same old new (padded old new size len is (omega arith) e low high))
 
 IsBitmap-grown : (old new : List ℕ) (bit : ℕ) → bit < 2 ^ 32 → IsBitmap old → length new ≡ (bit / 8 / 4096 + 1) * 4096 → splits_of new ≡ splits_of old → IsBitmap new
 IsBitmap-grown old new bit l p e s = record {

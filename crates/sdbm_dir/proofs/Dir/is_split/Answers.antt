@@ -1,6 +1,6 @@
 use Rattle.std.proofs.Common.{sym, ap, ◌∙◌}
 use Rattle.std.specs.FinSet as set
-use Rattle.sdbm_dir.specs.Bits.{bit_of}
+use Rattle.sdbm_addr.specs.DirectoryFile.{bit_of}
 use Rattle.sdbm_dir.specs.Words.{word_of}
 use Rattle.sdbm_dir.specs.Marks.{Marks}
 use Rattle.sdbm_dir.proofs.BitmapLemmas.{contains-word_of}

@@ -4,7 +4,7 @@ use Rattle.sdbm_addr.specs.Pairs.{Pair, Content, key_at, value_at}
 use Rattle.sdbm_split.proofs.Without.{content_is}
 use Rattle.sdbm_split.proofs.Gathering.{MayAdd, MayAdd-next, MayAdd-last, route_test, gathered_taken, gathered_passed, gathered_all, gathered}
 use Rattle.sdbm_split.proofs.build.gather.Goals as goal
-use Rattle.sdbm_split.proofs.build.gather.Goals.{then-leads_to+in_ok-add, else-leads_to, then-ends_at+in_ok-add-2, else-ends_at}
+use Rattle.sdbm_split.proofs.build.gather.Goals.{then-leads_to, else-leads_to, then-ends_at, else-ends_at}
 
 at_pair : (size made_size : PageSize) (made pairs : List Pair) (i : ℕ) (key value : List ℕ) → made_size ≡ size → key ≡ key_at pairs i → value ≡ value_at pairs i → MayAdd size made (key_at pairs i) (value_at pairs i) → MayAdd made_size made key value
 at_pair size made_size made pairs i key value s k v may = rw (s, k, v) may
@@ -19,8 +19,8 @@ pub loop-i-preserved : goal.loop-i-preserved
 loop-i-preserved g c =
     let here = sym (route_test c.args.path c.args.page.now.pairs c.args.key.now c.args.number c.loop-i.i c.args.routes.now _ (omega arith) c.requires.routes) ∙ sym c.leads_to.ensures in
     elim c.if-leads_to.branch [
-      | then-leads_to+in_ok-add w ↦
-          let more = w.made-is ∙ w.in_ok-add.ensures.ok in
+      | then-leads_to w ↦
+          let more = w.made-is ∙ w.add.ensures in
           record {
             size = ap (λ (m : Content). m.size) more ∙ c.loop-i.invariant.size;
             pairs = gathered_taken _ c.args.page.now.pairs c.loop-i.made.pairs c.if-leads_to.made.pairs c.loop-i.i _ _ (omega arith) c.loop-i.invariant.pairs (here ∙ w.if-leads_to.true) w.key.ensures w.record.ensures (ap (λ (m : Content). m.pairs) more);
@@ -43,8 +43,8 @@ pub returns : goal.returns
 returns g c =
     let all = gathered_all _ c.args.page.now.pairs c.loop-i.made.pairs c.loop-i.i (omega arith) c.loop-i.invariant.pairs in
     elim c.if-ends_at.branch [
-      | then-ends_at+in_ok-add-2 w ↦
-          let more = w.made-is ∙ w.in_ok-add-2.ensures.ok in
+      | then-ends_at w ↦
+          let more = w.made-is ∙ w.add-then-ends_at.ensures in
           content_is c.if-ends_at.made c.args.page.now.size _ (ap (λ (m : Content). m.size) more ∙ c.loop-i.invariant.size)
           (gathered c.args.path.kind c.args.page.now.pairs c.loop-i.made.pairs c.if-ends_at.made.pairs c.args.key.now c.args.value.now c.args.path.hash c.args.path.depth c.args.path.splits c.args.number true c.requires.path all (sym c.ends_at.ensures ∙ w.if-ends_at.true) (ap (λ (m : Content). m.pairs) more))
       | else-ends_at w ↦

@@ -16,5 +16,5 @@ add-requires-clause-absent g c =
 
 pub returns-clause-leaf : goal.returns-clause-leaf
 returns-clause-leaf g c =
-    c.in_ok-add.ensures.ok
+    c.add.ensures
     ∙ ap (λ (p : Content). with_pair p c.args.key.now c.args.value.now) (content_without-own c.args.page.now c.in_ok-leaf.leaf c.args.key.now c.args.own c.requires.own c.requires.distinct c.in_ok-leaf.ensures)

@@ -1,0 +1,11 @@
+use Rattle.std.proofs.Common.{◌≡◌, ◌≤◌, ℕ, length, get_or}
+use Rattle.sdbm_dir.proofs.bitmap.end_of.Given as goal
+
+abbrev pub invariant-loop-end : goal.invariant-loop-end
+invariant-loop-end l = record {
+  within : l.end ≤ length l.bytes;
+  zeros : (k : ℕ) → l.end ≤ k → get_or l.bytes k 0 ≡ 0;
+}
+
+abbrev pub decreases-loop-end : goal.decreases-loop-end
+decreases-loop-end l = l.end

@@ -1,0 +1,120 @@
+//! Memory that runs out while files are read, written and widened.
+use crate::files::{Files, database, files_of, same_files};
+use crate::heap::fill;
+use linked_list_allocator::LocalHeap;
+use sdbm_addr::{KeyBytes, PageSize};
+use sdbm_files::{Image, MemSink, OpenFault, Sink, SinkFault, WriteFault, widen};
+use std::process::Abort;
+use std::test::Fail;
+
+// The database of files in a heap.
+fn open_in<'a>(heap: &'a LocalHeap, files: &Files) -> Result<Image<&'a LocalHeap>, OpenFault> {
+    let dir = files.dir.bytes();
+    let pag = files.pag.bytes();
+    Image::open(heap, dir, pag, KeyBytes::Signed, PageSize::Small)
+}
+
+// The files of a database of two pages.
+fn two_pages(rt: &(impl Abort + AllocGlobal)) -> Result<Files, Fail> {
+    let image = database(rt, PageSize::Small, &[b"a", b"b"])?;
+    Ok(files_of(rt, &image))
+}
+
+// Smaller heaps have to refuse the database, and to be empty again afterwards.
+#[test]
+fn opened_in_each_heap(rt: HostRuntime) -> Result<(), Fail> {
+    let files = two_pages(&rt)?;
+    for blocks in 8..800 {
+        let heap = LocalHeap::new(rt.alloc(), 16 * blocks)?;
+        match open_in(&heap, &files) {
+            Ok(image) => {
+                assert!(rt; same_files(&files_of(&rt, &image), &files));
+                assert!(rt; blocks > 300, "{blocks}");
+                return Ok(());
+            }
+            Err(fault) => {
+                assert_eq!(rt; fault, OpenFault::NoMemory, "{blocks}");
+                assert_eq!(rt; heap.used(), 0);
+            }
+        }
+    }
+    Err(Fail::from("no heap is large enough"))
+}
+
+// Sinks in a heap too small have whole puts from the first on, and tell that one is missing.
+#[test]
+fn written_in_each_heap(rt: HostRuntime) -> Result<(), Fail> {
+    let files = two_pages(&rt)?;
+    let image = database(&rt, PageSize::Small, &[b"a", b"b"])?;
+    for blocks in 8..800 {
+        let heap = LocalHeap::new(rt.alloc(), 16 * blocks)?;
+        let mut dir = MemSink::new(&heap);
+        let mut pag = MemSink::new(&heap);
+        let result = image.write(&mut dir, &mut pag);
+        assert_eq!(rt; pag.has_failed(), result == Err(WriteFault::Pag));
+        assert_eq!(rt; dir.has_failed(), result == Err(WriteFault::Dir));
+        assert!(rt; files.pag.bytes().starts_with(pag.bytes()));
+        if result.is_ok() {
+            assert!(rt; pag.bytes() == files.pag.bytes() && dir.bytes() == files.dir.bytes());
+            assert!(rt; blocks > 300, "{blocks}");
+            return Ok(());
+        }
+        assert!(rt; dir.bytes().is_empty() && pag.bytes().len() % 1024 == 0);
+        assert_eq!(rt; pag.bytes().len() == 2048, dir.has_failed());
+    }
+    Err(Fail::from("no heap is large enough"))
+}
+
+#[test]
+fn a_refused_put(rt: HostRuntime) -> Result<(), Fail> {
+    let heap = LocalHeap::new(rt.alloc(), 1024)?;
+    let mut sink = MemSink::new(&heap);
+    assert_eq!(rt; sink.put(b"abc"), Ok(3));
+    assert_eq!(rt; sink.put(&[0; 2000]), Err(SinkFault));
+    assert!(rt; sink.has_failed() && sink.bytes() == b"abc".as_slice());
+    // What there is room for is still taken, and the mark stays.
+    assert_eq!(rt; sink.put(b"d"), Ok(1));
+    assert!(rt; sink.has_failed() && sink.bytes() == b"abcd".as_slice());
+    Ok(())
+}
+
+// Widens a database with more and more memory until there is enough, and tells how often it was refused. The database has to
+// come back as it was at each refusal.
+fn widen_with_more<'a>(
+    rt: &(impl Abort + AllocGlobal),
+    heap: &'a LocalHeap,
+    image: Image<&'a LocalHeap>,
+) -> Result<(Image<&'a LocalHeap>, usize), Fail> {
+    let files = files_of(rt, &image);
+    let mut image = image;
+    for refusals in 0..400 {
+        let blocks = fill(rt.alloc(), heap, refusals)?;
+        match widen(image) {
+            Ok(wide) => return Ok((wide, refusals)),
+            Err((_error, refused)) => {
+                drop(blocks);
+                assert_eq!(rt; refused.page_size(), PageSize::Small);
+                assert!(rt; same_files(&files_of(rt, &refused), &files));
+                image = refused;
+            }
+        }
+    }
+    Err(Fail::from("no heap is large enough"))
+}
+
+#[test]
+fn widened_with_more(rt: HostRuntime) -> Result<(), Fail> {
+    let files = two_pages(&rt)?;
+    let heap = LocalHeap::new(rt.alloc(), 65536)?;
+    let image = open_in(&heap, &files)?;
+    let (wide, refusals) = widen_with_more(&rt, &heap, image)?;
+    assert!(rt; refusals > 3, "{refusals}");
+    assert_eq!(rt; (wide.page_size(), wide.count()), (PageSize::Wide, 2));
+    assert_eq!(rt; wide.pag_len(), 16_384);
+    let blocks = fill(rt.alloc(), &heap, 0)?;
+    // Wide pages need no memory to come back.
+    let again = widen(wide).map_err(|refused| refused.0)?;
+    assert_eq!(rt; (again.page_size(), again.count()), (PageSize::Wide, 2));
+    drop(blocks);
+    Ok(())
+}

@@ -1,0 +1,103 @@
+//! A page as the list of its pairs, written after the rules alone: what the page that is kept as bytes has to agree with.
+use sdbm_addr::{Bytes, PageSize};
+use sdbm_page::Page;
+use std::alloc::{AllocError, Global};
+
+/// A page's pairs in their order.
+#[derive(Drop)]
+pub struct ListPage {
+    alloc: Global,
+    size: PageSize,
+    pairs: Vec<(Bytes<Global>, Bytes<Global>), Global>,
+}
+
+impl ListPage {
+    /// A page without pairs.
+    pub fn empty(alloc: Global, size: PageSize) -> Self {
+        ListPage {
+            alloc,
+            size,
+            pairs: Vec::new(alloc),
+        }
+    }
+
+    /// Where a key's pair stands.
+    pub fn find(&self, key: &[u8]) -> Option<usize> {
+        self.pairs.iter().position(|pair| pair.0.as_slice() == key)
+    }
+
+    /// Whether a pair of so many bytes more has room: with two offsets, beside the others and the count.
+    pub fn fits(&self, need: usize) -> bool {
+        let mut taken = 2usize;
+        for (key, value) in &self.pairs {
+            taken = taken
+                .saturating_add(key.as_slice().len())
+                .saturating_add(value.as_slice().len())
+                .saturating_add(4);
+        }
+        taken.saturating_add(need).saturating_add(4) <= self.size.bytes()
+    }
+
+    /// Adds a pair as the last one.
+    pub fn add(&mut self, key: &[u8], value: &[u8]) -> Result<(), AllocError> {
+        let key = Bytes::from_slice(self.alloc, key)?;
+        let value = Bytes::from_slice(self.alloc, value)?;
+        match self.pairs.push((key, value)) {
+            Ok(()) => Ok(()),
+            Err(_) => Err(AllocError),
+        }
+    }
+
+    /// Takes the pair at a place out.
+    pub fn remove(&mut self, i: usize) {
+        if i < self.pairs.len() {
+            let _pair = self.pairs.remove(i);
+        }
+    }
+
+    /// The page's bytes: count, offsets, zeros, and the pairs from the end down.
+    pub fn bytes(&self) -> Result<Vec<u8, Global>, AllocError> {
+        let mut bytes = vec![in self.alloc; 0u8; self.size.bytes()]?;
+        let mut index = Vec::new(self.alloc);
+        index.extend_from_slice(&two_bytes(2 * self.pairs.len()))?;
+        let mut top = bytes.len();
+        for (key, value) in &self.pairs {
+            for part in [key.as_slice(), value.as_slice()] {
+                let start = top.saturating_sub(part.len());
+                put(bytes.as_mut_slice(), start, part);
+                index.extend_from_slice(&two_bytes(start))?;
+                top = start;
+            }
+        }
+        put(bytes.as_mut_slice(), 0, index.as_slice());
+        Ok(bytes)
+    }
+
+    /// Whether a page has the same pairs in the same places, and the same bytes.
+    pub fn is(&self, page: &Page<Global>) -> Result<bool, AllocError> {
+        if page.page_size() != self.size || page.len() != self.pairs.len() {
+            return Ok(false);
+        }
+        for i in 0..page.len() {
+            let pair = &self.pairs[i];
+            if page.key(i) != pair.0.as_slice() || page.record(i) != pair.1.as_slice() {
+                return Ok(false);
+            }
+        }
+        Ok(self.bytes()?.as_slice() == page.bytes())
+    }
+}
+
+// A number of a page's index, lowest byte first.
+fn two_bytes(number: usize) -> [u8; 2] {
+    u16::try_from(number).unwrap_or(0).to_le_bytes()
+}
+
+// Writes a part over bytes, where it has room.
+fn put(bytes: &mut [u8], at: usize, part: &[u8]) {
+    for (i, byte) in part.iter().enumerate() {
+        if let Some(place) = bytes.get_mut(at.saturating_add(i)) {
+            *place = *byte;
+        }
+    }
+}

@@ -1,2 +1,6 @@
 pub mod Runs
 pub mod Cuts
+pub mod Commands
+pub mod Matches
+pub mod Examples
+pub mod PairLines

@@ -1,3 +1,6 @@
 pub mod Lines
 pub mod Commands
 pub mod Script
+pub mod CommandLine
+pub mod Wishes
+pub mod Serving

@@ -1,32 +1,92 @@
-//! A program over a store: a script on standard input, the answers on standard output.
+//! A program over the files of a store: pairs fetched, stored and listed, scripts, and programs as text and images.
 #![tactic(auto)]
 
+mod answer;
+mod command_line;
+mod fault;
+mod files;
 mod lines;
+mod listing;
+mod programs;
 mod replies;
 mod script;
 #[cfg(test)]
 mod script_cases;
 #[cfg(test)]
 mod script_tests;
+mod serve;
 mod streams;
 mod words;
 
-use script::run_script;
-use sdbm_addr::{KeyBytes, PageSize};
-use sdbm_files::Image;
-use std::io;
+use command_line::{ToolFault, Wish, read_words};
+use fault::ServeFault;
+use files::{read_given, write_files};
+use serve::serve;
+use std::io::ErrorKind;
 use std::process::ExitCode;
+use std::rt::Runtime;
+use std::{env, io};
+
+/// The status of every fault.
+const FAULT: u8 = 2;
 
 fn main(rt: HostRuntime) -> ExitCode {
-    let image = Image::empty(rt.alloc(), KeyBytes::Signed, PageSize::Small);
-    let mut reader = rt.reader();
-    let mut writer = io::writer(&rt);
-    match run_script(rt.alloc(), &mut reader, &mut writer, image) {
-        Ok(_image) => ExitCode::SUCCESS,
+    let status = match run(&rt) {
+        Ok(status) => status,
         Err(fault) => {
             // Where standard error fails too, the status says it.
-            let _ = eprintln!(rt; "dbm: {fault:?}");
-            ExitCode::from(2)
+            let _ = eprintln!(rt; "dbm: {fault}");
+            FAULT
+        }
+    };
+    ExitCode::from(status)
+}
+
+// Reads the words behind the program's name, serves what they ask, and gives the status.
+fn run<R: Runtime + AllocGlobal>(rt: &R) -> Result<u8, ServeFault> {
+    let alloc = rt.alloc();
+    let args = match env::args(rt) {
+        Ok(args) => args,
+        Err(error) if error.kind() == ErrorKind::OutOfMemory => return Err(ServeFault::NoMemory),
+        Err(_) => return Err(ServeFault::NotText),
+    };
+    let args: Vec<String> = args.collect(alloc)?;
+    let mut words: Vec<&str> = Vec::new(alloc);
+    for arg in args.iter().skip(1) {
+        words.push(arg.as_str())?;
+    }
+    match read_words(alloc, words.as_slice()) {
+        Ok(wish) => serve_files(rt, wish),
+        Err(fault) => Ok(print_refusal(rt, &fault)),
+    }
+}
+
+// Serves a wish on the files that it names.
+fn serve_files<R: Runtime + AllocGlobal>(rt: &R, wish: Wish<'_>) -> Result<u8, ServeFault> {
+    let given = read_given(rt, &wish)?;
+    let served = serve(
+        rt.alloc(),
+        wish,
+        &given,
+        &mut rt.reader(),
+        &mut io::writer(rt),
+    )?;
+    if let (Some(base), Some(files)) = (wish.base(), &served.files) {
+        write_files(rt, base, files)?;
+    }
+    Ok(served.status)
+}
+
+// Prints why the words ask nothing, or the help or the version that they ask for.
+fn print_refusal<R: Runtime>(rt: &R, fault: &ToolFault) -> u8 {
+    match fault {
+        ToolFault::Refused(error) => match error.print(rt) {
+            Ok(()) => error.exit_code() as u8,
+            Err(_) => FAULT,
+        },
+        ToolFault::NoMemory | ToolFault::NoWord => {
+            let _ = eprintln!(rt; "dbm: {fault}");
+            FAULT
         }
     }
 }

@@ -33,8 +33,8 @@ pub fn show_reply<A: Allocator + Copy>(
     }
 }
 
-// Writes bytes in lower-case hex, or a dot for none.
-fn show_bytes<A: Allocator + Copy>(
+/// Writes bytes in lower-case hex after a text, or a dot for none.
+pub fn show_bytes<A: Allocator + Copy>(
     alloc: A,
     bytes: &[u8],
     text: &mut Vec<u8, A>,

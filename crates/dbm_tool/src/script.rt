@@ -115,8 +115,8 @@ fn answer_words<A: Allocator + Copy>(
     }
 }
 
-// Answers a command by its reply, or by the refusal.
-fn answer_command<A: Allocator + Copy>(
+/// Answers a command by its reply, or by the refusal.
+pub fn answer_command<A: Allocator + Copy>(
     alloc: A,
     desk: &mut Desk<A>,
     command: Command<A>,

@@ -1,0 +1,90 @@
+//! The files that a command line names, read and written.
+use crate::command_line::Wish;
+use crate::fault::ServeFault;
+use crate::serve::{Files as Written, Given, PAG_LIMIT};
+use std::alloc::Global;
+use std::fs;
+use std::io::{ErrorKind, Read};
+use std::rt::Files;
+
+/// A `.dir` file of the program has at most this many bytes.
+const DIR_LIMIT: u64 = 268_435_456;
+
+/// A program's file has at most this many bytes.
+const FILE_LIMIT: u64 = 1_048_576;
+
+/// The bytes of the files that a wish names: of `.dir`, `.pag` and the program's file, in this order. A file of a database that is
+/// not there has no bytes.
+pub fn read_given<R: Files + AllocGlobal>(rt: &R, wish: &Wish<'_>) -> Result<Given, ServeFault> {
+    let alloc = rt.alloc();
+    let mut given = Given {
+        dir: Vec::new(alloc),
+        pag: Vec::new(alloc),
+        file: Vec::new(alloc),
+    };
+    if let Some(base) = wish.base() {
+        given.dir = read_file(rt, path(alloc, base, "dir")?.as_str(), DIR_LIMIT, true)?;
+        given.pag = read_file(rt, path(alloc, base, "pag")?.as_str(), PAG_LIMIT, true)?;
+    }
+    if let Some(file) = wish.file() {
+        given.file = read_file(rt, file, FILE_LIMIT, false)?;
+    }
+    Ok(given)
+}
+
+// The bytes of a file.
+fn read_file<R: Files + AllocGlobal>(
+    rt: &R,
+    path: &str,
+    limit: u64,
+    may_be_absent: bool,
+) -> Result<Vec<u8>, ServeFault> {
+    let mut bytes = Vec::new(rt.alloc());
+    let file = match fs::open(rt, path) {
+        Ok(file) => file,
+        Err(error) if may_be_absent && error.kind() == ErrorKind::NotFound => return Ok(bytes),
+        Err(_) => return Err(ServeFault::ReadFile),
+    };
+    match file.take(limit.saturating_add(1)).read_to_end(&mut bytes) {
+        Ok(_) => (),
+        Err(error) if error.kind() == ErrorKind::OutOfMemory => return Err(ServeFault::NoMemory),
+        Err(_) => return Err(ServeFault::ReadFile),
+    }
+    if bytes.len() as u64 > limit {
+        return Err(ServeFault::FileTooLong);
+    }
+    Ok(bytes)
+}
+
+/// Writes both files of a database, each first whole under another name beside it. Then `.pag` takes its name, and `.dir` last. Until
+/// then the files are as they were.
+pub fn write_files<R: Files + AllocGlobal>(
+    rt: &R,
+    base: &str,
+    files: &Written,
+) -> Result<(), ServeFault> {
+    let alloc = rt.alloc();
+    let pag = path(alloc, base, "pag")?;
+    let dir = path(alloc, base, "dir")?;
+    let new_pag = path(alloc, base, "pag.new")?;
+    let new_dir = path(alloc, base, "dir.new")?;
+    let is_written = fs::write(rt, new_pag.as_str(), files.pag.bytes()).is_ok()
+        && fs::write(rt, new_dir.as_str(), files.dir.bytes()).is_ok()
+        && fs::rename(rt, new_pag.as_str(), pag.as_str()).is_ok()
+        && fs::rename(rt, new_dir.as_str(), dir.as_str()).is_ok();
+    if is_written {
+        return Ok(());
+    }
+    // What is left under the other names is of no use; that it may not go away changes nothing.
+    let _ = fs::remove_file(rt, new_pag.as_str());
+    let _ = fs::remove_file(rt, new_dir.as_str());
+    Err(ServeFault::WriteFile)
+}
+
+// The name of a file of a database.
+fn path(alloc: Global, base: &str, part: &str) -> Result<String, ServeFault> {
+    match format!(in alloc; "{base}.{part}") {
+        Ok(path) => Ok(path),
+        Err(_) => Err(ServeFault::NoMemory),
+    }
+}

@@ -1,0 +1,36 @@
+//! Programs as text and as images, from and to files.
+use crate::fault::ServeFault;
+use bpf_asm::{FaultKind, assemble, disassemble};
+use bpf_insn::{DecodeFault, decode, encode};
+use std::alloc::Global;
+
+/// The image of a program's text, in hex, in a line.
+pub fn assemble_file(alloc: Global, file: &[u8]) -> Result<Vec<u8>, ServeFault> {
+    let Ok(text) = str::from_utf8(file) else {
+        return Err(ServeFault::NotText);
+    };
+    let code = match assemble(alloc, text) {
+        Ok(code) => code,
+        Err(fault) if fault.kind == FaultKind::NoMemory => return Err(ServeFault::NoMemory),
+        Err(fault) => return Err(ServeFault::Assemble(fault)),
+    };
+    let image = encode(alloc, &code)?;
+    let hex = hex::encode(alloc, image.as_slice())?;
+    let mut line = Vec::new(alloc);
+    line.extend_from_slice(hex.as_bytes())?;
+    line.push(10)?;
+    Ok(line)
+}
+
+/// The text of a program's image.
+pub fn disassemble_file(alloc: Global, file: &[u8]) -> Result<Vec<u8>, ServeFault> {
+    let code = match decode(alloc, file) {
+        Ok(code) => code,
+        Err(DecodeFault::NoMemory) => return Err(ServeFault::NoMemory),
+        Err(fault) => return Err(ServeFault::Decode(fault)),
+    };
+    let text = disassemble(alloc, &code)?;
+    let mut lines = Vec::new(alloc);
+    lines.extend_from_slice(text.as_bytes())?;
+    Ok(lines)
+}

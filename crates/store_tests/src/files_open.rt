@@ -74,15 +74,15 @@ fn cut_pages(rt: HostRuntime) -> Result<(), Fail> {
     let files = files_of(&rt, &image);
     let dir = files.dir.bytes();
     let pag = files.pag.bytes();
-    for cut in 0..25 {
-        let part = first(pag, cut * 21_001 + 1);
-        assert!(rt; part.len() % 1024 != 0);
-        let got = count_of(rt.alloc(), dir, part, PageSize::Small);
-        assert_eq!(rt; got, Err(OpenFault::PagLength), "{cut}");
-    }
-    for (pages, count) in [(0, 0), (1, 1), (2, 1), (512, 1), (513, 2)] {
-        let got = count_of(rt.alloc(), dir, first(pag, 1024 * pages), PageSize::Small);
-        assert_eq!(rt; got, Ok(count), "{pages}");
+    for length in 0..pag.len() + 1 {
+        let got = count_of(rt.alloc(), dir, first(pag, length), PageSize::Small);
+        let want = match length {
+            _ if length % 1024 != 0 => Err(OpenFault::PagLength),
+            0 => Ok(0),
+            _ if length < pag.len() => Ok(1),
+            _ => Ok(2),
+        };
+        assert_eq!(rt; got, want, "{length}");
     }
     Ok(())
 }

@@ -130,6 +130,26 @@ fn edit_both(page: &mut Page<Global>, list: &mut ListPage, number: u64) -> Resul
 }
 
 #[test]
+fn known_edits_as_of_a_list(rt: HostRuntime) -> Result<(), Fail> {
+    for size in [PageSize::Small, PageSize::Wide] {
+        let mut page = Page::empty(rt.alloc(), size)?;
+        let mut list = ListPage::empty(rt.alloc(), size);
+        for (key, value) in [(b"a", b"1"), (b"b", b"2"), (b"a", b"3")] {
+            if let Some(i) = page.find(key) {
+                page.remove(i);
+                list.remove(i);
+            }
+            if add_if_room(&mut page, key, value)? {
+                list.add(key, value)?;
+            }
+            assert!(rt; list.is(&page)?);
+        }
+        assert_eq!(rt; page.len(), 2);
+    }
+    Ok(())
+}
+
+#[test]
 fn edits_as_of_a_list(rt: HostRuntime) -> Result<(), Fail> {
     let mut number = 1;
     for size in [PageSize::Small, PageSize::Wide] {

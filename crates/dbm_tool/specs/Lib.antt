@@ -4,3 +4,4 @@ pub mod Script
 pub mod CommandLine
 pub mod Wishes
 pub mod Serving
+pub mod Served

@@ -1,6 +1,7 @@
 //! The lines that list pairs, and the line that counts them.
 ghost use Rattle.std.specs.Prelude.{◌≡◌, ◌++◌, ◌∷◌, [], codes, IfOk, OnOk};
 ghost use Rattle.dbm_tool.specs.Serving.{pair_line, listed};
+ghost use Rattle.dbm_tool.specs.Served.{ok_line};
 
 use crate::replies::show_bytes;
 use itoa::Buffer;
@@ -37,7 +38,9 @@ fn show_pair<A: Allocator + Copy>(
 }
 
 /// The line `ok N`.
-pub fn show_ok<A: Allocator + Copy>(alloc: A, count: usize) -> Result<Vec<u8, A>, AllocError> {
+pub fn show_ok<A: Allocator + Copy>(alloc: A, count: usize) -> Result<Vec<u8, A>, AllocError>
+    ensures { IfOk result (λ text. text.items ≡ ok_line count) }
+{
     let mut text = Vec::new(alloc);
     text.extend_from_slice(b"ok ")?;
     let mut digits = Buffer::new();

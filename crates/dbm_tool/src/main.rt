@@ -3,6 +3,7 @@
 
 mod answer;
 mod command_line;
+mod databases;
 mod fault;
 mod files;
 mod lines;
@@ -21,14 +22,11 @@ mod words;
 use command_line::{ToolFault, Wish, read_words};
 use fault::ServeFault;
 use files::{read_given, write_files};
-use serve::serve;
+use serve::{FAULT, serve};
 use std::io::ErrorKind;
 use std::process::ExitCode;
 use std::rt::Runtime;
 use std::{env, io};
-
-/// The status of every fault.
-const FAULT: u8 = 2;
 
 fn main(rt: HostRuntime) -> ExitCode {
     let status = match run(&rt) {
@@ -64,17 +62,20 @@ fn run<R: Runtime + AllocGlobal>(rt: &R) -> Result<u8, ServeFault> {
 // Serves a wish on the files that it names.
 fn serve_files<R: Runtime + AllocGlobal>(rt: &R, wish: Wish<'_>) -> Result<u8, ServeFault> {
     let given = read_given(rt, &wish)?;
-    let served = serve(
+    let outcome = serve(
         rt.alloc(),
         wish,
         &given,
         &mut rt.reader(),
         &mut io::writer(rt),
-    )?;
-    if let (Some(base), Some(files)) = (wish.base(), &served.files) {
+    );
+    if let Some(fault) = outcome.err {
+        return Err(fault);
+    }
+    if let (Some(base), Some(files)) = (wish.base(), &outcome.files) {
         write_files(rt, base, files)?;
     }
-    Ok(served.status)
+    Ok(outcome.status)
 }
 
 // Prints why the words ask nothing, or the help or the version that they ask for.

@@ -1,11 +1,16 @@
 //! Programs as text and as images, from and to files.
+ghost use Rattle.std.specs.Prelude.{IfOk};
+ghost use Rattle.dbm_tool.specs.Served.{IsAssembled, IsDisassembled};
+
 use crate::fault::ServeFault;
 use bpf_asm::{FaultKind, assemble, disassemble};
 use bpf_insn::{DecodeFault, decode, encode};
 use std::alloc::Global;
 
 /// The image of a program's text, in hex, in a line.
-pub fn assemble_file(alloc: Global, file: &[u8]) -> Result<Vec<u8>, ServeFault> {
+pub fn assemble_file(alloc: Global, file: &[u8]) -> Result<Vec<u8>, ServeFault>
+    ensures { IfOk result (λ line. IsAssembled file.now line.items) }
+{
     let Ok(text) = str::from_utf8(file) else {
         return Err(ServeFault::NotText);
     };
@@ -15,22 +20,19 @@ pub fn assemble_file(alloc: Global, file: &[u8]) -> Result<Vec<u8>, ServeFault> 
         Err(fault) => return Err(ServeFault::Assemble(fault)),
     };
     let image = encode(alloc, &code)?;
-    let hex = hex::encode(alloc, image.as_slice())?;
-    let mut line = Vec::new(alloc);
-    line.extend_from_slice(hex.as_bytes())?;
+    let mut line = hex::encode(alloc, image.as_slice())?.into_bytes();
     line.push(10)?;
     Ok(line)
 }
 
 /// The text of a program's image.
-pub fn disassemble_file(alloc: Global, file: &[u8]) -> Result<Vec<u8>, ServeFault> {
+pub fn disassemble_file(alloc: Global, file: &[u8]) -> Result<Vec<u8>, ServeFault>
+    ensures { IfOk result (λ text. IsDisassembled file.now text.items) }
+{
     let code = match decode(alloc, file) {
         Ok(code) => code,
         Err(DecodeFault::NoMemory) => return Err(ServeFault::NoMemory),
         Err(fault) => return Err(ServeFault::Decode(fault)),
     };
-    let text = disassemble(alloc, &code)?;
-    let mut lines = Vec::new(alloc);
-    lines.extend_from_slice(text.as_bytes())?;
-    Ok(lines)
+    Ok(disassemble(alloc, &code)?.into_bytes())
 }

@@ -1,19 +1,20 @@
 //! What each subcommand does with the bytes of its files.
-ghost use Rattle.std.specs.Prelude.{◌≡◌, IfOk, Some, []};
-ghost use Rattle.sdbm_addr.specs.Files.{SpellsDatabase};
-ghost use Rattle.sdbm_files.specs.Written.{IsWritten};
+ghost use Rattle.std.specs.Prelude.{◌≡◌, IfOk, IfSome, IsNone, Some, None};
 ghost use Rattle.dbm_tool.specs.Lines.{bytes_of};
-ghost use Rattle.dbm_tool.specs.Serving.{IsAnswered, kind_of, size_of};
+ghost use Rattle.dbm_tool.specs.Commands.{fetch_of, store_of, delete_of};
+ghost use Rattle.dbm_tool.specs.declared.command_line.wish.Wish.TheVariants as wish;
+ghost use Rattle.dbm_tool.specs.Served.{Serves, Looks, Changes, Lists, Counts, PlaysAlone, PlaysOn, Widens, PrintsSome, IsAssembled, IsDisassembled, mode_of};
 
 use crate::answer::answer_one;
 use crate::command_line::{Form, Wish};
+use crate::databases::{files_of, kind_of, open, size_of};
 use crate::fault::ServeFault;
 use crate::listing::{list_pairs, show_ok};
 use crate::programs::{assemble_file, disassemble_file};
 use crate::script::run_script;
 use crate::streams::write_all;
 use crate::words::read_bytes;
-use sdbm_addr::{Bytes, KeyBytes, Mode, PageSize};
+use sdbm_addr::{Bytes, Mode};
 use sdbm_files::{Image, MemSink, widen};
 use std::alloc::Global;
 use std::io::{Read, Write};
@@ -21,6 +22,9 @@ use store_cmd::Command;
 
 /// A `.pag` file of the program has at most this many bytes.
 pub const PAG_LIMIT: u64 = 1_073_741_824;
+
+/// The status of every fault.
+pub const FAULT: u8 = 2;
 
 /// The bytes of the files that a wish names; a file of a database that is not there has none.
 #[derive(Drop)]
@@ -37,15 +41,24 @@ pub struct Files {
     pub pag: MemSink<Global>,
 }
 
-/// What came of a wish: the status, and the files where they are to be written.
+/// What came of a wish: the fault, where there was one, the status, and the files where they are to be written.
 #[derive(Drop)]
-pub struct Served {
+pub struct Outcome {
+    pub err: Option<ServeFault>,
     pub status: u8,
     pub files: Option<Files>,
 }
 
+// What came of a wish that was served.
+#[derive(Drop)]
+struct Served {
+    status: u8,
+    files: Option<Files>,
+}
+
 /// Serves a wish: reads what its words mean, opens the database, does what is asked, and writes the lines that it prints. The
-/// status is 1 where the answer is that nothing was found or changed. Files are given where they are to be written.
+/// status is 1 where the answer is that nothing was found or changed, and `FAULT` where there is a fault. Files are given where
+/// they are to be written, and none where there is a fault.
 ///
 /// # Errors
 /// The first that is met: `BadHex` of the words from left to right, `Open`, those of a program's file, those of standard input and
@@ -56,7 +69,35 @@ pub fn serve<R: Read, W: Write>(
     given: &Given,
     reader: &mut R,
     writer: &mut W,
-) -> Result<Served, ServeFault> {
+) -> Outcome
+    ensures served { IsNone result.err → Serves wish.entry given.now (R.remaining reader.old) (W.contents writer.old) (W.contents writer.new) result.status result.files }
+    ensures status { IfSome result.err (λ _. result.status ≡ 2) }
+    ensures none { IfSome result.err (λ _. result.files ≡ None) }
+{
+    match serve_wish(alloc, wish, given, reader, writer) {
+        Ok(served) => Outcome {
+            err: None,
+            status: served.status,
+            files: served.files,
+        },
+        Err(fault) => Outcome {
+            err: Some(fault),
+            status: FAULT,
+            files: None,
+        },
+    }
+}
+
+// Serves a wish by its subcommand.
+fn serve_wish<R: Read, W: Write>(
+    alloc: Global,
+    wish: Wish<'_>,
+    given: &Given,
+    reader: &mut R,
+    writer: &mut W,
+) -> Result<Served, ServeFault>
+    ensures { IfOk result (λ served. Serves wish.entry given.now (R.remaining reader.old) (W.contents writer.old) (W.contents writer.new) served.status served.files) }
+{
     match wish {
         Wish::Fetch { form, key, .. } => fetch(alloc, given, form, key, writer),
         Wish::Store {
@@ -68,23 +109,11 @@ pub fn serve<R: Read, W: Write>(
         } => store(alloc, given, form, key, value, insert, writer),
         Wish::Delete { form, key, .. } => delete(alloc, given, form, key, writer),
         Wish::List { form, .. } => list(alloc, given, form, writer),
-        Wish::Check { form, .. } => {
-            print_ok(alloc, &open(alloc, given, form)?, writer)?;
-            Ok(printed(0))
-        }
-        Wish::Script { base: None, form } => {
-            let image = Image::empty(alloc, kind_of(form), size_of(form));
-            let _image = run_script(alloc, reader, writer, image)?;
-            Ok(printed(0))
-        }
-        Wish::Script { form, .. } => {
-            let image = open(alloc, given, form)?;
-            let image = run_script(alloc, reader, writer, image)?;
-            written(alloc, &image, 0)
-        }
+        Wish::Check { form, .. } => check(alloc, given, form, writer),
+        Wish::Script { base, form } => play(alloc, given, base, form, reader, writer),
         Wish::Widen { unsigned, .. } => widen_files(alloc, given, unsigned, writer),
-        Wish::Asm { .. } => print(&assemble_file(alloc, given.file.as_slice())?, writer),
-        Wish::Disasm { .. } => print(&disassemble_file(alloc, given.file.as_slice())?, writer),
+        Wish::Asm { .. } => asm(alloc, given, writer),
+        Wish::Disasm { .. } => disasm(alloc, given, writer),
     }
 }
 
@@ -95,7 +124,9 @@ fn fetch<W: Write>(
     form: Form,
     key: &str,
     writer: &mut W,
-) -> Result<Served, ServeFault> {
+) -> Result<Served, ServeFault>
+    ensures { IfOk result (λ served. Looks form given.now (fetch_of (bytes_of key.now)) (W.contents writer.old) (W.contents writer.new) served.status served.files) }
+{
     let key = word_bytes(alloc, key)?;
     let image = open(alloc, given, form)?;
     let (_image, status) = answer_one(alloc, image, Command::Fetch { key }, writer)?;
@@ -111,12 +142,19 @@ fn store<W: Write>(
     value: &str,
     insert: bool,
     writer: &mut W,
-) -> Result<Served, ServeFault> {
+) -> Result<Served, ServeFault>
+    ensures { IfOk result (λ served. Changes form given.now (store_of (bytes_of key.now) (bytes_of value.now) (mode_of insert)) (W.contents writer.old) (W.contents writer.new) served.status served.files) }
+{
     let key = word_bytes(alloc, key)?;
     let value = word_bytes(alloc, value)?;
     let mode = if insert { Mode::Insert } else { Mode::Replace };
-    let image = open(alloc, given, form)?;
-    change(alloc, image, Command::Store { key, value, mode }, writer)
+    change(
+        alloc,
+        given,
+        form,
+        Command::Store { key, value, mode },
+        writer,
+    )
 }
 
 // The answer to a delete, and the files after it.
@@ -126,10 +164,29 @@ fn delete<W: Write>(
     form: Form,
     key: &str,
     writer: &mut W,
-) -> Result<Served, ServeFault> {
+) -> Result<Served, ServeFault>
+    ensures { IfOk result (λ served. Changes form given.now (delete_of (bytes_of key.now)) (W.contents writer.old) (W.contents writer.new) served.status served.files) }
+{
     let key = word_bytes(alloc, key)?;
+    change(alloc, given, form, Command::Delete { key }, writer)
+}
+
+// The answer to a command that may change the database, and the files after it.
+fn change<W: Write>(
+    alloc: Global,
+    given: &Given,
+    form: Form,
+    command: Command<Global>,
+    writer: &mut W,
+) -> Result<Served, ServeFault>
+    ensures { IfOk result (λ served. Changes form given.now (Some command) (W.contents writer.old) (W.contents writer.new) served.status served.files) }
+{
     let image = open(alloc, given, form)?;
-    change(alloc, image, Command::Delete { key }, writer)
+    let (image, status) = answer_one(alloc, image, command, writer)?;
+    Ok(Served {
+        status,
+        files: Some(files_of(alloc, &image)?),
+    })
 }
 
 // All pairs, a line each.
@@ -138,10 +195,78 @@ fn list<W: Write>(
     given: &Given,
     form: Form,
     writer: &mut W,
-) -> Result<Served, ServeFault> {
+) -> Result<Served, ServeFault>
+    ensures { IfOk result (λ served. Lists form given.now (W.contents writer.old) (W.contents writer.new) served.status served.files) }
+{
     let image = open(alloc, given, form)?;
     let pairs = image.pairs()?;
-    print(&list_pairs(alloc, pairs.as_slice())?, writer)
+    let text = list_pairs(alloc, pairs.as_slice())?;
+    write_all(writer, text.as_slice())?;
+    Ok(printed(0))
+}
+
+// How many pairs there are.
+fn check<W: Write>(
+    alloc: Global,
+    given: &Given,
+    form: Form,
+    writer: &mut W,
+) -> Result<Served, ServeFault>
+    ensures { IfOk result (λ served. Counts form given.now (W.contents writer.old) (W.contents writer.new) served.status served.files) }
+{
+    let image = open(alloc, given, form)?;
+    let text = show_ok(alloc, image.count())?;
+    write_all(writer, text.as_slice())?;
+    Ok(printed(0))
+}
+
+// The answers to a script, by whether it names a database.
+fn play<R: Read, W: Write>(
+    alloc: Global,
+    given: &Given,
+    base: Option<&str>,
+    form: Form,
+    reader: &mut R,
+    writer: &mut W,
+) -> Result<Served, ServeFault>
+    ensures { IfOk result (λ served. Serves (wish.Script base.entry form) given.now (R.remaining reader.old) (W.contents writer.old) (W.contents writer.new) served.status served.files) }
+{
+    match base {
+        None => play_alone(alloc, form, reader, writer),
+        Some(_) => play_on(alloc, given, form, reader, writer),
+    }
+}
+
+// The answers to a script on an empty database.
+fn play_alone<R: Read, W: Write>(
+    alloc: Global,
+    form: Form,
+    reader: &mut R,
+    writer: &mut W,
+) -> Result<Served, ServeFault>
+    ensures { IfOk result (λ served. PlaysAlone form (R.remaining reader.old) (W.contents writer.old) (W.contents writer.new) served.status served.files) }
+{
+    let image = Image::empty(alloc, kind_of(form), size_of(form));
+    let _image = run_script(alloc, reader, writer, image)?;
+    Ok(printed(0))
+}
+
+// The answers to a script, and the files after it.
+fn play_on<R: Read, W: Write>(
+    alloc: Global,
+    given: &Given,
+    form: Form,
+    reader: &mut R,
+    writer: &mut W,
+) -> Result<Served, ServeFault>
+    ensures { IfOk result (λ served. PlaysOn form given.now (R.remaining reader.old) (W.contents writer.old) (W.contents writer.new) served.status served.files) }
+{
+    let image = open(alloc, given, form)?;
+    let image = run_script(alloc, reader, writer, image)?;
+    Ok(Served {
+        status: 0,
+        files: Some(files_of(alloc, &image)?),
+    })
 }
 
 // The files with wide pages, and how many pairs they have.
@@ -150,7 +275,9 @@ fn widen_files<W: Write>(
     given: &Given,
     unsigned: bool,
     writer: &mut W,
-) -> Result<Served, ServeFault> {
+) -> Result<Served, ServeFault>
+    ensures { IfOk result (λ served. Widens unsigned given.now (W.contents writer.old) (W.contents writer.new) served.status served.files) }
+{
     let form = Form {
         unsigned,
         wide: false,
@@ -159,18 +286,37 @@ fn widen_files<W: Write>(
     let Ok(image) = widen(image) else {
         return Err(ServeFault::NoMemory);
     };
-    print_ok(alloc, &image, writer)?;
-    written(alloc, &image, 0)
+    let text = show_ok(alloc, image.count())?;
+    write_all(writer, text.as_slice())?;
+    Ok(Served {
+        status: 0,
+        files: Some(files_of(alloc, &image)?),
+    })
 }
 
-// Prints a text, which is all that is asked.
-fn print<W: Write>(text: &Vec<u8>, writer: &mut W) -> Result<Served, ServeFault> {
+// The image of a program's text.
+fn asm<W: Write>(alloc: Global, given: &Given, writer: &mut W) -> Result<Served, ServeFault>
+    ensures { IfOk result (λ served. PrintsSome (IsAssembled given.now.file.items) (W.contents writer.old) (W.contents writer.new) served.status served.files) }
+{
+    let line = assemble_file(alloc, given.file.as_slice())?;
+    write_all(writer, line.as_slice())?;
+    Ok(printed(0))
+}
+
+// The text of a program's image.
+fn disasm<W: Write>(alloc: Global, given: &Given, writer: &mut W) -> Result<Served, ServeFault>
+    ensures { IfOk result (λ served. PrintsSome (IsDisassembled given.now.file.items) (W.contents writer.old) (W.contents writer.new) served.status served.files) }
+{
+    let text = disassemble_file(alloc, given.file.as_slice())?;
     write_all(writer, text.as_slice())?;
     Ok(printed(0))
 }
 
 // What came of a wish that changes no file.
-fn printed(status: u8) -> Served {
+fn printed(status: u8) -> Served
+    ensures status { result.status ≡ status }
+    ensures none { result.files ≡ None }
+{
     Served {
         status,
         files: None,
@@ -185,86 +331,4 @@ fn word_bytes(alloc: Global, word: &str) -> Result<Bytes<Global>, ServeFault>
         Some(bytes) => Ok(bytes),
         None => Err(ServeFault::BadHex),
     }
-}
-
-// How keys hash.
-fn kind_of(form: Form) -> KeyBytes
-    ensures { result ≡ kind_of form.unsigned }
-{
-    if form.unsigned {
-        KeyBytes::Unsigned
-    } else {
-        KeyBytes::Signed
-    }
-}
-
-// How large pages are.
-fn size_of(form: Form) -> PageSize
-    ensures { result ≡ size_of form.wide }
-{
-    if form.wide {
-        PageSize::Wide
-    } else {
-        PageSize::Small
-    }
-}
-
-// The database that the files spell.
-fn open(alloc: Global, given: &Given, form: Form) -> Result<Image<Global>, ServeFault>
-    ensures database { IfOk result (λ image. SpellsDatabase image given.now.dir.items given.now.pag.items) }
-    ensures kind { IfOk result (λ image. image.kind ≡ kind_of form.unsigned) }
-    ensures size { IfOk result (λ image. image.size ≡ size_of form.wide) }
-{
-    let dir = given.dir.as_slice();
-    let pag = given.pag.as_slice();
-    match Image::open(alloc, dir, pag, kind_of(form), size_of(form)) {
-        Ok(image) => Ok(image),
-        Err(fault) => Err(ServeFault::from(fault)),
-    }
-}
-
-// Does a command that may change the database, and gives its files.
-fn change<W: Write>(
-    alloc: Global,
-    image: Image<Global>,
-    command: Command<Global>,
-    writer: &mut W,
-) -> Result<Served, ServeFault> {
-    let (image, status) = answer_one(alloc, image, command, writer)?;
-    written(alloc, &image, status)
-}
-
-// The files of a database.
-fn written(alloc: Global, image: &Image<Global>, status: u8) -> Result<Served, ServeFault> {
-    if image.pag_len() > PAG_LIMIT {
-        return Err(ServeFault::FileTooLong);
-    }
-    let files = files_of(alloc, image)?;
-    Ok(Served {
-        status,
-        files: Some(files),
-    })
-}
-
-// The bytes of both files of a database.
-fn files_of(alloc: Global, image: &Image<Global>) -> Result<Files, ServeFault>
-    ensures { IfOk result (λ files. IsWritten image.now [] files.dir.bytes [] files.pag.bytes) }
-{
-    let mut dir = MemSink::new(alloc);
-    let mut pag = MemSink::new(alloc);
-    match image.write(&mut dir, &mut pag) {
-        Ok(()) => Ok(Files { dir, pag }),
-        Err(fault) => Err(ServeFault::from(fault)),
-    }
-}
-
-// Prints how many pairs a database has.
-fn print_ok<W: Write>(
-    alloc: Global,
-    image: &Image<Global>,
-    writer: &mut W,
-) -> Result<(), ServeFault> {
-    let text = show_ok(alloc, image.count())?;
-    write_all(writer, text.as_slice())?;
-    Ok(())
 }

@@ -1,0 +1,15 @@
+use Rattle.std.proofs.Common.{◌≡◌, List, ℕ, sym, subst, ◌∙◌}
+use Rattle.sdbm_addr.specs.Files.{SpellsDatabase}
+use Rattle.sdbm_addr.specs.Database.{Database}
+use Rattle.dbm_tool.proofs.databases.open.Goals as goal
+
+pub returns-in-Ok : goal.returns-in-Ok
+returns-in-Ok c =
+    let dir = c.as_slice-dir.ensures.value in
+    let pag = c.as_slice-pag.ensures.value in
+    record {
+      spells = rw (sym dir, sym pag) c.in-Ok.ensures.database;
+      kind = c.in-Ok.ensures.kind ∙ c.kind_of.ensures;
+      size = c.in-Ok.ensures.size ∙ c.size_of.ensures;
+      only = λ other kind size spells. c.in-Ok.ensures.only other (kind ∙ sym c.kind_of.ensures) (size ∙ sym c.size_of.ensures) (rw (dir, pag) spells);
+    }

@@ -1,0 +1,16 @@
+use Rattle.std.proofs.Common.{◌≡◌, ap, sym, ◌∙◌}
+use Rattle.dbm_tool.specs.Served.{ok_line}
+use Rattle.dbm_tool.proofs.serve.check.Goals as goal
+
+pub returns : goal.returns
+returns g c =
+    let text = c.as_slice.ensures.value ∙ c.in_ok-text.ensures ∙ ap ok_line c.count.ensures in
+    record {
+      db = c.in_ok-image.image;
+      opened = c.in_ok-image.ensures;
+      prints = record {
+        printed = rw (sym text) c.in_ok-write_all.ensures.ok;
+        status_is = c.printed.ensures.status;
+        files_are = c.printed.ensures.none;
+      };
+    }

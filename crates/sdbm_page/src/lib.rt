@@ -10,15 +10,18 @@ ghost use Rattle.sdbm_addr.specs.Pairs.{value_of, key_at, value_at, footprint, p
 ghost use Rattle.sdbm_page.specs.Fields.{IsLow, IsExtent, IsValueRange, pairs_in};
 ghost use Rattle.sdbm_page.specs.Faults.{IsLayout, IsPageFault, SpellsNone};
 ghost use Rattle.sdbm_page.specs.Lending.{LendsValue};
+ghost use Rattle.sdbm_page.specs.Marks.{IsKeyBefore};
 ghost use Rattle.sdbm_page.specs.declared.PageFault.TheVariants.{NoMemory};
 
 mod edits;
 mod fields;
 mod layout;
+mod noted;
 
 use edits::{clear, put_pair, take_pair};
 use fields::{end_at, key_in, key_start, number_at, value_in, value_start};
 use layout::{Layout, layout_of};
+use noted::Noted;
 use sdbm_addr::PageSize;
 use std::alloc::{AllocError, Allocator};
 use std::marker::Model;
@@ -199,24 +202,28 @@ impl<A: Allocator> Page<A> {
         Ok(Page { size, bytes: copy })
     }
 
-    // Whether no key comes twice.
+    // Whether no key comes twice. A key is compared with those before it only where one of them may be equal.
     fn has_distinct_keys(&self) -> bool
         ensures { IsTrue result ↔ HasDistinctKeys self.now.pairs }
     {
+        let mut noted = Noted::new();
         for i in 0..self.len() {
-            if self.comes_behind(self.key(i), i + 1) {
-                return false;
+            let key = self.key(i);
+            if noted.note(key) {
+                if self.comes_before(key, i) {
+                    return false;
+                }
             }
         }
         true
     }
 
-    // Whether a pair from place `start` on has the key.
-    fn comes_behind(&self, key: &[u8], start: usize) -> bool
-        requires { start ≤ length self.now.pairs }
-        ensures { IsTrue result ↔ (value_of (drop start self.now.pairs) key.now ≢ None) }
+    // Whether one of the first `count` pairs has the key.
+    fn comes_before(&self, key: &[u8], count: usize) -> bool
+        requires { count ≤ length self.now.pairs }
+        ensures { IsTrue result ↔ IsKeyBefore self.now.pairs key.now count }
     {
-        for i in start..self.len() {
+        for i in 0..count {
             if self.key(i) == key {
                 return true;
             }

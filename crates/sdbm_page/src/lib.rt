@@ -2,11 +2,11 @@
 //! together go into 1,024 or 8,192 bytes. It is kept as the bytes that stand in the file, and edited in place.
 #![tactic(auto)]
 
-ghost use Rattle.std.specs.Prelude.{◌≡◌, ◌≢◌, ◌+◌, ◌<◌, ◌≤◌, ◌↔◌, [], length, drop, remove, IsTrue, IfOk, IfErr, IfNone, IfSome, None};
+ghost use Rattle.std.specs.Prelude.{◌≡◌, ◌≢◌, ◌+◌, ◌<◌, ◌≤◌, ◌↔◌, List, [], length, remove, IsTrue, IfOk, IfErr, IfNone, IfSome, None};
 ghost use Rattle.std.specs.List.{sum_by};
 ghost use Rattle.std.specs.Borrow.{sem};
 ghost use Rattle.sdbm_addr.specs.Layout.{Spells, bytes_of_page};
-ghost use Rattle.sdbm_addr.specs.Pairs.{value_of, key_at, value_at, footprint, page_bytes, pair_limit, with_pair, HasDistinctKeys, IsLaid, IsPlace};
+ghost use Rattle.sdbm_addr.specs.Pairs.{Pair, value_of, key_at, value_at, footprint, page_bytes, pair_limit, with_pair, HasDistinctKeys, IsLaid, IsPlace};
 ghost use Rattle.sdbm_page.specs.Fields.{IsLow, IsExtent, IsValueRange, pairs_in};
 ghost use Rattle.sdbm_page.specs.Faults.{IsLayout, IsPageFault, SpellsNone};
 ghost use Rattle.sdbm_page.specs.Lending.{LendsValue};
@@ -73,6 +73,7 @@ impl<A: Allocator> Page<A> {
         requires { length bytes.now ≡ page_bytes size }
         ensures size { IfOk result (λ page. page.size ≡ size) }
         ensures page { IfOk result (λ page. Spells size bytes.now page.pairs) }
+        ensures only { IfOk result (λ page. (pairs : List Pair) → Spells size bytes.now pairs → pairs ≡ page.pairs) }
         ensures fault { IfErr result (IsPageFault size bytes.now) }
         ensures none { IfErr result (λ fault. fault ≢ NoMemory → SpellsNone size bytes.now) }
     {

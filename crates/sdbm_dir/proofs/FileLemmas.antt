@@ -1,5 +1,5 @@
 -- Laws of the bytes of a directory's file.
-use Rattle.std.proofs.Common.{◌≡◌, ℕ, ◌+◌, ◌*◌, ◌/◌, ◌%◌, ◌^◌, ◌-◌, ◌<◌, ◌≤◌, ◌==◌, List, [], ◌∷◌, length, get_or, take, Bool, true, false, cond, refl, sym, ap, ◌∙◌, subst, arith, inl, inr, lit<, w8}
+use Rattle.std.proofs.Common.{◌≡◌, ◌≢◌, ℕ, ◌+◌, ◌*◌, ◌/◌, ◌%◌, ◌^◌, ◌-◌, ◌<◌, ◌≤◌, ◌==◌, List, [], ◌∷◌, length, get_or, take, Bool, true, false, cond, refl, sym, ap, ◌∙◌, subst, arith, inl, inr, lit<, w8}
 use Rattle.std.specs.Int.{bit_at, trailing_zeros}
 use Rattle.std.proofs.lemmas.Bool.{cases_eq, cases_lt, true≢false}
 use Rattle.std.proofs.lemmas.Nat.Bits.{bit_at-zero, bit_at-lt, bit_at-trailing_zeros, same_from_bits_below}
@@ -12,7 +12,9 @@ use Rattle.sdbm_addr.specs.DirectoryFile.{bit_of, SpellsDirectory, AreDirectoryB
 use Rattle.sdbm_addr.proofs.DirectoryLemmas.{words_total, same_word, word_number-lt}
 use Rattle.sdbm_dir.specs.Words.{word_of}
 use Rattle.sdbm_dir.specs.Bitmap.{splits_of, IsBitmap}
-use Rattle.sdbm_dir.specs.Faults.{AreFaultless}
+use Rattle.sdbm_dir.specs.Faults.{AreFaultless, IsDirFault, SpellsNoDirectory}
+use Rattle.sdbm_dir.specs.declared.DirFault.{DirFault}
+use Rattle.sdbm_dir.specs.declared.DirFault.TheVariants.{TooDeep, DirOrphan, NoMemory}
 use Rattle.sdbm_dir.specs.Ends.{IsEnd}
 use Rattle.sdbm_dir.proofs.BitmapLemmas.{word_number-word_of, contains-splits_of, contains-word_of, unset_past, splits_of-same, IsDirectory-from_bits}
 
@@ -186,6 +188,11 @@ AreFaultless-spells bytes d p = record { shallow = λ f. few f.0 f.1; closed = �
         above_it : (w : Word) → word_number w ≡ n → set.contains d w ≡ true → bit_of bytes ((n - 1) / 2) ≡ true
         above_it [] e t = let low : 0 < n = f.below in absurd (omega arith)
         above_it (b ∷ w) e t = ap (bit_of bytes) (sym (half b (word_number w) e)) ∙ p.bits w ∙ p.directory.closed b w t
+
+pub no_directory : (bytes : List ℕ) (fault : DirFault) → IsDirFault bytes fault → fault ≢ NoMemory → SpellsNoDirectory bytes
+no_directory bytes TooDeep f told = λ d p. (AreFaultless-spells bytes d p).shallow f
+no_directory bytes DirOrphan f told = λ d p. (AreFaultless-spells bytes d p).closed f.1
+no_directory bytes NoMemory f told = λ d p. told refl
 
 -- a directory has one list of bytes of its own
 pub AreDirectoryBytes-unique : (d : Splits) (a b : List ℕ) → AreDirectoryBytes d a → AreDirectoryBytes d b → a ≡ b

@@ -1,6 +1,7 @@
 -- When bytes are no directory.
 use Rattle.std.specs.Prelude.{ℕ, List}
-use Rattle.sdbm_addr.specs.DirectoryFile.{HasDeepBit, HasOrphanBit}
+use Rattle.sdbm_addr.specs.Directory.{Splits}
+use Rattle.sdbm_addr.specs.DirectoryFile.{SpellsDirectory, HasDeepBit, HasOrphanBit}
 use Rattle.sdbm_dir.specs.declared.DirFault.{DirFault}
 use Rattle.sdbm_dir.specs.declared.DirFault.TheVariants.{TooDeep, DirOrphan, NoMemory}
 
@@ -15,3 +16,7 @@ abbrev pub IsDirFault : List ℕ → DirFault → Type 0
 IsDirFault bytes TooDeep = HasDeepBit bytes
 IsDirFault bytes DirOrphan = (HasDeepBit bytes → ⊥) × HasOrphanBit bytes
 IsDirFault bytes NoMemory = AreFaultless bytes
+
+-- no directory is spelled
+abbrev pub SpellsNoDirectory : List ℕ → Type 0
+SpellsNoDirectory bytes = (d : Splits) → SpellsDirectory bytes d → ⊥

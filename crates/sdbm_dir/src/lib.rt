@@ -2,12 +2,12 @@
 //! (Yigit, sdbm 1990: sdbm.c, `getpage`).
 #![tactic(auto)]
 
-ghost use Rattle.std.specs.Prelude.{◌≡◌, ◌<◌, ◌≤◌, ◌^◌, ◌-◌, ◌%◌, OnOk, OnErr, IfOk, IfErr, Ok};
+ghost use Rattle.std.specs.Prelude.{◌≡◌, ◌≢◌, ◌<◌, ◌≤◌, ◌^◌, ◌-◌, ◌%◌, OnOk, OnErr, IfOk, IfErr, Ok};
 ghost use Rattle.std.specs.FinSet as set;
-ghost use Rattle.sdbm_addr.specs.Directory.{IsDirectory, IsDepth, hash_prefix, word_number, page_of};
+ghost use Rattle.sdbm_addr.specs.Directory.{Splits, IsDirectory, IsDepth, hash_prefix, word_number, page_of};
 ghost use Rattle.sdbm_addr.specs.DirectoryFile.{SpellsDirectory, AreDirectoryBytes};
 ghost use Rattle.sdbm_dir.specs.Words.{word_of, HasParent};
-ghost use Rattle.sdbm_dir.specs.Faults.{AreFaultless, IsDirFault};
+ghost use Rattle.sdbm_dir.specs.Faults.{AreFaultless, IsDirFault, SpellsNoDirectory};
 
 mod bitmap;
 #[cfg(test)]
@@ -83,8 +83,10 @@ impl<A: Allocator> Dir<A> {
     /// `NoMemory` where no memory is left.
     pub fn from_bytes(alloc: A, bytes: &[u8]) -> Result<Self, DirFault>
         ensures ok { IfOk result (λ dir. SpellsDirectory bytes.now dir.splits) }
+        ensures only { IfOk result (λ dir. (splits : Splits) → SpellsDirectory bytes.now splits → splits ≡ dir.splits) }
         ensures faultless { IfOk result (λ _. AreFaultless bytes.now) }
         ensures fault { IfErr result (IsDirFault bytes.now) }
+        ensures none { IfErr result (λ fault. fault ≢ DirFault.NoMemory → SpellsNoDirectory bytes.now) }
     {
         let end = end_of(bytes);
         if has_deep_bit(bytes, end) {

@@ -7,7 +7,7 @@ ghost use Rattle.sdbm_files.specs.Kept.{pages_of, AreSized};
 ghost use Rattle.sdbm_files.specs.Opened.{AreRead, IsRead, IsFaultOf, IsFaultOfPages, IsFaultOfDir, LeadTo, IsFirstMisled, MayKeep, AreKeptAs, pairs_of_page};
 
 use crate::pages::{Pages, put_page};
-use sdbm_addr::{KeyBytes, PageSize, hash};
+use sdbm_addr::{KeyBytes, PageSize, hash, mask};
 use sdbm_dir::{Dir, DirFault};
 use sdbm_page::{Page, PageFault};
 use std::alloc::{AllocError, Allocator};
@@ -124,13 +124,21 @@ fn leads_here<A: Allocator>(
     }
 }
 
-// Whether each key of a page leads to this number.
+// Whether each key of a page leads to this number. Where the first one does, the others do whose hashes have its lowest bits, as
+// many as lead to the page.
 fn keys_lead<A: Allocator>(dir: &Dir<A>, kind: KeyBytes, number: usize, page: &Page<A>) -> bool
     ensures { IsTrue result ↔ LeadTo kind dir.now.splits number page.now.pairs }
 {
-    for i in 0..page.len() {
-        let place = dir.place(hash(page.key(i), kind));
-        if place.page as usize != number {
+    if page.is_empty() {
+        return true;
+    }
+    let place = dir.place(hash(page.key(0), kind));
+    if place.page as usize != number {
+        return false;
+    }
+    let lowest = mask(place.depth);
+    for i in 1..page.len() {
+        if hash(page.key(i), kind) & lowest != place.page {
             return false;
         }
     }

@@ -2,23 +2,26 @@
 //! together go into 1,024 or 8,192 bytes. It is kept as the bytes that stand in the file, and edited in place.
 #![tactic(auto)]
 
-ghost use Rattle.std.specs.Prelude.{◌≡◌, ◌≢◌, ◌+◌, ◌<◌, ◌≤◌, ◌↔◌, [], length, drop, remove, IsTrue, IfOk, IfErr, IfNone, IfSome, None};
+ghost use Rattle.std.specs.Prelude.{◌≡◌, ◌≢◌, ◌+◌, ◌<◌, ◌≤◌, ◌↔◌, List, [], length, remove, IsTrue, IfOk, IfErr, IfNone, IfSome, None};
 ghost use Rattle.std.specs.List.{sum_by};
 ghost use Rattle.std.specs.Borrow.{sem};
 ghost use Rattle.sdbm_addr.specs.Layout.{Spells, bytes_of_page};
-ghost use Rattle.sdbm_addr.specs.Pairs.{value_of, key_at, value_at, footprint, page_bytes, pair_limit, with_pair, HasDistinctKeys, IsLaid, IsPlace};
+ghost use Rattle.sdbm_addr.specs.Pairs.{Pair, value_of, key_at, value_at, footprint, page_bytes, pair_limit, with_pair, HasDistinctKeys, IsLaid, IsPlace};
 ghost use Rattle.sdbm_page.specs.Fields.{IsLow, IsExtent, IsValueRange, pairs_in};
 ghost use Rattle.sdbm_page.specs.Faults.{IsLayout, IsPageFault, SpellsNone};
 ghost use Rattle.sdbm_page.specs.Lending.{LendsValue};
+ghost use Rattle.sdbm_page.specs.Marks.{IsKeyBefore};
 ghost use Rattle.sdbm_page.specs.declared.PageFault.TheVariants.{NoMemory};
 
 mod edits;
 mod fields;
 mod layout;
+mod noted;
 
 use edits::{clear, put_pair, take_pair};
 use fields::{end_at, key_in, key_start, number_at, value_in, value_start};
 use layout::{Layout, layout_of};
+use noted::Noted;
 use sdbm_addr::PageSize;
 use std::alloc::{AllocError, Allocator};
 use std::marker::Model;
@@ -70,6 +73,7 @@ impl<A: Allocator> Page<A> {
         requires { length bytes.now ≡ page_bytes size }
         ensures size { IfOk result (λ page. page.size ≡ size) }
         ensures page { IfOk result (λ page. Spells size bytes.now page.pairs) }
+        ensures only { IfOk result (λ page. (pairs : List Pair) → Spells size bytes.now pairs → pairs ≡ page.pairs) }
         ensures fault { IfErr result (IsPageFault size bytes.now) }
         ensures none { IfErr result (λ fault. fault ≢ NoMemory → SpellsNone size bytes.now) }
     {
@@ -199,24 +203,28 @@ impl<A: Allocator> Page<A> {
         Ok(Page { size, bytes: copy })
     }
 
-    // Whether no key comes twice.
+    // Whether no key comes twice. A key is compared with those before it only where one of them may be equal.
     fn has_distinct_keys(&self) -> bool
         ensures { IsTrue result ↔ HasDistinctKeys self.now.pairs }
     {
+        let mut noted = Noted::new();
         for i in 0..self.len() {
-            if self.comes_behind(self.key(i), i + 1) {
-                return false;
+            let key = self.key(i);
+            if noted.note(key) {
+                if self.comes_before(key, i) {
+                    return false;
+                }
             }
         }
         true
     }
 
-    // Whether a pair from place `start` on has the key.
-    fn comes_behind(&self, key: &[u8], start: usize) -> bool
-        requires { start ≤ length self.now.pairs }
-        ensures { IsTrue result ↔ (value_of (drop start self.now.pairs) key.now ≢ None) }
+    // Whether one of the first `count` pairs has the key.
+    fn comes_before(&self, key: &[u8], count: usize) -> bool
+        requires { count ≤ length self.now.pairs }
+        ensures { IsTrue result ↔ IsKeyBefore self.now.pairs key.now count }
     {
-        for i in start..self.len() {
+        for i in 0..count {
             if self.key(i) == key {
                 return true;
             }

@@ -4,3 +4,4 @@ pub mod Commands
 pub mod Matches
 pub mod Examples
 pub mod PairLines
+pub mod Steps

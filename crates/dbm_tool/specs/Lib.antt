@@ -5,3 +5,4 @@ pub mod CommandLine
 pub mod Wishes
 pub mod Serving
 pub mod Served
+pub mod Failing

@@ -1,5 +1,5 @@
 -- What comes of a wish that is served: what is printed, the status, and the files that are to be written.
-use Rattle.std.specs.Prelude.{◌≡◌, ℕ, ◌≤◌, ◌^◌, ◌++◌, Bool, false, cond, List, [], ◌∷◌, codes, decimal, length, Option, Some, None, IfSome}
+use Rattle.std.specs.Prelude.{◌≡◌, ℕ, ◌≤◌, ◌++◌, Bool, true, false, cond, List, [], ◌∷◌, codes, decimal, length, Option, Some, None, IfSome}
 use Rattle.std.specs.FinMap as map
 use Rattle.std.specs.Io.KnownBytes.{Appends}
 use Rattle.std.specs.declared.alloc.Global.{Global}
@@ -34,10 +34,14 @@ pub record IsOpened (form : Form) (given : Given) (db : Database) : Type 0 where
   pub only : (other : Database) → other.kind ≡ kind_of form.unsigned → other.size ≡ size_of form.wide
       → SpellsDatabase other given.dir.items given.pag.items → other ≡ db
 
+-- the program writes no `.pag` that is longer
+abbrev pub pag_limit : ℕ
+pag_limit = 1073741824
+
 -- both files are to be written, in the bytes that a write of the database gives, and `.pag` is not too long
 abbrev pub AreToWrite : Database → Option Files → Type 0
 AreToWrite db None = ⊥
-AreToWrite db (Some files) = IsWritten db [] files.dir.bytes [] files.pag.bytes × (length files.pag.bytes ≤ 1073741824)
+AreToWrite db (Some files) = IsWritten db [] files.dir.bytes [] files.pag.bytes × (length files.pag.bytes ≤ pag_limit)
 
 -- one command on the database of the files, its answer in a line, and the database after it
 pub record IsReplied (form : Form) (given : Given) (asked : Option (Command Global)) (after : Database) (old new : Option (List ℕ)) (status : ℕ) : Type 0 where
@@ -137,15 +141,24 @@ pub record PrintsSome (P : List ℕ → Type 0) (old new : Option (List ℕ)) (s
 abbrev pub mode_of : Bool → Mode
 mode_of insert = cond insert Insert Replace
 
--- what a wish is served with: by the files, by what is read, and by what was written before and after
+-- only a script reads
+abbrev pub reads_input : Wish → Bool
+reads_input (wish.Script base form) = true
+reads_input _ = false
+
+-- What comes of a wish that is served: by the bytes of its files and of what is read, by what the writer had and has, the status, and
+-- the files that are to be written.
 abbrev pub Serves : Wish → Given → Option (List ℕ) → Option (List ℕ) → Option (List ℕ) → ℕ → Option Files → Type 0
-Serves (wish.Fetch base form key) given input = Looks form given (fetch_of (bytes_of key.now))
-Serves (wish.Store base form key value insert) given input = Changes form given (store_of (bytes_of key.now) (bytes_of value.now) (mode_of insert))
-Serves (wish.Delete base form key) given input = Changes form given (delete_of (bytes_of key.now))
-Serves (wish.List base form) given input = Lists form given
-Serves (wish.Check base form) given input = Counts form given
-Serves (wish.Script None form) given input = PlaysAlone form input
-Serves (wish.Script (Some base) form) given input = PlaysOn form given input
-Serves (wish.Widen base unsigned) given input = Widens unsigned given
-Serves (wish.Asm file) given input = PrintsSome (IsAssembled given.file.items)
-Serves (wish.Disasm file) given input = PrintsSome (IsDisassembled given.file.items)
+Serves (wish.Fetch base form key) given input old new status files =
+    Looks form given (fetch_of (bytes_of key.now)) old new status files
+Serves (wish.Store base form key value insert) given input old new status files =
+    Changes form given (store_of (bytes_of key.now) (bytes_of value.now) (mode_of insert)) old new status files
+Serves (wish.Delete base form key) given input old new status files =
+    Changes form given (delete_of (bytes_of key.now)) old new status files
+Serves (wish.List base form) given input old new status files = Lists form given old new status files
+Serves (wish.Check base form) given input old new status files = Counts form given old new status files
+Serves (wish.Script None form) given input old new status files = PlaysAlone form input old new status files
+Serves (wish.Script (Some base) form) given input old new status files = PlaysOn form given input old new status files
+Serves (wish.Widen base unsigned) given input old new status files = Widens unsigned given old new status files
+Serves (wish.Asm file) given input old new status files = PrintsSome (IsAssembled given.file.items) old new status files
+Serves (wish.Disasm file) given input old new status files = PrintsSome (IsDisassembled given.file.items) old new status files

@@ -1,8 +1,9 @@
 //! One command on a database, its answer in a line, and what kind of answer it is.
-ghost use Rattle.std.specs.Prelude.{◌≡◌, ◌++◌, ◌∷◌, [], Some, IfOk};
+ghost use Rattle.std.specs.Prelude.{◌≡◌, ◌++◌, ◌∷◌, [], Some, IfOk, IfErr};
 ghost use Rattle.desk_core.specs.Desk.{state_of};
 ghost use Rattle.dbm_tool.specs.Script.{Asks};
 ghost use Rattle.dbm_tool.specs.Serving.{IsAnswered, is_negative, status_of};
+ghost use Rattle.dbm_tool.specs.Failing.{Fails, IsUnwritten, Never};
 
 use crate::fault::ServeFault;
 use crate::script::answer_command;
@@ -20,7 +21,8 @@ pub fn answer_one<A: Allocator + Copy, W: Write>(
     command: Command<A>,
     writer: &mut W,
 ) -> Result<(Image<A>, u8), ServeFault>
-    ensures { IfOk result (λ r. IsAnswered image command r.0 (W.contents writer.old) (W.contents writer.new) r.1) }
+    ensures ok { IfOk result (λ r. IsAnswered image command r.0 (W.contents writer.old) (W.contents writer.new) r.1) }
+    ensures fault { IfErr result (Fails ⊥ Never IsUnwritten ⊥) }
 {
     let (image, mut text) = work(alloc, image, command)?;
     let status = status_of(text.as_slice());

@@ -1,8 +1,9 @@
 //! The database that files spell, and the files that are written for one.
-ghost use Rattle.std.specs.Prelude.{◌≡◌, ◌≤◌, IfOk, Some, []};
+ghost use Rattle.std.specs.Prelude.{◌≡◌, ◌≤◌, IfOk, IfErr, Some, []};
 ghost use Rattle.sdbm_files.specs.Written.{IsWritten};
 ghost use Rattle.dbm_tool.specs.Serving.{kind_of, size_of};
 ghost use Rattle.dbm_tool.specs.Served.{IsOpened, AreToWrite};
+ghost use Rattle.dbm_tool.specs.Failing.{Fails, IsLong, IsShut, Never};
 
 use crate::command_line::Form;
 use crate::fault::ServeFault;
@@ -35,7 +36,8 @@ pub fn size_of(form: Form) -> PageSize
 
 /// The database that the files spell.
 pub fn open(alloc: Global, given: &Given, form: Form) -> Result<Image<Global>, ServeFault>
-    ensures { IfOk result (IsOpened form given.now) }
+    ensures ok { IfOk result (IsOpened form given.now) }
+    ensures fault { IfErr result (Fails ⊥ (IsShut form given.now) Never ⊥) }
 {
     let dir = given.dir.as_slice();
     let pag = given.pag.as_slice();
@@ -47,7 +49,8 @@ pub fn open(alloc: Global, given: &Given, form: Form) -> Result<Image<Global>, S
 
 /// The files of a database, unless `.pag` would be above `PAG_LIMIT`.
 pub fn files_of(alloc: Global, image: &Image<Global>) -> Result<Files, ServeFault>
-    ensures { IfOk result (λ files. AreToWrite image.now (Some files)) }
+    ensures ok { IfOk result (λ files. AreToWrite image.now (Some files)) }
+    ensures fault { IfErr result (Fails ⊥ Never Never (IsLong image.now)) }
 {
     if image.pag_len() > PAG_LIMIT {
         return Err(ServeFault::FileTooLong);
@@ -57,7 +60,8 @@ pub fn files_of(alloc: Global, image: &Image<Global>) -> Result<Files, ServeFaul
 
 // The bytes of both files of a database.
 fn write_files(alloc: Global, image: &Image<Global>) -> Result<Files, ServeFault>
-    ensures { IfOk result (λ files. IsWritten image.now [] files.dir.bytes [] files.pag.bytes) }
+    ensures ok { IfOk result (λ files. IsWritten image.now [] files.dir.bytes [] files.pag.bytes) }
+    ensures fault { IfErr result (Fails ⊥ Never Never ⊥) }
 {
     let mut dir = MemSink::new(alloc);
     let mut pag = MemSink::new(alloc);

@@ -1,4 +1,7 @@
 //! Why a wish was not served.
+ghost use Rattle.std.specs.Prelude.{◌≡◌};
+ghost use Rattle.dbm_tool.specs.declared.fault.ServeFault.TheVariants.{NoMemory, Open, Script};
+
 use crate::script::ScriptFault;
 use bpf_asm::AsmFault;
 use bpf_insn::DecodeFault;
@@ -49,30 +52,40 @@ impl fmt::Display for ServeFault {
 }
 
 impl From<AllocError> for ServeFault {
+    ghost from_gives = { λ _ fault. fault ≡ NoMemory };
+
     fn from(_error: AllocError) -> ServeFault {
         ServeFault::NoMemory
     }
 }
 
 impl<T: Drop> From<AllocFailed<T>> for ServeFault {
+    ghost from_gives = { λ _ fault. fault ≡ NoMemory };
+
     fn from(_error: AllocFailed<T>) -> ServeFault {
         ServeFault::NoMemory
     }
 }
 
 impl From<OpenFault> for ServeFault {
+    ghost from_gives = { λ reason fault. fault ≡ Open reason };
+
     fn from(fault: OpenFault) -> ServeFault {
         ServeFault::Open(fault)
     }
 }
 
 impl From<ScriptFault> for ServeFault {
+    ghost from_gives = { λ reason fault. fault ≡ Script reason };
+
     fn from(fault: ScriptFault) -> ServeFault {
         ServeFault::Script(fault)
     }
 }
 
 impl From<WriteFault> for ServeFault {
+    ghost from_gives = { λ _ fault. fault ≡ NoMemory };
+
     // A sink in memory fails only where no memory is left.
     fn from(_fault: WriteFault) -> ServeFault {
         ServeFault::NoMemory

@@ -1,6 +1,7 @@
 //! Programs as text and as images, from and to files.
-ghost use Rattle.std.specs.Prelude.{IfOk};
+ghost use Rattle.std.specs.Prelude.{IfOk, IfErr};
 ghost use Rattle.dbm_tool.specs.Served.{IsAssembled, IsDisassembled};
+ghost use Rattle.dbm_tool.specs.Failing.{IsNoImage, IsNoProgram, Never};
 
 use crate::fault::ServeFault;
 use bpf_asm::{FaultKind, assemble, disassemble};
@@ -9,7 +10,8 @@ use std::alloc::Global;
 
 /// The image of a program's text, in hex, in a line.
 pub fn assemble_file(alloc: Global, file: &[u8]) -> Result<Vec<u8>, ServeFault>
-    ensures { IfOk result (λ line. IsAssembled file.now line.items) }
+    ensures ok { IfOk result (λ line. IsAssembled file.now line.items) }
+    ensures fault { IfErr result (IsNoProgram Never file.now) }
 {
     let Ok(text) = str::from_utf8(file) else {
         return Err(ServeFault::NotText);
@@ -27,7 +29,8 @@ pub fn assemble_file(alloc: Global, file: &[u8]) -> Result<Vec<u8>, ServeFault>
 
 /// The text of a program's image.
 pub fn disassemble_file(alloc: Global, file: &[u8]) -> Result<Vec<u8>, ServeFault>
-    ensures { IfOk result (λ text. IsDisassembled file.now text.items) }
+    ensures ok { IfOk result (λ text. IsDisassembled file.now text.items) }
+    ensures fault { IfErr result (IsNoImage Never file.now) }
 {
     let code = match decode(alloc, file) {
         Ok(code) => code,

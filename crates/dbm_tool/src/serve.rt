@@ -1,9 +1,10 @@
 //! What each subcommand does with the bytes of its files.
-ghost use Rattle.std.specs.Prelude.{◌≡◌, IfOk, IfSome, IsNone, Some, None};
+ghost use Rattle.std.specs.Prelude.{◌≡◌, false, IfOk, IfErr, IfSome, IsNone, Some, None};
 ghost use Rattle.dbm_tool.specs.Lines.{bytes_of};
 ghost use Rattle.dbm_tool.specs.Commands.{fetch_of, store_of, delete_of};
 ghost use Rattle.dbm_tool.specs.declared.command_line.wish.Wish.TheVariants as wish;
-ghost use Rattle.dbm_tool.specs.Served.{Serves, Looks, Changes, Lists, Counts, PlaysAlone, PlaysOn, Widens, PrintsSome, IsAssembled, IsDisassembled, mode_of};
+ghost use Rattle.dbm_tool.specs.Served.{Serves, Looks, Changes, Lists, Counts, PlaysAlone, PlaysOn, Widens, PrintsSome, IsAssembled, IsDisassembled, mode_of, reads_input};
+ghost use Rattle.dbm_tool.specs.Failing.{Fails, FailsAlone, FailsCommand, FailsScript, FailsShown, FailsWiden, IsNoImage, IsNoProgram, IsTooLong, IsUnwritten, Never, Refuses};
 
 use crate::answer::answer_one;
 use crate::command_line::{Form, Wish};
@@ -71,6 +72,8 @@ pub fn serve<R: Read, W: Write>(
     writer: &mut W,
 ) -> Outcome
     ensures served { IsNone result.err → Serves wish.entry given.now (R.remaining reader.old) (W.contents writer.old) (W.contents writer.new) result.status result.files }
+    ensures unread { reads_input wish.entry ≡ false → R.remaining reader.new ≡ R.remaining reader.old }
+    ensures fault { IfSome result.err (Refuses wish.entry given.now (R.remaining reader.old) (W.contents writer.old) (W.contents writer.new)) }
     ensures status { IfSome result.err (λ _. result.status ≡ 2) }
     ensures none { IfSome result.err (λ _. result.files ≡ None) }
 {
@@ -96,7 +99,9 @@ fn serve_wish<R: Read, W: Write>(
     reader: &mut R,
     writer: &mut W,
 ) -> Result<Served, ServeFault>
-    ensures { IfOk result (λ served. Serves wish.entry given.now (R.remaining reader.old) (W.contents writer.old) (W.contents writer.new) served.status served.files) }
+    ensures ok { IfOk result (λ served. Serves wish.entry given.now (R.remaining reader.old) (W.contents writer.old) (W.contents writer.new) served.status served.files) }
+    ensures unread { reads_input wish.entry ≡ false → R.remaining reader.new ≡ R.remaining reader.old }
+    ensures fault { IfErr result (Refuses wish.entry given.now (R.remaining reader.old) (W.contents writer.old) (W.contents writer.new)) }
 {
     match wish {
         Wish::Fetch { form, key, .. } => fetch(alloc, given, form, key, writer),
@@ -125,7 +130,8 @@ fn fetch<W: Write>(
     key: &str,
     writer: &mut W,
 ) -> Result<Served, ServeFault>
-    ensures { IfOk result (λ served. Looks form given.now (fetch_of (bytes_of key.now)) (W.contents writer.old) (W.contents writer.new) served.status served.files) }
+    ensures ok { IfOk result (λ served. Looks form given.now (fetch_of (bytes_of key.now)) (W.contents writer.old) (W.contents writer.new) served.status served.files) }
+    ensures fault { IfErr result (FailsCommand form given.now (fetch_of (bytes_of key.now)) ⊥) }
 {
     let key = word_bytes(alloc, key)?;
     let image = open(alloc, given, form)?;
@@ -143,7 +149,8 @@ fn store<W: Write>(
     insert: bool,
     writer: &mut W,
 ) -> Result<Served, ServeFault>
-    ensures { IfOk result (λ served. Changes form given.now (store_of (bytes_of key.now) (bytes_of value.now) (mode_of insert)) (W.contents writer.old) (W.contents writer.new) served.status served.files) }
+    ensures ok { IfOk result (λ served. Changes form given.now (store_of (bytes_of key.now) (bytes_of value.now) (mode_of insert)) (W.contents writer.old) (W.contents writer.new) served.status served.files) }
+    ensures fault { IfErr result (FailsCommand form given.now (store_of (bytes_of key.now) (bytes_of value.now) (mode_of insert)) (IsTooLong form given.now (store_of (bytes_of key.now) (bytes_of value.now) (mode_of insert)) (W.contents writer.old) (W.contents writer.new))) }
 {
     let key = word_bytes(alloc, key)?;
     let value = word_bytes(alloc, value)?;
@@ -165,7 +172,8 @@ fn delete<W: Write>(
     key: &str,
     writer: &mut W,
 ) -> Result<Served, ServeFault>
-    ensures { IfOk result (λ served. Changes form given.now (delete_of (bytes_of key.now)) (W.contents writer.old) (W.contents writer.new) served.status served.files) }
+    ensures ok { IfOk result (λ served. Changes form given.now (delete_of (bytes_of key.now)) (W.contents writer.old) (W.contents writer.new) served.status served.files) }
+    ensures fault { IfErr result (FailsCommand form given.now (delete_of (bytes_of key.now)) (IsTooLong form given.now (delete_of (bytes_of key.now)) (W.contents writer.old) (W.contents writer.new))) }
 {
     let key = word_bytes(alloc, key)?;
     change(alloc, given, form, Command::Delete { key }, writer)
@@ -179,7 +187,8 @@ fn change<W: Write>(
     command: Command<Global>,
     writer: &mut W,
 ) -> Result<Served, ServeFault>
-    ensures { IfOk result (λ served. Changes form given.now (Some command) (W.contents writer.old) (W.contents writer.new) served.status served.files) }
+    ensures ok { IfOk result (λ served. Changes form given.now (Some command) (W.contents writer.old) (W.contents writer.new) served.status served.files) }
+    ensures fault { IfErr result (FailsCommand form given.now (Some command) (IsTooLong form given.now (Some command) (W.contents writer.old) (W.contents writer.new))) }
 {
     let image = open(alloc, given, form)?;
     let (image, status) = answer_one(alloc, image, command, writer)?;
@@ -196,7 +205,8 @@ fn list<W: Write>(
     form: Form,
     writer: &mut W,
 ) -> Result<Served, ServeFault>
-    ensures { IfOk result (λ served. Lists form given.now (W.contents writer.old) (W.contents writer.new) served.status served.files) }
+    ensures ok { IfOk result (λ served. Lists form given.now (W.contents writer.old) (W.contents writer.new) served.status served.files) }
+    ensures fault { IfErr result (FailsShown form given.now) }
 {
     let image = open(alloc, given, form)?;
     let pairs = image.pairs()?;
@@ -212,7 +222,8 @@ fn check<W: Write>(
     form: Form,
     writer: &mut W,
 ) -> Result<Served, ServeFault>
-    ensures { IfOk result (λ served. Counts form given.now (W.contents writer.old) (W.contents writer.new) served.status served.files) }
+    ensures ok { IfOk result (λ served. Counts form given.now (W.contents writer.old) (W.contents writer.new) served.status served.files) }
+    ensures fault { IfErr result (FailsShown form given.now) }
 {
     let image = open(alloc, given, form)?;
     let text = show_ok(alloc, image.count())?;
@@ -229,7 +240,8 @@ fn play<R: Read, W: Write>(
     reader: &mut R,
     writer: &mut W,
 ) -> Result<Served, ServeFault>
-    ensures { IfOk result (λ served. Serves (wish.Script base.entry form) given.now (R.remaining reader.old) (W.contents writer.old) (W.contents writer.new) served.status served.files) }
+    ensures ok { IfOk result (λ served. Serves (wish.Script base.entry form) given.now (R.remaining reader.old) (W.contents writer.old) (W.contents writer.new) served.status served.files) }
+    ensures fault { IfErr result (Refuses (wish.Script base.entry form) given.now (R.remaining reader.old) (W.contents writer.old) (W.contents writer.new)) }
 {
     match base {
         None => play_alone(alloc, form, reader, writer),
@@ -244,7 +256,8 @@ fn play_alone<R: Read, W: Write>(
     reader: &mut R,
     writer: &mut W,
 ) -> Result<Served, ServeFault>
-    ensures { IfOk result (λ served. PlaysAlone form (R.remaining reader.old) (W.contents writer.old) (W.contents writer.new) served.status served.files) }
+    ensures ok { IfOk result (λ served. PlaysAlone form (R.remaining reader.old) (W.contents writer.old) (W.contents writer.new) served.status served.files) }
+    ensures fault { IfErr result (FailsAlone (R.remaining reader.old)) }
 {
     let image = Image::empty(alloc, kind_of(form), size_of(form));
     let _image = run_script(alloc, reader, writer, image)?;
@@ -259,7 +272,8 @@ fn play_on<R: Read, W: Write>(
     reader: &mut R,
     writer: &mut W,
 ) -> Result<Served, ServeFault>
-    ensures { IfOk result (λ served. PlaysOn form given.now (R.remaining reader.old) (W.contents writer.old) (W.contents writer.new) served.status served.files) }
+    ensures ok { IfOk result (λ served. PlaysOn form given.now (R.remaining reader.old) (W.contents writer.old) (W.contents writer.new) served.status served.files) }
+    ensures fault { IfErr result (FailsScript form given.now (R.remaining reader.old) (W.contents writer.old) (W.contents writer.new)) }
 {
     let image = open(alloc, given, form)?;
     let image = run_script(alloc, reader, writer, image)?;
@@ -276,7 +290,8 @@ fn widen_files<W: Write>(
     unsigned: bool,
     writer: &mut W,
 ) -> Result<Served, ServeFault>
-    ensures { IfOk result (λ served. Widens unsigned given.now (W.contents writer.old) (W.contents writer.new) served.status served.files) }
+    ensures ok { IfOk result (λ served. Widens unsigned given.now (W.contents writer.old) (W.contents writer.new) served.status served.files) }
+    ensures fault { IfErr result (FailsWiden unsigned given.now (W.contents writer.old) (W.contents writer.new)) }
 {
     let form = Form {
         unsigned,
@@ -296,7 +311,8 @@ fn widen_files<W: Write>(
 
 // The image of a program's text.
 fn asm<W: Write>(alloc: Global, given: &Given, writer: &mut W) -> Result<Served, ServeFault>
-    ensures { IfOk result (λ served. PrintsSome (IsAssembled given.now.file.items) (W.contents writer.old) (W.contents writer.new) served.status served.files) }
+    ensures ok { IfOk result (λ served. PrintsSome (IsAssembled given.now.file.items) (W.contents writer.old) (W.contents writer.new) served.status served.files) }
+    ensures fault { IfErr result (IsNoProgram IsUnwritten given.now.file.items) }
 {
     let line = assemble_file(alloc, given.file.as_slice())?;
     write_all(writer, line.as_slice())?;
@@ -305,7 +321,8 @@ fn asm<W: Write>(alloc: Global, given: &Given, writer: &mut W) -> Result<Served,
 
 // The text of a program's image.
 fn disasm<W: Write>(alloc: Global, given: &Given, writer: &mut W) -> Result<Served, ServeFault>
-    ensures { IfOk result (λ served. PrintsSome (IsDisassembled given.now.file.items) (W.contents writer.old) (W.contents writer.new) served.status served.files) }
+    ensures ok { IfOk result (λ served. PrintsSome (IsDisassembled given.now.file.items) (W.contents writer.old) (W.contents writer.new) served.status served.files) }
+    ensures fault { IfErr result (IsNoImage IsUnwritten given.now.file.items) }
 {
     let text = disassemble_file(alloc, given.file.as_slice())?;
     write_all(writer, text.as_slice())?;
@@ -325,7 +342,8 @@ fn printed(status: u8) -> Served
 
 // The bytes that a word of the command line means.
 fn word_bytes(alloc: Global, word: &str) -> Result<Bytes<Global>, ServeFault>
-    ensures { IfOk result (λ bytes. bytes_of word.now ≡ Some bytes) }
+    ensures ok { IfOk result (λ bytes. bytes_of word.now ≡ Some bytes) }
+    ensures fault { IfErr result (Fails (bytes_of word.now ≡ None) Never Never ⊥) }
 {
     match read_bytes(alloc, word.as_bytes())? {
         Some(bytes) => Ok(bytes),

@@ -3,8 +3,8 @@ use Rattle.sdbm_addr.specs.Files.{SpellsDatabase}
 use Rattle.sdbm_addr.specs.Database.{Database}
 use Rattle.dbm_tool.proofs.databases.open.Goals as goal
 
-pub returns-in-Ok : goal.returns-in-Ok
-returns-in-Ok c =
+pub returns-in-Ok-clause-ok : goal.returns-in-Ok-clause-ok
+returns-in-Ok-clause-ok c =
     let dir = c.as_slice-dir.ensures.value in
     let pag = c.as_slice-pag.ensures.value in
     record {

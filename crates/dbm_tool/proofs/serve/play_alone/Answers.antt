@@ -5,8 +5,8 @@ use Rattle.sdbm_addr.specs.Database.{Database, empty_database}
 use Rattle.dbm_tool.specs.Served.{Plays}
 use Rattle.dbm_tool.proofs.serve.play_alone.Goals as goal
 
-pub returns : goal.returns
-returns g c =
+pub returns-clause-ok : goal.returns-clause-ok
+returns-clause-ok g c =
     let played = c.in_ok-_image.ensures in
     let empty = c.empty-image.ensures ∙ ap (λ (kind : KeyBytes). empty_database kind c.size_of.result) c.kind_of.ensures
     ∙ ap (empty_database _) c.size_of.ensures in

@@ -1,29 +1,38 @@
 use Rattle.std.proofs.Common.{◌≡◌}
 use Rattle.dbm_tool.proofs.serve.serve_wish.Goals as goal
 
-pub returns-in-Fetch : goal.returns-in-Fetch
-returns-in-Fetch g c = rw (c.in-Fetch.is) c.fetch.ensures
+pub returns-in-Fetch-clause-ok : goal.returns-in-Fetch-clause-ok
+returns-in-Fetch-clause-ok g c = rw (c.in-Fetch.is) c.fetch.ensures.ok
 
-pub returns-in-Store : goal.returns-in-Store
-returns-in-Store g c = rw (c.in-Store.is) c.store.ensures
+pub returns-in-Store-clause-ok : goal.returns-in-Store-clause-ok
+returns-in-Store-clause-ok g c = rw (c.in-Store.is) c.store.ensures.ok
 
-pub returns-in-Delete : goal.returns-in-Delete
-returns-in-Delete g c = rw (c.in-Delete.is) c.delete.ensures
+pub returns-in-Delete-clause-ok : goal.returns-in-Delete-clause-ok
+returns-in-Delete-clause-ok g c = rw (c.in-Delete.is) c.delete.ensures.ok
 
-pub returns-in-List : goal.returns-in-List
-returns-in-List g c = rw (c.in-List.is) c.list.ensures
+pub returns-in-List-clause-ok : goal.returns-in-List-clause-ok
+returns-in-List-clause-ok g c = rw (c.in-List.is) c.list.ensures.ok
 
-pub returns-in-Check : goal.returns-in-Check
-returns-in-Check g c = rw (c.in-Check.is) c.check.ensures
+pub returns-in-Check-clause-ok : goal.returns-in-Check-clause-ok
+returns-in-Check-clause-ok g c = rw (c.in-Check.is) c.check.ensures.ok
 
-pub returns-in-Script : goal.returns-in-Script
-returns-in-Script g c = rw (c.in-Script.is) c.play.ensures
+pub returns-in-Script-clause-ok : goal.returns-in-Script-clause-ok
+returns-in-Script-clause-ok g c = rw (c.in-Script.is) c.play.ensures.ok
 
-pub returns-in-Widen : goal.returns-in-Widen
-returns-in-Widen g c = rw (c.in-Widen.is) c.widen_files.ensures
+pub returns-in-Widen-clause-ok : goal.returns-in-Widen-clause-ok
+returns-in-Widen-clause-ok g c = rw (c.in-Widen.is) c.widen_files.ensures.ok
 
-pub returns-in-Asm : goal.returns-in-Asm
-returns-in-Asm g c = rw (c.in-Asm.is) c.asm.ensures
+pub returns-in-Asm-clause-ok : goal.returns-in-Asm-clause-ok
+returns-in-Asm-clause-ok g c = rw (c.in-Asm.is) c.asm.ensures.ok
 
-pub returns-in-Disasm : goal.returns-in-Disasm
-returns-in-Disasm g c = rw (c.in-Disasm.is) c.disasm.ensures
+pub returns-in-Disasm-clause-ok : goal.returns-in-Disasm-clause-ok
+returns-in-Disasm-clause-ok g c = rw (c.in-Disasm.is) c.disasm.ensures.ok
+
+pub returns-in-List-clause-fault : goal.returns-in-List-clause-fault
+returns-in-List-clause-fault g c = rw (c.in-List.is) c.list.ensures.fault
+
+pub returns-in-Check-clause-fault : goal.returns-in-Check-clause-fault
+returns-in-Check-clause-fault g c = rw (c.in-Check.is) c.check.ensures.fault
+
+pub returns-in-Widen-clause-fault : goal.returns-in-Widen-clause-fault
+returns-in-Widen-clause-fault g c = rw (c.in-Widen.is) c.widen_files.ensures.fault

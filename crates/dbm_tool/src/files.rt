@@ -3,9 +3,10 @@ use crate::command_line::Wish;
 use crate::fault::ServeFault;
 use crate::serve::{Files as Written, Given, PAG_LIMIT};
 use std::alloc::Global;
-use std::fs;
-use std::io::{ErrorKind, Read};
+use std::fs::OpenFile;
+use std::io::{ErrorKind, Read, Write};
 use std::rt::Files;
+use std::{fs, io};
 
 /// A `.dir` file of the program has at most this many bytes.
 const DIR_LIMIT: u64 = 268_435_456;
@@ -56,29 +57,60 @@ fn read_file<R: Files + AllocGlobal>(
     Ok(bytes)
 }
 
-/// Writes both files of a database, each first whole under another name beside it. Then `.pag` takes its name, and `.dir` last. Until
-/// then the files are as they were.
+/// Writes both files of a database, each first whole under another name beside it, with the permissions of the file that is there. Then
+/// `.pag` takes its name, and `.dir` last. Where a link has the name, the file to which it leads is written.
+///
+/// # Errors
+/// `WriteFile`. Until `.pag` has taken its name the files are as they were, and the new ones are taken away. From then on the new
+/// `.dir` is kept: renaming BASE.dir.new to BASE.dir by hand makes the database whole.
 pub fn write_files<R: Files + AllocGlobal>(
     rt: &R,
     base: &str,
     files: &Written,
 ) -> Result<(), ServeFault> {
     let alloc = rt.alloc();
-    let pag = path(alloc, base, "pag")?;
-    let dir = path(alloc, base, "dir")?;
-    let new_pag = path(alloc, base, "pag.new")?;
-    let new_dir = path(alloc, base, "dir.new")?;
-    let is_written = fs::write(rt, new_pag.as_str(), files.pag.bytes()).is_ok()
-        && fs::write(rt, new_dir.as_str(), files.dir.bytes()).is_ok()
-        && fs::rename(rt, new_pag.as_str(), pag.as_str()).is_ok()
-        && fs::rename(rt, new_dir.as_str(), dir.as_str()).is_ok();
-    if is_written {
-        return Ok(());
+    let pag = place(rt, base, "pag")?;
+    let dir = place(rt, base, "dir")?;
+    let new_pag = path(alloc, pag.as_str(), "new")?;
+    let new_dir = path(alloc, dir.as_str(), "new")?;
+    let is_pag_new = write_beside(rt, pag.as_str(), new_pag.as_str(), files.pag.bytes()).is_ok()
+        && write_beside(rt, dir.as_str(), new_dir.as_str(), files.dir.bytes()).is_ok()
+        && fs::rename(rt, new_pag.as_str(), pag.as_str()).is_ok();
+    if !is_pag_new {
+        // What is left under the other names is of no use; that it may not go away changes nothing.
+        let _ = fs::remove_file(rt, new_pag.as_str());
+        let _ = fs::remove_file(rt, new_dir.as_str());
+        return Err(ServeFault::WriteFile);
     }
-    // What is left under the other names is of no use; that it may not go away changes nothing.
-    let _ = fs::remove_file(rt, new_pag.as_str());
-    let _ = fs::remove_file(rt, new_dir.as_str());
-    Err(ServeFault::WriteFile)
+    match fs::rename(rt, new_dir.as_str(), dir.as_str()) {
+        Ok(()) => Ok(()),
+        Err(_) => Err(ServeFault::WriteFile),
+    }
+}
+
+// Writes a file under a new name, which has the permissions of the old file before it has a byte.
+fn write_beside<R: Files>(rt: &R, old: &str, new: &str, bytes: &[u8]) -> io::Result<()> {
+    let mut file = fs::create(rt, new)?;
+    match fs::metadata(rt, old) {
+        Ok(found) => file.set_permissions(found.permissions())?,
+        Err(error) if error.kind() == ErrorKind::NotFound => (),
+        Err(error) => return Err(error),
+    }
+    file.write_all(bytes)
+}
+
+// Where a file of a database is written: under its name, or where the link leads that has the name.
+fn place<R: Files + AllocGlobal>(rt: &R, base: &str, part: &str) -> Result<String, ServeFault> {
+    let path = path(rt.alloc(), base, part)?;
+    match fs::symlink_metadata(rt, path.as_str()) {
+        Ok(found) if found.is_symlink() => (),
+        _ => return Ok(path),
+    }
+    match fs::canonicalize(rt, path.as_str()) {
+        Ok(real) => Ok(real.into_string()),
+        Err(error) if error.kind() == ErrorKind::OutOfMemory => Err(ServeFault::NoMemory),
+        Err(_) => Err(ServeFault::WriteFile),
+    }
 }
 
 // The name of a file of a database.

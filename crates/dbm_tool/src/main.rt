@@ -22,6 +22,7 @@ mod words;
 use command_line::{ToolFault, Wish, read_words};
 use fault::ServeFault;
 use files::{read_given, write_files};
+use script::ScriptFault;
 use serve::{FAULT, serve};
 use std::io::ErrorKind;
 use std::process::ExitCode;
@@ -55,7 +56,7 @@ fn run<R: Runtime + AllocGlobal>(rt: &R) -> Result<u8, ServeFault> {
     }
     match read_words(alloc, words.as_slice()) {
         Ok(wish) => serve_files(rt, wish),
-        Err(fault) => Ok(print_refusal(rt, &fault)),
+        Err(fault) => print_refusal(rt, &fault),
     }
 }
 
@@ -78,16 +79,17 @@ fn serve_files<R: Runtime + AllocGlobal>(rt: &R, wish: Wish<'_>) -> Result<u8, S
     Ok(outcome.status)
 }
 
-// Prints why the words ask nothing, or the help or the version that they ask for.
-fn print_refusal<R: Runtime>(rt: &R, fault: &ToolFault) -> u8 {
+// Prints why the words ask nothing, or the help or the version that they ask for, and gives the status.
+fn print_refusal<R: Runtime>(rt: &R, fault: &ToolFault) -> Result<u8, ServeFault> {
     match fault {
-        ToolFault::Refused(error) => match error.print(rt) {
-            Ok(()) => error.exit_code() as u8,
-            Err(_) => FAULT,
-        },
+        ToolFault::Refused(error) => {
+            if error.print(rt).is_err() {
+                return Err(ServeFault::Script(ScriptFault::Write));
+            }
+        }
         ToolFault::NoMemory | ToolFault::NoWord => {
             let _ = eprintln!(rt; "dbm: {fault}");
-            FAULT
         }
     }
+    Ok(if fault.is_answer() { 0 } else { FAULT })
 }

@@ -35,7 +35,9 @@ fn bare_command<'a>(alloc: Global) -> Result<Command<'a>, AllocError>
         .version("0.1.0")
         .about("A key-value store in the files of an sdbm database")
         .after_help(
-            "Bytes are written in hex, two digits a byte, or as . for none.\n\n\
+            "Bytes are written in hex, two digits a byte, or as . for none.\n\
+             The status is 0, or 1 where the answer of fetch, store or delete is that nothing was found or\n\
+             changed, or 2 for a fault, which standard error names.\n\n\
              Example: dbm store users 6162 78797a\n\
              stores the value xyz of the key ab in users.dir and users.pag.",
         )
@@ -90,7 +92,8 @@ fn store_command<'a>(alloc: Global) -> Result<Command<'a>, AllocError>
     ]?;
     let about = "Store a pair, in place of the key's old value";
     let notes =
-        "Prints stored, or with status 1 exists (only with --insert) or crowded (there is no room).\n\n\
+        "Prints stored, or with status 1 exists (only with --insert), crowded (there is no room) or\n\
+         refused PairTooLarge (key and value are too long together for a page).\n\n\
          Example: dbm store users 6162 78797a --insert";
     subcommand(alloc, "store", about, notes, args)
 }
@@ -109,7 +112,8 @@ fn list_command<'a>(alloc: Global) -> Result<Command<'a>, AllocError>
 {
     let args = vec![in alloc; base(alloc), unsigned(alloc), wide(alloc)]?;
     let about = "Print all pairs, sorted by the bytes of their keys";
-    let notes = "Prints KEY VALUE for each pair.\n\nExample: dbm list users";
+    let notes = "Prints KEY VALUE for each pair, both in hex, or . for no bytes.\n\n\
+         Example: dbm list users";
     subcommand(alloc, "list", about, notes, args)
 }
 
@@ -118,7 +122,10 @@ fn check_command<'a>(alloc: Global) -> Result<Command<'a>, AllocError>
 {
     let args = vec![in alloc; base(alloc), unsigned(alloc), wide(alloc)]?;
     let about = "Check that the files are a database";
-    let notes = "Prints ok N for a database of N pairs.\n\nExample: dbm check users";
+    let notes =
+        "Prints ok N for a database of N pairs. Where the files are none, standard error names\n\
+         the fault, and the status is 2.\n\n\
+         Example: dbm check users";
     subcommand(alloc, "check", about, notes, args)
 }
 
@@ -134,7 +141,8 @@ fn script_command<'a>(alloc: Global) -> Result<Command<'a>, AllocError>
     let about = "Run the commands on standard input, a line each";
     let notes =
         "The lines are fetch KEY, insert KEY VALUE, replace KEY VALUE, delete KEY and count. Prints a line\n\
-         of answer to each.\n\n\
+         of answer to each, bad line to any other that is not empty. All lines together have at most\n\
+         16 MiB.\n\n\
          Example: dbm script --base users < first.script";
     subcommand(alloc, "script", about, notes, args)
 }
@@ -154,7 +162,7 @@ fn asm_command<'a>(alloc: Global) -> Result<Command<'a>, AllocError>
 {
     let args = vec![in alloc; file(alloc, "The program as text, one instruction a line")]?;
     let about = "Print the image of a program's text, in hex";
-    let notes = "Prints one line, two digits a byte.\n\nExample: dbm asm counter.bpf";
+    let notes = "Prints one line, two digits a byte.\n\nExample: dbm asm counter.s";
     subcommand(alloc, "asm", about, notes, args)
 }
 
@@ -163,6 +171,9 @@ fn disasm_command<'a>(alloc: Global) -> Result<Command<'a>, AllocError>
 {
     let args = vec![in alloc; file(alloc, "The program as the bytes of its image")]?;
     let about = "Print the text of a program's image";
-    let notes = "Prints one instruction a line.\n\nExample: dbm disasm counter.image";
+    let notes =
+        "Prints one instruction a line. The bytes of an image come from the hex that asm prints so:\n\
+         dbm asm counter.s | xxd -r -p > counter.image\n\n\
+         Example: dbm disasm counter.image";
     subcommand(alloc, "disasm", about, notes, args)
 }

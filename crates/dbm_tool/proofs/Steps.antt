@@ -40,13 +40,13 @@ pub command_line_fault : (form : Form) (given : Given) (asked : Option (Command 
     → asked ≢ None → Opens form given → Fails ⊥ Never IsUnwritten ⊥ fault → FailsCommand form given asked long fault
 command_line_fault form given asked long fault some opens h =
     late_fault (asked ≡ None) (λ reason. (asked ≢ None) × IsShut form given reason) (λ reason. (asked ≢ None) × (Opens form given × IsUnwritten reason))
-      IsUnwritten long ⊥ fault (λ reason cut. (some, (opens, cut))) (λ never. absurd never) h
+    IsUnwritten long ⊥ fault (λ reason cut. (some, (opens, cut))) (λ never. absurd never) h
 
 pub command_files_fault : (form : Form) (given : Given) (asked : Option (Command Global)) (long l : Type 0) (fault : ServeFault)
     → (l → long) → Fails ⊥ Never Never l fault → FailsCommand form given asked long fault
 command_files_fault form given asked long l fault more h =
     late_fault (asked ≡ None) (λ reason. (asked ≢ None) × IsShut form given reason) (λ reason. (asked ≢ None) × (Opens form given × IsUnwritten reason))
-      Never long l fault (none_of_never _) more h
+    Never long l fault (none_of_never _) more h
 
 pub script_files_fault : (form : Form) (given : Given) (input old new : Option (List ℕ)) (l : Type 0) (fault : ServeFault)
     → (l → IsScriptLong form given input old new) → Fails ⊥ Never Never l fault → FailsScript form given input old new fault
@@ -57,7 +57,7 @@ pub widen_files_fault : (unsigned : Bool) (given : Given) (old new : Option (Lis
     → (l → IsWidenedLong unsigned given old new) → Fails ⊥ Never Never l fault → FailsWiden unsigned given old new fault
 widen_files_fault unsigned given old new l fault more h =
     late_fault ⊥ (IsShut (record { unsigned = unsigned; wide = false }) given) (λ reason. Opens (record { unsigned = unsigned; wide = false }) given × IsUnwritten reason)
-      Never (IsWidenedLong unsigned given old new) l fault (none_of_never _) more h
+    Never (IsWidenedLong unsigned given old new) l fault (none_of_never _) more h
 
 pub script_fault : (input : Option (List ℕ)) (reason : ScriptFault) → (reason ≡ scripts.TooLong → IfSome input (λ bytes. 16777216 < length bytes))
     → IsScriptFault input reason

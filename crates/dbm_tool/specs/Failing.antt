@@ -137,7 +137,7 @@ abbrev pub Refuses : Wish → Given → Option (List ℕ) → Option (List ℕ) 
 Refuses (wish.Fetch base form key) given input old new fault = FailsCommand form given (fetch_of (bytes_of key.now)) ⊥ fault
 Refuses (wish.Store base form key value insert) given input old new fault =
     FailsCommand form given (store_of (bytes_of key.now) (bytes_of value.now) (mode_of insert))
-      (IsTooLong form given (store_of (bytes_of key.now) (bytes_of value.now) (mode_of insert)) old new) fault
+    (IsTooLong form given (store_of (bytes_of key.now) (bytes_of value.now) (mode_of insert)) old new) fault
 Refuses (wish.Delete base form key) given input old new fault =
     FailsCommand form given (delete_of (bytes_of key.now)) (IsTooLong form given (delete_of (bytes_of key.now)) old new) fault
 Refuses (wish.List base form) given input old new fault = FailsShown form given fault

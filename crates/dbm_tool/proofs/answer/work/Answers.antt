@@ -1,4 +1,4 @@
-use Rattle.std.proofs.Common.{◌≡◌, ◌++◌, [], List, ℕ, Some, ap, sym, subst, ◌∙◌}
+use Rattle.std.proofs.Common.{◌≡◌, ◌++◌, List, ℕ, Some, ap, sym, subst, ◌∙◌}
 use Rattle.sdbm_addr.specs.Database.{Database}
 use Rattle.desk_core.specs.Desk.{state_of}
 use Rattle.dbm_tool.specs.Script.{Asks}

@@ -1,6 +1,4 @@
-use Rattle.std.proofs.Common.{◌≡◌, List, ℕ, sym, subst, ◌∙◌}
-use Rattle.sdbm_addr.specs.Files.{SpellsDatabase}
-use Rattle.sdbm_addr.specs.Database.{Database}
+use Rattle.std.proofs.Common.{sym, ◌∙◌}
 use Rattle.dbm_tool.proofs.databases.open.Goals as goal
 
 pub returns-in-Ok-clause-ok : goal.returns-in-Ok-clause-ok

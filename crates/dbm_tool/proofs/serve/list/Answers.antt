@@ -1,6 +1,6 @@
 use Rattle.dbm_tool.specs.Failing.{FailsShown}
 use Rattle.dbm_tool.proofs.Steps.{as_err}
-use Rattle.std.proofs.Common.{◌≡◌, ap, sym, ◌∙◌}
+use Rattle.std.proofs.Common.{ap, sym, ◌∙◌}
 use Rattle.dbm_tool.specs.Serving.{listed}
 use Rattle.dbm_tool.proofs.serve.list.Goals as goal
 
@@ -21,4 +21,4 @@ returns-clause-ok g c =
 pub returns-in_err-write_all-clause-fault : goal.returns-in_err-write_all-clause-fault
 returns-in_err-write_all-clause-fault g c =
     as_err (FailsShown c.args.form c.args.given.now) _ c.from_residual-in_err-write_all.ensures.1
-      ((_, c.in_ok-image.ensures.ok), c.in_err-write_all.ensures.fault)
+    ((_, c.in_ok-image.ensures.ok), c.in_err-write_all.ensures.fault)

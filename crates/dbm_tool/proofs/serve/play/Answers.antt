@@ -1,4 +1,3 @@
-use Rattle.std.proofs.Common.{◌≡◌}
 use Rattle.dbm_tool.proofs.serve.play.Goals as goal
 
 pub returns-in-None-clause-ok : goal.returns-in-None-clause-ok

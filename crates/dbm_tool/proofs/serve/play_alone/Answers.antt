@@ -1,6 +1,5 @@
-use Rattle.std.proofs.Common.{◌≡◌, subst, ap, ◌∙◌}
+use Rattle.std.proofs.Common.{subst, ap, ◌∙◌}
 use Rattle.sdbm_addr.specs.declared.KeyBytes.{KeyBytes}
-use Rattle.sdbm_addr.specs.declared.PageSize.{PageSize}
 use Rattle.sdbm_addr.specs.Database.{Database, empty_database}
 use Rattle.dbm_tool.specs.Served.{Plays}
 use Rattle.dbm_tool.proofs.serve.play_alone.Goals as goal

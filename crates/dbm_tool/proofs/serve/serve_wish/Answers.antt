@@ -1,4 +1,3 @@
-use Rattle.std.proofs.Common.{◌≡◌}
 use Rattle.dbm_tool.proofs.serve.serve_wish.Goals as goal
 
 pub returns-in-Fetch-clause-ok : goal.returns-in-Fetch-clause-ok

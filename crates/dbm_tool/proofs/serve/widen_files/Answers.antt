@@ -1,8 +1,7 @@
 use Rattle.dbm_tool.specs.Failing.{FailsWiden, IsLong}
 use Rattle.dbm_tool.proofs.Steps.{as_err, widen_files_fault}
-use Rattle.std.proofs.Common.{◌≡◌, ℕ, List, Some, refl, ap, ◌∙◌, subst, sym}
+use Rattle.std.proofs.Common.{Some, refl, ap, ◌∙◌, subst, sym}
 use Rattle.std.specs.FinMap as map
-use Rattle.std.specs.Io.KnownBytes.{Appends}
 use Rattle.sdbm_addr.specs.Database.{Database, map_of}
 use Rattle.dbm_tool.specs.Served.{AreToWrite, ok_line}
 use Rattle.dbm_tool.proofs.serve.widen_files.Goals as goal
@@ -22,17 +21,17 @@ returns-clause-ok g c =
 pub returns-in_err-write_all-clause-fault : goal.returns-in_err-write_all-clause-fault
 returns-in_err-write_all-clause-fault g c =
     as_err (FailsWiden c.args.unsigned c.args.given.now _ _) _ c.from_residual-in_err-write_all.ensures.1
-      ((_, c.in_ok-image.ensures.ok), c.in_err-write_all.ensures.fault)
+    ((_, c.in_ok-image.ensures.ok), c.in_err-write_all.ensures.fault)
 
 pub returns-in_err-files_of-clause-fault : goal.returns-in_err-files_of-clause-fault
 returns-in_err-files_of-clause-fault g c =
     let wide = c.in-Ok.ensures.ok in
     let text = c.as_slice.ensures.value ∙ c.in_ok-text.ensures ∙ ap ok_line (c.count.ensures ∙ ap (λ (db : Database). map.len (map_of db)) wide) in
     as_err (FailsWiden c.args.unsigned c.args.given.now _ _) _ c.from_residual-in_err-files_of.ensures.1
-      (widen_files_fault c.args.unsigned c.args.given.now (g.W.Write.contents c.args.writer.now) (g.W.Write.contents c.write_all.new.writer) _ _
-        (λ long. record {
-          db = _;
-          opened = c.in_ok-image.ensures.ok;
-          printed = rw (sym text) c.in_ok-write_all.ensures.ok;
-          long = subst IsLong wide long;
-        }) c.in_err-files_of.ensures.fault)
+    (widen_files_fault c.args.unsigned c.args.given.now (g.W.Write.contents c.args.writer.now) (g.W.Write.contents c.write_all.new.writer) _ _
+    (λ long. record {
+      db = _;
+      opened = c.in_ok-image.ensures.ok;
+      printed = rw (sym text) c.in_ok-write_all.ensures.ok;
+      long = subst IsLong wide long;
+    }) c.in_err-files_of.ensures.fault)

@@ -52,13 +52,16 @@ asm = subcommand (codes "asm") (required_word (codes "FILE") ∷ [])
 abbrev pub disasm : Shape
 disasm = subcommand (codes "disasm") (required_word (codes "FILE") ∷ [])
 
+-- the program's name, with a version
+abbrev pub titled : Shape
+titled = record (new_shape (codes "dbm")) { has_version = true }
+
 -- the program without its subcommands: the words do not begin with its name, and no words at all are answered with help
 abbrev pub bare : Shape
-bare = record (new_shape (codes "dbm")) {
+bare = record titled {
   no_binary_name = true;
   subcommand_required = true;
   arg_required_else_help = true;
-  has_version = true;
 }
 
 -- the program

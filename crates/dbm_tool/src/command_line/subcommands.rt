@@ -27,9 +27,9 @@ pub fn tool_command<'a>(alloc: Global) -> Result<Command<'a>, AllocError>
         .subcommand(disasm_command(alloc)?)
 }
 
-// The program without its subcommands.
-fn bare_command<'a>(alloc: Global) -> Result<Command<'a>, AllocError>
-    ensures { IfOk result (IsSubcommand spec.bare) }
+// The program's name, version and help.
+fn titled_command<'a>(alloc: Global) -> Command<'a>
+    ensures { IsSubcommand spec.titled result }
 {
     Command::new(alloc, "dbm")
         .version("0.1.0")
@@ -41,6 +41,13 @@ fn bare_command<'a>(alloc: Global) -> Result<Command<'a>, AllocError>
              Example: dbm store users 6162 78797a\n\
              stores the value xyz of the key ab in users.dir and users.pag.",
         )
+}
+
+// The program without its subcommands.
+fn bare_command<'a>(alloc: Global) -> Result<Command<'a>, AllocError>
+    ensures { IfOk result (IsSubcommand spec.bare) }
+{
+    titled_command(alloc)
         .no_binary_name(true)
         .subcommand_required(true)
         .arg_required_else_help(true)

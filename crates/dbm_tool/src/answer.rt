@@ -15,6 +15,9 @@ use std::io::Write;
 use store_cmd::Command;
 
 /// Does a command as session 0 and prints its answer. The database after it, and the status.
+///
+/// # Errors
+/// `Write` where the line could not be written, and `NoMemory`.
 pub fn answer_one<A: Allocator + Copy, W: Write>(
     alloc: A,
     image: Image<A>,

@@ -35,6 +35,9 @@ pub fn size_of(form: Form) -> PageSize
 }
 
 /// The database that the files spell.
+///
+/// # Errors
+/// `Open` with the fault of the files, or for want of memory.
 pub fn open(alloc: Global, given: &Given, form: Form) -> Result<Image<Global>, ServeFault>
     ensures ok { IfOk result (IsOpened form given.now) }
     ensures fault { IfErr result (Fails ⊥ (IsShut form given.now) Never ⊥) }
@@ -47,7 +50,10 @@ pub fn open(alloc: Global, given: &Given, form: Form) -> Result<Image<Global>, S
     }
 }
 
-/// The files of a database, unless `.pag` would be above `PAG_LIMIT`.
+/// The files of a database.
+///
+/// # Errors
+/// `FileTooLong` where `.pag` would be above `PAG_LIMIT`, and `NoMemory`.
 pub fn files_of(alloc: Global, image: &Image<Global>) -> Result<Files, ServeFault>
     ensures ok { IfOk result (λ files. AreToWrite image.now (Some files)) }
     ensures fault { IfErr result (Fails ⊥ Never Never (IsLong image.now)) }

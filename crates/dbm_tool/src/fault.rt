@@ -22,7 +22,7 @@ pub enum ServeFault {
     BadHex,
     /// The files are no database.
     Open(OpenFault),
-    /// The file of a program's text is not UTF-8.
+    /// A word of the command line, or the file of a program's text, is not UTF-8.
     NotText,
     /// The text is no program.
     Assemble(AsmFault),

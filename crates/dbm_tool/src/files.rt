@@ -16,6 +16,9 @@ const FILE_LIMIT: u64 = 1_048_576;
 
 /// The bytes of the files that a wish names: of `.dir`, `.pag` and the program's file, in this order. A file of a database that is
 /// not there has no bytes.
+///
+/// # Errors
+/// The first that is met: `ReadFile`, `FileTooLong` where a file has more bytes than the program takes, and `NoMemory`.
 pub fn read_given<R: Files + AllocGlobal>(rt: &R, wish: &Wish<'_>) -> Result<Given, ServeFault> {
     let alloc = rt.alloc();
     let mut given = Given {

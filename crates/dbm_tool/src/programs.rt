@@ -9,6 +9,9 @@ use bpf_insn::{DecodeFault, decode, encode};
 use std::alloc::Global;
 
 /// The image of a program's text, in hex, in a line.
+///
+/// # Errors
+/// `NotText` where the file is not UTF-8, `Assemble` with the first line at fault, and `NoMemory`.
 pub fn assemble_file(alloc: Global, file: &[u8]) -> Result<Vec<u8>, ServeFault>
     ensures ok { IfOk result (λ line. IsAssembled file.now line.items) }
     ensures fault { IfErr result (IsNoProgram Never file.now) }
@@ -27,7 +30,10 @@ pub fn assemble_file(alloc: Global, file: &[u8]) -> Result<Vec<u8>, ServeFault>
     Ok(line)
 }
 
-/// The text of a program's image.
+/// The text of a program's image, an instruction a line.
+///
+/// # Errors
+/// `Decode` with the first unit at fault, and `NoMemory`.
 pub fn disassemble_file(alloc: Global, file: &[u8]) -> Result<Vec<u8>, ServeFault>
     ensures ok { IfOk result (λ text. IsDisassembled file.now text.items) }
     ensures fault { IfErr result (IsNoImage Never file.now) }

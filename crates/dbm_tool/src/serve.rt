@@ -62,8 +62,10 @@ struct Served {
 /// they are to be written, and none where there is a fault.
 ///
 /// # Errors
-/// The first that is met: `BadHex` of the words from left to right, `Open`, those of a program's file, those of standard input and
-/// of memory, `Write`, and `FileTooLong` where `.pag` would be above `PAG_LIMIT`, after the lines were written.
+/// The first that is met, in this order: `BadHex` where a word is no bytes; `Open` where the files do not open; `NotText` and
+/// `Assemble` where a program's file is no text of one, `Decode` where it is no image; of a script, `Read` where it could not be
+/// read and `TooLong` above 16,777,216 bytes; `Write` where lines could not be written; `FileTooLong` where `.pag` would be above
+/// `PAG_LIMIT`, after the lines were written. `NoMemory` may come at any step.
 pub fn serve<R: Read, W: Write>(
     alloc: Global,
     wish: Wish<'_>,

@@ -1,7 +1,3 @@
-pub mod Runs
-pub mod Cuts
-pub mod Commands
-pub mod Matches
-pub mod Examples
 pub mod PairLines
-pub mod Steps
+pub mod Faults
+pub mod Playing

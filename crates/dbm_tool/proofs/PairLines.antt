@@ -3,7 +3,7 @@ use Rattle.std.proofs.Common.{◌≡◌, ℕ, ◌+◌, ◌<◌, List, [], ◌∷
 use Rattle.std.proofs.lemmas.Grind.{flat_map-append}
 use Rattle.std.proofs.lemmas.List.{take_more, append-nil}
 use Rattle.sdbm_addr.specs.Pairs.{Pair}
-use Rattle.dbm_tool.specs.Serving.{pair_line, listed}
+use Rattle.dbm_tool.specs.Reports.{pair_line, listed}
 
 pub listed_more : (pairs : List Pair) (i : ℕ) (e : Pair) → i < length pairs → e ≡ get_or pairs i e → listed (take (i + 1) pairs) ≡ listed (take i pairs) ++ pair_line e
 listed_more pairs i e h is =

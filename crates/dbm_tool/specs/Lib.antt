@@ -1,8 +1,6 @@
-pub mod Lines
-pub mod Commands
-pub mod Script
-pub mod CommandLine
-pub mod Wishes
-pub mod Serving
-pub mod Served
-pub mod Failing
+pub mod Databases
+pub mod Reports
+pub mod Causes
+pub mod Subcommands
+pub mod Outcomes
+pub mod FaultText

@@ -1,16 +1,25 @@
 //! The database that files spell, and the files that are written for one.
-ghost use Rattle.std.specs.Prelude.{◌≡◌, ◌≤◌, IfOk, IfErr, Some, []};
-ghost use Rattle.sdbm_files.specs.Written.{IsWritten};
-ghost use Rattle.dbm_tool.specs.Serving.{kind_of, size_of};
-ghost use Rattle.dbm_tool.specs.Served.{IsOpened, AreToWrite};
-ghost use Rattle.dbm_tool.specs.Failing.{Fails, IsLong, IsShut, Never};
+ghost use Rattle.std.specs.Prelude.{◌≡◌, Some, IfOk, IfErr};
+ghost use Rattle.sdbm_addr.specs.Database.{Database};
+ghost use Rattle.dbm_tool.specs.Databases.{AreFilesOf, AreFilesToWrite, IsOpened, kind_of, size_of};
+ghost use Rattle.dbm_tool.specs.Causes.{IsCaused, IsFilesFault, file_causes};
 
-use crate::command_line::Form;
 use crate::fault::ServeFault;
-use crate::serve::{Files, Given, PAG_LIMIT};
+use crate::serve::Given;
+use dbm_words::Form;
 use sdbm_addr::{KeyBytes, PageSize};
 use sdbm_files::{Image, MemSink};
 use std::alloc::Global;
+
+/// A `.pag` file of the program has at most this many bytes.
+pub const PAG_LIMIT: u64 = 1_073_741_824;
+
+/// The bytes of both files of a database, to be written.
+#[derive(Drop)]
+pub struct Files {
+    pub dir: MemSink<Global>,
+    pub pag: MemSink<Global>,
+}
 
 /// How keys hash.
 pub fn kind_of(form: Form) -> KeyBytes
@@ -34,45 +43,53 @@ pub fn size_of(form: Form) -> PageSize
     }
 }
 
-/// The database that the files spell.
+/// The database that the files spell. Their bytes are let go.
 ///
 /// # Errors
 /// `Open` with the fault of the files, or for want of memory.
-pub fn open(alloc: Global, given: &Given, form: Form) -> Result<Image<Global>, ServeFault>
-    ensures ok { IfOk result (IsOpened form given.now) }
-    ensures fault { IfErr result (Fails ⊥ (IsShut form given.now) Never ⊥) }
+pub fn open(alloc: Global, given: Given, form: Form) -> Result<Image<Global>, ServeFault>
+    ensures ok { IfOk result (IsOpened form given) }
+    ensures fault { IfErr result (IsCaused (file_causes form given)) }
 {
     let dir = given.dir.as_slice();
     let pag = given.pag.as_slice();
     match Image::open(alloc, dir, pag, kind_of(form), size_of(form)) {
         Ok(image) => Ok(image),
-        Err(fault) => Err(ServeFault::from(fault)),
+        Err(fault) => Err(ServeFault::Open(fault)),
     }
 }
 
-/// The files of a database.
+// The files of a database.
+fn files_of(alloc: Global, image: &Image<Global>) -> Result<Files, ServeFault>
+    ensures ok { IfOk result (AreFilesOf image.now) }
+    ensures fault { IfErr result (IsFilesFault image.now) }
+{
+    let long = image.pag_len();
+    if long > PAG_LIMIT {
+        return Err(ServeFault::FileTooLong);
+    }
+    let mut dir = MemSink::new(alloc);
+    let mut pag = MemSink::with_capacity(alloc, long as usize)?;
+    // A sink in memory fails only where no memory is left.
+    match image.write(&mut dir, &mut pag) {
+        Ok(()) => Ok(Files { dir, pag }),
+        Err(_) => Err(ServeFault::NoMemory),
+    }
+}
+
+/// The files of the database that is to be written, where one is.
 ///
 /// # Errors
 /// `FileTooLong` where `.pag` would be above `PAG_LIMIT`, and `NoMemory`.
-pub fn files_of(alloc: Global, image: &Image<Global>) -> Result<Files, ServeFault>
-    ensures ok { IfOk result (λ files. AreToWrite image.now (Some files)) }
-    ensures fault { IfErr result (Fails ⊥ Never Never (IsLong image.now)) }
+pub fn files_to_write(
+    alloc: Global,
+    database: &Option<Image<Global>>,
+) -> Result<Option<Files>, ServeFault>
+    ensures ok { IfOk result (AreFilesToWrite database.now) }
+    ensures fault { IfErr result (λ fault. (db : Database) × ((database.now ≡ Some db) × IsFilesFault db fault)) }
 {
-    if image.pag_len() > PAG_LIMIT {
-        return Err(ServeFault::FileTooLong);
-    }
-    write_files(alloc, image)
-}
-
-// The bytes of both files of a database.
-fn write_files(alloc: Global, image: &Image<Global>) -> Result<Files, ServeFault>
-    ensures ok { IfOk result (λ files. IsWritten image.now [] files.dir.bytes [] files.pag.bytes) }
-    ensures fault { IfErr result (Fails ⊥ Never Never ⊥) }
-{
-    let mut dir = MemSink::new(alloc);
-    let mut pag = MemSink::new(alloc);
-    match image.write(&mut dir, &mut pag) {
-        Ok(()) => Ok(Files { dir, pag }),
-        Err(fault) => Err(ServeFault::from(fault)),
+    match database {
+        None => Ok(None),
+        Some(image) => Ok(Some(files_of(alloc, image)?)),
     }
 }

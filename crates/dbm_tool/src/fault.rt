@@ -1,12 +1,13 @@
 //! Why a wish was not served.
 ghost use Rattle.std.specs.Prelude.{◌≡◌};
-ghost use Rattle.dbm_tool.specs.declared.fault.ServeFault.TheVariants.{NoMemory, Open, Script};
+ghost use Rattle.dbm_tool.specs.declared.fault.ServeFault.TheVariants.{NoMemory};
 
-use crate::script::ScriptFault;
 use bpf_asm::AsmFault;
 use bpf_insn::DecodeFault;
-use sdbm_files::{OpenFault, WriteFault};
+use dbm_script::ScriptFault;
+use sdbm_files::OpenFault;
 use std::alloc::{AllocError, AllocFailed};
+use std::error::Error;
 use std::fmt;
 
 /// Why a wish was not served. It prints as the text that stands behind `dbm: ` on standard error.
@@ -28,28 +29,41 @@ pub enum ServeFault {
     Assemble(AsmFault),
     /// The image is no program.
     Decode(DecodeFault),
-    /// Standard input or output failed, or a script is too long.
-    Script(ScriptFault),
+    /// Standard input could not be read.
+    Read,
+    /// There are more than 16,777,216 bytes on standard input.
+    TooLong,
+    /// Standard output could not be written.
+    Write,
     /// No memory is left.
     NoMemory,
 }
 
 impl fmt::Display for ServeFault {
+    ghost use Rattle.std.specs.Prelude.{Some};
+    ghost use Rattle.dbm_tool.specs.FaultText.{fault_text};
+
+    ghost output = { λ fault. Some (fault_text fault) };
+
     fn fmt<W: fmt::Write>(&self, f: &mut fmt::Formatter<W>) -> fmt::Result {
         match self {
-            ServeFault::ReadFile => f.write_str("ReadFile"),
-            ServeFault::FileTooLong => f.write_str("FileTooLong"),
-            ServeFault::WriteFile => f.write_str("WriteFile"),
-            ServeFault::BadHex => f.write_str("BadHex"),
-            ServeFault::Open(fault) => write!(f, "{fault:?}"),
-            ServeFault::NotText => f.write_str("NotText"),
+            ServeFault::ReadFile => write!(f, "ReadFile"),
+            ServeFault::FileTooLong => write!(f, "FileTooLong"),
+            ServeFault::WriteFile => write!(f, "WriteFile"),
+            ServeFault::BadHex => write!(f, "BadHex"),
+            ServeFault::Open(fault) => write!(f, "{fault}"),
+            ServeFault::NotText => write!(f, "NotText"),
             ServeFault::Assemble(fault) => write!(f, "{fault}"),
-            ServeFault::Decode(fault) => write!(f, "{fault:?}"),
-            ServeFault::Script(fault) => write!(f, "{fault:?}"),
-            ServeFault::NoMemory => f.write_str("NoMemory"),
+            ServeFault::Decode(fault) => write!(f, "{fault}"),
+            ServeFault::Read => write!(f, "Read"),
+            ServeFault::TooLong => write!(f, "TooLong"),
+            ServeFault::Write => write!(f, "Write"),
+            ServeFault::NoMemory => write!(f, "NoMemory"),
         }
     }
 }
+
+impl Error for ServeFault {}
 
 impl From<AllocError> for ServeFault {
     ghost from_gives = { λ _ fault. fault ≡ NoMemory };
@@ -67,27 +81,17 @@ impl<T: Drop> From<AllocFailed<T>> for ServeFault {
     }
 }
 
-impl From<OpenFault> for ServeFault {
-    ghost from_gives = { λ reason fault. fault ≡ Open reason };
-
-    fn from(fault: OpenFault) -> ServeFault {
-        ServeFault::Open(fault)
-    }
-}
-
 impl From<ScriptFault> for ServeFault {
-    ghost from_gives = { λ reason fault. fault ≡ Script reason };
+    ghost use Rattle.dbm_tool.specs.Causes.{stream_fault};
+
+    ghost from_gives = { λ reason fault. fault ≡ stream_fault reason };
 
     fn from(fault: ScriptFault) -> ServeFault {
-        ServeFault::Script(fault)
-    }
-}
-
-impl From<WriteFault> for ServeFault {
-    ghost from_gives = { λ _ fault. fault ≡ NoMemory };
-
-    // A sink in memory fails only where no memory is left.
-    fn from(_fault: WriteFault) -> ServeFault {
-        ServeFault::NoMemory
+        match fault {
+            ScriptFault::Read => ServeFault::Read,
+            ScriptFault::TooLong => ServeFault::TooLong,
+            ScriptFault::Write => ServeFault::Write,
+            ScriptFault::NoMemory => ServeFault::NoMemory,
+        }
     }
 }

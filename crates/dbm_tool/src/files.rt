@@ -1,7 +1,8 @@
 //! The files that a command line names, read and written.
-use crate::command_line::Wish;
+use crate::databases::{Files as Written, PAG_LIMIT};
 use crate::fault::ServeFault;
-use crate::serve::{Files as Written, Given, PAG_LIMIT};
+use crate::serve::Given;
+use dbm_words::Wish;
 use std::alloc::Global;
 use std::fs::OpenFile;
 use std::io::{ErrorKind, Read, Write};

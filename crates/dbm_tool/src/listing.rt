@@ -1,14 +1,16 @@
 //! The lines that list pairs, and the line that counts them.
-ghost use Rattle.std.specs.Prelude.{◌≡◌, ◌++◌, ◌∷◌, [], codes, IfOk, OnOk};
-ghost use Rattle.dbm_tool.specs.Serving.{pair_line, listed};
-ghost use Rattle.dbm_tool.specs.Served.{ok_line};
+ghost use Rattle.std.specs.Prelude.{◌≡◌, ◌++◌, IfOk, OnOk};
+ghost use Rattle.dbm_tool.specs.Reports.{listed, ok_line, pair_line};
 
-use crate::replies::show_bytes;
+use dbm_script::show_bytes;
 use itoa::Buffer;
 use sdbm_addr::Bytes;
 use std::alloc::{AllocError, Allocator};
 
 /// A line for each pair: key and value in hex, a space between them.
+///
+/// # Errors
+/// `AllocError` where no memory is left for the text.
 pub fn list_pairs<A: Allocator + Copy>(
     alloc: A,
     pairs: &[(Bytes<A>, Bytes<A>)],
@@ -32,12 +34,15 @@ fn show_pair<A: Allocator + Copy>(
     ensures { OnOk result (text.new.items ≡ text.old.items ++ pair_line (key.now, value.now)) }
 {
     show_bytes(alloc, key.as_slice(), text)?;
-    text.push(32)?;
+    text.push(b' ')?;
     show_bytes(alloc, value.as_slice(), text)?;
-    Ok(text.push(10)?)
+    Ok(text.push(b'\n')?)
 }
 
 /// The line `ok N`.
+///
+/// # Errors
+/// `AllocError` where no memory is left for the text.
 pub fn show_ok<A: Allocator + Copy>(alloc: A, count: usize) -> Result<Vec<u8, A>, AllocError>
     ensures { IfOk result (λ text. text.items ≡ ok_line count) }
 {
@@ -45,6 +50,6 @@ pub fn show_ok<A: Allocator + Copy>(alloc: A, count: usize) -> Result<Vec<u8, A>
     text.extend_from_slice(b"ok ")?;
     let mut digits = Buffer::new();
     text.extend_from_slice(digits.format(count).as_bytes())?;
-    text.push(10)?;
+    text.push(b'\n')?;
     Ok(text)
 }

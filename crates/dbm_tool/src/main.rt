@@ -1,28 +1,17 @@
 //! A program over the files of a store: pairs fetched, stored and listed, scripts, and programs as text and images.
 #![tactic(auto)]
 
-mod answer;
-mod command_line;
 mod databases;
 mod fault;
 mod files;
-mod lines;
 mod listing;
 mod programs;
-mod replies;
-mod script;
-#[cfg(test)]
-mod script_cases;
-#[cfg(test)]
-mod script_tests;
+mod report;
 mod serve;
-mod streams;
-mod words;
 
-use command_line::{ToolFault, Wish, read_words};
+use dbm_words::{ToolFault, Wish, read_words};
 use fault::ServeFault;
 use files::{read_given, write_files};
-use script::ScriptFault;
 use serve::{FAULT, serve};
 use std::io::ErrorKind;
 use std::process::ExitCode;
@@ -66,7 +55,7 @@ fn serve_files<R: Runtime + AllocGlobal>(rt: &R, wish: Wish<'_>) -> Result<u8, S
     let outcome = serve(
         rt.alloc(),
         wish,
-        &given,
+        given,
         &mut rt.reader(),
         &mut io::writer(rt),
     );
@@ -84,7 +73,7 @@ fn print_refusal<R: Runtime>(rt: &R, fault: &ToolFault) -> Result<u8, ServeFault
     match fault {
         ToolFault::Refused(error) => {
             if error.print(rt).is_err() {
-                return Err(ServeFault::Script(ScriptFault::Write));
+                return Err(ServeFault::Write);
             }
         }
         ToolFault::NoMemory | ToolFault::NoWord => {

@@ -1,9 +1,10 @@
 //! Programs as text and as images, from and to files.
 ghost use Rattle.std.specs.Prelude.{IfOk, IfErr};
-ghost use Rattle.dbm_tool.specs.Served.{IsAssembled, IsDisassembled};
-ghost use Rattle.dbm_tool.specs.Failing.{IsNoImage, IsNoProgram, Never};
+ghost use Rattle.dbm_tool.specs.Reports.{IsAssembled, IsDisassembled, PrintsOf};
+ghost use Rattle.dbm_tool.specs.Causes.{IsCaused, text_causes, image_causes};
 
 use crate::fault::ServeFault;
+use crate::report::{Report, printed};
 use bpf_asm::{FaultKind, assemble, disassemble};
 use bpf_insn::{DecodeFault, decode, encode};
 use std::alloc::Global;
@@ -12,9 +13,9 @@ use std::alloc::Global;
 ///
 /// # Errors
 /// `NotText` where the file is not UTF-8, `Assemble` with the first line at fault, and `NoMemory`.
-pub fn assemble_file(alloc: Global, file: &[u8]) -> Result<Vec<u8>, ServeFault>
-    ensures ok { IfOk result (λ line. IsAssembled file.now line.items) }
-    ensures fault { IfErr result (IsNoProgram Never file.now) }
+pub fn assemble_file(alloc: Global, file: &[u8]) -> Result<Report, ServeFault>
+    ensures ok { IfOk result (PrintsOf IsAssembled file.now) }
+    ensures fault { IfErr result (IsCaused (text_causes file.now)) }
 {
     let Ok(text) = str::from_utf8(file) else {
         return Err(ServeFault::NotText);
@@ -26,22 +27,22 @@ pub fn assemble_file(alloc: Global, file: &[u8]) -> Result<Vec<u8>, ServeFault>
     };
     let image = encode(alloc, &code)?;
     let mut line = hex::encode(alloc, image.as_slice())?.into_bytes();
-    line.push(10)?;
-    Ok(line)
+    line.push(b'\n')?;
+    Ok(printed(line))
 }
 
 /// The text of a program's image, an instruction a line.
 ///
 /// # Errors
 /// `Decode` with the first unit at fault, and `NoMemory`.
-pub fn disassemble_file(alloc: Global, file: &[u8]) -> Result<Vec<u8>, ServeFault>
-    ensures ok { IfOk result (λ text. IsDisassembled file.now text.items) }
-    ensures fault { IfErr result (IsNoImage Never file.now) }
+pub fn disassemble_file(alloc: Global, file: &[u8]) -> Result<Report, ServeFault>
+    ensures ok { IfOk result (PrintsOf IsDisassembled file.now) }
+    ensures fault { IfErr result (IsCaused (image_causes file.now)) }
 {
     let code = match decode(alloc, file) {
         Ok(code) => code,
         Err(DecodeFault::NoMemory) => return Err(ServeFault::NoMemory),
         Err(fault) => return Err(ServeFault::Decode(fault)),
     };
-    Ok(disassemble(alloc, &code)?.into_bytes())
+    Ok(printed(disassemble(alloc, &code)?.into_bytes()))
 }

@@ -3,3 +3,4 @@ pub mod Bitmap
 pub mod Marks
 pub mod Faults
 pub mod Ends
+pub mod FaultText

@@ -10,6 +10,7 @@ ghost use Rattle.sdbm_dir.specs.Words.{word_of, HasParent};
 ghost use Rattle.sdbm_dir.specs.Faults.{AreFaultless, IsDirFault, SpellsNoDirectory};
 
 mod bitmap;
+mod fault_text;
 #[cfg(test)]
 mod tests;
 

@@ -11,6 +11,7 @@ ghost use Rattle.sdbm_addr.specs.Files.{SpellsDatabase};
 ghost use Rattle.sdbm_files.specs.Installed.{installed, IsInstallable};
 ghost use Rattle.sdbm_files.specs.Opened.{IsOpenFault, SpellsNoDatabase};
 
+mod fault_text;
 mod opening;
 mod pages;
 mod sink;

@@ -14,6 +14,7 @@ ghost use Rattle.sdbm_page.specs.Marks.{IsKeyBefore};
 ghost use Rattle.sdbm_page.specs.declared.PageFault.TheVariants.{NoMemory};
 
 mod edits;
+mod fault_text;
 mod fields;
 mod layout;
 mod noted;

@@ -1,5 +1,5 @@
 use Rattle.std.proofs.Common.{◌++◌, List, ℕ, sym, ap, ◌∙◌}
-use Rattle.dbm_tool.specs.Serving.{pair_line}
+use Rattle.dbm_tool.specs.Reports.{pair_line}
 use Rattle.dbm_tool.proofs.PairLines.{listed_more}
 use Rattle.dbm_tool.proofs.listing.list_pairs.Goals as goal
 

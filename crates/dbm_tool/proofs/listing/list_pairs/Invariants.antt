@@ -1,5 +1,5 @@
 use Rattle.std.proofs.Common.{◌≡◌, take}
-use Rattle.dbm_tool.specs.Serving.{listed}
+use Rattle.dbm_tool.specs.Reports.{listed}
 use Rattle.dbm_tool.proofs.listing.list_pairs.Given as goal
 
 -- the first pairs are listed

@@ -1,0 +1,4 @@
+pub mod Pieces
+pub mod Commands
+pub mod Answers
+pub mod Script

@@ -1,0 +1,34 @@
+//! Why a script gave no image.
+use std::error::Error;
+use std::fmt;
+
+/// Why a script gave no image. It prints as its name.
+#[derive(Clone, Copy, Debug, PartialEq, Eq)]
+pub enum ScriptFault {
+    /// The reader failed.
+    Read,
+    /// There are more than 16,777,216 bytes.
+    TooLong,
+    /// The writer failed, or took no byte. The first bytes of the answers were written.
+    Write,
+    /// No memory was left. Nothing was written.
+    NoMemory,
+}
+
+impl fmt::Display for ScriptFault {
+    ghost use Rattle.std.specs.Prelude.{Some};
+    ghost use Rattle.dbm_script.specs.Script.{fault_text};
+
+    ghost output = { λ fault. Some (fault_text fault) };
+
+    fn fmt<W: fmt::Write>(&self, f: &mut fmt::Formatter<W>) -> fmt::Result {
+        match self {
+            ScriptFault::Read => write!(f, "Read"),
+            ScriptFault::TooLong => write!(f, "TooLong"),
+            ScriptFault::Write => write!(f, "Write"),
+            ScriptFault::NoMemory => write!(f, "NoMemory"),
+        }
+    }
+}
+
+impl Error for ScriptFault {}

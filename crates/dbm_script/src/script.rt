@@ -1,0 +1,133 @@
+//! Scripts: all that is read, run as one session, and the text of the answers.
+ghost use Rattle.std.specs.Prelude.{◌≡◌, ◌+◌, ◌<◌, ◌≤◌, List, ℕ, IfOk, OnOk, IfErr, IfSome, IsErrOf, ◌∷◌, [], length};
+ghost use Rattle.std.specs.Io.KnownBytes.{Appends, Keeps};
+ghost use Rattle.desk_core.specs.Desk.{state_of};
+ghost use Rattle.dbm_script.specs.Pieces.{pieces_of};
+ghost use Rattle.dbm_script.specs.Commands.{command_of};
+ghost use Rattle.dbm_script.specs.Answers.{IsAnswerTo};
+ghost use Rattle.dbm_script.specs.Script.{IsScriptRun, RunsLines, AnswersLine, Adds, KeepsDesk, WritesPart};
+
+use crate::answers::{Answer, show_answer};
+use crate::commands::read_line;
+use crate::fault::ScriptFault;
+use crate::pieces::{first_piece, lines_in};
+use crate::streams::{read_all, write_all};
+use desk_core::{AskFault, Desk};
+use sdbm_files::Image;
+use std::alloc::{AllocError, Allocator};
+use std::io::{Read, Write};
+use store_cmd::Command;
+
+/// Reads a script, runs all its lines on an image as session 0, writes the answers, and gives the image after it.
+///
+/// # Errors
+/// `Read` where the reader fails, `TooLong` above 16,777,216 bytes, `Write` where the writer fails or takes no byte, and `NoMemory`.
+/// The image is gone then. Unless the fault is `Write`, nothing was written.
+pub fn run_script<A: Allocator + Copy, R: Read, W: Write>(
+    alloc: A,
+    reader: &mut R,
+    writer: &mut W,
+    image: Image<A>,
+) -> Result<Image<A>, ScriptFault>
+    ensures ok { IfOk result (λ after. IfSome (R.remaining reader.old) (λ input. (text : List ℕ) ×
+        (IsScriptRun A image input text (state_of after) × Appends (W.contents writer.old) (W.contents writer.new) text))) }
+    ensures short { IfOk result (λ _. IfSome (R.remaining reader.old) (λ input. length input ≤ 16777216)) }
+    ensures part { IsErrOf result ScriptFault.Write → IfSome (R.remaining reader.old) (λ input. (text : List ℕ) × ((after : _) ×
+        (IsScriptRun A image input text after × WritesPart (W.contents writer.old) (W.contents writer.new) text))) }
+    ensures nothing { IfErr result (λ fault. (fault ≡ ScriptFault.Write → ⊥) → Keeps (W.contents writer.old) (W.contents writer.new)) }
+    ensures kept { IfOk result (λ after. (after.kind ≡ image.kind) × (after.size ≡ image.size)) }
+    ensures long { IsErrOf result ScriptFault.TooLong → IfSome (R.remaining reader.old) (λ input. 16777216 < length input) }
+{
+    let input = read_all(alloc, reader)?;
+    let Ok((after, text)) = run_lines(alloc, image, input.as_slice()) else {
+        return Err(ScriptFault::NoMemory);
+    };
+    write_all(writer, text.as_slice())?;
+    Ok(after)
+}
+
+/// Runs the lines of a script on an image as session 0: the image after them, and the text of their answers.
+///
+/// # Errors
+/// `AllocError` where there is no memory left. The image is gone then.
+pub fn run_lines<A: Allocator + Copy>(
+    alloc: A,
+    image: Image<A>,
+    input: &[u8],
+) -> Result<(Image<A>, Vec<u8, A>), AllocError>
+    ensures runs { IfOk result (λ r. IsScriptRun A image input.now r.1.items (state_of r.0)) }
+    ensures kept { IfOk result (λ r. (r.0.kind ≡ image.kind) × (r.0.size ≡ image.size)) }
+{
+    let Ok(mut desk) = Desk::open(alloc, image, lines_in(input)) else {
+        return Err(AllocError);
+    };
+    let mut text = Vec::new(alloc);
+    let mut rest = Some(input);
+    while let Some(left) = rest {
+        let (line, after) = first_piece(b'\n', left);
+        answer_line(alloc, &mut desk, line, &mut text)?;
+        rest = after;
+    }
+    let (image, _) = desk.into_parts();
+    Ok((image, text))
+}
+
+// Answers one line, unless it is empty.
+fn answer_line<A: Allocator + Copy>(
+    alloc: A,
+    desk: &mut Desk<A>,
+    line: &[u8],
+    text: &mut Vec<u8, A>,
+) -> Result<(), AllocError>
+    requires { length desk.old.entries < desk.old.limit }
+    ensures answer { OnOk result (Adds text.old.items text.new.items (λ added.
+        RunsLines A desk.old.database.size desk.old.database.kind (state_of desk.old.database) (line.now ∷ []) added (state_of desk.new.database))) }
+    ensures desk { OnOk result (KeepsDesk desk.old desk.new) }
+{
+    if line.is_empty() {
+        return Ok(());
+    }
+    answer_words(alloc, desk, line, text)?;
+    Ok(text.push(10)?)
+}
+
+// Answers the words of a line: a command by its answer, and anything else by the words for a bad line.
+fn answer_words<A: Allocator + Copy>(
+    alloc: A,
+    desk: &mut Desk<A>,
+    line: &[u8],
+    text: &mut Vec<u8, A>,
+) -> Result<(), AllocError>
+    requires { length desk.old.entries < desk.old.limit }
+    ensures answer { OnOk result (Adds text.old.items text.new.items (λ added.
+        AnswersLine A desk.old.database.size desk.old.database.kind (state_of desk.old.database) (command_of (pieces_of 32 line.now)) added (state_of desk.new.database))) }
+    ensures desk { OnOk result (KeepsDesk desk.old desk.new) }
+{
+    match read_line(alloc, line)? {
+        None => text.extend_from_slice(b"bad line"),
+        Some(command) => {
+            let answer = answer_command(desk, command)?;
+            show_answer(alloc, &answer, text)
+        }
+    }
+}
+
+/// Answers a command on a desk as session 0.
+///
+/// # Errors
+/// `AllocError` where there is no memory left for it.
+pub fn answer_command<A: Allocator + Copy>(
+    desk: &mut Desk<A>,
+    command: Command<A>,
+) -> Result<Answer<A>, AllocError>
+    requires { length desk.old.entries < desk.old.limit }
+    ensures answer { IfOk result (λ answer. IsAnswerTo A desk.old.database.size desk.old.database.kind (state_of desk.old.database) command answer (state_of desk.new.database)) }
+    ensures desk { OnOk result (KeepsDesk desk.old desk.new) }
+{
+    match desk.step(0, command) {
+        Ok(reply) => Ok(Answer::Replied(reply)),
+        Err((AskFault::PairTooLarge, _command)) => Ok(Answer::PairTooLarge),
+        Err((AskFault::TrailFull, _command)) => unreachable!(),
+        Err((AskFault::NoMemory, _command)) => Err(AllocError),
+    }
+}

@@ -1,0 +1,17 @@
+use Rattle.std.proofs.Common.{ap, subst, ◌∙◌, ◌≡◌, List, ℕ, Some}
+use Rattle.sdbm_addr.specs.declared.KeyBytes.{KeyBytes}
+use Rattle.sdbm_addr.specs.Database.{Database, empty_database}
+use Rattle.dbm_tool.specs.Reports.{Plays}
+use Rattle.dbm_tool.proofs.Playing.{plays_known, plays_text}
+use Rattle.dbm_tool.proofs.serve.report_alone.Goals as goal
+
+pub returns-clause-ok : goal.returns-clause-ok
+returns-clause-ok g c =
+    let played = c.in_ok-text.ensures in
+    let known = g.R.Read.remaining c.args.reader.now in
+    let empty = c.empty-image.ensures ∙ ap (λ (kind : KeyBytes). empty_database kind c.size_of.result) c.kind_of.ensures
+    ∙ ap (empty_database _) c.size_of.ensures in
+    let here = plays_known c.empty-image.result known c.as_slice.result.now played.0 c.in_ok-text.field-0 (rw c.as_slice.ensures.value c.in_ok-script.ensures.all) played.1.0 in
+    let text = ap (λ v. v.items) c.printed.ensures.text in
+    (played.0, (subst (λ (db : Database). Plays db known played.0 c.printed.result) empty
+    (plays_text c.empty-image.result known played.0 c.in_ok-text.field-0 c.printed.result text c.printed.ensures.status here), c.printed.ensures.database))

@@ -1,0 +1,21 @@
+-- The text of a fault, which stands behind `dbm: ` on standard error.
+use Rattle.std.specs.Prelude.{ℕ, List, codes}
+use Rattle.sdbm_files.specs.FaultText as files
+use Rattle.bpf_insn.specs.Decoding as decoding
+use Rattle.bpf_asm.specs.Fault as assembling
+use Rattle.dbm_tool.specs.declared.fault.ServeFault.{ServeFault}
+use Rattle.dbm_tool.specs.declared.fault.ServeFault.TheVariants.{ReadFile, FileTooLong, WriteFile, BadHex, Open, NotText, Assemble, Decode, Read, TooLong, Write, NoMemory}
+
+abbrev pub fault_text : ServeFault → List ℕ
+fault_text ReadFile = codes "ReadFile"
+fault_text FileTooLong = codes "FileTooLong"
+fault_text WriteFile = codes "WriteFile"
+fault_text BadHex = codes "BadHex"
+fault_text (Open reason) = files.fault_text reason
+fault_text NotText = codes "NotText"
+fault_text (Assemble fault) = assembling.fault_text fault
+fault_text (Decode fault) = decoding.fault_text fault
+fault_text Read = codes "Read"
+fault_text TooLong = codes "TooLong"
+fault_text Write = codes "Write"
+fault_text NoMemory = codes "NoMemory"

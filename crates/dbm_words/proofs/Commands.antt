@@ -1,0 +1,44 @@
+-- What a chain of builder calls makes of a command.
+use Rattle.std.proofs.Common.{◌≡◌, ◌++◌, ◌∷◌, ◌&&◌, not, is_some, [], List, Bool, true, false, map, refl, ap, ◌∙◌, arith, append_assoc, append-nil}
+use Rattle.std.specs.List.{list_all}
+use Rattle.clap.specs.Words.{AddsArg, AddsInTurn, AddsSubcommand, App, Rule, Shape, app_of, rule_of, with_rule, with_subcommand}
+use Rattle.clap.specs.Walk.{is_empty}
+use Rattle.clap.specs.declared.Arg.{Arg}
+use Rattle.clap.specs.declared.Command.{Command}
+use Rattle.dbm_words.specs.CommandLine.{IsCommand, IsSubcommand}
+
+right : (a b : Bool) → (a && b) ≡ true → b ≡ true
+right a b h = grind arith
+
+is_off : (b : Bool) → not b ≡ true → b ≡ false
+is_off b h = grind arith
+
+pub is_local : (a : Arg) → (rule_of a).is_simple ≡ true → a.global ≡ false
+is_local a h = is_off a.global (right (not a.last) _ (right (not a.require_equals) _ (right (not a.allow_negative_numbers) _ (right (not a.allow_hyphen_values) _ (right (not (is_some a.terminator)) _ (right (not (is_some a.val_delim)) _ (right (is_empty a.groups.items) _ (right (is_empty a.default_vals_ifs.items) _ (right (is_empty a.overrides.items) _ h)))))))))
+
+both : (a b : Bool) → (a && b) ≡ true → (a ≡ true) × (b ≡ true)
+both a b h = grind arith
+
+-- one more argument
+pub gains : (old new : Command) (x : Arg) (a : App) → AddsArg old x new → (rule_of x).is_simple ≡ true → IsCommand a old → IsCommand (with_rule a (rule_of x)) new
+gains old new x a step simple h = (
+  step.shape (is_local x simple) ∙ ap (λ (b : App). with_rule b (rule_of x)) h.0,
+  (let local : x.global ≡ false = is_local x simple in rw (step.globals, h.1, local) refl),
+)
+
+-- one more subcommand
+pub joins : (old sub new : Command) (a : App) (s : Shape) → AddsSubcommand old sub new → IsCommand a old → IsSubcommand s sub → IsCommand (with_subcommand a s) new
+joins old sub new a s step h part = (
+  step.shape part.1 ∙ ap (λ (b : App). with_subcommand b (app_of sub).top) h.0 ∙ ap (λ (b : App). with_subcommand a b.top) part.0,
+  rw (step.globals, h.1, part.1) refl,
+)
+
+-- arguments in turn
+pub grown : (xs : List Arg) (old new : Command) (s : Shape) → AddsInTurn AddsArg old xs new → list_all (λ r. r.is_simple) (map rule_of xs) ≡ true → IsSubcommand s old
+    → IsSubcommand (record s { rules = s.rules ++ map rule_of xs }) new
+grown [] old new s e simple h = rw (← e, append-nil s.rules) h
+grown (x ∷ xs) old new s steps simple h =
+    let parts = both (rule_of x).is_simple (list_all (λ (r : Rule). r.is_simple) (map rule_of xs)) simple in
+    let first = gains old steps.0 x _ steps.1 parts.0 h in
+    let rest = grown xs steps.0 new (record s { rules = s.rules ++ rule_of x ∷ [] }) steps.2 parts.1 first in
+    rw append_assoc at rest

@@ -1,0 +1,80 @@
+-- The command line: the subcommands that the program has, and the words and options that each takes.
+use Rattle.std.specs.Prelude.{◌≡◌, true, false, List, [], ◌∷◌, Some, codes}
+use Rattle.clap.specs.Words.{App, Rule, Shape, Text, app_of, new_rule}
+use Rattle.clap.specs.Simple.{new_shape}
+use Rattle.clap.specs.declared.builder.ArgAction.TheVariants.{SetTrue}
+use Rattle.clap.specs.declared.Command.{Command}
+use Rattle.clap.specs.declared.builder.command.Command.TheViews.{out-Command}
+
+-- a word that has to be there, at its place
+abbrev pub required_word : Text → Rule
+required_word id = record (new_rule id) { required = true }
+
+-- the option `--id`
+abbrev pub flag : Text → Rule
+flag id = record (new_rule id) { long = Some id; action = Some SetTrue }
+
+-- the option `--id VALUE`
+abbrev pub valued_option : Text → Rule
+valued_option id = record (new_rule id) { long = Some id; value_names = 1 }
+
+abbrev pub subcommand : Text → List Rule → Shape
+subcommand name rules = record (new_shape name) { rules = rules }
+
+-- how the files of a database are read
+abbrev pub form_options : List Rule
+form_options = flag (codes "unsigned") ∷ flag (codes "wide") ∷ []
+
+abbrev pub fetch : Shape
+fetch = subcommand (codes "fetch") (required_word (codes "BASE") ∷ required_word (codes "KEY") ∷ form_options)
+
+abbrev pub store : Shape
+store = subcommand (codes "store") (required_word (codes "BASE") ∷ required_word (codes "KEY") ∷ required_word (codes "VALUE") ∷ flag (codes "insert") ∷ form_options)
+
+abbrev pub delete : Shape
+delete = subcommand (codes "delete") (required_word (codes "BASE") ∷ required_word (codes "KEY") ∷ form_options)
+
+abbrev pub list : Shape
+list = subcommand (codes "list") (required_word (codes "BASE") ∷ form_options)
+
+abbrev pub check : Shape
+check = subcommand (codes "check") (required_word (codes "BASE") ∷ form_options)
+
+abbrev pub script : Shape
+script = subcommand (codes "script") (valued_option (codes "base") ∷ form_options)
+
+abbrev pub widen : Shape
+widen = subcommand (codes "widen") (required_word (codes "BASE") ∷ flag (codes "unsigned") ∷ [])
+
+abbrev pub asm : Shape
+asm = subcommand (codes "asm") (required_word (codes "FILE") ∷ [])
+
+abbrev pub disasm : Shape
+disasm = subcommand (codes "disasm") (required_word (codes "FILE") ∷ [])
+
+-- the program's name, with a version
+abbrev pub titled : Shape
+titled = record (new_shape (codes "dbm")) { has_version = true }
+
+-- the program without its subcommands: the words do not begin with its name, and no words at all are answered with help
+abbrev pub bare : Shape
+bare = record titled {
+  no_binary_name = true;
+  subcommand_required = true;
+  arg_required_else_help = true;
+}
+
+-- the program
+abbrev pub tool : App
+tool = record {
+  top = record bare { is_leaf = false };
+  subs = fetch ∷ store ∷ delete ∷ list ∷ check ∷ script ∷ widen ∷ asm ∷ disasm ∷ [];
+}
+
+-- a command with these rules, none of whose arguments holds for its subcommands too
+abbrev pub IsCommand : App → Command → Type 0
+IsCommand app command = (app_of command ≡ app) × ((out-Command command).has_globals ≡ false)
+
+-- a command with these rules and without subcommands
+abbrev pub IsSubcommand : Shape → Command → Type 0
+IsSubcommand shape = IsCommand (record { top = shape; subs = [] })

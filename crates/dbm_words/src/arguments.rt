@@ -1,0 +1,77 @@
+//! The words and options that the subcommands share.
+ghost use Rattle.std.specs.Prelude.{◌≡◌, false, codes};
+ghost use Rattle.clap.specs.Words.{rule_of};
+ghost use Rattle.dbm_words.specs.CommandLine as spec;
+
+use clap::{Arg, ArgAction};
+use std::alloc::Global;
+
+/// A word that has to be there, at its place.
+pub fn required_word<'a>(alloc: Global, id: &'a str, help: &'a str) -> Arg<'a>
+    ensures rule { rule_of result ≡ spec.required_word id.entry.now }
+    ensures local { result.global ≡ false }
+{
+    Arg::new(alloc, id).required(true).help(help)
+}
+
+/// The option `--id`, which is there or not.
+pub fn flag<'a>(alloc: Global, id: &'a str, help: &'a str) -> Arg<'a>
+    ensures rule { rule_of result ≡ spec.flag id.entry.now }
+    ensures local { result.global ≡ false }
+{
+    let option = Arg::new(alloc, id).long(id).help(help);
+    option.action(ArgAction::SetTrue)
+}
+
+/// The option `--id VALUE`.
+pub fn valued_option<'a>(alloc: Global, id: &'a str, value: &'a str, help: &'a str) -> Arg<'a>
+    ensures rule { rule_of result ≡ spec.valued_option id.entry.now }
+    ensures local { result.global ≡ false }
+{
+    Arg::new(alloc, id).long(id).value_name(value).help(help)
+}
+
+/// The word that names a database.
+pub fn base<'a>(alloc: Global) -> Arg<'a>
+    ensures rule { rule_of result ≡ spec.required_word (codes "BASE") }
+    ensures local { result.global ≡ false }
+{
+    let help = "The database in the files BASE.dir and BASE.pag; a file that is not there is empty";
+    required_word(alloc, "BASE", help)
+}
+
+/// The word for a key.
+pub fn key<'a>(alloc: Global) -> Arg<'a>
+    ensures rule { rule_of result ≡ spec.required_word (codes "KEY") }
+    ensures local { result.global ≡ false }
+{
+    required_word(alloc, "KEY", "The key in hex, or . for the empty one")
+}
+
+/// The word that names a program's file.
+pub fn file<'a>(alloc: Global, help: &'a str) -> Arg<'a>
+    ensures rule { rule_of result ≡ spec.required_word (codes "FILE") }
+    ensures local { result.global ≡ false }
+{
+    required_word(alloc, "FILE", help)
+}
+
+/// The option for hashing the bytes of keys as unsigned ones.
+pub fn unsigned<'a>(alloc: Global) -> Arg<'a>
+    ensures rule { rule_of result ≡ spec.flag (codes "unsigned") }
+    ensures local { result.global ≡ false }
+{
+    flag(
+        alloc,
+        "unsigned",
+        "Hash the bytes of keys as unsigned, for files of a machine that does",
+    )
+}
+
+/// The option for pages of 8,192 bytes.
+pub fn wide<'a>(alloc: Global) -> Arg<'a>
+    ensures rule { rule_of result ≡ spec.flag (codes "wide") }
+    ensures local { result.global ≡ false }
+{
+    flag(alloc, "wide", "The pages have 8,192 bytes, not 1,024")
+}

@@ -1,0 +1,147 @@
+//! From what `clap` matched to what was asked: one function a subcommand.
+ghost use Rattle.std.specs.Prelude.{◌≡◌, IfSome, IsNone, Some, true, false, codes, option_map};
+ghost use Rattle.clap.specs.Words.{first_of, found_of, rows_of};
+ghost use Rattle.dbm_words.specs.CommandLine as spec;
+ghost use Rattle.dbm_words.specs.Wishes.{SubcommandAsks, IsForm, has_words, is_given, lacks_word};
+
+use crate::wish::{Form, Wish};
+use clap::ArgMatches;
+
+/// What the subcommand of this name asks by its matches. There is none where they lack a word that it has to have, or where no
+/// subcommand has this name.
+pub fn asked<'a>(name: &str, matches: &ArgMatches<'a>) -> Option<Wish<'a>>
+    ensures some { IfSome result (SubcommandAsks name.now (rows_of (found_of matches.now))) }
+    ensures none { IsNone result → lacks_word (Some (name.now, rows_of (found_of matches.now))) ≡ true }
+{
+    match name {
+        "fetch" => fetch(matches),
+        "store" => store(matches),
+        "delete" => delete(matches),
+        "list" => list(matches),
+        "check" => check(matches),
+        "script" => script(matches),
+        "widen" => widen(matches),
+        "asm" => asm(matches),
+        "disasm" => disasm(matches),
+        _ => None,
+    }
+}
+
+// The word or value that was given for a name.
+fn word<'a>(matches: &ArgMatches<'a>, id: &str) -> Option<&'a str>
+    ensures { option_map (λ text. text.now) result ≡ first_of id.now (rows_of (found_of matches.now)) }
+{
+    matches.get_str(id)
+}
+
+// Whether an option was given.
+fn has_flag(matches: &ArgMatches<'_>, id: &str) -> bool
+    ensures { result ≡ is_given id.now (rows_of (found_of matches.now)) }
+{
+    match word(matches, id) {
+        Some(text) => text == "true",
+        None => false,
+    }
+}
+
+fn form(matches: &ArgMatches<'_>) -> Form
+    ensures { IsForm (rows_of (found_of matches.now)) result }
+{
+    Form {
+        unsigned: has_flag(matches, "unsigned"),
+        wide: has_flag(matches, "wide"),
+    }
+}
+
+fn fetch<'a>(matches: &ArgMatches<'a>) -> Option<Wish<'a>>
+    ensures some { IfSome result (SubcommandAsks (codes "fetch") (rows_of (found_of matches.now))) }
+    ensures none { IsNone result → has_words spec.fetch.rules (rows_of (found_of matches.now)) ≡ false }
+{
+    Some(Wish::Fetch {
+        base: word(matches, "BASE")?,
+        form: form(matches),
+        key: word(matches, "KEY")?,
+    })
+}
+
+fn store<'a>(matches: &ArgMatches<'a>) -> Option<Wish<'a>>
+    ensures some { IfSome result (SubcommandAsks (codes "store") (rows_of (found_of matches.now))) }
+    ensures none { IsNone result → has_words spec.store.rules (rows_of (found_of matches.now)) ≡ false }
+{
+    Some(Wish::Store {
+        base: word(matches, "BASE")?,
+        form: form(matches),
+        key: word(matches, "KEY")?,
+        value: word(matches, "VALUE")?,
+        insert: has_flag(matches, "insert"),
+    })
+}
+
+fn delete<'a>(matches: &ArgMatches<'a>) -> Option<Wish<'a>>
+    ensures some { IfSome result (SubcommandAsks (codes "delete") (rows_of (found_of matches.now))) }
+    ensures none { IsNone result → has_words spec.delete.rules (rows_of (found_of matches.now)) ≡ false }
+{
+    Some(Wish::Delete {
+        base: word(matches, "BASE")?,
+        form: form(matches),
+        key: word(matches, "KEY")?,
+    })
+}
+
+fn list<'a>(matches: &ArgMatches<'a>) -> Option<Wish<'a>>
+    ensures some { IfSome result (SubcommandAsks (codes "list") (rows_of (found_of matches.now))) }
+    ensures none { IsNone result → has_words spec.list.rules (rows_of (found_of matches.now)) ≡ false }
+{
+    Some(Wish::List {
+        base: word(matches, "BASE")?,
+        form: form(matches),
+    })
+}
+
+fn check<'a>(matches: &ArgMatches<'a>) -> Option<Wish<'a>>
+    ensures some { IfSome result (SubcommandAsks (codes "check") (rows_of (found_of matches.now))) }
+    ensures none { IsNone result → has_words spec.check.rules (rows_of (found_of matches.now)) ≡ false }
+{
+    Some(Wish::Check {
+        base: word(matches, "BASE")?,
+        form: form(matches),
+    })
+}
+
+fn script<'a>(matches: &ArgMatches<'a>) -> Option<Wish<'a>>
+    ensures some { IfSome result (SubcommandAsks (codes "script") (rows_of (found_of matches.now))) }
+    ensures none { IsNone result → has_words spec.script.rules (rows_of (found_of matches.now)) ≡ false }
+{
+    Some(Wish::Script {
+        base: word(matches, "base"),
+        form: form(matches),
+    })
+}
+
+fn widen<'a>(matches: &ArgMatches<'a>) -> Option<Wish<'a>>
+    ensures some { IfSome result (SubcommandAsks (codes "widen") (rows_of (found_of matches.now))) }
+    ensures none { IsNone result → has_words spec.widen.rules (rows_of (found_of matches.now)) ≡ false }
+{
+    Some(Wish::Widen {
+        base: word(matches, "BASE")?,
+        unsigned: has_flag(matches, "unsigned"),
+    })
+}
+
+fn asm<'a>(matches: &ArgMatches<'a>) -> Option<Wish<'a>>
+    ensures some { IfSome result (SubcommandAsks (codes "asm") (rows_of (found_of matches.now))) }
+    ensures none { IsNone result → has_words spec.asm.rules (rows_of (found_of matches.now)) ≡ false }
+{
+    Some(Wish::Asm {
+        file: word(matches, "FILE")?,
+    })
+}
+
+fn disasm<'a>(matches: &ArgMatches<'a>) -> Option<Wish<'a>>
+    ensures some { IfSome result (SubcommandAsks (codes "disasm") (rows_of (found_of matches.now))) }
+    ensures none { IsNone result → has_words spec.disasm.rules (rows_of (found_of matches.now)) ≡ false }
+{
+    Some(Wish::Disasm {
+        file: word(matches, "FILE")?,
+    })
+}

@@ -1,0 +1,184 @@
+//! The command line as `clap` is told it: each subcommand with its words, its options and its help.
+ghost use Rattle.std.specs.Prelude.{◌≡◌, IfOk, true, map};
+ghost use Rattle.std.specs.List.{list_all};
+ghost use Rattle.clap.specs.Words.{rule_of};
+ghost use Rattle.dbm_words.specs.CommandLine.{IsCommand, IsSubcommand, tool};
+ghost use Rattle.dbm_words.specs.CommandLine as spec;
+
+use crate::arguments::{base, file, flag, key, required_word, unsigned, valued_option, wide};
+use clap::{Arg, Command};
+use std::alloc::{AllocError, Global};
+
+/// The program with all its subcommands. The error comes where no memory was left.
+pub fn tool_command<'a>(alloc: Global) -> Result<Command<'a>, AllocError>
+    ensures { IfOk result (IsCommand tool) }
+{
+    bare_command(alloc)?
+        .subcommand(fetch_command(alloc)?)?
+        .subcommand(store_command(alloc)?)?
+        .subcommand(delete_command(alloc)?)?
+        .subcommand(list_command(alloc)?)?
+        .subcommand(check_command(alloc)?)?
+        .subcommand(script_command(alloc)?)?
+        .subcommand(widen_command(alloc)?)?
+        .subcommand(asm_command(alloc)?)?
+        .subcommand(disasm_command(alloc)?)
+}
+
+// The program's name, version and help.
+fn titled_command<'a>(alloc: Global) -> Command<'a>
+    ensures { IsSubcommand spec.titled result }
+{
+    Command::new(alloc, "dbm")
+        .version("0.1.0")
+        .about("A key-value store in the files of an sdbm database")
+        .after_help(
+            "Bytes are written in hex, two digits a byte, or as . for none.\n\
+             The status is 0, or 1 where the answer of fetch, store or delete is that nothing was found or\n\
+             changed, or 2 for a fault, which standard error names.\n\n\
+             Example: dbm store users 6162 78797a\n\
+             stores the value xyz of the key ab in users.dir and users.pag.",
+        )
+}
+
+// The program without its subcommands.
+fn bare_command<'a>(alloc: Global) -> Result<Command<'a>, AllocError>
+    ensures { IfOk result (IsSubcommand spec.bare) }
+{
+    titled_command(alloc)
+        .no_binary_name(true)
+        .subcommand_required(true)
+        .arg_required_else_help(true)
+        .bin_name("dbm")
+}
+
+// A subcommand: what it does, what it prints with an example, and its arguments.
+fn subcommand<'a>(
+    alloc: Global,
+    name: &'a str,
+    about: &'a str,
+    notes: &'a str,
+    args: Vec<Arg<'a>>,
+) -> Result<Command<'a>, AllocError>
+    requires { list_all (λ rule. rule.is_simple) (map rule_of args.items) ≡ true }
+    ensures { IfOk result (IsSubcommand (spec.subcommand name.entry.now (map rule_of args.entry.items))) }
+{
+    Command::new(alloc, name)
+        .about(about)
+        .after_help(notes)
+        .args(args)
+}
+
+fn fetch_command<'a>(alloc: Global) -> Result<Command<'a>, AllocError>
+    ensures { IfOk result (IsSubcommand spec.fetch) }
+{
+    let args = vec![in alloc; base(alloc), key(alloc), unsigned(alloc), wide(alloc)]?;
+    let about = "Print the value of a key";
+    let notes = "Prints found VALUE, or missing with status 1.\n\nExample: dbm fetch users 6162";
+    subcommand(alloc, "fetch", about, notes, args)
+}
+
+fn store_command<'a>(alloc: Global) -> Result<Command<'a>, AllocError>
+    ensures { IfOk result (IsSubcommand spec.store) }
+{
+    let value = required_word(alloc, "VALUE", "The value in hex, or . for the empty one");
+    let insert = flag(
+        alloc,
+        "insert",
+        "Change nothing where the key is there, and print exists",
+    );
+    let args = vec![in alloc;
+        base(alloc),
+        key(alloc),
+        value,
+        insert,
+        unsigned(alloc),
+        wide(alloc),
+    ]?;
+    let about = "Store a pair, in place of the key's old value";
+    let notes =
+        "Prints stored, or with status 1 exists (only with --insert), crowded (there is no room) or\n\
+         refused PairTooLarge (key and value are too long together for a page).\n\n\
+         Example: dbm store users 6162 78797a --insert";
+    subcommand(alloc, "store", about, notes, args)
+}
+
+fn delete_command<'a>(alloc: Global) -> Result<Command<'a>, AllocError>
+    ensures { IfOk result (IsSubcommand spec.delete) }
+{
+    let args = vec![in alloc; base(alloc), key(alloc), unsigned(alloc), wide(alloc)]?;
+    let about = "Delete the pair of a key";
+    let notes = "Prints deleted, or missing with status 1.\n\nExample: dbm delete users 6162";
+    subcommand(alloc, "delete", about, notes, args)
+}
+
+fn list_command<'a>(alloc: Global) -> Result<Command<'a>, AllocError>
+    ensures { IfOk result (IsSubcommand spec.list) }
+{
+    let args = vec![in alloc; base(alloc), unsigned(alloc), wide(alloc)]?;
+    let about = "Print all pairs, sorted by the bytes of their keys";
+    let notes = "Prints KEY VALUE for each pair, both in hex, or . for no bytes.\n\n\
+         Example: dbm list users";
+    subcommand(alloc, "list", about, notes, args)
+}
+
+fn check_command<'a>(alloc: Global) -> Result<Command<'a>, AllocError>
+    ensures { IfOk result (IsSubcommand spec.check) }
+{
+    let args = vec![in alloc; base(alloc), unsigned(alloc), wide(alloc)]?;
+    let about = "Check that the files are a database";
+    let notes =
+        "Prints ok N for a database of N pairs. Where the files are none, standard error names\n\
+         the fault, and the status is 2.\n\n\
+         Example: dbm check users";
+    subcommand(alloc, "check", about, notes, args)
+}
+
+fn script_command<'a>(alloc: Global) -> Result<Command<'a>, AllocError>
+    ensures { IfOk result (IsSubcommand spec.script) }
+{
+    let help = "The database in BASE.dir and BASE.pag; without it, an empty one that is not kept";
+    let args = vec![in alloc;
+        valued_option(alloc, "base", "BASE", help),
+        unsigned(alloc),
+        wide(alloc),
+    ]?;
+    let about = "Run the commands on standard input, a line each";
+    let notes =
+        "The lines are fetch KEY, insert KEY VALUE, replace KEY VALUE, delete KEY and count. Prints a line\n\
+         of answer to each, bad line to any other that is not empty. All lines together have at most\n\
+         16 MiB.\n\n\
+         Example: dbm script --base users < first.script";
+    subcommand(alloc, "script", about, notes, args)
+}
+
+fn widen_command<'a>(alloc: Global) -> Result<Command<'a>, AllocError>
+    ensures { IfOk result (IsSubcommand spec.widen) }
+{
+    let args = vec![in alloc; base(alloc), unsigned(alloc)]?;
+    let about = "Write a database anew, with pages of 8,192 bytes for those of 1,024";
+    let notes = "Prints ok N for a database of N pairs. From then on it is opened with --wide.\n\n\
+         Example: dbm widen users";
+    subcommand(alloc, "widen", about, notes, args)
+}
+
+fn asm_command<'a>(alloc: Global) -> Result<Command<'a>, AllocError>
+    ensures { IfOk result (IsSubcommand spec.asm) }
+{
+    let args = vec![in alloc; file(alloc, "The program as text, one instruction a line")]?;
+    let about = "Print the image of a program's text, in hex";
+    let notes = "Prints one line, two digits a byte.\n\nExample: dbm asm counter.s";
+    subcommand(alloc, "asm", about, notes, args)
+}
+
+fn disasm_command<'a>(alloc: Global) -> Result<Command<'a>, AllocError>
+    ensures { IfOk result (IsSubcommand spec.disasm) }
+{
+    let args = vec![in alloc; file(alloc, "The program as the bytes of its image")]?;
+    let about = "Print the text of a program's image";
+    let notes =
+        "Prints one instruction a line. The bytes of an image come from the hex that asm prints so:\n\
+         dbm asm counter.s | xxd -r -p > counter.image\n\n\
+         Example: dbm disasm counter.image";
+    subcommand(alloc, "disasm", about, notes, args)
+}

@@ -1,0 +1,110 @@
+//! What a command line can ask.
+ghost use Rattle.std.specs.Prelude.{◌≡◌, option_map};
+ghost use Rattle.dbm_words.specs.Wishes.{base_of, file_of, writes_files};
+
+/// How the files of a database are read, as the options `--unsigned` and `--wide` say.
+#[derive(Clone, Copy, Debug, PartialEq, Eq)]
+pub struct Form {
+    /// The bytes of keys are hashed as unsigned ones.
+    pub unsigned: bool,
+    /// Pages have 8,192 bytes.
+    pub wide: bool,
+}
+
+/// What a command line asks: one subcommand with its words and options, as they were given. No word is read as bytes or as a
+/// number yet. A `base` names the files of a database, `BASE.dir` and `BASE.pag`.
+#[derive(Clone, Copy, Debug, PartialEq, Eq)]
+pub enum Wish<'a> {
+    /// The value of a key.
+    Fetch {
+        base: &'a str,
+        form: Form,
+        key: &'a str,
+    },
+    /// A pair is to be stored, with `insert` only where its key is not there.
+    Store {
+        base: &'a str,
+        form: Form,
+        key: &'a str,
+        value: &'a str,
+        insert: bool,
+    },
+    /// The pair of a key is to be deleted.
+    Delete {
+        base: &'a str,
+        form: Form,
+        key: &'a str,
+    },
+    /// All pairs.
+    List {
+        base: &'a str,
+        form: Form,
+    },
+    /// Whether the files are a database, and how many pairs it has.
+    Check {
+        base: &'a str,
+        form: Form,
+    },
+    /// The script on standard input is to be run, without a base on an empty database that is not kept.
+    Script {
+        base: Option<&'a str>,
+        form: Form,
+    },
+    /// A database of small pages is to be written with wide ones.
+    Widen {
+        base: &'a str,
+        unsigned: bool,
+    },
+    /// The image of a program's text.
+    Asm {
+        file: &'a str,
+    },
+    /// The text of a program's image.
+    Disasm {
+        file: &'a str,
+    },
+}
+
+impl<'a> Wish<'a> {
+    /// The database whose files are to be read, where there is one.
+    pub fn base(&self) -> Option<&'a str>
+        ensures { option_map (λ text. text.now) result ≡ base_of self.now }
+    {
+        match *self {
+            Wish::Fetch { base, .. }
+            | Wish::Store { base, .. }
+            | Wish::Delete { base, .. }
+            | Wish::List { base, .. }
+            | Wish::Check { base, .. }
+            | Wish::Widen { base, .. } => Some(base),
+            Wish::Script { base, .. } => base,
+            Wish::Asm { .. } | Wish::Disasm { .. } => None,
+        }
+    }
+
+    /// The program's file that is to be read, where there is one.
+    pub fn file(&self) -> Option<&'a str>
+        ensures { option_map (λ text. text.now) result ≡ file_of self.now }
+    {
+        match *self {
+            Wish::Asm { file } | Wish::Disasm { file } => Some(file),
+            _ => None,
+        }
+    }
+
+    /// Whether the files of its database are written once it was served: by `store`, `delete`, `widen`, and `script` with a base. A
+    /// `store` or `delete` that changed nothing writes them too.
+    pub fn writes(&self) -> bool
+        ensures { result ≡ writes_files self.now }
+    {
+        match *self {
+            Wish::Store { .. } | Wish::Delete { .. } | Wish::Widen { .. } => true,
+            Wish::Script { base, .. } => base.is_some(),
+            Wish::Fetch { .. }
+            | Wish::List { .. }
+            | Wish::Check { .. }
+            | Wish::Asm { .. }
+            | Wish::Disasm { .. } => false,
+        }
+    }
+}

@@ -45,6 +45,18 @@ file_of (wish.Asm file) = Some file.now
 file_of (wish.Disasm file) = Some file.now
 file_of _ = None
 
+-- the files of its database are written once it was served, also where nothing has changed
+abbrev pub writes_files : Wish → Bool
+writes_files (wish.Fetch base form key) = false
+writes_files (wish.Store base form key value insert) = true
+writes_files (wish.Delete base form key) = true
+writes_files (wish.List base form) = false
+writes_files (wish.Check base form) = false
+writes_files (wish.Script base form) = is_some base
+writes_files (wish.Widen base unsigned) = true
+writes_files (wish.Asm file) = false
+writes_files (wish.Disasm file) = false
+
 -- The wish is what the subcommand of this name asks, by the words and options that were given to it.
 abbrev pub Asks : Text → List Row → Wish → Type 0
 Asks name rows (wish.Fetch base form key) =

@@ -5,6 +5,8 @@ ghost use Rattle.dbm_tool.specs.declared.command_line.fault.ToolFault.TheVariant
 
 use clap::error::ErrorKind;
 use std::alloc::AllocError;
+use std::io;
+use std::rt::Runtime;
 use thiserror::Error;
 
 /// Why the words of a command line ask nothing. It prints as the text for the user.
@@ -30,6 +32,18 @@ impl ToolFault {
         match self {
             ToolFault::Refused(error) => !error.use_stderr(),
             _ => false,
+        }
+    }
+
+    /// Prints the text for the user: help and the version to standard output, every other to standard error. `clap`'s own text begins
+    /// with `error: `, the name of a fault of this program with `dbm: `.
+    ///
+    /// # Errors
+    /// That of the stream.
+    pub fn print<R: Runtime>(&self, rt: &R) -> io::Result<()> {
+        match self {
+            ToolFault::Refused(error) => error.print(rt),
+            ToolFault::NoMemory | ToolFault::NoWord => eprintln!(rt; "dbm: {self}"),
         }
     }
 }

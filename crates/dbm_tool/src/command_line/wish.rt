@@ -1,6 +1,6 @@
 //! What a command line can ask.
 ghost use Rattle.std.specs.Prelude.{◌≡◌, option_map};
-ghost use Rattle.dbm_tool.specs.Wishes.{base_of, file_of};
+ghost use Rattle.dbm_tool.specs.Wishes.{base_of, file_of, writes_files};
 
 /// How the files of a database are read, as the options `--unsigned` and `--wide` say.
 #[derive(Clone, Copy, Debug, PartialEq, Eq)]
@@ -89,6 +89,22 @@ impl<'a> Wish<'a> {
         match *self {
             Wish::Asm { file } | Wish::Disasm { file } => Some(file),
             _ => None,
+        }
+    }
+
+    /// Whether the files of its database are written once it was served: by `store`, `delete`, `widen`, and `script` with a base. A
+    /// `store` or `delete` that changed nothing writes them too.
+    pub fn writes(&self) -> bool
+        ensures { result ≡ writes_files self.now }
+    {
+        match *self {
+            Wish::Store { .. } | Wish::Delete { .. } | Wish::Widen { .. } => true,
+            Wish::Script { base, .. } => base.is_some(),
+            Wish::Fetch { .. }
+            | Wish::List { .. }
+            | Wish::Check { .. }
+            | Wish::Asm { .. }
+            | Wish::Disasm { .. } => false,
         }
     }
 }

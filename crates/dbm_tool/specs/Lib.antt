@@ -6,3 +6,5 @@ pub mod Wishes
 pub mod Serving
 pub mod Served
 pub mod Failing
+pub mod Names
+pub mod Endings

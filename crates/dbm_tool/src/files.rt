@@ -1,61 +1,86 @@
-//! The files that a command line names, read and written.
-use crate::databases::{Files as Written, PAG_LIMIT};
+//! The files that a wish names, read and written.
+use crate::databases::Files as Written;
 use crate::fault::ServeFault;
+use crate::lock::take;
+use crate::names::{Source, Target, lock_of, put, sources, target_of, targets_of};
 use crate::serve::Given;
 use dbm_words::Wish;
-use std::alloc::Global;
-use std::fs::OpenFile;
+use std::fs::{File, OpenFile};
 use std::io::{ErrorKind, Read, Write};
 use std::rt::Files;
 use std::{fs, io};
 
-/// A `.dir` file of the program has at most this many bytes.
-const DIR_LIMIT: u64 = 268_435_456;
+/// What was read for a wish, and the lock of its database where the files are to be written. Others wait until it is dropped.
+#[derive(Drop)]
+pub struct Taken {
+    pub given: Given,
+    pub lock: Option<File>,
+}
 
-/// A program's file has at most this many bytes.
-const FILE_LIMIT: u64 = 1_048_576;
-
-/// The bytes of the files that a wish names: of `.dir`, `.pag` and the program's file, in this order. A file of a database that is
-/// not there has no bytes.
+/// Reads the files that a wish names, once no run has a lock that keeps it off. A wish that writes keeps its lock, since its files are
+/// those that were read until it has written them.
 ///
 /// # Errors
-/// The first that is met: `ReadFile`, `FileTooLong` where a file has more bytes than the program takes, and `NoMemory`.
-pub fn read_given<R: Files + AllocGlobal>(rt: &R, wish: &Wish<'_>) -> Result<Given, ServeFault> {
+/// `WriteFile` where a wish that writes cannot have its lock, then those of `read_given`.
+pub fn take_files<R: Files<File = File> + AllocGlobal>(
+    rt: &R,
+    wish: &Wish<'_>,
+) -> Result<Taken, ServeFault> {
+    let Some(lock_file) = lock_of(rt.alloc(), wish)? else {
+        let given = read_given(rt, wish)?;
+        return Ok(Taken { given, lock: None });
+    };
+    let mut lock = take(rt, &lock_file)?;
+    let mut given = read_given(rt, wish);
+    if lock.is_none() {
+        // The first run that writes may have come in between, and made the lock.
+        lock = take(rt, &lock_file)?;
+        if lock.is_some() {
+            given = read_given(rt, wish);
+        }
+    }
+    if !lock_file.is_exclusive {
+        lock = None;
+    }
+    let given = given?;
+    Ok(Taken { given, lock })
+}
+
+// The bytes of the files that a wish names. The error is the first that is met: `ReadFile`, `FileTooLong` where a file has more bytes
+// than the program takes, and `NoMemory`.
+fn read_given<R: Files + AllocGlobal>(rt: &R, wish: &Wish<'_>) -> Result<Given, ServeFault> {
     let alloc = rt.alloc();
     let mut given = Given {
         dir: Vec::new(alloc),
         pag: Vec::new(alloc),
         file: Vec::new(alloc),
     };
-    if let Some(base) = wish.base() {
-        given.dir = read_file(rt, path(alloc, base, "dir")?.as_str(), DIR_LIMIT, true)?;
-        given.pag = read_file(rt, path(alloc, base, "pag")?.as_str(), PAG_LIMIT, true)?;
-    }
-    if let Some(file) = wish.file() {
-        given.file = read_file(rt, file, FILE_LIMIT, false)?;
+    for source in sources(alloc, wish)? {
+        let bytes = read_file(rt, &source)?;
+        put(&mut given, source.part, bytes);
     }
     Ok(given)
 }
 
 // The bytes of a file.
-fn read_file<R: Files + AllocGlobal>(
-    rt: &R,
-    path: &str,
-    limit: u64,
-    may_be_absent: bool,
-) -> Result<Vec<u8>, ServeFault> {
+fn read_file<R: Files + AllocGlobal>(rt: &R, source: &Source) -> Result<Vec<u8>, ServeFault> {
     let mut bytes = Vec::new(rt.alloc());
-    let file = match fs::open(rt, path) {
+    let file = match fs::open(rt, source.name.as_str()) {
         Ok(file) => file,
-        Err(error) if may_be_absent && error.kind() == ErrorKind::NotFound => return Ok(bytes),
+        Err(error) if source.may_be_absent && error.kind() == ErrorKind::NotFound => {
+            return Ok(bytes);
+        }
         Err(_) => return Err(ServeFault::ReadFile),
     };
-    match file.take(limit.saturating_add(1)).read_to_end(&mut bytes) {
+    match file
+        .take(source.limit.saturating_add(1))
+        .read_to_end(&mut bytes)
+    {
         Ok(_) => (),
         Err(error) if error.kind() == ErrorKind::OutOfMemory => return Err(ServeFault::NoMemory),
         Err(_) => return Err(ServeFault::ReadFile),
     }
-    if bytes.len() as u64 > limit {
+    if bytes.len() as u64 > source.limit {
         return Err(ServeFault::FileTooLong);
     }
     Ok(bytes)
@@ -72,55 +97,52 @@ pub fn write_files<R: Files + AllocGlobal>(
     base: &str,
     files: &Written,
 ) -> Result<(), ServeFault> {
-    let alloc = rt.alloc();
-    let pag = place(rt, base, "pag")?;
-    let dir = place(rt, base, "dir")?;
-    let new_pag = path(alloc, pag.as_str(), "new")?;
-    let new_dir = path(alloc, dir.as_str(), "new")?;
-    let is_pag_new = write_beside(rt, pag.as_str(), new_pag.as_str(), files.pag.bytes()).is_ok()
-        && write_beside(rt, dir.as_str(), new_dir.as_str(), files.dir.bytes()).is_ok()
-        && fs::rename(rt, new_pag.as_str(), pag.as_str()).is_ok();
-    if !is_pag_new {
+    let targets = targets_of(rt.alloc(), base, files)?;
+    let first = placed(rt, targets.first)?;
+    let last = placed(rt, targets.last)?;
+    let is_first_there = write_beside(rt, &first).is_ok()
+        && write_beside(rt, &last).is_ok()
+        && take_name(rt, &first).is_ok();
+    if !is_first_there {
         // What is left under the other names is of no use; that it may not go away changes nothing.
-        let _ = fs::remove_file(rt, new_pag.as_str());
-        let _ = fs::remove_file(rt, new_dir.as_str());
+        let _ = fs::remove_file(rt, first.new_name.as_str());
+        let _ = fs::remove_file(rt, last.new_name.as_str());
         return Err(ServeFault::WriteFile);
     }
-    match fs::rename(rt, new_dir.as_str(), dir.as_str()) {
+    match take_name(rt, &last) {
         Ok(()) => Ok(()),
         Err(_) => Err(ServeFault::WriteFile),
     }
 }
 
-// Writes a file under a new name, which has the permissions of the old file before it has a byte.
-fn write_beside<R: Files>(rt: &R, old: &str, new: &str, bytes: &[u8]) -> io::Result<()> {
-    let mut file = fs::create(rt, new)?;
-    match fs::metadata(rt, old) {
+// Writes a file under its new name, with the permissions of the old file before it has a byte.
+fn write_beside<R: Files>(rt: &R, target: &Target<'_>) -> io::Result<()> {
+    let mut file = fs::create(rt, target.new_name.as_str())?;
+    match fs::metadata(rt, target.name.as_str()) {
         Ok(found) => file.set_permissions(found.permissions())?,
         Err(error) if error.kind() == ErrorKind::NotFound => (),
         Err(error) => return Err(error),
     }
-    file.write_all(bytes)
+    file.write_all(target.bytes)
 }
 
-// Where a file of a database is written: under its name, or where the link leads that has the name.
-fn place<R: Files + AllocGlobal>(rt: &R, base: &str, part: &str) -> Result<String, ServeFault> {
-    let path = path(rt.alloc(), base, part)?;
-    match fs::symlink_metadata(rt, path.as_str()) {
+// Gives a file that was written its own name.
+fn take_name<R: Files>(rt: &R, target: &Target<'_>) -> io::Result<()> {
+    fs::rename(rt, target.new_name.as_str(), target.name.as_str())
+}
+
+// A file where it is written: under its name, or where the link leads that has the name.
+fn placed<'a, R: Files + AllocGlobal>(
+    rt: &R,
+    target: Target<'a>,
+) -> Result<Target<'a>, ServeFault> {
+    match fs::symlink_metadata(rt, target.name.as_str()) {
         Ok(found) if found.is_symlink() => (),
-        _ => return Ok(path),
+        _ => return Ok(target),
     }
-    match fs::canonicalize(rt, path.as_str()) {
-        Ok(real) => Ok(real.into_string()),
+    match fs::canonicalize(rt, target.name.as_str()) {
+        Ok(real) => target_of(rt.alloc(), real.into_string(), target.bytes),
         Err(error) if error.kind() == ErrorKind::OutOfMemory => Err(ServeFault::NoMemory),
         Err(_) => Err(ServeFault::WriteFile),
-    }
-}
-
-// The name of a file of a database.
-fn path(alloc: Global, base: &str, part: &str) -> Result<String, ServeFault> {
-    match format!(in alloc; "{base}.{part}") {
-        Ok(path) => Ok(path),
-        Err(_) => Err(ServeFault::NoMemory),
     }
 }

@@ -1,37 +1,41 @@
 //! A program over the files of a store: pairs fetched, stored and listed, scripts, and programs as text and images.
 #![tactic(auto)]
 
+ghost use Rattle.dbm_tool.specs.Endings.{IsTold};
+
 mod databases;
+mod ending;
 mod fault;
 mod files;
 mod listing;
+mod lock;
+mod names;
 mod programs;
 mod report;
 mod serve;
 
-use dbm_words::{ToolFault, Wish, read_words};
+use dbm_words::{Wish, read_words};
+use ending::{Ending, ending_of, exit_status};
 use fault::ServeFault;
-use files::{read_given, write_files};
-use serve::{FAULT, serve};
+use files::{Taken, take_files, write_files};
+use serve::serve;
+use std::fs::File;
 use std::io::ErrorKind;
 use std::process::ExitCode;
 use std::rt::Runtime;
 use std::{env, io};
 
 fn main(rt: HostRuntime) -> ExitCode {
-    let status = match run(&rt) {
-        Ok(status) => status,
-        Err(fault) => {
-            // Where standard error fails too, the status says it.
-            let _ = eprintln!(rt; "dbm: {fault}");
-            FAULT
-        }
+    let ending = match run(&rt) {
+        Ok(ending) => ending,
+        Err(fault) => Ending::Failed(fault),
     };
-    ExitCode::from(status)
+    let ending = tell(&rt, ending);
+    ExitCode::from(exit_status(&ending))
 }
 
-// Reads the words behind the program's name, serves what they ask, and gives the status.
-fn run<R: Runtime + AllocGlobal>(rt: &R) -> Result<u8, ServeFault> {
+// Reads the words behind the program's name, and serves what they ask.
+fn run<R: Runtime<File = File> + AllocGlobal>(rt: &R) -> Result<Ending, ServeFault> {
     let alloc = rt.alloc();
     let args = match env::args(rt) {
         Ok(args) => args,
@@ -45,13 +49,16 @@ fn run<R: Runtime + AllocGlobal>(rt: &R) -> Result<u8, ServeFault> {
     }
     match read_words(alloc, words.as_slice()) {
         Ok(wish) => serve_files(rt, wish),
-        Err(fault) => print_refusal(rt, &fault),
+        Err(fault) => Ok(Ending::Refused(fault)),
     }
 }
 
-// Serves a wish on the files that it names.
-fn serve_files<R: Runtime + AllocGlobal>(rt: &R, wish: Wish<'_>) -> Result<u8, ServeFault> {
-    let given = read_given(rt, &wish)?;
+// Serves a wish on the files that it names. The lock, where there is one, is held to the end.
+fn serve_files<R: Runtime<File = File> + AllocGlobal>(
+    rt: &R,
+    wish: Wish<'_>,
+) -> Result<Ending, ServeFault> {
+    let Taken { given, lock: _lock } = take_files(rt, &wish)?;
     let outcome = serve(
         rt.alloc(),
         wish,
@@ -59,26 +66,25 @@ fn serve_files<R: Runtime + AllocGlobal>(rt: &R, wish: Wish<'_>) -> Result<u8, S
         &mut rt.reader(),
         &mut io::writer(rt),
     );
-    if let Some(fault) = outcome.err {
-        return Err(fault);
-    }
     if let (Some(base), Some(files)) = (wish.base(), &outcome.files) {
         write_files(rt, base, files)?;
     }
-    Ok(outcome.status)
+    Ok(ending_of(&outcome))
 }
 
-// Prints why the words ask nothing, or the help or the version that they ask for, and gives the status.
-fn print_refusal<R: Runtime>(rt: &R, fault: &ToolFault) -> Result<u8, ServeFault> {
-    match fault {
-        ToolFault::Refused(error) => {
-            if error.print(rt).is_err() {
-                return Err(ServeFault::Write);
-            }
+// Prints why the words ask nothing, or the help or the version that they ask for, or the fault. Where standard output takes no help,
+// that is the fault; where standard error fails, the status alone says it.
+fn tell<R: Runtime>(rt: &R, ending: Ending) -> Ending
+    ensures { IsTold ending result }
+{
+    let ending = match ending {
+        Ending::Refused(refusal) if refusal.print(rt).is_err() => {
+            Ending::Failed(ServeFault::Write)
         }
-        ToolFault::NoMemory | ToolFault::NoWord => {
-            let _ = eprintln!(rt; "dbm: {fault}");
-        }
+        ending => ending,
+    };
+    if let Ending::Failed(fault) = &ending {
+        let _ = eprintln!(rt; "dbm: {fault}");
     }
-    Ok(if fault.is_answer() { 0 } else { FAULT })
+    ending
 }

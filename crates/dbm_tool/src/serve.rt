@@ -224,11 +224,7 @@ fn report_script<R: Read>(
 }
 
 // A script on an empty database, which is not kept.
-fn report_alone<R: Read>(
-    alloc: Global,
-    form: Form,
-    reader: &mut R,
-) -> Result<Report, ServeFault>
+fn report_alone<R: Read>(alloc: Global, form: Form, reader: &mut R) -> Result<Report, ServeFault>
     ensures ok { IfOk result (PlaysAlone form (R.remaining reader.old)) }
     ensures fault { IfErr result (IsCaused (input_causes (R.remaining reader.old))) }
 {

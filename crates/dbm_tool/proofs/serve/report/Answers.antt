@@ -11,4 +11,3 @@ returns-in-Script-clause-ok g c = rw (c.in-Script.is, c.in-Script.base-is) c.rep
 
 pub returns-in-Widen-clause-ok : goal.returns-in-Widen-clause-ok
 returns-in-Widen-clause-ok g c = rw (c.in-Widen.is) c.report_widen.ensures.ok
-

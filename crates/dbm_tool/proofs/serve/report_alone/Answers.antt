@@ -12,6 +12,11 @@ returns-clause-ok g c =
     let empty = c.empty-image.ensures ∙ ap (λ (kind : KeyBytes). empty_database kind c.size_of.result) c.kind_of.ensures
     ∙ ap (empty_database _) c.size_of.ensures in
     let here = plays_known c.empty-image.result known c.as_slice.result.now played.0 c.in_ok-text.field-0 (rw c.as_slice.ensures.value c.in_ok-script.ensures.all) played.1.0 in
-    let text = ap (λ v. v.items) c.printed.ensures.text in
-    (played.0, (subst (λ (db : Database). Plays db known played.0 c.printed.result) empty
-    (plays_text c.empty-image.result known played.0 c.in_ok-text.field-0 c.printed.result text c.printed.ensures.status here), c.printed.ensures.database))
+    let text = ap (λ v. v.items) c.printed.ensures.text in (
+      played.0,
+      (
+        subst (λ (db : Database). Plays db known played.0 c.printed.result) empty
+            (plays_text c.empty-image.result known played.0 c.in_ok-text.field-0 c.printed.result text c.printed.ensures.status here),
+        c.printed.ensures.database,
+      ),
+    )

@@ -1,4 +1,3 @@
-
 use Rattle.dbm_tool.proofs.serve.report_check.Goals as goal
 
 pub returns-clause-ok : goal.returns-clause-ok

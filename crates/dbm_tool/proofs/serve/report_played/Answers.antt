@@ -11,6 +11,13 @@ returns-in_err-script-clause-fault g c =
 
 pub returns-clause-ok : goal.returns-clause-ok
 returns-clause-ok g c =
-    let played = c.in_ok-play.ensures in
-    (c.in_ok-image.image, (c.in_ok-image.ensures.ok, (played.0,
-    (plays_known c.in_ok-image.image _ c.as_slice.result.now played.0 c.in_ok-play.field-0 (rw c.as_slice.ensures.value c.in_ok-script.ensures.all) played.1.0, played.1.1))))
+    let played = c.in_ok-play.ensures in (
+      c.in_ok-image.image,
+      (
+        c.in_ok-image.ensures.ok,
+        (
+          played.0,
+          (plays_known c.in_ok-image.image _ c.as_slice.result.now played.0 c.in_ok-play.field-0 (rw c.as_slice.ensures.value c.in_ok-script.ensures.all) played.1.0, played.1.1),
+        ),
+      ),
+    )

@@ -49,9 +49,7 @@ pub fn read_pages<A: Allocator + Copy>(
             Ok(page) => page,
             Err(fault) => return Err(fault),
         };
-        let Ok(()) = pages.push(page) else {
-            return Err(OpenFault::NoMemory);
-        };
+        pages.push_reserved(page);
     }
     Ok(pages)
 }

@@ -9,7 +9,7 @@ ghost use Rattle.sdbm_files.specs.Opened.{AreRead, IsRead, IsFaultOf, IsFaultOfP
 use crate::pages::{Pages, put_page};
 use sdbm_addr::{KeyBytes, PageSize, hash, mask};
 use sdbm_dir::{Dir, DirFault};
-use sdbm_page::{Page, PageFault};
+use sdbm_page::{Page, PageFault, spells_empty};
 use std::alloc::{AllocError, Allocator};
 use std::collections::HashMap;
 
@@ -49,9 +49,7 @@ pub fn read_pages<A: Allocator + Copy>(
             Ok(page) => page,
             Err(fault) => return Err(fault),
         };
-        let Ok(()) = pages.push(page) else {
-            return Err(OpenFault::NoMemory);
-        };
+        pages.push_reserved(page);
     }
     Ok(pages)
 }
@@ -67,13 +65,11 @@ fn read_page<A: Allocator + Copy>(
     ensures page { IfOk result (IsRead size bytes.now) }
     ensures fault { IfErr result (IsFaultOf size bytes.now number) }
 {
+    if spells_empty(bytes, size) {
+        return Ok(None);
+    }
     match Page::from_bytes(alloc, bytes, size) {
-        Ok(page) => {
-            if page.is_empty() {
-                return Ok(None);
-            }
-            Ok(Some(page))
-        }
+        Ok(page) => Ok(Some(page)),
         Err(PageFault::NoMemory) => Err(OpenFault::NoMemory),
         Err(fault) => Err(OpenFault::Page(number, fault)),
     }

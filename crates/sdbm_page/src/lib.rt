@@ -6,23 +6,23 @@ ghost use Rattle.std.specs.Prelude.{◌≡◌, ◌≢◌, ◌+◌, ◌<◌, ◌�
 ghost use Rattle.std.specs.List.{sum_by};
 ghost use Rattle.std.specs.Borrow.{sem};
 ghost use Rattle.sdbm_addr.specs.Layout.{Spells, bytes_of_page};
-ghost use Rattle.sdbm_addr.specs.Pairs.{Pair, value_of, key_at, value_at, footprint, page_bytes, pair_limit, with_pair, HasDistinctKeys, IsLaid, IsPlace};
+ghost use Rattle.sdbm_addr.specs.Pairs.{Pair, value_of, key_at, value_at, footprint, page_bytes, pair_limit, with_pair, IsLaid, IsPlace};
 ghost use Rattle.sdbm_page.specs.Fields.{IsLow, IsExtent, IsValueRange, pairs_in};
 ghost use Rattle.sdbm_page.specs.Faults.{IsLayout, IsPageFault, SpellsNone};
 ghost use Rattle.sdbm_page.specs.Lending.{LendsValue};
-ghost use Rattle.sdbm_page.specs.Marks.{IsKeyBefore};
 ghost use Rattle.sdbm_page.specs.declared.PageFault.TheVariants.{NoMemory};
 
 mod edits;
 mod fault_text;
 mod fields;
+mod keys;
 mod layout;
 mod noted;
 
 use edits::{clear, put_pair, take_pair};
 use fields::{end_at, key_in, key_start, number_at, value_in, value_start};
+use keys::has_distinct_keys;
 use layout::{Layout, layout_of};
-use noted::Noted;
 use sdbm_addr::PageSize;
 use std::alloc::{AllocError, Allocator};
 use std::marker::Model;
@@ -36,8 +36,16 @@ pub enum PageFault {
     Offsets,
     /// A key stands twice.
     DoubleKey,
-    /// No memory is left for the page. It is taken before keys are compared.
+    /// No memory is left for the page that the bytes spell.
     NoMemory,
+}
+
+/// Whether bytes, as many as a page of the size has, spell the page without pairs, as the zeros of a hole do.
+pub fn spells_empty(bytes: &[u8], size: PageSize) -> bool
+    requires { length bytes.now ≡ page_bytes size }
+    ensures { IsTrue result ↔ Spells size bytes.now [] }
+{
+    number_at(bytes, 0) == 0
 }
 
 /// A page, seen as its size and the list of its pairs. Its pairs always fit, and each is small enough; that keys are distinct
@@ -79,12 +87,12 @@ impl<A: Allocator> Page<A> {
         ensures none { IfErr result (λ fault. fault ≢ NoMemory → SpellsNone size bytes.now) }
     {
         let layout = layout_of(bytes, size)?;
+        if !has_distinct_keys(bytes, size, layout) {
+            return Err(PageFault::DoubleKey);
+        }
         let Ok(page) = Self::cleared(alloc, bytes, size, layout) else {
             return Err(PageFault::NoMemory);
         };
-        if !page.has_distinct_keys() {
-            return Err(PageFault::DoubleKey);
-        }
         Ok(page)
     }
 
@@ -202,35 +210,6 @@ impl<A: Allocator> Page<A> {
         let mut copy = Vec::from_slice(alloc, bytes)?;
         clear(copy.as_mut_slice(), 4 * layout.count + 2, layout.low);
         Ok(Page { size, bytes: copy })
-    }
-
-    // Whether no key comes twice. A key is compared with those before it only where one of them may be equal.
-    fn has_distinct_keys(&self) -> bool
-        ensures { IsTrue result ↔ HasDistinctKeys self.now.pairs }
-    {
-        let mut noted = Noted::new();
-        for i in 0..self.len() {
-            let key = self.key(i);
-            if noted.note(key) {
-                if self.comes_before(key, i) {
-                    return false;
-                }
-            }
-        }
-        true
-    }
-
-    // Whether one of the first `count` pairs has the key.
-    fn comes_before(&self, key: &[u8], count: usize) -> bool
-        requires { count ≤ length self.now.pairs }
-        ensures { IsTrue result ↔ IsKeyBefore self.now.pairs key.now count }
-    {
-        for i in 0..count {
-            if self.key(i) == key {
-                return true;
-            }
-        }
-        false
     }
 }
 

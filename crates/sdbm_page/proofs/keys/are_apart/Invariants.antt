@@ -1,0 +1,6 @@
+use Rattle.sdbm_page.specs.Keys.{AreApart}
+use Rattle.sdbm_page.proofs.keys.are_apart.Given as goal
+
+-- the keys before place i are distinct
+abbrev pub invariant-loop-i : goal.invariant-loop-i
+invariant-loop-i l = AreApart l.bytes l.i

@@ -1,0 +1,4 @@
+mod Running
+mod ArithmeticExamples
+mod Examples
+mod StuckExamples

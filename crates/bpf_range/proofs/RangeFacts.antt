@@ -2,7 +2,9 @@
 use Rattle.std.proofs.Common.{bit_and, ◌≡◌, ℕ, ◌+◌, ◌-◌, ◌*◌, ◌%◌, ◌^◌, ◌<◌, ◌≤◌, bit_or, bit_xor, ◌∙◌, arith}
 use Rattle.std.proofs.Math.Nat.{mod-eq_of_lt, mul-le-mul, mod-eq-sub-mod}
 use Rattle.std.proofs.lemmas.Nat.{and_le_l, and_le_r, or_lt, xor_lt}
+use Rattle.bpf_range.specs.declared.values.Range.{Range}
 use Rattle.bpf_range.specs.Bits.{IsFill}
+use Rattle.bpf_range.specs.Sets.{In, Within, IsOnly}
 
 pub and_greatest : (x y : ℕ) → (bit_and x y ≤ x) × (bit_and x y ≤ y)
 and_greatest x y = (and_le_l x y, and_le_r x y)
@@ -35,3 +37,17 @@ xor_fill x y m f h p q =
 
 pub rem_below : (x y : ℕ) → x < y → x % y ≡ x
 rem_below x y h = mod-eq_of_lt h
+
+-- a part of a range of one number
+pub only_within : (r s : Range) (x : ℕ) → Within r s → IsOnly s x → IsOnly r x
+only_within r s x w o =
+    let p : r.lo ≤ r.hi = r.ordered in
+    let l : In s r.lo = w r.lo (record { least = omega arith; greatest = p }) in
+    let h : In s r.hi = w r.hi (record { least = p; greatest = omega arith }) in
+    let a : s.lo ≡ x = o.lo_is in
+    let b : s.hi ≡ x = o.hi_is in
+    let c : r.lo ≤ s.hi = l.greatest in
+    let d : s.lo ≤ r.lo = l.least in
+    let e : r.hi ≤ s.hi = h.greatest in
+    let f : s.lo ≤ r.hi = h.least in
+    record { lo_is = omega arith; hi_is = omega arith }

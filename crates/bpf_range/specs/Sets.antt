@@ -10,6 +10,15 @@ pub record In (r : Range) (x : ℕ) : Type 0 where
   pub least : r.lo ≤ x
   pub greatest : x ≤ r.hi
 
+-- one range is part of another
+abbrev pub Within : Range → Range → Type 0
+Within r s = (x : ℕ) → In r x → In s x
+
+-- a range of one number
+pub record IsOnly (r : Range) (x : ℕ) : Type 0 where
+  pub lo_is : r.lo ≡ x
+  pub hi_is : r.hi ≡ x
+
 abbrev pub HasBits : Bits → ℕ → Type 0
 HasBits b x = Matches b.value b.unknown x
 

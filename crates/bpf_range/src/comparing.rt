@@ -1,15 +1,16 @@
 //! What comparisons tell of the ranges of their operands.
 
-ghost use Rattle.std.specs.Prelude.{◌≡◌, ◌≢◌, ◌<◌, ◌≤◌, bit_and, ℕ, IsSomeAnd};
+ghost use Rattle.std.specs.Prelude.{◌≡◌, ◌≢◌, ◌<◌, ◌≤◌, bit_and, ℕ, IfSome, IsSomeAnd};
 ghost use Rattle.bpf_insn.specs.Conditions.{comparison};
-ghost use Rattle.bpf_range.specs.Sets.{In};
+ghost use Rattle.bpf_range.specs.Sets.{In, Within};
 
 use crate::values::Range;
 use bpf_insn::{Test, Width};
 
 /// The numbers that are left where those of `a` are above those of `b`.
 fn above(a: Range, b: Range) -> Option<(Range, Range)>
-    ensures { (x y : ℕ) → In a x → In b y → y < x → IsSomeAnd result (λ p. In p.0 x × In p.1 y) }
+    ensures keeps { (x y : ℕ) → In a x → In b y → y < x → IsSomeAnd result (λ p. In p.0 x × In p.1 y) }
+    ensures within { IfSome result (λ p. Within p.0 a × Within p.1 b) }
 {
     if a.hi <= b.lo {
         return None;
@@ -28,7 +29,8 @@ fn above(a: Range, b: Range) -> Option<(Range, Range)>
 
 /// The numbers that are left where those of `a` are no less than those of `b`.
 fn at_least(a: Range, b: Range) -> Option<(Range, Range)>
-    ensures { (x y : ℕ) → In a x → In b y → y ≤ x → IsSomeAnd result (λ p. In p.0 x × In p.1 y) }
+    ensures keeps { (x y : ℕ) → In a x → In b y → y ≤ x → IsSomeAnd result (λ p. In p.0 x × In p.1 y) }
+    ensures within { IfSome result (λ p. Within p.0 a × Within p.1 b) }
 {
     if a.hi < b.lo {
         return None;
@@ -47,7 +49,8 @@ fn at_least(a: Range, b: Range) -> Option<(Range, Range)>
 
 /// The numbers that are left where both are equal: those in both ranges.
 fn same(a: Range, b: Range) -> Option<(Range, Range)>
-    ensures { (x y : ℕ) → In a x → In b y → x ≡ y → IsSomeAnd result (λ p. In p.0 x × In p.1 y) }
+    ensures keeps { (x y : ℕ) → In a x → In b y → x ≡ y → IsSomeAnd result (λ p. In p.0 x × In p.1 y) }
+    ensures within { IfSome result (λ p. Within p.0 a × Within p.1 b) }
 {
     let lo = a.lo.max(b.lo);
     let hi = a.hi.min(b.hi);
@@ -61,7 +64,8 @@ fn same(a: Range, b: Range) -> Option<(Range, Range)>
 /// A range without the number of `other`, where that has a single one and it is an end of the range.
 /// The last number is never taken out.
 fn without(a: Range, other: Range) -> Range
-    ensures { (x y : ℕ) → In a x → In other y → x ≢ y → In result x }
+    ensures keeps { (x y : ℕ) → In a x → In other y → x ≢ y → In result x }
+    ensures within { Within result a }
 {
     if other.lo != other.hi {
         return a;
@@ -86,14 +90,16 @@ fn without(a: Range, other: Range) -> Range
 
 /// The numbers that are left where both differ.
 fn different(a: Range, b: Range) -> Option<(Range, Range)>
-    ensures { (x y : ℕ) → In a x → In b y → x ≢ y → IsSomeAnd result (λ p. In p.0 x × In p.1 y) }
+    ensures keeps { (x y : ℕ) → In a x → In b y → x ≢ y → IsSomeAnd result (λ p. In p.0 x × In p.1 y) }
+    ensures within { IfSome result (λ p. Within p.0 a × Within p.1 b) }
 {
     Some((without(a, b), without(b, a)))
 }
 
 /// The numbers that are left where both have a bit in common: all, but that none is 0 alone.
 fn common(a: Range, b: Range) -> Option<(Range, Range)>
-    ensures { (x y : ℕ) → In a x → In b y → bit_and x y ≢ 0 → IsSomeAnd result (λ p. In p.0 x × In p.1 y) }
+    ensures keeps { (x y : ℕ) → In a x → In b y → bit_and x y ≢ 0 → IsSomeAnd result (λ p. In p.0 x × In p.1 y) }
+    ensures within { IfSome result (λ p. Within p.0 a × Within p.1 b) }
 {
     if a.hi == 0 {
         return None;
@@ -106,7 +112,8 @@ fn common(a: Range, b: Range) -> Option<(Range, Range)>
 
 /// The same with the operands exchanged.
 fn turned(found: Option<(Range, Range)>) -> Option<(Range, Range)>
-    ensures { (x y : ℕ) → IsSomeAnd found (λ p. In p.0 x × In p.1 y) → IsSomeAnd result (λ p. In p.0 y × In p.1 x) }
+    ensures keeps { (x y : ℕ) → IsSomeAnd found (λ p. In p.0 x × In p.1 y) → IsSomeAnd result (λ p. In p.0 y × In p.1 x) }
+    ensures within { (s t : Range) → IfSome found (λ p. Within p.0 s × Within p.1 t) → IfSome result (λ p. Within p.0 t × Within p.1 s) }
 {
     let (a, b) = found?;
     Some((b, a))
@@ -115,7 +122,8 @@ fn turned(found: Option<(Range, Range)>) -> Option<(Range, Range)>
 /// The numbers that are left where an unsigned test comes out as `taken`: `None` where no numbers of
 /// the ranges do so. A signed test tells nothing here.
 pub fn compare(test: Test, a: Range, b: Range, taken: bool) -> Option<(Range, Range)>
-    ensures { (x y : ℕ) → In a x → In b y → comparison test Width.W64 x y ≡ taken → IsSomeAnd result (λ p. In p.0 x × In p.1 y) }
+    ensures keeps { (x y : ℕ) → In a x → In b y → comparison test Width.W64 x y ≡ taken → IsSomeAnd result (λ p. In p.0 x × In p.1 y) }
+    ensures within { IfSome result (λ p. Within p.0 a × Within p.1 b) }
 {
     match (test, taken) {
         (Test::Eq, true) | (Test::Ne, false) => same(a, b),

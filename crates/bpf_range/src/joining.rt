@@ -1,15 +1,16 @@
 //! What is known where two ways meet.
 
 ghost use Rattle.std.specs.Prelude.{◌≡◌, ◌≤◌, ℕ};
-ghost use Rattle.bpf_range.specs.Sets.{Contains, In, HasBits};
+ghost use Rattle.bpf_range.specs.Sets.{Contains, In, Within, HasBits, range_of};
 
 use crate::known::{Known, settle};
 use crate::values::{Bits, Range};
 
 /// The least range that has the numbers of both.
 pub fn hull(a: Range, b: Range) -> Range
-    ensures left { (x : ℕ) → In a x → In result x }
-    ensures right { (x : ℕ) → In b x → In result x }
+    ensures left { Within a result }
+    ensures right { Within b result }
+    ensures least { (r : Range) → Within a r → Within b r → Within result r }
 {
     Range {
         lo: a.lo.min(b.lo),
@@ -35,6 +36,7 @@ pub fn common_bits(a: Bits, b: Bits) -> Bits
 pub fn join(a: Known, b: Known) -> Known
     ensures left { (x : ℕ) → Contains a x → Contains result x }
     ensures right { (x : ℕ) → Contains b x → Contains result x }
+    ensures least { (r : Range) → Within (range_of a) r → Within (range_of b) r → Within (range_of result) r }
 {
     settle(hull(a.range(), b.range()), common_bits(a.bits(), b.bits()))
 }

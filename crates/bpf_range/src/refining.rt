@@ -1,8 +1,8 @@
 //! What a conditional jump tells of its operands.
 
-ghost use Rattle.std.specs.Prelude.{◌≡◌, ◌<◌, ◌+◌, ◌^◌, ℕ, IsSomeAnd};
+ghost use Rattle.std.specs.Prelude.{◌≡◌, ◌<◌, ◌+◌, ◌^◌, ℕ, IfSome, IsSomeAnd};
 ghost use Rattle.bpf_insn.specs.Conditions.{holds_of, comparison};
-ghost use Rattle.bpf_range.specs.Sets.{In, Contains, HasBits};
+ghost use Rattle.bpf_range.specs.Sets.{In, Within, IsOnly, Contains, HasBits, range_of};
 ghost use Rattle.bpf_range.specs.Signs.{reach};
 
 use crate::bits::without_bits;
@@ -45,7 +45,9 @@ pub fn refine_range(
     b: Range,
     taken: bool,
 ) -> Option<(Range, Range)>
-    ensures { (x y : ℕ) → In a x → In b y → holds_of test width x y ≡ taken → IsSomeAnd result (λ p. In p.0 x × In p.1 y) }
+    ensures keeps { (x y : ℕ) → In a x → In b y → holds_of test width x y ≡ taken → IsSomeAnd result (λ p. In p.0 x × In p.1 y) }
+    ensures within { IfSome result (λ p. Within p.0 a × Within p.1 b) }
+    ensures decided { (x y : ℕ) → IsOnly a x → IsOnly b y → IfSome result (λ _. holds_of test width x y ≡ taken) }
 {
     if a.lo == a.hi && b.lo == b.hi {
         if holds(test, width, a.lo, b.lo) == taken {
@@ -81,7 +83,9 @@ fn tested_bits(test: Test, width: Width, a: Bits, b: Range, taken: bool) -> Bits
 /// they contain do so: that edge of a conditional jump is never taken. The ranges are those of
 /// `refine_range`; the bits stay known, and both are settled.
 pub fn refine(test: Test, width: Width, a: Known, b: Known, taken: bool) -> Option<(Known, Known)>
-    ensures { (x y : ℕ) → Contains a x → Contains b y → holds_of test width x y ≡ taken → IsSomeAnd result (λ p. Contains p.0 x × Contains p.1 y) }
+    ensures keeps { (x y : ℕ) → Contains a x → Contains b y → holds_of test width x y ≡ taken → IsSomeAnd result (λ p. Contains p.0 x × Contains p.1 y) }
+    ensures within { IfSome result (λ p. Within (range_of p.0) (range_of a) × Within (range_of p.1) (range_of b)) }
+    ensures decided { (x y : ℕ) → IsOnly (range_of a) x → IsOnly (range_of b) y → IfSome result (λ _. holds_of test width x y ≡ taken) }
 {
     let (a_range, b_range) = refine_range(test, width, a.range(), b.range(), taken)?;
     let a_bits = tested_bits(test, width, a.bits(), b.range(), taken);

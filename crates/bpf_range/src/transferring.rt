@@ -1,8 +1,8 @@
-//! What an operation makes of abstract numbers.
+//! What is known of the result of an operation.
 
 ghost use Rattle.std.specs.Prelude.{◌≡◌, ◌<◌, ◌≤◌, ◌%◌, ◌^◌, ◌+◌, ℕ, true};
 ghost use Rattle.bpf_insn.specs.Arithmetic.{result_of, uncut_result, modulus, bits_of, size_modulus, swapped_part};
-ghost use Rattle.bpf_range.specs.Sets.{In, Covers, Contains, HasBits};
+ghost use Rattle.bpf_range.specs.Sets.{In, IsOnly, Covers, Contains, HasBits, range_of};
 
 use crate::arithmetic::{add, and, div, mul, negate, or, rem, sub, xor};
 use crate::bits::{and_bits, any_bits, low_bits, or_bits, shl_bits, shr_bits, xor_bits};
@@ -15,7 +15,8 @@ use bpf_insn::{Op, Size, Width, apply};
 
 /// Whether each operand that the operation reads is a single number.
 fn is_exact(op: Op, a: Range, b: Range) -> bool
-    ensures { result ≡ true → (w : Width) (x y : ℕ) → In a x → In b y → result_of op w x y ≡ result_of op w a.lo b.lo }
+    ensures exact { result ≡ true → (w : Width) (x y : ℕ) → In a x → In b y → result_of op w x y ≡ result_of op w a.lo b.lo }
+    ensures both { a.lo ≡ a.hi → b.lo ≡ b.hi → result ≡ true }
 {
     match op {
         Op::Mov | Op::MovSx(_) => b.lo == b.hi,
@@ -29,7 +30,7 @@ fn is_exact(op: Op, a: Range, b: Range) -> bool
     }
 }
 
-/// Operands that fit the width.
+/// The results of an operation, but for one of byte order, on operands that were cut to the width.
 fn transfer_cut(op: Op, width: Width, a: Range, b: Range) -> Range
     requires a_fits { a.hi < modulus width }
     requires b_fits { b.hi < modulus width }
@@ -72,9 +73,14 @@ fn swapped(size: Size) -> Range
     all(greatest_part(size))
 }
 
-/// The results of an operation on operands in the ranges.
+/// The results of an operation on the destination `a` and the operand `b` (RFC 9669, section 4.1), by
+/// their ends alone. `Neg` and the byte orders read `a` alone, `Mov` and `MovSx` `b` alone. Where what is
+/// read is a single number, so is the answer. Else both are cut to the width, but for a byte order, and
+/// the answer has the results of their ends, where no result between these can wrap or has another sign,
+/// and else all numbers of the width. No memory is taken.
 pub fn transfer_range(op: Op, width: Width, a: Range, b: Range) -> Range
-    ensures { Covers (result_of op width) a b result }
+    ensures covers { Covers (result_of op width) a b result }
+    ensures single { (x y : ℕ) → IsOnly a x → IsOnly b y → IsOnly result (result_of op width x y) }
 {
     if is_exact(op, a, b) {
         let only = apply(op, width, a.lo, b.lo);
@@ -87,7 +93,8 @@ pub fn transfer_range(op: Op, width: Width, a: Range, b: Range) -> Range
     }
 }
 
-/// The bits of the results; `a` and `b` are the operands' bits at the width.
+/// The bits of the results; `a` and `b` are the operands' bits at the width, and `count` is the second
+/// operand's range. Of operations that carry from bit to bit none is known.
 fn transfer_bits(op: Op, width: Width, a: Bits, b: Bits, count: Range) -> Bits
     ensures { (x y : ℕ) → x < modulus width → y < modulus width → HasBits a x → HasBits b y → In count y → HasBits result (uncut_result op width x y % modulus width) }
 {
@@ -112,9 +119,13 @@ fn transfer_bits(op: Op, width: Width, a: Bits, b: Bits, count: Range) -> Bits
     }
 }
 
-/// The results of an operation on operands in `a` and `b`.
+/// What is known of the result of an operation on the destination `a` and the operand `b` (RFC 9669,
+/// section 4.1). Its range is that of `transfer_range`. Its bits are those that the operands' known bits
+/// decide where the operation is `And`, `Or`, `Xor`, `Mov` or a `Lsh` or `Rsh` by a single count; at 32 bits
+/// the upper half is 0. Both are then settled. No memory is taken.
 pub fn transfer(op: Op, width: Width, a: Known, b: Known) -> Known
-    ensures { (x y : ℕ) → Contains a x → Contains b y → Contains result (result_of op width x y) }
+    ensures contains { (x y : ℕ) → Contains a x → Contains b y → Contains result (result_of op width x y) }
+    ensures single { (x y : ℕ) → IsOnly (range_of a) x → IsOnly (range_of b) y → IsOnly (range_of result) (result_of op width x y) }
 {
     let range = transfer_range(op, width, a.range(), b.range());
     match op {

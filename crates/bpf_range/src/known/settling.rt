@@ -1,7 +1,7 @@
 //! What a range tells of bits, and bits of a range.
 
 ghost use Rattle.std.specs.Prelude.{◌≡◌, ◌≤◌, ℕ};
-ghost use Rattle.bpf_range.specs.Sets.{Contains, In, HasBits};
+ghost use Rattle.bpf_range.specs.Sets.{Contains, In, Within, HasBits, range_of};
 ghost use Rattle.bpf_range.specs.Bits.{IsFill};
 
 use super::Known;
@@ -13,7 +13,7 @@ use crate::values::{Bits, Range};
 #[tactic(auto, using(crate::proofs::FillFacts::shared, crate::proofs::FillFacts::shared_apart))]
 fn share_high_bits(range: Range, bits: Bits) -> Known
     ensures keeps { (x : ℕ) → In range x → HasBits bits x → Contains result x }
-    ensures within { (x : ℕ) → Contains result x → In range x }
+    ensures within { Within (range_of result) range }
 {
     let low = fill(range.lo ^ range.hi);
     Known {
@@ -31,7 +31,7 @@ fn share_high_bits(range: Range, bits: Bits) -> Known
 #[tactic(auto, using(crate::proofs::MatchFacts::match_least, crate::proofs::MatchFacts::match_greatest))]
 pub fn settle(range: Range, bits: Bits) -> Known
     ensures keeps { (x : ℕ) → In range x → HasBits bits x → Contains result x }
-    ensures within { (x : ℕ) → Contains result x → In range x }
+    ensures within { Within (range_of result) range }
 {
     let lo = range.lo.max(bits.value);
     let hi = range.hi.min(bits.value | bits.unknown);

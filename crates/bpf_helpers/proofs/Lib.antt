@@ -1,3 +1,4 @@
+mod AnswerFacts
 mod Running
 mod ArithmeticExamples
 mod Examples

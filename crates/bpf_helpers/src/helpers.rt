@@ -1,10 +1,12 @@
 //! The helpers that a program may call. RFC 9669, section 4.3.1, leaves them to the platform.
 
-ghost use Rattle.std.specs.Prelude.{◌≡◌, ◌↔◌, Some, IsTrue, IsSome};
+ghost use Rattle.std.specs.Prelude.{◌≡◌, ◌≤◌, ◌↔◌, ℕ, Some, IsTrue, IsSome, IfSome};
 ghost use Rattle.bpf_helpers.specs.declared.helpers.Helper.TheVariants.{Reply, Copy};
-ghost use Rattle.bpf_helpers.specs.Helpers.{numbered, Answers, answer_of};
+ghost use Rattle.bpf_helpers.specs.Helpers.{numbered, Answers, AnswersIn, answer_of, greatest_answer};
+ghost use Rattle.bpf_range.specs.Sets.{Contains};
 
 use crate::values::Env;
+use bpf_range::Known;
 
 /// What a helper does. Each gives a number, which a call puts into R0.
 #[derive(Clone, Copy, Debug, PartialEq, Eq)]
@@ -75,6 +77,42 @@ impl Helper {
             Helper::Who => env.who,
             Helper::Copy => given,
         }
+    }
+
+    /// The greatest number that the helper gives: 0 of `Reply`, 1 of `Present`, 1,024 of `Copy`, and any
+    /// number of the others.
+    fn greatest(self) -> u64
+        ensures { result ≡ greatest_answer self }
+    {
+        match self {
+            Helper::Reply => 0,
+            Helper::Now | Helper::Who => u64::MAX,
+            Helper::Present => 1,
+            Helper::Copy => 1024,
+        }
+    }
+
+    /// What is known of the number that the helper gives: it is 0 from `Reply`, at most 1 from `Present`,
+    /// at most 1,024 from `Copy`, and any number from the others.
+    #[tactic(auto, using(crate::proofs::AnswerFacts::answer_fits))]
+    pub fn result(self) -> Known
+        ensures contains { AnswersIn (Contains result) self }
+        ensures exact { (x : ℕ) → Contains result x ↔ (x ≤ greatest_answer self) }
+    {
+        Known::of(0, self.greatest())
+    }
+}
+
+/// What is known of the number that the helper with a number gives, as `Helper::result` has it. There has
+/// to be such a helper. No memory is taken.
+pub fn result(id: i32) -> Known
+    requires { IsSome (numbered id) }
+    ensures contains { IfSome (numbered id) (AnswersIn (Contains result)) }
+    ensures exact { IfSome (numbered id) (λ helper. (x : ℕ) → Contains result x ↔ (x ≤ greatest_answer helper)) }
+{
+    match helper_of(id) {
+        Some(helper) => helper.result(),
+        None => unreachable!(),
     }
 }
 

@@ -1,4 +1,3 @@
-mod Examples
 pub mod Units
 pub mod Codes
 pub mod Images

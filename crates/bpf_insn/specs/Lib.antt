@@ -2,8 +2,6 @@ pub mod Arithmetic
 pub mod Conditions
 pub mod Spelling
 pub mod Code
-pub mod Machine
-pub mod Runs
 pub mod Rows
 pub mod Stored
 pub mod Decoding

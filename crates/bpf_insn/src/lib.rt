@@ -2,7 +2,6 @@
 //!
 //! An image is a list of units of 8 bytes. `decode` gives its code, a list of instructions, and
 //! `encode` the bytes of a code; `apply` and `holds` are what operations compute and tests answer.
-//! What a program does step by step, that it is safe and what a run of it means stand in `specs/`.
 #![tactic(auto)]
 
 mod arithmetic;
@@ -21,7 +20,6 @@ mod memory_rows;
 mod reading;
 mod rows;
 mod spelling;
-mod values;
 
 pub use arithmetic::{apply, sign_extended};
 pub use code::{Code, UNIT_LIMIT};
@@ -30,4 +28,3 @@ pub use decoding::decode;
 pub use encoding::encode;
 pub use fault::DecodeFault;
 pub use insn::{Insn, Op, Operand, Size, Test, Width};
-pub use values::{Env, Region, Value};

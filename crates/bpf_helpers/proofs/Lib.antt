@@ -1,0 +1,5 @@
+mod AnswerFacts
+mod Running
+mod ArithmeticExamples
+mod Examples
+mod StuckExamples

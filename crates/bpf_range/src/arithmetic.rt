@@ -1,0 +1,172 @@
+//! What operations make of ranges of the numbers up to `max`, a width's greatest. Where the ends do
+//! not tell more, the answer is all of these numbers.
+
+ghost use Rattle.std.specs.Prelude.{◌≡◌, ◌<◌, ◌≤◌, ◌+◌, ◌-◌, ◌*◌, ◌/◌, ◌%◌, ◌^◌, ℕ, cond, ◌==◌, if◌then◌else◌, bit_and, bit_or, bit_xor};
+ghost use Rattle.bpf_range.specs.Sets.{In, Covers};
+
+use crate::filling::fill;
+use crate::values::Range;
+use crate::widths::all;
+
+/// Sums, cut to the width. The ends are added where no sum of theirs wraps or both do.
+#[tactic(auto, using(crate::proofs::RangeFacts::wrapped))]
+pub fn add(max: u64, a: Range, b: Range) -> Range
+    requires a_fits { a.hi ≤ max }
+    requires b_fits { b.hi ≤ max }
+    ensures { Covers (λ x y. (x + y) % (max + 1)) a b result }
+{
+    if a.hi <= max - b.hi {
+        return Range {
+            lo: a.lo + b.lo,
+            hi: a.hi + b.hi,
+        };
+    }
+    if a.lo > max - b.lo {
+        return Range {
+            lo: a.lo - (max - b.lo) - 1,
+            hi: a.hi - (max - b.hi) - 1,
+        };
+    }
+    all(max)
+}
+
+/// Differences, cut to the width. The ends are subtracted where every difference wraps or none does.
+pub fn sub(max: u64, a: Range, b: Range) -> Range
+    requires a_fits { a.hi ≤ max }
+    requires b_fits { b.hi ≤ max }
+    ensures { Covers (λ x y. (x + (max + 1 - y)) % (max + 1)) a b result }
+{
+    if a.lo >= b.hi {
+        return Range {
+            lo: a.lo - b.hi,
+            hi: a.hi - b.lo,
+        };
+    }
+    if a.hi < b.lo {
+        return Range {
+            lo: max - (b.hi - a.lo) + 1,
+            hi: max - (b.lo - a.hi) + 1,
+        };
+    }
+    all(max)
+}
+
+/// Products, cut to the width. The ends are multiplied where the greatest product does not wrap.
+#[tactic(auto, using(crate::proofs::RangeFacts::mul_between))]
+pub fn mul(max: u64, a: Range, b: Range) -> Range
+    requires a_fits { a.hi ≤ max }
+    requires b_fits { b.hi ≤ max }
+    ensures { Covers (λ x y. (x * y) % (max + 1)) a b result }
+{
+    if b.hi == 0 {
+        return b;
+    }
+    if a.hi > max / b.hi {
+        return all(max);
+    }
+    Range {
+        lo: a.lo * b.lo,
+        hi: a.hi * b.hi,
+    }
+}
+
+/// Quotients, where a division by zero gives 0.
+pub fn div(a: Range, b: Range) -> Range
+    ensures { Covers (λ x y. if y == 0 then 0 else x / y) a b result }
+{
+    if b.lo == 0 {
+        return Range { lo: 0, hi: a.hi };
+    }
+    Range {
+        lo: a.lo / b.hi,
+        hi: a.hi / b.lo,
+    }
+}
+
+/// Remainders, where a division by zero leaves the number.
+#[tactic(auto, using(crate::proofs::RangeFacts::rem_below))]
+pub fn rem(a: Range, b: Range) -> Range
+    ensures { Covers (λ x y. if y == 0 then x else x % y) a b result }
+{
+    if b.lo == 0 {
+        return Range { lo: 0, hi: a.hi };
+    }
+    if a.hi < b.lo {
+        return a;
+    }
+    Range {
+        lo: 0,
+        hi: a.hi.min(b.hi - 1),
+    }
+}
+
+/// The bits that both have: no more than either number.
+#[tactic(auto, using(crate::proofs::RangeFacts::and_greatest))]
+pub fn and(a: Range, b: Range) -> Range
+    ensures { Covers bit_and a b result }
+{
+    Range {
+        lo: 0,
+        hi: a.hi.min(b.hi),
+    }
+}
+
+/// The bits of either: no less than either number, with no bit above the highest of both.
+pub fn or(a: Range, b: Range) -> Range
+    ensures { Covers bit_or a b result }
+{
+    Range {
+        lo: a.lo.max(b.lo),
+        hi: fill(a.hi.max(b.hi)),
+    }
+}
+
+/// The bits of one alone: none is above the highest of both.
+pub fn xor(a: Range, b: Range) -> Range
+    ensures { Covers bit_xor a b result }
+{
+    Range {
+        lo: 0,
+        hi: fill(a.hi.max(b.hi)),
+    }
+}
+
+/// Negated numbers, cut to the width.
+pub fn negate(max: u64, a: Range) -> Range
+    requires { a.hi ≤ max }
+    ensures { (x : ℕ) → In a x → In result ((max + 1 - x) % (max + 1)) }
+{
+    if a.lo == 0 {
+        return all(max);
+    }
+    Range {
+        lo: max - a.hi + 1,
+        hi: max - a.lo + 1,
+    }
+}
+
+/// Numbers shifted to the left, cut to the width. The ends are shifted where no bit is lost.
+pub fn shl(max: u64, a: Range, count: u32) -> Range
+    requires max_fits { a.hi ≤ max }
+    requires small { count < 64 }
+    ensures { (x : ℕ) → In a x → In result (x * 2 ^ count % (max + 1)) }
+{
+    if a.hi > max >> count {
+        return all(max);
+    }
+    Range {
+        lo: a.lo << count,
+        hi: a.hi << count,
+    }
+}
+
+/// Numbers shifted to the right with zeros.
+pub fn shr(a: Range, count: u32) -> Range
+    requires { count < 64 }
+    ensures { (x : ℕ) → In a x → In result (x / 2 ^ count) }
+{
+    Range {
+        lo: a.lo >> count,
+        hi: a.hi >> count,
+    }
+}

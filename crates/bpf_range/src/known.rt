@@ -1,0 +1,97 @@
+//! What is known of a number.
+
+mod settling;
+
+use crate::values::{Bits, Range};
+pub use settling::settle;
+
+/// What is known of a number: that it is in a range, and some of its bits. It contains the numbers of
+/// which both are true. Its range is never empty, and no bit is known to be 1 and unknown.
+///
+/// It is settled where the range and the bits each tell what the other says, as far as that goes. What
+/// the functions of this crate answer is settled, but for `from_parts`.
+#[derive(Clone, Copy, Debug, PartialEq, Eq)]
+pub struct Known {
+    range: Range,
+    bits: Bits,
+}
+
+impl Known {
+    ghost use Rattle.std.specs.Prelude.{◌≡◌, ◌≤◌, ◌⊎◌, ◌<◌, ℕ, bit_and, MatchBool, MatchOption};
+    ghost use Rattle.bpf_range.specs.Sets.{Contains, In, HasBits, IsOf, range_of, bits_of};
+
+    /// The numbers from `lo` to `hi`, settled: the bits in which all of them agree are known.
+    pub fn of(lo: u64, hi: u64) -> Known
+        requires { lo ≤ hi }
+        ensures contains { (x : ℕ) → lo ≤ x → x ≤ hi → Contains result x }
+        ensures only { (x : ℕ) → Contains result x → (lo ≤ x) × (x ≤ hi) }
+    {
+        settle(
+            Range { lo, hi },
+            Bits {
+                value: 0,
+                unknown: u64::MAX,
+            },
+        )
+    }
+
+    /// The one number.
+    pub fn single(n: u64) -> Known
+        ensures contains { Contains result n }
+        ensures only { (x : ℕ) → Contains result x → x ≡ n }
+    {
+        Known {
+            range: Range { lo: n, hi: n },
+            bits: Bits {
+                value: n,
+                unknown: 0,
+            },
+        }
+    }
+
+    /// These parts as they are, not settled. `None` exactly where they break a rule: `lo` is above
+    /// `hi`, or a bit is in both `value` and `unknown`.
+    pub fn from_parts(lo: u64, hi: u64, value: u64, unknown: u64) -> Option<Known>
+        ensures { MatchOption result ((hi < lo) ⊎ (bit_and value unknown ≡ 0 → ⊥)) (λ k. IsOf k lo hi value unknown) }
+    {
+        if lo > hi {
+            return None;
+        }
+        if value & unknown != 0 {
+            return None;
+        }
+        Some(Known {
+            range: Range { lo, hi },
+            bits: Bits { value, unknown },
+        })
+    }
+
+    /// Whether a number is one of them.
+    pub fn contains(self, x: u64) -> bool
+        ensures { MatchBool result (Contains self x) (Contains self x → ⊥) }
+    {
+        if x < self.range.lo {
+            return false;
+        }
+        if x > self.range.hi {
+            return false;
+        }
+        x & !self.bits.unknown == self.bits.value
+    }
+
+    /// The least and the greatest number that its range allows.
+    pub fn range(self) -> Range
+        ensures is { result ≡ range_of self }
+        ensures covers { (x : ℕ) → Contains self x → In result x }
+    {
+        self.range
+    }
+
+    /// Its bits: those of `value` are 1, those of `unknown` are not known, and all others are 0.
+    pub fn bits(self) -> Bits
+        ensures is { result ≡ bits_of self }
+        ensures has { (x : ℕ) → Contains self x → HasBits result x }
+    {
+        self.bits
+    }
+}

@@ -1,0 +1,93 @@
+//! What a conditional jump tells of its operands.
+
+ghost use Rattle.std.specs.Prelude.{◌≡◌, ◌<◌, ◌+◌, ◌^◌, ℕ, IfSome, IsSomeAnd};
+ghost use Rattle.bpf_insn.specs.Conditions.{holds_of, comparison};
+ghost use Rattle.bpf_range.specs.Sets.{In, Within, IsOnly, Contains, HasBits, range_of};
+ghost use Rattle.bpf_range.specs.Signs.{reach};
+
+use crate::bits::without_bits;
+use crate::comparing::compare;
+use crate::known::{Known, settle};
+use crate::values::{Bits, Range};
+use crate::widths::{greatest, greatest_positive};
+use bpf_insn::{Test, Width, holds};
+
+/// The unsigned test that says the same of numbers without the sign's bit.
+fn unsigned(test: Test) -> Test
+    ensures { (w : Width) (x y : ℕ) → x < reach test w → y < reach test w → comparison test w x y ≡ comparison result Width.W64 x y }
+{
+    match test {
+        Test::SGt => Test::Gt,
+        Test::SGe => Test::Ge,
+        Test::SLt => Test::Lt,
+        Test::SLe => Test::Le,
+        _ => test,
+    }
+}
+
+/// The greatest number up to which an unsigned test of 64 bits says the same.
+fn greatest_tested(test: Test, width: Width) -> u64
+    ensures { result + 1 ≡ reach test width }
+{
+    match test {
+        Test::SGt | Test::SGe | Test::SLt | Test::SLe => greatest_positive(width),
+        _ => greatest(width),
+    }
+}
+
+/// The numbers of two ranges that are left where a test of them comes out as `taken`. `None` only where
+/// no numbers of the ranges do so. Two single numbers are tested. At 32 bits a test tells nothing of
+/// numbers above 2^32 - 1, and a signed one nothing where the sign's bit may be set.
+pub fn refine_range(
+    test: Test,
+    width: Width,
+    a: Range,
+    b: Range,
+    taken: bool,
+) -> Option<(Range, Range)>
+    ensures keeps { (x y : ℕ) → In a x → In b y → holds_of test width x y ≡ taken → IsSomeAnd result (λ p. In p.0 x × In p.1 y) }
+    ensures within { IfSome result (λ p. Within p.0 a × Within p.1 b) }
+    ensures decided { (x y : ℕ) → IsOnly a x → IsOnly b y → IfSome result (λ _. holds_of test width x y ≡ taken) }
+{
+    if a.lo == a.hi && b.lo == b.hi {
+        if holds(test, width, a.lo, b.lo) == taken {
+            return Some((a, b));
+        }
+        return None;
+    }
+    let max = greatest_tested(test, width);
+    if a.hi > max {
+        return Some((a, b));
+    }
+    if b.hi > max {
+        return Some((a, b));
+    }
+    compare(unsigned(test), a, b, taken)
+}
+
+/// The first operand's bits where a test comes out as `taken`. Only that it has no bit in common with a
+/// single number, at 64 bits, tells something: those bits are 0.
+fn tested_bits(test: Test, width: Width, a: Bits, b: Range, taken: bool) -> Bits
+    ensures { (x y : ℕ) → x < 2 ^ 64 → HasBits a x → In b y → holds_of test width x y ≡ taken → HasBits result x }
+{
+    if b.lo != b.hi {
+        return a;
+    }
+    match (test, width, taken) {
+        (Test::Set, Width::W64, false) => without_bits(a, b.lo),
+        _ => a,
+    }
+}
+
+/// What is known of a test's operands where it comes out as `taken`. `None` only where no numbers that
+/// they contain do so: that edge of a conditional jump is never taken. The ranges are those of
+/// `refine_range`; the bits stay known, and both are settled.
+pub fn refine(test: Test, width: Width, a: Known, b: Known, taken: bool) -> Option<(Known, Known)>
+    ensures keeps { (x y : ℕ) → Contains a x → Contains b y → holds_of test width x y ≡ taken → IsSomeAnd result (λ p. Contains p.0 x × Contains p.1 y) }
+    ensures within { IfSome result (λ p. Within (range_of p.0) (range_of a) × Within (range_of p.1) (range_of b)) }
+    ensures decided { (x y : ℕ) → IsOnly (range_of a) x → IsOnly (range_of b) y → IfSome result (λ _. holds_of test width x y ≡ taken) }
+{
+    let (a_range, b_range) = refine_range(test, width, a.range(), b.range(), taken)?;
+    let a_bits = tested_bits(test, width, a.bits(), b.range(), taken);
+    Some((settle(a_range, a_bits), settle(b_range, b.bits())))
+}

@@ -1,0 +1,62 @@
+//! Signed operations on ranges. Where no sign's bit may be set they are the unsigned ones, and else
+//! nothing is known of the result.
+
+ghost use Rattle.std.specs.Prelude.{◌≡◌, ◌<◌, ◌≤◌, ◌+◌, ◌*◌, ◌/◌, ◌%◌, ◌^◌, ℕ};
+ghost use Rattle.bpf_insn.specs.Arithmetic.{uncut_result, modulus, sign_extension, bits_of, size_modulus};
+ghost use Rattle.bpf_insn.specs.declared.insn.Op.TheVariants.{SDiv, SMod, Arsh, MovSx};
+ghost use Rattle.bpf_range.specs.Sets.{In, Covers};
+
+use crate::arithmetic::{div, rem};
+use crate::shifts::shift_right;
+use crate::values::Range;
+use crate::widths::{all, greatest, greatest_positive, greatest_positive_part};
+use bpf_insn::{Size, Width};
+
+/// Signed quotients: the unsigned ones where no sign's bit may be set.
+pub fn signed_div(width: Width, a: Range, b: Range) -> Range
+    ensures { Covers (λ x y. uncut_result SDiv width x y % modulus width) a b result }
+{
+    if a.hi > greatest_positive(width) {
+        return all(greatest(width));
+    }
+    if b.hi > greatest_positive(width) {
+        return all(greatest(width));
+    }
+    div(a, b)
+}
+
+/// Signed remainders: the unsigned ones where no sign's bit may be set.
+pub fn signed_rem(width: Width, a: Range, b: Range) -> Range
+    ensures { Covers (λ x y. uncut_result SMod width x y % modulus width) a b result }
+{
+    if a.hi > greatest_positive(width) {
+        return all(greatest(width));
+    }
+    if b.hi > greatest_positive(width) {
+        return all(greatest(width));
+    }
+    rem(a, b)
+}
+
+/// Shifts to the right with the sign: with zeros where no sign's bit may be set.
+pub fn signed_shift(width: Width, a: Range, count: Range) -> Range
+    requires { a.hi < modulus width }
+    ensures { Covers (λ x y. uncut_result Arsh width x y % modulus width) a count result }
+{
+    if a.hi > greatest_positive(width) {
+        return all(greatest(width));
+    }
+    shift_right(width, a, count)
+}
+
+/// The low parts of numbers with their signs, cut to the width: the numbers themselves where they have
+/// no more than such a part and its sign's bit is not set.
+pub fn extended(width: Width, size: Size, b: Range) -> Range
+    requires { b.hi < modulus width }
+    ensures { (y : ℕ) → In b y → In result (sign_extension size y % modulus width) }
+{
+    if b.hi > greatest_positive_part(size) {
+        return all(greatest(width));
+    }
+    b
+}

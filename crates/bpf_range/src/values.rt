@@ -1,0 +1,20 @@
+//! Sets of numbers of 64 bits: by their ends, and by bits.
+
+ghost use Rattle.std.specs.Prelude.{◌≡◌, ◌≤◌, bit_and};
+
+/// The numbers from `lo` to `hi`, both included. The lower end is never above the upper one.
+#[derive(Clone, Copy, Debug, PartialEq, Eq)]
+pub struct Range {
+    pub lo: u64,
+    pub hi: u64,
+    pub ghost ordered: { lo ≤ hi },
+}
+
+/// The numbers that are `value` once the bits of `unknown` are taken out: each bit of a number is
+/// known to be 1, known to be 0 or unknown. No bit is in both.
+#[derive(Clone, Copy, Debug, PartialEq, Eq)]
+pub struct Bits {
+    pub value: u64,
+    pub unknown: u64,
+    pub ghost apart: { bit_and value unknown ≡ 0 },
+}

@@ -10,8 +10,6 @@ ghost use Rattle.sdbm_dir.specs.Words.{word_of, HasParent};
 ghost use Rattle.sdbm_dir.specs.Faults.{AreFaultless, IsDirFault, SpellsNoDirectory};
 
 mod bitmap;
-#[cfg(test)]
-mod tests;
 
 use bitmap::{
     BLOCK_BYTES, end_of, has_deep_bit, has_orphan_bit, is_set, used_blocks, whole_blocks,

@@ -12,8 +12,6 @@ ghost use Rattle.sdbm_split.specs.Faults.{IsRefused, IsFault, is_refused_at};
 
 mod build;
 mod room;
-#[cfg(test)]
-mod tests;
 
 use build::{SplitPath, split_pages, whole_page};
 use room::{goes_on, splits_needed};

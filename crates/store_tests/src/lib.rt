@@ -9,6 +9,8 @@ mod deep;
 #[cfg(test)]
 mod desk;
 #[cfg(test)]
+mod dirs;
+#[cfg(test)]
 mod files;
 #[cfg(test)]
 mod files_memory;
@@ -28,6 +30,8 @@ mod plan_cases;
 mod plans;
 #[cfg(test)]
 mod sinks;
+#[cfg(test)]
+mod splits;
 #[cfg(test)]
 mod trail;
 #[cfg(test)]

@@ -1,10 +1,10 @@
 //! Plans of known splits: pairs of two keys, each with a value of 600 bytes.
 ghost use Rattle.std.specs.Prelude.{◌≤◌, length};
 
-use super::{Plan, PlanFault, plan_store};
 use sdbm_addr::{KeyBytes, Mode, PageSize};
 use sdbm_dir::Place;
 use sdbm_page::Page;
+use sdbm_split::{Plan, PlanFault, plan_store};
 use std::alloc::{AllocError, Allocator};
 use std::test::Fail;
 

@@ -1,3 +1,4 @@
 pub mod PairLines
 pub mod Faults
 pub mod Playing
+pub mod Examples

@@ -1,6 +1,7 @@
 //! What each subcommand does with the bytes of its files, with standard input and standard output.
 ghost use Rattle.std.specs.Prelude.{◌≡◌, ◌∷◌, false, map, IfOk, IfErr, IfSome, IsNone, Some, None};
 ghost use Rattle.dbm_script.specs.Commands.{command_of};
+ghost use Rattle.dbm_words.specs.Wishes.{writes_files};
 ghost use Rattle.dbm_words.specs.declared.wish.Wish.TheVariants as wish;
 ghost use Rattle.dbm_tool.specs.Causes.{IsCaused, command_causes, file_causes, input_causes, script_causes};
 ghost use Rattle.dbm_tool.specs.Databases.{IsOpened};
@@ -65,6 +66,7 @@ pub fn serve<R: Read, W: Write>(
     ensures served { IsNone result.err → IsServed wish.entry given (R.remaining reader.old) (W.contents writer.old) (W.contents writer.new) result.status result.files }
     ensures fault { IfSome result.err (IsRefused wish.entry given (R.remaining reader.old) (W.contents writer.old) (W.contents writer.new)) }
     ensures unread { reads_input wish.entry ≡ false → R.remaining reader.new ≡ R.remaining reader.old }
+    ensures unwritten { writes_files wish.entry ≡ false → result.files ≡ None }
     ensures status { IfSome result.err (λ _. result.status ≡ 2) }
     ensures none { IfSome result.err (λ _. result.files ≡ None) }
 {
@@ -92,6 +94,7 @@ fn serve_wish<R: Read, W: Write>(
 ) -> Result<Served, ServeFault>
     ensures ok { IfOk result (λ served. IsServed wish.entry given (R.remaining reader.old) (W.contents writer.old) (W.contents writer.new) served.status served.files) }
     ensures fault { IfErr result (IsRefused wish.entry given (R.remaining reader.old) (W.contents writer.old) (W.contents writer.new)) }
+    ensures unwritten { IfOk result (λ served. writes_files wish.entry ≡ false → served.files ≡ None) }
     ensures unread { reads_input wish.entry ≡ false → R.remaining reader.new ≡ R.remaining reader.old }
 {
     let report = report(alloc, wish, given, reader)?;

@@ -1,6 +1,7 @@
 use Rattle.std.proofs.Common.{rules}
 use Rattle.dbm_tool.specs.Outcomes.{IsRefused}
 use Rattle.dbm_tool.proofs.Faults.{as_err, cut_short, late_fault}
+use Rattle.dbm_tool.proofs.Unwritten.{no_files, no_database}
 use Rattle.dbm_tool.proofs.serve.serve_wish.Goals as goal
 
 pub returns-in_err-write_all-clause-fault : goal.returns-in_err-write_all-clause-fault
@@ -22,3 +23,7 @@ returns-clause-ok g c = record {
   status_is = search rules;
   files_are = c.in_ok-files.ensures.ok;
 }
+
+pub returns-clause-unwritten : goal.returns-clause-unwritten
+returns-clause-unwritten g c = λ reads.
+    no_files c.in_ok-report.report.database _ (no_database c.args.wish c.args.given _ c.in_ok-report.report c.in_ok-report.ensures.ok reads) c.in_ok-files.ensures.ok

@@ -1,5 +1,5 @@
 -- Lines that run one after another, and texts that are written in parts.
-use Rattle.std.proofs.Common.{◌≡◌, List, [], ◌∷◌, ◌++◌, ℕ, Option, Some, None, inl, inr, IfSome, length, eqb, false, refl, ap, ◌∙◌, sym, subst, append_assoc}
+use Rattle.std.proofs.Common.{◌≡◌, List, [], ◌∷◌, ◌++◌, ℕ, Option, Some, None, IfSome, length, eqb, false, refl, ap, ◌∙◌, sym, subst, append_assoc}
 use Rattle.std.specs.Io.KnownBytes.{Appends}
 use Rattle.sdbm_addr.specs.declared.KeyBytes.{KeyBytes}
 use Rattle.sdbm_addr.specs.declared.PageSize.{PageSize}
@@ -8,7 +8,6 @@ use Rattle.std.proofs.lemmas.Bool.{false≢true}
 use Rattle.dbm_script.specs.Pieces.{pieces_of}
 use Rattle.sdbm_addr.specs.Database.{Database}
 use Rattle.store_cmd.specs.declared.Command.{Command}
-use Rattle.store_cmd.specs.declared.Reply.{Reply}
 use Rattle.store_cmd.proofs.MovesLemmas.{Moves-unique}
 use Rattle.desk_core.specs.Desk.{state_of}
 use Rattle.dbm_script.specs.Commands.{command_of}

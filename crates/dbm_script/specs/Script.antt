@@ -1,5 +1,5 @@
 -- Scripts: what the lines of a text do, and the text of the answers.
-use Rattle.std.specs.Prelude.{◌≡◌, ℕ, ◌+◌, ◌≤◌, List, [], ◌∷◌, ◌++◌, codes, length, take, Option, Some, None}
+use Rattle.std.specs.Prelude.{◌≡◌, ℕ, ◌+◌, ◌<◌, ◌≤◌, List, [], ◌∷◌, ◌++◌, codes, length, take, Option, Some, None}
 use Rattle.std.specs.Io.KnownBytes.{Appends}
 use Rattle.sdbm_addr.specs.declared.KeyBytes.{KeyBytes}
 use Rattle.sdbm_addr.specs.declared.PageSize.{PageSize}
@@ -49,10 +49,10 @@ pub record KeepsDesk {A : Type 0} (old new : DeskState A) : Type 0 where
   pub kind : new.database.kind ≡ old.database.kind
   pub size : new.database.size ≡ old.database.size
 
--- known bytes grow by the first bytes of a text
+-- known bytes grow by the first bytes of a text, and not by all of them
 pub record WritesPart (old new : Option (List ℕ)) (text : List ℕ) : Type 0 where
   pub count : ℕ
-  pub within : count ≤ length text
+  pub within : count < length text
   pub appends : Appends old new (take count text)
 
 -- the text of a fault: its name

@@ -2,4 +2,4 @@ pub mod PairLines
 pub mod Faults
 pub mod Playing
 pub mod Examples
-pub mod Unwritten
+pub mod FilesGiven

@@ -81,6 +81,7 @@ impl<A: Allocator + Copy> Image<A> {
         ensures long { (count : ℕ) × (IsPageCount self.now count × (result ≡ count * page_bytes self.now.size)) }
         ensures length { (file : List ℕ) → ArePagBytes self.now file → result ≡ length file }
         ensures short { result ≤ 2 ^ 44 }
+        ensures database { IsDatabase self.now }
     {
         self.page_count() * self.size.bytes() as u64
     }

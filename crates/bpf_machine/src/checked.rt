@@ -7,27 +7,18 @@ ghost use Rattle.bpf_machine.specs.Cpu.{config_of};
 ghost use Rattle.bpf_machine.specs.Checked.{Tells, Finishes};
 
 use crate::cpu::Cpu;
+use crate::ends::Ended;
 use crate::steps::step;
 use bpf_helpers::{Env, Value};
 use bpf_insn::{Code, Insn};
 use std::alloc::Allocator;
 
-/// How a run ended.
-#[derive(Clone, Copy, Debug, PartialEq, Eq)]
-pub struct Ended {
-    /// The number in R0.
-    pub code: u64,
-    /// The reply word.
-    pub word: u64,
-    /// How many instructions were executed, the EXIT counted.
-    pub steps: usize,
-}
-
 /// What comes of a run of any code.
 #[derive(Clone, Copy, Debug, PartialEq, Eq)]
 pub enum Checked {
+    /// The run reached EXIT with a number in R0.
     Ended(Ended),
-    /// The unit of the instruction that has no effect.
+    /// The run is stuck at the instruction at this unit, which has no effect.
     Stuck(usize),
 }
 

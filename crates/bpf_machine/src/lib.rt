@@ -9,6 +9,7 @@ mod calls;
 mod checked;
 mod copies;
 mod cpu;
+mod ends;
 mod jumps;
 mod loads;
 mod memory;
@@ -17,4 +18,5 @@ mod steps;
 mod stores;
 mod values;
 
-pub use checked::{Checked, Ended, run_checked};
+pub use checked::{Checked, run_checked};
+pub use ends::Ended;

@@ -1,0 +1,3 @@
+pub mod Ends
+pub mod Cpu
+pub mod Checked

@@ -1,0 +1,20 @@
+use Rattle.std.proofs.Common.{rules, sym, subst, arith}
+use Rattle.std.specs.Prelude.{FitsSigned}
+use Rattle.std.specs.Int.{w16, w64, w32}
+use Rattle.std.proofs.lemmas.Int.{to_z-of_z}
+use Rattle.bpf_insn.specs.Arithmetic.{bytes_of}
+use Rattle.bpf_insn.specs.declared.insn.Insn.TheVariants.{StoreImm}
+use Rattle.bpf_verify.specs.declared.states.Edges.{Edges}
+use Rattle.bpf_verify.specs.Steps.{Sound, Accesses}
+use Rattle.bpf_verify.proofs.Memories.{reaches, store_imm_sound}
+use Rattle.bpf_verify.proofs.loads.flow_store_imm.Goals as goal
+
+pub returns : goal.returns
+returns c =
+    let o : FitsSigned w16 c.args.offset = search rules in
+    let p : FitsSigned w64 c.args.offset = search rules in
+    let a = simp to_z-of_z at c.in_ok-inside.ensures in
+    let acc : Accesses c.in-Some.place.region c.in-Some.place.lo c.in-Some.place.hi c.args.state.now c.args.offset (bytes_of c.args.size) = rw c.count_of.ensures.value at a in
+    subst (λ (e : Edges). Sound (StoreImm c.args.size c.args.base c.args.offset c.args.value) c.args.state.now e) (sym c.only_next.ensures)
+    (store_imm_sound c.args.size c.args.base c.args.offset c.args.value c.in-Some.place.region c.args.state.now c.in_ok-writable.ensures
+    (reaches c.args.state.now c.args.base c.args.offset (bytes_of c.args.size) c.in-Some.place.region c.in-Some.place.lo c.in-Some.place.hi c.requires (λ m n v h. c.in-Some.ensures m n v (rw c.kind-2.ensures h)) acc))

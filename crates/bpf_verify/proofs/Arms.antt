@@ -1,28 +1,26 @@
 -- Each form of instruction, from what is known before it.
-use Rattle.std.proofs.Common.{◌≡◌, ◌≢◌, ℕ, ℤ, pos, negsuc, zero, suc, ◌+◌, ◌*◌, ◌^◌, ◌<◌, ◌≤◌, length, take, drop, refl, sym, ap, ◌∙◌, subst, arith, List, [], ◌∷◌, Option, Some, None, ⊎_elim, inl, inr, Bool, true, false, cond, eqb, IsTrue, lit<}
-use Rattle.std.specs.Prelude.{slice_get, slice_set, slice_index, slice_index_or, ◌⊎◌, IsSome, IfSome, IsSomeAnd, ◌≤ℤ◌, ◌+ℤ◌}
-use Rattle.std.specs.Option.{option_and_then, option_map, is_some}
-use Rattle.std.proofs.Math.ListN.{length-set}
-use Rattle.std.proofs.lemmas.Int.{ints}
+use Rattle.std.proofs.Common.{◌≡◌, ◌≢◌, ℕ, ◌+◌, ◌<◌, ◌≤◌, length, refl, ap, ◌∙◌, arith, List, Option, Some, None, ⊎_elim, inl, inr, cond}
+use Rattle.std.specs.Prelude.{slice_set, slice_index_or}
+use Rattle.std.specs.Option.{option_and_then}
 use Rattle.std.proofs.lemmas.Bool.{cases_eq, ne_eqb}
 use Rattle.std.proofs.lemmas.List.{get_or-set_other}
 use Rattle.std.proofs.lemmas.Grind.{get_or-set_at}
 use Rattle.bpf_insn.specs.declared.insn.Width.{Width}
 use Rattle.bpf_insn.specs.declared.insn.Op.{Op}
 use Rattle.bpf_insn.specs.declared.insn.Operand.{Operand}
+use Rattle.bpf_insn.specs.declared.insn.Insn.{Insn}
 use Rattle.bpf_insn.specs.declared.insn.Insn.TheVariants.{Alu, Unary, Wide}
 use Rattle.bpf_helpers.specs.declared.values.Value.{Value}
-use Rattle.bpf_helpers.specs.declared.values.Value.TheVariants.{Nothing, Number, Pointer}
-use Rattle.bpf_helpers.specs.Machine.{Config, register, operand, outcome_of, effect, with_register}
+use Rattle.bpf_helpers.specs.declared.values.Value.TheVariants.{Nothing, Number}
+use Rattle.bpf_helpers.specs.Machine.{Config, register, operand, outcome_of, with_register}
 use Rattle.bpf_range.specs.declared.known.Known.{Known}
-use Rattle.bpf_range.specs.Sets.{In, Contains}
+use Rattle.bpf_range.specs.Sets.{Contains}
 use Rattle.bpf_range.specs.declared.kinds.Kind.{Kind}
 use Rattle.bpf_range.specs.declared.kinds.Kind.TheVariants.{Unset, Num}
-use Rattle.bpf_verify.specs.declared.states.State.{State}
-use Rattle.bpf_verify.specs.declared.states.Edges.{Edges}
-use Rattle.bpf_verify.specs.Kinds.{HoldsKind, IsNumber, KindKeeps}
-use Rattle.bpf_verify.specs.States.{Fits, IsConfig, kind_in}
-use Rattle.bpf_verify.specs.Steps.{Gives, Sound, Sets}
+use Rattle.bpf_verify.specs.declared.state.State.{State}
+use Rattle.bpf_verify.specs.Kinds.{HoldsKind, KindKeeps}
+use Rattle.bpf_verify.specs.States.{Fits, IsConfig}
+use Rattle.bpf_verify.specs.Steps.{Gives, Passes, Sets, Flows, HasNext}
 
 -- a kept value
 pub kept : (k : Kind) (m n : ℕ) (o : Option Value) → KindKeeps k m n o → (v : Value) × (o ≡ Some v) × HoldsKind k m n v
@@ -54,25 +52,33 @@ writes s t k r u c v set low ne config f held =
     λ q below. rw set.kinds (set_holds s.kinds c.registers r k v (length c.bytes) (length c.argument) set.long config.eleven (omega arith) held f.kinds q below) in
     (d, e, refl, record { kinds = ks; bytes = rw set.bytes f.bytes; argument = rw set.argument f.argument })
 
-pub alu_sound : (op : Op) (w : Width) (r : ℕ) (o : Operand) (s t : State) (b k : Kind) → Sets s t r k → r ≤ 10 → r ≢ 10
+pub alu_passes : (op : Op) (w : Width) (r : ℕ) (o : Operand) (s t : State) (b k : Kind) → Sets s t r k → r ≤ 10 → r ≢ 10
     → Gives (outcome_of op w) (slice_index_or s.kinds r Unset) b s.bytes s.argument k
     → ((c : Config) → Fits s c → HoldsKind b (length c.bytes) (length c.argument) (operand c o))
-    → Sound (Alu op w r o) s (record { next = Some t; jump = None })
-alu_sound op w r o s t b k set low ne gives other = λ c config f.
+    → Passes (Alu op w r o) s t
+alu_passes op w r o s t b k set low ne gives other = λ c config f.
     let v = kept k (length c.bytes) (length c.argument) (outcome_of op w (register c r) (operand c o)) (gives (length c.bytes) (length c.argument) (register c r) (operand c o) f.bytes f.argument (f.kinds r (omega arith)) (other c f)) in
     let d = writes s t k r 1 c v.0 set low ne config f v.2 in
-    inr (d.0, ap (option_and_then (with_register c 1 r)) v.1 ∙ d.1, inl (d.2, d.3))
+    (d.0, ap (option_and_then (with_register c 1 r)) v.1 ∙ d.1, d.2, d.3)
 
-pub unary_sound : (op : Op) (w : Width) (r : ℕ) (s t : State) (z : Known) (k : Kind) → Sets s t r k → r ≤ 10 → r ≢ 10
+pub unary_passes : (op : Op) (w : Width) (r : ℕ) (s t : State) (z : Known) (k : Kind) → Sets s t r k → r ≤ 10 → r ≢ 10
     → Gives (outcome_of op w) (slice_index_or s.kinds r Unset) (Num z) s.bytes s.argument k
     → Contains z 0
-    → Sound (Unary op w r) s (record { next = Some t; jump = None })
-unary_sound op w r s t z k set low ne gives other = λ c config f.
+    → Passes (Unary op w r) s t
+unary_passes op w r s t z k set low ne gives other = λ c config f.
     let v = kept k (length c.bytes) (length c.argument) (outcome_of op w (register c r) (Number 0)) (gives (length c.bytes) (length c.argument) (register c r) (Number 0) f.bytes f.argument (f.kinds r (omega arith)) other) in
     let d = writes s t k r 1 c v.0 set low ne config f v.2 in
-    inr (d.0, ap (option_and_then (with_register c 1 r)) v.1 ∙ d.1, inl (d.2, d.3))
+    (d.0, ap (option_and_then (with_register c 1 r)) v.1 ∙ d.1, d.2, d.3)
 
-pub wide_sound : (r n : ℕ) (s t : State) (k : Known) → Sets s t r (Num k) → r ≤ 10 → r ≢ 10 → Contains k n → Sound (Wide r n) s (record { next = Some t; jump = None })
-wide_sound r n s t k set low ne held = λ c config f.
+pub wide_passes : (r n : ℕ) (s t : State) (k : Known) → Sets s t r (Num k) → r ≤ 10 → r ≢ 10 → Contains k n → Passes (Wide r n) s t
+wide_passes r n s t k set low ne held = λ c config f.
     let d = writes s t (Num k) r 2 c (Number n) set low ne config f held in
-    inr (d.0, d.1, inl (d.2, d.3))
+    (d.0, d.1, d.2, d.3)
+
+-- an instruction that goes on to the next one alone
+pub flows : (i : Insn) (s t : State) → HasNext i → Passes i s t → Flows i s (record { next = Some t; jump = None })
+flows i s t has passes = record {
+  sound = λ c config f. let d = passes c config f in inr (d.0, d.1, inl (d.2, d.3));
+  next = λ _. has;
+  jump = λ h. let e : ⊥ = cc in absurd e;
+}

@@ -1,6 +1,6 @@
 -- Calls, from what is known before them.
-use Rattle.std.proofs.Common.{◌≡◌, ℕ, ℤ, pos, negsuc, ◌+◌, ◌-◌, ◌<◌, ◌≤◌, ◌^◌, length, take, drop, refl, sym, ap, ◌∙◌, subst, arith, List, Option, Some, None, inl, inr, Bool, true, false, cond, length-take, length-drop, lit<}
-use Rattle.std.specs.Prelude.{◌⊎◌, ◌↔◌, IsSome, ◌+ℤ◌, nat_le, ◌≤ℤ◌}
+use Rattle.std.proofs.Common.{◌≡◌, ℕ, ℤ, pos, ◌+◌, ◌≤◌, length, take, drop, refl, ap, ◌∙◌, arith, List, Option, Some, None, cond, length-take, length-drop, lit<}
+use Rattle.std.specs.Prelude.{IsSome, ◌+ℤ◌}
 use Rattle.std.specs.Option.{option_and_then, option_map}
 use Rattle.std.proofs.lemmas.Bool.{le-leb}
 use Rattle.std.proofs.lemmas.Int.{ints}
@@ -11,21 +11,20 @@ use Rattle.bpf_helpers.specs.declared.values.Value.{Value}
 use Rattle.bpf_helpers.specs.declared.values.Value.TheVariants.{Nothing, Number, Pointer}
 use Rattle.bpf_helpers.specs.declared.helpers.Helper.{Helper}
 use Rattle.bpf_helpers.specs.declared.helpers.Helper.TheVariants.{Reply, Now, Present, Who, Copy}
-use Rattle.bpf_helpers.specs.Helpers.{Answer, AnswersIn, IsEnv, answer_of, greatest_answer, numbered, copy_limit}
+use Rattle.bpf_helpers.specs.Helpers.{Answer, AnswersIn, IsEnv, answer_of, numbered}
 use Rattle.bpf_helpers.specs.Machine.{Config, register, contents, with_contents, access, base_of, after_answer, answered, helper_call, copy_of, after_copy}
 use Rattle.bpf_range.specs.declared.known.Known.{Known}
 use Rattle.bpf_range.specs.Sets.{Contains, range_of}
-use Rattle.bpf_verify.specs.declared.states.State.{State}
+use Rattle.bpf_verify.specs.declared.state.State.{State}
 use Rattle.bpf_verify.specs.Kinds.{IsNumber, IsPointer, Between}
 use Rattle.bpf_verify.specs.States.{Fits, IsConfig}
-use Rattle.bpf_verify.specs.Steps.{Sound, IsCalled, Accesses}
-use Rattle.bpf_verify.proofs.Memories.{Written, writes_contents, found, inside_at, same_fits}
+use Rattle.bpf_verify.specs.Steps.{Passes, IsCalled, Accesses}
+use Rattle.bpf_verify.proofs.Memories.{Written, writes_contents, found, inside_at}
 
--- a call that goes on to what fits is sound
-pub call_sound : (id : ℤ) (h : Helper) (s t : State) → numbered id ≡ Some h → IsCalled h s t → Sound (Call id) s (record { next = Some t; jump = None })
-call_sound id h s t is called = λ c config f.
+pub call_passes : (id : ℤ) (h : Helper) (s t : State) → numbered id ≡ Some h → IsCalled h s t → Passes (Call id) s t
+call_passes id h s t is called = λ c config f.
     let d = called c config f in
-    inr (d.0, ap (option_and_then (helper_call c)) is ∙ d.1, inl (d.2, d.3))
+    (d.0, ap (option_and_then (helper_call c)) is ∙ d.1, d.2, d.3)
 
 -- after a call that gives one of these numbers a state fits
 pub record Answers (s t : State) (k : Known) : Type 0 where

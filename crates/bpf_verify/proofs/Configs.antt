@@ -1,12 +1,11 @@
 -- What a step keeps.
-use Rattle.std.proofs.Common.{◌≡◌, ℕ, ℤ, pos, negsuc, zero, suc, ◌+◌, ◌-◌, ◌*◌, ◌/◌, ◌%◌, ◌^◌, ◌<◌, ◌≤◌, length, take, drop, Option, Some, None, Bool, true, false, cond, refl, sym, ap, ◌∙◌, subst, arith, List, [], ◌∷◌, ◌++◌, lit<, length-append, length-take, length-drop}
-use Rattle.std.specs.Prelude.{slice_set, slice_index_or, ◌==◌, nat_le, ◌+ℤ◌, if◌then◌else◌}
+use Rattle.std.proofs.Common.{◌≡◌, ℕ, ℤ, pos, negsuc, zero, suc, ◌+◌, ◌-◌, ◌/◌, ◌^◌, ◌<◌, ◌≤◌, length, take, drop, Option, Some, None, Bool, true, false, cond, refl, ap, ◌∙◌, subst, arith, List, [], ◌∷◌, ◌++◌, lit<, length-drop}
+use Rattle.std.specs.Prelude.{slice_set, ◌==◌, nat_le, ◌+ℤ◌, if◌then◌else◌}
 use Rattle.std.specs.Option.{option_and_then, option_map}
 use Rattle.std.specs.Int.{bytes_low_first, byte_at}
 use Rattle.byteorder.specs.Endian.{little_bytes}
 use Rattle.std.proofs.Math.ListN.{length-set}
 use Rattle.std.proofs.Math.Nat.{mod-lt}
-use Rattle.std.proofs.lemmas.Bool.{leb-true}
 use Rattle.std.proofs.lemmas.Option.{option_and_then_some, same_Some}
 use Rattle.bpf_insn.specs.declared.insn.Insn.{Insn}
 use Rattle.bpf_insn.specs.declared.insn.Insn.TheVariants.{Alu, Unary, Branch, Jump, JumpFar, Call, Exit, Load, LoadSigned, StoreImm, Store, Wide}
@@ -15,7 +14,7 @@ use Rattle.bpf_helpers.specs.declared.values.Region.TheVariants.{Record, Argumen
 use Rattle.bpf_helpers.specs.declared.values.Value.{Value}
 use Rattle.bpf_helpers.specs.declared.values.Value.TheVariants.{Nothing, Number, Pointer}
 use Rattle.bpf_insn.specs.Arithmetic.{bytes_of, sign_extension}
-use Rattle.bpf_helpers.specs.Machine.{Config, register, effect, with_register, jump_by, branch_by, splice, with_contents, contents, access, inside, base_of, after_number_store, after_store, next_unit, after_answer, answered, after_reply, helper_call, copy_of, after_copy}
+use Rattle.bpf_helpers.specs.Machine.{Config, register, effect, with_register, jump_by, branch_by, splice, with_contents, contents, access, base_of, after_number_store, after_store, next_unit, after_answer, answered, after_reply, helper_call, copy_of, after_copy}
 use Rattle.bpf_helpers.specs.declared.helpers.Helper.{Helper}
 use Rattle.bpf_helpers.specs.declared.helpers.Helper.TheVariants.{Reply, Now, Present, Who, Copy}
 use Rattle.bpf_helpers.specs.Helpers.{Answer, answer_of}

@@ -1,19 +1,19 @@
 -- States that grow.
-use Rattle.std.proofs.Common.{◌≡◌, ℕ, zero, suc, ◌+◌, ◌<◌, ◌≤◌, length, refl, sym, ap, ◌∙◌, subst, arith, List, [], ◌∷◌, Option, Some, None, ⊎_elim, inl, inr, pos, cond, true, false}
-use Rattle.std.specs.Prelude.{slice_get, slice_set, ◌⊎◌, IsSome}
+use Rattle.std.proofs.Common.{◌≡◌, ℕ, zero, suc, ◌+◌, ◌<◌, ◌≤◌, length, refl, sym, ap, ◌∙◌, arith, List, [], ◌∷◌, Option, Some, None, ⊎_elim, inl, inr, pos, cond}
+use Rattle.std.specs.Prelude.{slice_get, slice_set, IsSome}
 use Rattle.std.specs.Option.{option_flatten, option_and_then, is_some}
 use Rattle.std.proofs.Math.ListN.{length-set}
 use Rattle.std.proofs.lemmas.Bool.{cases_eq}
 use Rattle.std.proofs.lemmas.Option.{same_Some}
 use Rattle.bpf_insn.specs.declared.insn.Insn.{Insn}
-use Rattle.bpf_insn.specs.Code.{fetch, units_of}
+use Rattle.bpf_insn.specs.Code.{fetch, slots, unit_count, units_of}
 use Rattle.bpf_helpers.specs.Machine.{Config, effect, exit_code, arrives, step, ended}
-use Rattle.bpf_verify.specs.declared.states.State.{State}
-use Rattle.bpf_verify.specs.declared.states.Edges.{Edges}
-use Rattle.bpf_verify.specs.States.{Fits, IsConfig}
-use Rattle.bpf_verify.specs.Steps.{Sound, Lands, FitsSome, distance_of}
-use Rattle.bpf_verify.specs.Verified.{States, state_at, FitsAt, GoesOn, Consistent, IsVerified, Starts}
-use Rattle.bpf_verify.specs.Visits.{Grows, Arrived, ConsistentAt}
+use Rattle.bpf_verify.specs.declared.state.State.{State}
+use Rattle.bpf_verify.specs.declared.state.Edges.{Edges}
+use Rattle.bpf_verify.specs.States.{States, state_at, Fits, IsConfig}
+use Rattle.bpf_verify.specs.Steps.{Sound, FitsSome, distance_of}
+use Rattle.bpf_verify.specs.Verified.{FitsAt, GoesOn, Consistent}
+use Rattle.bpf_verify.specs.Visits.{AreStates, Grows, Adds, Arrived, ConsistentAt}
 use Rattle.bpf_verify.proofs.Configs.{keeps_config}
 
 pub get_same : (xs : States) (i : ℕ) (s : State) → i < length xs → state_at (slice_set xs i (Some s)) i ≡ Some s
@@ -28,8 +28,17 @@ get_other (x ∷ xs) zero (suc j) o ne = refl
 get_other (x ∷ xs) (suc i) zero o ne = refl
 get_other (x ∷ xs) (suc i) (suc j) o ne = get_other xs i j o (λ e. ne (ap suc e))
 
-pub merged : (old : States) (at to : ℕ) (both : State) → at < to → to < length old → ((s : State) (c : Config) → state_at old to ≡ Some s → Fits s c → Fits both c) → Grows old (slice_set old to (Some both)) at
-merged old at to both later within j = record {
+within_units : {X : Type 0} (xs : List (Option X)) (u : ℕ) → IsSome (option_flatten (slice_get xs u)) → u < length xs
+within_units [] u h = let f : ⊥ = cc in absurd f
+within_units (x ∷ xs) zero h = omega arith
+within_units (x ∷ xs) (suc u) h = let l : u < length xs = within_units xs u h in omega arith
+
+-- an instruction begins at a unit of the states
+pub begins_within : (code : List Insn) (states : States) (u : ℕ) → AreStates code states → IsSome (fetch code u) → u < length states
+begins_within code states u are h = let l : u < unit_count code = within_units (slots code) u h in rw are.long l
+
+grows_set : (old : States) (at to : ℕ) (both : State) → at < to → to < length old → ((s : State) (c : Config) → state_at old to ≡ Some s → Fits s c → Fits both c) → Grows old (slice_set old to (Some both)) at
+grows_set old at to both later within j = record {
   long = length-set old to (Some both);
   same = λ u h. get_other old to u (Some both) (λ e. absurd (omega arith));
   more = λ c f. ⊎_elim
@@ -38,18 +47,42 @@ merged old at to both later within j = record {
       (cases_eq c.place to);
 }
 
-pub arrived : (old : States) (to : ℕ) (both : State) (c : Config) → to < length old → IsConfig c → c.place ≡ to → Fits both c → FitsAt (slice_set old to (Some both)) c
-arrived old to both c within config e f = record { state = both; stands = rw e (get_same old to both within); fits = f; config = config }
+pub are_set : (code : List Insn) (old : States) (to : ℕ) (both : State) → AreStates code old → IsSome (fetch code to) → AreStates code (slice_set old to (Some both))
+are_set code old to both are begins = record {
+  long = length-set old to (Some both) ∙ are.long;
+  begin = λ u h. ⊎_elim
+      (λ (e : u ≡ to). rw e begins)
+      (λ (ne : u ≡ to → ⊥). are.begin u (rw (get_other old to u (Some both) ne) at h))
+      (cases_eq u to);
+}
 
-pub grows_again : (old mid new : States) (at : ℕ) → Grows old mid at → Grows mid new at → Grows old new at
+-- a state that has the old one is put at a later unit
+pub adds_one : (code : List Insn) (old : States) (at to : ℕ) (both : State) → at < to → IsSome (fetch code to) → AreStates code old → ((s : State) (c : Config) → state_at old to ≡ Some s → Fits s c → Fits both c) → Adds code old (slice_set old to (Some both)) at
+adds_one code old at to both later begins are j = record { grows = grows_set old at to both later (begins_within code old to are begins) j; are = are_set code old to both are begins }
+
+pub arrived : (code : List Insn) (old : States) (at to : ℕ) (both : State) (c : Config) → at < to → IsSome (fetch code to) → AreStates code old → IsConfig c → c.place ≡ to → Fits both c → Arrived code (slice_set old to (Some both)) at c
+arrived code old at to both c later begins are config e f = record {
+  later = rw e later;
+  begins = rw e begins;
+  fits = record { state = both; stands = rw e (get_same old to both (begins_within code old to are begins)); fits = f; config = config };
+}
+
+-- no states yet
+pub are_none : (code : List Insn) (states : States) → length states ≡ unit_count code → ((u : ℕ) → state_at states u ≡ None) → AreStates code states
+are_none code states long none = record { long = long; begin = λ u h. let f : IsSome {T = State} None = rw (none u) at h in let g : ⊥ = cc in absurd g }
+
+grows_again : (old mid new : States) (at : ℕ) → Grows old mid at → Grows mid new at → Grows old new at
 grows_again old mid new at g h = record {
   long = h.long ∙ g.long;
   same = λ u p. h.same u p ∙ g.same u p;
   more = λ c f. h.more c (g.more c f);
 }
 
-pub grows_none : (old : States) (at : ℕ) → Grows old old at
-grows_none old at = record { long = refl; same = λ u p. refl; more = λ c f. f }
+pub adds_again : (code : List Insn) (old mid new : States) (at : ℕ) → Adds code old mid at → Adds code mid new at → Adds code old new at
+adds_again code old mid new at g h = record { grows = grows_again old mid new at g.grows h.grows; are = h.are }
+
+pub adds_none : (code : List Insn) (old : States) (at : ℕ) → AreStates code old → Adds code old old at
+adds_none code old at are = record { grows = record { long = refl; same = λ u p. refl; more = λ c f. f }; are = are }
 
 -- what was consistent below stays so
 pub still : (code : List Insn) (old new : States) (at p : ℕ) → Grows old new at → p ≤ at → ConsistentAt code old p → ConsistentAt code new p

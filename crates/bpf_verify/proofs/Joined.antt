@@ -1,5 +1,5 @@
 -- The join of two states.
-use Rattle.std.proofs.Common.{◌≡◌, ℕ, ◌+◌, ◌<◌, ◌≤◌, length, refl, sym, ap, ◌∙◌, subst, arith, List, ⊎_elim, add-one}
+use Rattle.std.proofs.Common.{◌≡◌, ℕ, ◌+◌, ◌<◌, length, ◌∙◌, arith, List, ⊎_elim}
 use Rattle.std.specs.Prelude.{slice_index_or, slice_set}
 use Rattle.std.proofs.lemmas.Bool.{cases_eq}
 use Rattle.std.proofs.Math.ListN.{length-set}
@@ -12,7 +12,7 @@ use Rattle.bpf_range.specs.declared.kinds.Kind.{Kind}
 use Rattle.bpf_range.specs.declared.kinds.Kind.TheVariants.{Unset}
 use Rattle.bpf_range.specs.Sets.{In}
 use Rattle.bpf_verify.specs.Kinds.{HoldsKind}
-use Rattle.bpf_verify.specs.declared.states.State.{State}
+use Rattle.bpf_verify.specs.declared.state.State.{State}
 use Rattle.bpf_verify.specs.States.{Fits}
 
 -- each value of the kind a is one of the kind r, where the lengths are in the ranges

@@ -1,5 +1,5 @@
 -- Jumps, from what is known before them.
-use Rattle.std.proofs.Common.{◌≡◌, ℕ, ℤ, pos, negsuc, ◌+◌, ◌<◌, ◌≤◌, length, refl, sym, ap, ◌∙◌, subst, arith, Option, Some, None, inl, inr, Bool, true, false}
+use Rattle.std.proofs.Common.{◌≡◌, ℕ, ℤ, pos, negsuc, ◌+◌, length, refl, ap, ◌∙◌, arith, Option, Some, None, inl, inr, Bool, true, false}
 use Rattle.std.specs.Prelude.{◌⊎◌, IsSome, IsSomeAnd, ◌≤ℤ◌}
 use Rattle.std.specs.Option.{option_and_then}
 use Rattle.std.proofs.lemmas.Int.{ints}
@@ -13,11 +13,11 @@ use Rattle.bpf_insn.specs.Conditions.{holds_of}
 use Rattle.bpf_helpers.specs.Machine.{Config, register, operand, effect, exit_code, comparison_of, branch_by, jump_by}
 use Rattle.bpf_range.specs.declared.known.Known.{Known}
 use Rattle.bpf_range.specs.Sets.{Contains}
-use Rattle.bpf_verify.specs.declared.states.State.{State}
-use Rattle.bpf_verify.specs.declared.states.Edges.{Edges}
+use Rattle.bpf_verify.specs.declared.state.State.{State}
+use Rattle.bpf_verify.specs.declared.state.Edges.{Edges}
 use Rattle.bpf_verify.specs.Kinds.{IsNumber}
-use Rattle.bpf_verify.specs.States.{Fits, IsConfig}
-use Rattle.bpf_verify.specs.Steps.{Sound, Lands, FitsSome}
+use Rattle.bpf_verify.specs.States.{Fits}
+use Rattle.bpf_verify.specs.Steps.{Sound, Flows, Lands, FitsSome}
 use Rattle.bpf_verify.proofs.Memories.{same_fits}
 
 natural : (z : ℤ) → pos 0 ≤ℤ z → (k : ℕ) × (z ≡ pos k)
@@ -54,12 +54,25 @@ branch_sound t w r o off s e a b forward first second next jump = λ c config f.
         let k : (k : ℕ) × (off ≡ pos k) = natural off forward in
         inr (record c { place = c.place + 1 + k.0 }, ap (option_and_then (λ z. branch_by z off c)) h ∙ ap (λ z. jump_by z c) k.1, inr (k.0, k.1, refl, fits_some e.jump c (record c { place = c.place + 1 + k.0 }) refl refl refl (jump c f x y h)))
 
-pub jump_sound : (off : ℤ) (s : State) → pos 0 ≤ℤ off → Sound (Jump off) s (record { next = None; jump = Some s })
+-- a conditional jump has both edges
+pub branch_flows : (t : Test) (w : Width) (r : ℕ) (o : Operand) (off : ℤ) (s : State) (e : Edges) → Sound (Branch t w r o off) s e → Flows (Branch t w r o off) s e
+branch_flows t w r o off s e sound = record { sound = sound; next = λ _. tt; jump = λ _. tt }
+
+jump_sound : (off : ℤ) (s : State) → pos 0 ≤ℤ off → Sound (Jump off) s (record { next = None; jump = Some s })
 jump_sound off s forward = λ c config f.
     let k : (k : ℕ) × (off ≡ pos k) = natural off forward in
     inr (record c { place = c.place + 1 + k.0 }, ap (λ z. jump_by z c) k.1, inr (k.0, k.1, refl, same_fits s c (record c { place = c.place + 1 + k.0 }) refl refl refl f))
 
-pub jump_far_sound : (off : ℤ) (s : State) → pos 0 ≤ℤ off → Sound (JumpFar off) s (record { next = None; jump = Some s })
+jump_far_sound : (off : ℤ) (s : State) → pos 0 ≤ℤ off → Sound (JumpFar off) s (record { next = None; jump = Some s })
 jump_far_sound off s forward = λ c config f.
     let k : (k : ℕ) × (off ≡ pos k) = natural off forward in
     inr (record c { place = c.place + 1 + k.0 }, ap (λ z. jump_by z c) k.1, inr (k.0, k.1, refl, same_fits s c (record c { place = c.place + 1 + k.0 }) refl refl refl f))
+
+no_next : IsSome {T = State} None → ⊥
+no_next h = cc
+
+pub jump_flows : (off : ℤ) (s : State) → pos 0 ≤ℤ off → Flows (Jump off) s (record { next = None; jump = Some s })
+jump_flows off s forward = record { sound = jump_sound off s forward; next = λ h. no_next h; jump = λ _. tt }
+
+pub jump_far_flows : (off : ℤ) (s : State) → pos 0 ≤ℤ off → Flows (JumpFar off) s (record { next = None; jump = Some s })
+jump_far_flows off s forward = record { sound = jump_far_sound off s forward; next = λ h. no_next h; jump = λ _. tt }

@@ -1,6 +1,6 @@
 -- Loads and stores, from what is known before them.
-use Rattle.std.proofs.Common.{◌≡◌, ◌≢◌, ℕ, ℤ, pos, negsuc, zero, suc, ◌+◌, ◌*◌, ◌^◌, ◌%◌, ◌<◌, ◌≤◌, ◌++◌, length, take, drop, refl, sym, ap, ◌∙◌, subst, arith, List, [], ◌∷◌, Option, Some, None, inl, inr, Bool, true, false, cond, lit<, length-append, length-take, length-drop}
-use Rattle.std.specs.Prelude.{slice_index, slice_index_or, slice_set, ◌⊎◌, IsSome, ◌+ℤ◌, nat_le}
+use Rattle.std.proofs.Common.{◌≡◌, ◌≢◌, ℕ, ℤ, pos, negsuc, zero, suc, ◌+◌, ◌*◌, ◌^◌, ◌%◌, ◌<◌, ◌≤◌, length, drop, refl, sym, ap, ◌∙◌, arith, List, [], ◌∷◌, Option, Some, None, Bool, true, false, cond, lit<, length-append, length-take, length-drop}
+use Rattle.std.specs.Prelude.{slice_index, IsSome, ◌+ℤ◌, nat_le}
 use Rattle.std.specs.Option.{option_and_then, option_map}
 use Rattle.std.specs.Int.{cast_unsigned, cast_signed, w64, w8, w16, w32}
 use Rattle.std.proofs.Math.Nat.{pow-succ', mod-lt}
@@ -16,16 +16,15 @@ use Rattle.bpf_helpers.specs.declared.values.Region.TheVariants.{Record, Argumen
 use Rattle.bpf_helpers.specs.declared.values.Value.{Value}
 use Rattle.bpf_helpers.specs.declared.values.Value.TheVariants.{Nothing, Number, Pointer}
 use Rattle.bpf_insn.specs.Arithmetic.{bytes_of, size_modulus, sign_extension}
-use Rattle.bpf_helpers.specs.Machine.{Config, register, effect, with_register, with_contents, contents, access, inside, base_of, splice, loaded_number, after_number_store, after_store, next_unit}
+use Rattle.bpf_helpers.specs.Machine.{Config, register, with_register, with_contents, contents, access, inside, base_of, splice, loaded_number, after_number_store, after_store, next_unit}
 use Rattle.bpf_helpers.specs.Runs.{AreBytes}
 use Rattle.bpf_range.specs.declared.known.Known.{Known}
 use Rattle.bpf_range.specs.Sets.{Contains, In}
-use Rattle.bpf_range.specs.declared.kinds.Kind.{Kind}
-use Rattle.bpf_range.specs.declared.kinds.Kind.TheVariants.{Unset, Num}
-use Rattle.bpf_verify.specs.declared.states.State.{State}
+use Rattle.bpf_range.specs.declared.kinds.Kind.TheVariants.{Num}
+use Rattle.bpf_verify.specs.declared.state.State.{State}
 use Rattle.bpf_verify.specs.Kinds.{HoldsKind, IsNumber, IsPointer, Between}
 use Rattle.bpf_verify.specs.States.{Fits, IsConfig, kind_in}
-use Rattle.bpf_verify.specs.Steps.{Sound, Sets, Reaching, Accesses}
+use Rattle.bpf_verify.specs.Steps.{Passes, Sets, Reaching, Accesses}
 use Rattle.bpf_verify.proofs.Arms.{writes}
 
 -- pointers of a kind, with accesses that are inside, reach
@@ -76,16 +75,16 @@ loads c q off n (Pointer r o) config h =
     let p = found (access c r (o +ℤ off) n) a in
     (little_number n (drop p.0 (contents c r)), ap (option_map (λ k. little_number n (drop k (contents c r)))) p.1, number_fits 0 n (drop p.0 (contents c r)) (drop_bytes p.0 (contents c r) (contents_bytes c r config)))
 
-pub load_sound : (size : Size) (r a : ℕ) (off : ℤ) (q : Region) (s t : State) (k : Known) → Sets s t r (Num k) → r ≤ 10 → r ≢ 10
+pub load_passes : (size : Size) (r a : ℕ) (off : ℤ) (q : Region) (s t : State) (k : Known) → Sets s t r (Num k) → r ≤ 10 → r ≢ 10
     → ((x : ℕ) → x < size_modulus size → Contains k x)
     → Reaching s a off (bytes_of size) q
-    → Sound (Load size r a off) s (record { next = Some t; jump = None })
-load_sound size r a off q s t k set low ne all reach = λ c config f.
+    → Passes (Load size r a off) s t
+load_passes size r a off q s t k set low ne all reach = λ c config f.
     let x = loads c q off (bytes_of size) (register c a) config (reach c config f) in
     let y : ℕ = x.0 in
     let b : y < size_modulus size = rw (sized size) at x.2 in
     let d = writes s t (Num k) r 1 c (Number y) set low ne config f (all y b) in
-    inr (d.0, ap (option_and_then (λ z. with_register c 1 r (Number z))) x.1 ∙ d.1, inl (d.2, d.3))
+    (d.0, ap (option_and_then (λ z. with_register c 1 r (Number z))) x.1 ∙ d.1, d.2, d.3)
 
 extension_fits : (n : Size) (x : ℕ) → sign_extension n x < 2 ^ 64
 extension_fits Byte x = let h : x % 2 ^ 8 < 2 ^ 8 = mod-lt x (lit< tt) in omega (arith, ints)
@@ -93,15 +92,15 @@ extension_fits Half x = let h : x % 2 ^ 16 < 2 ^ 16 = mod-lt x (lit< tt) in omeg
 extension_fits Word x = let h : x % 2 ^ 32 < 2 ^ 32 = mod-lt x (lit< tt) in omega (arith, ints)
 extension_fits Double x = let h : x % 2 ^ 64 < 2 ^ 64 = mod-lt x (lit< tt) in omega (arith, ints)
 
-pub load_signed_sound : (size : Size) (r a : ℕ) (off : ℤ) (q : Region) (s t : State) (k : Known) → Sets s t r (Num k) → r ≤ 10 → r ≢ 10
+pub load_signed_passes : (size : Size) (r a : ℕ) (off : ℤ) (q : Region) (s t : State) (k : Known) → Sets s t r (Num k) → r ≤ 10 → r ≢ 10
     → ((x : ℕ) → x < 2 ^ 64 → Contains k x)
     → Reaching s a off (bytes_of size) q
-    → Sound (LoadSigned size r a off) s (record { next = Some t; jump = None })
-load_signed_sound size r a off q s t k set low ne all reach = λ c config f.
+    → Passes (LoadSigned size r a off) s t
+load_signed_passes size r a off q s t k set low ne all reach = λ c config f.
     let x = loads c q off (bytes_of size) (register c a) config (reach c config f) in
     let y : ℕ = sign_extension size x.0 in
     let d = writes s t (Num k) r 1 c (Number y) set low ne config f (all y (extension_fits size x.0)) in
-    inr (d.0, ap (option_and_then (λ z. with_register c 1 r (Number (sign_extension size z)))) x.1 ∙ d.1, inl (d.2, d.3))
+    (d.0, ap (option_and_then (λ z. with_register c 1 r (Number (sign_extension size z)))) x.1 ∙ d.1, d.2, d.3)
 
 -- ---- stores
 
@@ -165,18 +164,18 @@ numbered P Nothing h = absurd h
 numbered P (Number x) h = (x, refl, h)
 numbered P (Pointer r o) h = absurd h
 
-pub store_sound : (size : Size) (r a : ℕ) (off : ℤ) (q : Region) (s : State) (y : Known) → a ≤ 10 → (q ≡ Argument → ⊥)
+pub store_passes : (size : Size) (r a : ℕ) (off : ℤ) (q : Region) (s : State) (y : Known) → a ≤ 10 → (q ≡ Argument → ⊥)
     → ((m n : ℕ) (v : Value) → In s.bytes m → In s.argument n → HoldsKind (kind_in s a) m n v → IsNumber (Contains y) v)
     → Reaching s r off (bytes_of size) q
-    → Sound (Store size r off a) s (record { next = Some s; jump = None })
-store_sound size r a off q s y la ne num reach = λ c config f.
+    → Passes (Store size r off a) s s
+store_passes size r a off q s y la ne num reach = λ c config f.
     let v = numbered (Contains y) (register c a) (num (length c.bytes) (length c.argument) (register c a) f.bytes f.argument (f.kinds a (omega arith))) in
     let d = stores s c q off (bytes_of size) v.0 (register c r) ne f (reach c config f) in
-    inr (d.0, ap (after_store c (register c r) off (bytes_of size)) v.1 ∙ d.1, inl (d.2, d.3))
+    (d.0, ap (after_store c (register c r) off (bytes_of size)) v.1 ∙ d.1, d.2, d.3)
 
-pub store_imm_sound : (size : Size) (r : ℕ) (off k : ℤ) (q : Region) (s : State) → (q ≡ Argument → ⊥)
+pub store_imm_passes : (size : Size) (r : ℕ) (off k : ℤ) (q : Region) (s : State) → (q ≡ Argument → ⊥)
     → Reaching s r off (bytes_of size) q
-    → Sound (StoreImm size r off k) s (record { next = Some s; jump = None })
-store_imm_sound size r off k q s ne reach = λ c config f.
+    → Passes (StoreImm size r off k) s s
+store_imm_passes size r off k q s ne reach = λ c config f.
     let d = stores s c q off (bytes_of size) (cast_unsigned w64 k) (register c r) ne f (reach c config f) in
-    inr (d.0, d.1, inl (d.2, d.3))
+    (d.0, d.1, d.2, d.3)

@@ -1,13 +1,12 @@
 -- Arithmetic on pointers and numbers.
-use Rattle.std.proofs.Common.{◌≡◌, ℕ, ℤ, pos, true, false, cond, ◌&&◌, refl, sym, ap, ◌∙◌, subst, arith, Some, None, Option}
+use Rattle.std.proofs.Common.{◌≡◌, ℕ, ℤ, pos, true, false, ◌&&◌, arith, Some}
 use Rattle.std.specs.Prelude.{◌+ℤ◌, neg_ℤ, ◌≤ℤ◌, int_le}
 use Rattle.std.specs.Int.{cast_signed, w64}
 use Rattle.std.specs.Int.Signed.{lt_z}
 use Rattle.std.proofs.lemmas.Int.{ints}
 use Rattle.std.proofs.lemmas.Bool.{and_from, cond-true}
-use Rattle.bpf_insn.specs.declared.insn.Width.TheVariants.{W32, W64}
-use Rattle.bpf_insn.specs.declared.insn.Op.{Op}
-use Rattle.bpf_insn.specs.declared.insn.Op.TheVariants.{Add, Sub, Mov, MovSx}
+use Rattle.bpf_insn.specs.declared.insn.Width.TheVariants.{W64}
+use Rattle.bpf_insn.specs.declared.insn.Op.TheVariants.{Add, Sub}
 use Rattle.bpf_helpers.specs.declared.values.Region.{Region}
 use Rattle.bpf_helpers.specs.declared.values.Value.{Value}
 use Rattle.bpf_helpers.specs.declared.values.Value.TheVariants.{Nothing, Number, Pointer}

@@ -8,7 +8,8 @@ use Rattle.bpf_insn.specs.declared.insn.Insn.TheVariants.{Exit, Wide}
 use Rattle.bpf_insn.specs.Code.{slots, slots_of, fetch}
 use Rattle.bpf_helpers.specs.Machine.{Config, step, ended, effect, arrives, exit_code}
 use Rattle.bpf_helpers.specs.Runs.{start, Reaches, Goes, Safe}
-use Rattle.bpf_verify.specs.Verified.{States, FitsAt, GoesOn, IsVerified}
+use Rattle.bpf_verify.specs.States.{States}
+use Rattle.bpf_verify.specs.Verified.{FitsAt, GoesOn, IsVerified}
 
 -- how many instructions begin before a unit, and in all
 one : Option Insn → ℕ

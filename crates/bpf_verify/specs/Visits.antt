@@ -1,15 +1,26 @@
 -- States that grow while the instructions are taken.
-use Rattle.std.specs.Prelude.{ℕ, ◌≡◌, ◌<◌, ◌≤◌, ◌⊎◌, List, length, IsSome, Option}
+use Rattle.std.specs.Prelude.{ℕ, ◌≡◌, ◌<◌, ◌≤◌, ◌⊎◌, List, length, IsSome}
 use Rattle.bpf_insn.specs.declared.insn.Insn.{Insn}
-use Rattle.bpf_insn.specs.Code.{fetch}
+use Rattle.bpf_insn.specs.Code.{fetch, unit_count}
 use Rattle.bpf_helpers.specs.Machine.{Config, ended}
-use Rattle.bpf_verify.specs.Verified.{States, state_at, FitsAt, GoesOn}
+use Rattle.bpf_verify.specs.States.{States, state_at}
+use Rattle.bpf_verify.specs.Verified.{FitsAt, GoesOn}
 
--- new has all that fits old, and up to the unit it is old
+-- There is a place for each unit, and states stand where instructions begin alone.
+pub record AreStates (code : List Insn) (states : States) : Type 0 where
+  pub long : length states ≡ unit_count code
+  pub begin : (u : ℕ) → IsSome (state_at states u) → IsSome (fetch code u)
+
+-- The new states have all that fits the old ones, and up to the unit they are the old ones.
 pub record Grows (old new : States) (at : ℕ) : Type 0 where
   pub long : length new ≡ length old
   pub same : (u : ℕ) → u ≤ at → state_at new u ≡ state_at old u
   pub more : (c : Config) → FitsAt old c → FitsAt new c
+
+-- The states have grown, and are states of the code.
+pub record Adds (code : List Insn) (old new : States) (at : ℕ) : Type 0 where
+  pub grows : Grows old new at
+  pub are : AreStates code new
 
 -- a later place, where an instruction begins and the configuration fits
 pub record Arrived (code : List Insn) (states : States) (at : ℕ) (c : Config) : Type 0 where
@@ -17,6 +28,6 @@ pub record Arrived (code : List Insn) (states : States) (at : ℕ) (c : Config) 
   pub begins : IsSome (fetch code c.place)
   pub fits : FitsAt states c
 
--- from a configuration at this unit that fits, the run ends or goes on
+-- From a configuration at this unit that fits, the run ends or goes on.
 abbrev pub ConsistentAt : List Insn → States → ℕ → Type 0
 ConsistentAt code states at = (c : Config) → c.place ≡ at → FitsAt states c → IsSome (ended code c) ⊎ GoesOn code states c

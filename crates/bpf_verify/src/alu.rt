@@ -8,7 +8,7 @@ ghost use Rattle.bpf_verify.specs.Kinds.{HoldsKind, IsNumber, IsPointer, Between
 ghost use Rattle.bpf_verify.specs.Steps.{Gives};
 
 use crate::fault::FlowFault;
-use crate::numbers::{Place, moved, negated, number_of, place_of, read, span_of};
+use crate::numbers::{Place, moved, negated, number_of, place_of, span_of, written};
 use bpf_insn::{Op, Width};
 use bpf_range::{Kind, Known, Range, transfer};
 
@@ -117,10 +117,10 @@ fn copied(b: Kind) -> Result<Kind, FlowFault>
 /// What an operation reads was written.
 fn read_all(op: Op, a: Kind, b: Kind) -> Result<(), FlowFault> {
     match op {
-        Op::Mov | Op::MovSx(_) => read(b),
+        Op::Mov | Op::MovSx(_) => written(b),
         _ => {
-            read(a)?;
-            read(b)
+            written(a)?;
+            written(b)
         }
     }
 }

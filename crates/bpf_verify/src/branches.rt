@@ -6,12 +6,11 @@ ghost use Rattle.bpf_helpers.specs.Machine.{register as register_of, operand as 
 ghost use Rattle.bpf_range.specs.Sets.{In, Contains};
 ghost use Rattle.bpf_verify.specs.Kinds.{HoldsKind, IsNumber};
 ghost use Rattle.bpf_verify.specs.States.{Fits};
-ghost use Rattle.bpf_verify.specs.Steps.{Sound, FitsSome};
+ghost use Rattle.bpf_verify.specs.Steps.{Flows};
 
 use crate::fault::FlowFault;
-use crate::flow::{operand_kind, with_kind};
-use crate::numbers::{number_of, read};
-use crate::states::{Edges, State};
+use crate::numbers::{number_of, written};
+use crate::state::{Edges, State};
 use bpf_insn::{Insn, Operand, Test, Width};
 use bpf_range::{Kind, Known, Range, refine};
 
@@ -31,7 +30,7 @@ fn narrowed(state: &State, register: u8, test: Test, known: Known) -> State
     ensures { (c : _) → Fits state.now c → IsNumber (Contains known) (register_of c register) → Fits result c }
 {
     match state.kind(register) {
-        Kind::Num(_) => with_kind(state, register, Kind::Num(known)),
+        Kind::Num(_) => state.with(register, Kind::Num(known)),
         Kind::RecLen => State {
             kinds: state.kinds,
             bytes: narrowed_length(state.bytes, test, known),
@@ -76,24 +75,22 @@ fn refined(
     Some(narrowed_operand(&first, src, test, y))
 }
 
+/// The edges of a conditional jump, by any distance that is not backward.
 pub fn flow_branch(
     test: Test,
     width: Width,
     dst: u8,
     src: Operand,
-    offset: i16,
     state: &State,
 ) -> Result<Edges, FlowFault>
     requires dst { dst ≤ 10 }
     requires src { IsOperand src }
-    requires forward { pos 0 ≤ℤ offset }
-    ensures { IfOk result (λ e. Sound (Insn.Branch test width dst src offset) state.now e) }
+    ensures { IfOk result (λ e. (offset : _) → pos 0 ≤ℤ offset → Flows (Insn.Branch test width dst src offset) state.now e) }
 {
-    let _offset = offset;
     let first = state.kind(dst);
-    let second = operand_kind(state, src);
-    read(first)?;
-    read(second)?;
+    let second = state.operand(src);
+    written(first)?;
+    written(second)?;
     let Some(a) = number_of(first, state.bytes, state.argument) else {
         return Err(FlowFault::PointerOp);
     };
@@ -103,28 +100,5 @@ pub fn flow_branch(
     Ok(Edges {
         next: refined(test, width, dst, src, a, b, false, state),
         jump: refined(test, width, dst, src, a, b, true, state),
-    })
-}
-
-/// A jump leads to one place with all that is known.
-pub fn flow_jump(offset: i16, state: &State) -> Result<Edges, FlowFault>
-    requires { pos 0 ≤ℤ offset }
-    ensures { IfOk result (λ e. Sound (Insn.Jump offset) state.now e) }
-{
-    let _offset = offset;
-    Ok(Edges {
-        next: None,
-        jump: Some(*state),
-    })
-}
-
-pub fn flow_jump_far(offset: i32, state: &State) -> Result<Edges, FlowFault>
-    requires { pos 0 ≤ℤ offset }
-    ensures { IfOk result (λ e. Sound (Insn.JumpFar offset) state.now e) }
-{
-    let _offset = offset;
-    Ok(Edges {
-        next: None,
-        jump: Some(*state),
     })
 }

@@ -6,13 +6,12 @@ ghost use Rattle.bpf_helpers.specs.Helpers.{Answer, numbered};
 ghost use Rattle.bpf_helpers.specs.Machine.{after_answer};
 ghost use Rattle.bpf_range.specs.Sets.{Contains};
 ghost use Rattle.bpf_verify.specs.States.{Fits};
-ghost use Rattle.bpf_verify.specs.Steps.{Sound, IsCalled};
+ghost use Rattle.bpf_verify.specs.Steps.{Passes, IsCalled};
 
 use crate::fault::FlowFault;
-use crate::flow::only_next;
 use crate::memory::{inside, writable};
-use crate::numbers::{number_of, place_of, read};
-use crate::states::{Edges, State};
+use crate::numbers::{number_of, place_of, written};
+use crate::state::State;
 use bpf_helpers::{Helper, helper_of};
 use bpf_insn::Insn;
 use bpf_range::{Kind, Known};
@@ -48,7 +47,7 @@ fn call_reply(state: &State) -> Result<State, FlowFault>
     ensures { IfOk result (IsCalled Reply state.now) }
 {
     let word = state.kind(1);
-    read(word)?;
+    written(word)?;
     let Some(_number) = number_of(word, state.bytes, state.argument) else {
         return Err(FlowFault::HelperArgument);
     };
@@ -63,9 +62,9 @@ fn call_copy(state: &State) -> Result<State, FlowFault>
     let first = state.kind(1);
     let second = state.kind(2);
     let third = state.kind(3);
-    read(first)?;
-    read(second)?;
-    read(third)?;
+    written(first)?;
+    written(second)?;
+    written(third)?;
     let Some(to) = place_of(first) else {
         return Err(FlowFault::HelperArgument);
     };
@@ -99,12 +98,12 @@ fn called(helper: Helper, state: &State) -> Result<State, FlowFault>
 }
 
 /// A call of a helper that is there.
-pub fn flow_call(id: i32, state: &State) -> Result<Edges, FlowFault>
+pub fn after_call(id: i32, state: &State) -> Result<State, FlowFault>
     requires { IsSome (numbered id) }
-    ensures { IfOk result (λ e. Sound (Insn.Call id) state.now e) }
+    ensures { IfOk result (Passes (Insn.Call id) state.now) }
 {
     match helper_of(id) {
-        Some(helper) => Ok(only_next(called(helper, state)?)),
+        Some(helper) => called(helper, state),
         None => unreachable!(),
     }
 }

@@ -1,74 +1,35 @@
-//! What an instruction makes of what is known.
+//! What an instruction makes of what is known before it.
 
-ghost use Rattle.std.specs.Prelude.{◌≡◌, ◌≢◌, ◌≤◌, IfOk, length, Some, None};
-ghost use Rattle.bpf_insn.specs.Spelling.{IsOperand};
-ghost use Rattle.bpf_helpers.specs.Machine.{register as register_of, operand as operand_of};
-ghost use Rattle.bpf_verify.specs.Kinds.{HoldsKind};
-ghost use Rattle.bpf_verify.specs.States.{Fits};
-ghost use Rattle.bpf_verify.specs.Steps.{Sound, Sets, Reaching};
+ghost use Rattle.std.specs.Prelude.{◌≡◌, ◌≢◌, ◌≤◌, ◌≤ℤ◌, pos, IfOk, Some, None};
+ghost use Rattle.bpf_insn.specs.Spelling.{HasSpelling, IsOperand};
+ghost use Rattle.bpf_verify.specs.Steps.{Passes, Flows};
+ghost use Rattle.bpf_verify.specs.Structure.{CanFlow};
 
 use crate::alu::alu_kind;
+use crate::branches::flow_branch;
+use crate::calls::after_call;
 use crate::fault::FlowFault;
-use crate::numbers::{number_of, read};
-use crate::states::{Edges, State};
+use crate::loads::{after_load, after_load_signed, after_store, after_store_imm};
+use crate::numbers::{number_of, written};
+use crate::state::{Edges, State};
 use bpf_insn::{Insn, Op, Operand, Width};
 use bpf_range::{Kind, Known};
 
-/// What an operand may be.
-pub fn operand_kind(state: &State, operand: Operand) -> Kind
-    requires { IsOperand operand }
-    ensures { (c : _) → Fits state.now c → HoldsKind result (length c.bytes) (length c.argument) (operand_of c operand) }
-{
-    match operand {
-        Operand::Imm(k) => Kind::Num(Known::single((k as i64).cast_unsigned())),
-        Operand::Reg(r) => state.kind(r),
-    }
-}
-
-/// A state with a register of another kind.
-pub fn with_kind(state: &State, register: u8, kind: Kind) -> State
-    requires { register ≤ 10 }
-    ensures { Sets state.now result register kind }
-{
-    let mut kinds = state.kinds;
-    kinds[register as usize] = kind;
-    State {
-        kinds,
-        bytes: state.bytes,
-        argument: state.argument,
-    }
-}
-
-pub fn only_next(next: State) -> Edges
-    ensures { result ≡ record { next = Some next; jump = None } }
-{
-    Edges {
-        next: Some(next),
-        jump: None,
-    }
-}
-
-pub fn flow_alu(
-    op: Op,
-    width: Width,
-    dst: u8,
-    src: Operand,
-    state: &State,
-) -> Result<Edges, FlowFault>
+fn after_alu(op: Op, width: Width, dst: u8, src: Operand, state: &State) -> Result<State, FlowFault>
     requires dst { dst ≤ 10 }
     requires frame { dst ≢ 10 }
     requires src { IsOperand src }
-    ensures { IfOk result (λ e. Sound (Insn.Alu op width dst src) state.now e) }
+    ensures { IfOk result (Passes (Insn.Alu op width dst src) state.now) }
 {
-    let b = operand_kind(state, src);
+    let b = state.operand(src);
     let kind = alu_kind(op, width, state.kind(dst), b, state.bytes, state.argument)?;
-    Ok(only_next(with_kind(state, dst, kind)))
+    Ok(state.with(dst, kind))
 }
 
-pub fn flow_unary(op: Op, width: Width, dst: u8, state: &State) -> Result<Edges, FlowFault>
+fn after_unary(op: Op, width: Width, dst: u8, state: &State) -> Result<State, FlowFault>
     requires dst { dst ≤ 10 }
     requires frame { dst ≢ 10 }
-    ensures { IfOk result (λ e. Sound (Insn.Unary op width dst) state.now e) }
+    ensures { IfOk result (Passes (Insn.Unary op width dst) state.now) }
 {
     let zero = Kind::Num(Known::single(0));
     let kind = alu_kind(
@@ -79,21 +40,22 @@ pub fn flow_unary(op: Op, width: Width, dst: u8, state: &State) -> Result<Edges,
         state.bytes,
         state.argument,
     )?;
-    Ok(only_next(with_kind(state, dst, kind)))
+    Ok(state.with(dst, kind))
 }
 
-pub fn flow_wide(dst: u8, n: u64, state: &State) -> Result<Edges, FlowFault>
+fn after_wide(dst: u8, n: u64, state: &State) -> State
     requires dst { dst ≤ 10 }
     requires frame { dst ≢ 10 }
-    ensures { IfOk result (λ e. Sound (Insn.Wide dst n) state.now e) }
+    ensures { Passes (Insn.Wide dst n) state.now result }
 {
-    Ok(only_next(with_kind(state, dst, Kind::Num(Known::single(n)))))
+    state.with(dst, Kind::Num(Known::single(n)))
 }
 
-pub fn flow_exit(state: &State) -> Result<Edges, FlowFault>
-    ensures { IfOk result (λ e. Sound Insn.Exit state.now e) }
+/// A program ends with a number in R0.
+fn flow_exit(state: &State) -> Result<Edges, FlowFault>
+    ensures { IfOk result (Flows Insn.Exit state.now) }
 {
-    read(state.kind(0))?;
+    written(state.kind(0))?;
     let Some(_number) = number_of(state.kind(0), state.bytes, state.argument) else {
         return Err(FlowFault::ExitNotNumber);
     };
@@ -101,4 +63,78 @@ pub fn flow_exit(state: &State) -> Result<Edges, FlowFault>
         next: None,
         jump: None,
     })
+}
+
+/// The edge to the next instruction alone.
+fn to_next(next: State) -> Edges
+    ensures { result ≡ record { next = Some next; jump = None } }
+{
+    Edges {
+        next: Some(next),
+        jump: None,
+    }
+}
+
+/// The edge of the jump alone.
+fn to_target(target: State) -> Edges
+    ensures { result ≡ record { next = None; jump = Some target } }
+{
+    Edges {
+        next: None,
+        jump: Some(target),
+    }
+}
+
+/// What is known after an instruction, or what is wrong with it: the first of its faults.
+#[tactic(auto, using(crate::proofs::Arms::flows))]
+pub fn flow(insn: Insn, state: &State) -> Result<Edges, FlowFault>
+    requires has { HasSpelling insn }
+    requires built { CanFlow insn }
+    ensures { IfOk result (Flows insn state.now) }
+{
+    match insn {
+        Insn::Alu {
+            op,
+            width,
+            dst,
+            src,
+        } => Ok(to_next(after_alu(op, width, dst, src, state)?)),
+        Insn::Unary { op, width, dst } => Ok(to_next(after_unary(op, width, dst, state)?)),
+        Insn::Branch {
+            test,
+            width,
+            dst,
+            src,
+            ..
+        } => flow_branch(test, width, dst, src, state),
+        Insn::Jump { .. } => Ok(to_target(*state)),
+        Insn::JumpFar { .. } => Ok(to_target(*state)),
+        Insn::Call { helper } => Ok(to_next(after_call(helper, state)?)),
+        Insn::Exit => flow_exit(state),
+        Insn::Load {
+            size,
+            dst,
+            base,
+            offset,
+        } => Ok(to_next(after_load(size, dst, base, offset, state)?)),
+        Insn::LoadSigned {
+            size,
+            dst,
+            base,
+            offset,
+        } => Ok(to_next(after_load_signed(size, dst, base, offset, state)?)),
+        Insn::StoreImm {
+            size,
+            base,
+            offset,
+            ..
+        } => Ok(to_next(after_store_imm(size, base, offset, state)?)),
+        Insn::Store {
+            size,
+            base,
+            offset,
+            src,
+        } => Ok(to_next(after_store(size, base, offset, src, state)?)),
+        Insn::Wide { dst, value } => Ok(to_next(after_wide(dst, value, state))),
+    }
 }

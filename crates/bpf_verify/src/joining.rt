@@ -6,7 +6,7 @@ ghost use Rattle.bpf_verify.specs.Kinds.{HoldsKind};
 ghost use Rattle.bpf_verify.specs.States.{Fits};
 
 use crate::numbers::number_of;
-use crate::states::State;
+use crate::state::State;
 use bpf_range::{Kind, Range, hull, join};
 
 /// The numbers of both kinds; no number is any value.

@@ -9,7 +9,7 @@ ghost use Rattle.bpf_verify.specs.Steps.{Accesses};
 
 use crate::fault::FlowFault;
 use crate::numbers::Place;
-use crate::states::State;
+use crate::state::State;
 use bpf_helpers::Region;
 use bpf_insn::Size;
 

@@ -66,7 +66,7 @@ pub fn pointers(region: Region, lo: i64, hi: i64) -> Kind
 }
 
 /// A register that is read was written.
-pub fn read(kind: Kind) -> Result<(), FlowFault> {
+pub fn written(kind: Kind) -> Result<(), FlowFault> {
     match kind {
         Kind::Unset => Err(FlowFault::Unset),
         _ => Ok(()),

@@ -2,7 +2,7 @@
 
 ghost use Rattle.std.specs.Prelude.{◌≡◌, ◌<◌, ◌≤◌, ◌≤ℤ◌, pos, OnOk, IfErr, IfNone, MatchOption};
 ghost use Rattle.bpf_insn.specs.Spelling.{HasSpelling};
-ghost use Rattle.bpf_verify.specs.Structure.{first_of, frame_fault as frame_fault_of, helper_fault as helper_fault_of, jump_fault as jump_fault_of, end_fault as end_fault_of, insn_fault as insn_fault_of, unit_fault as unit_fault_of, IsBuilt, IsFirst};
+ghost use Rattle.bpf_verify.specs.Structure.{first_of, frame_fault as frame_fault_of, helper_fault as helper_fault_of, jump_fault as jump_fault_of, end_fault as end_fault_of, insn_fault as insn_fault_of, unit_fault as unit_fault_of, IsBuilt, IsMisbuilt};
 
 use crate::fault::VerifyFault;
 use bpf_helpers::known;
@@ -96,11 +96,15 @@ fn unit_fault<A: Allocator>(code: &Code<A>, at: usize) -> Option<VerifyFault>
     insn_fault(code, at, insn)
 }
 
-/// The fault of the first instruction that has one.
+/// Tests a code's structure: there are instructions, and none has a fault. Else the fault of the first
+/// instruction that has one.
 pub fn structure<A: Allocator>(code: &Code<A>) -> Result<(), VerifyFault>
     ensures ok { OnOk result (IsBuilt code.now) }
-    ensures err { IfErr result (IsFirst code.now) }
+    ensures err { IfErr result (IsMisbuilt code.now) }
 {
+    if code.is_empty() {
+        return Err(VerifyFault::Empty);
+    }
     for at in 0..code.units() {
         if let Some(fault) = unit_fault(code, at) {
             return Err(fault);

@@ -1,82 +1,61 @@
-//! The pass over a program's units.
+//! The pass over a program's instructions.
 
-ghost use Rattle.std.specs.Prelude.{◌≡◌, ◌<◌, ◌≤◌, ◌+◌, ◌⊎◌, pos, ℕ, length, OnOk, IfOk, IfErr};
-ghost use Rattle.bpf_insn.specs.Code.{unit_count, units_of};
-ghost use Rattle.bpf_helpers.specs.Runs.{start, IsInput, Safe};
-ghost use Rattle.bpf_verify.specs.States.{Fits, IsConfig};
+ghost use Rattle.std.specs.Prelude.{◌≡◌, ◌<◌, ◌≤◌, ◌+◌, ◌≤ℤ◌, pos, ℕ, IsSome, OnOk, IfOk, IfErr, Some};
+ghost use Rattle.std.specs.Option.{option_map};
+ghost use Rattle.bpf_insn.specs.Code.{unit_count, units_of, fetch};
+ghost use Rattle.bpf_helpers.specs.Runs.{Safe};
+ghost use Rattle.bpf_verify.specs.States.{Fits, IsConfig, state_at};
 ghost use Rattle.bpf_verify.specs.Steps.{FitsSome, distance_of};
-ghost use Rattle.bpf_verify.specs.Structure.{IsBuilt, IsFirst};
-ghost use Rattle.bpf_verify.specs.Verified.{state_at, FitsAt, Starts, IsVerified};
-ghost use Rattle.bpf_verify.specs.Visits.{Grows, Arrived, ConsistentAt};
+ghost use Rattle.bpf_verify.specs.Structure.{IsBuilt, IsMisbuilt, IsMet, IsRefused};
+ghost use Rattle.bpf_verify.specs.Verified.{Starts, IsVerified};
+ghost use Rattle.bpf_verify.specs.Visits.{AreStates, Adds, Arrived, ConsistentAt};
 
 use crate::fault::VerifyFault;
-use crate::flowing::flow;
+use crate::flow::flow;
 use crate::joining::join_states;
-use crate::states::State;
+use crate::state::State;
 use crate::structure::structure;
+use crate::table::States;
 use crate::verified::Verified;
 use bpf_insn::{Code, Insn};
-use bpf_range::{Kind, Range};
-use std::alloc::Allocator;
-
-/// The state at a unit.
-fn state_of(states: &[Option<State>], at: usize) -> Option<State>
-    ensures { result ≡ state_at states.now at }
-{
-    *states.get(at)?
-}
+use std::alloc::{AllocError, Allocator};
 
 /// What fits the old state, where there was one, or the new one.
-fn joined(old: Option<State>, state: State) -> State
+fn joined(old: Option<&State>, state: State) -> State
     ensures new { (c : _) → Fits state c → Fits result c }
-    ensures kept { (s : _) (c : _) → old ≡ Some s → Fits s c → Fits result c }
+    ensures kept { (s : _) (c : _) → option_map (λ b. b.now) old.entry ≡ Some s → Fits s c → Fits result c }
 {
     match old {
-        Some(before) => join_states(&before, &state),
+        Some(before) => join_states(before, &state),
         None => state,
     }
 }
 
-/// Adds what is known on an edge from `at` to the unit where it leads.
-fn merge(states: &mut [Option<State>], at: usize, to: usize, state: State)
-    requires later { at < to }
-    requires within { to < length states.old }
-    ensures grows { Grows states.old states.new at }
-    ensures arrived { (c : _) → IsConfig c → c.place ≡ to → Fits state c → FitsAt states.new c }
-{
-    let _at = at;
-    let old = state_of(states, to);
-    let both = joined(old, state);
-    states[to] = Some(both);
-}
-
-/// Follows an edge from `at` to a later unit, where an instruction begins.
-fn arrive<A: Allocator>(
+/// Adds what is known on an edge from `at` to a later unit, where an instruction begins.
+fn arrive<A: Allocator + Copy>(
+    alloc: A,
     code: &Code<A>,
-    states: &mut [Option<State>],
+    states: &mut States<A>,
     at: usize,
     to: usize,
     state: State,
-) -> Result<(), VerifyFault>
-    requires { at < to }
-    ensures grows { OnOk result (Grows states.old states.new at) }
+) -> Result<(), AllocError>
+    requires later { at < to }
+    requires begins { IsSome (fetch code.now to) }
+    requires are { AreStates code.now states.old }
+    ensures adds { OnOk result (Adds code.now states.old states.new at) }
     ensures arrived { OnOk result ((c : _) → IsConfig c → c.place ≡ to → Fits state c → Arrived code.now states.new at c) }
 {
-    if to >= states.len() {
-        return Err(VerifyFault::JumpOut(at));
-    }
-    match code.insn_at(to) {
-        None => Err(VerifyFault::JumpIntoWide(at)),
-        Some(_) => {
-            merge(states, at, to, state);
-            Ok(())
-        }
-    }
+    let _code = code;
+    let _at = at;
+    let both = joined(states.get(to), state);
+    states.put(alloc, to, both)
 }
 
 /// How far an instruction jumps.
 fn distance(insn: Insn) -> i64
-    ensures { result ≡ distance_of insn }
+    ensures value { result ≡ distance_of insn }
+    ensures small { result ≤ℤ pos 0x8000_0000 }
 {
     match insn {
         Insn::Branch { offset, .. } => offset as i64,
@@ -86,111 +65,104 @@ fn distance(insn: Insn) -> i64
     }
 }
 
-/// What is known at the start.
-fn start_state() -> State
-    ensures { (bytes argument : _) (env : _) → IsInput bytes argument env → Fits result (start bytes argument env) }
-{
-    State {
-        kinds: [
-            Kind::Unset,
-            Kind::Rec { lo: 0, hi: 0 },
-            Kind::RecLen,
-            Kind::Arg { lo: 0, hi: 0 },
-            Kind::ArgLen,
-            Kind::Unset,
-            Kind::Unset,
-            Kind::Unset,
-            Kind::Unset,
-            Kind::Unset,
-            Kind::Stack { lo: 0, hi: 0 },
-        ],
-        bytes: Range { lo: 0, hi: 8008 },
-        argument: Range { lo: 0, hi: 1024 },
-    }
-}
-
 /// Follows the edge to the next instruction.
-fn follow_next<A: Allocator>(
+fn follow_next<A: Allocator + Copy>(
+    alloc: A,
     code: &Code<A>,
-    states: &mut [Option<State>],
+    states: &mut States<A>,
     at: usize,
     insn: Insn,
     next: Option<State>,
-) -> Result<(), VerifyFault>
-    requires { at < 4096 }
-    ensures grows { OnOk result (Grows states.old states.new at) }
+) -> Result<(), AllocError>
+    requires short { at < 4096 }
+    requires are { AreStates code.now states.old }
+    requires begins { IsSome next → IsSome (fetch code.now (at + units_of insn)) }
+    ensures adds { OnOk result (Adds code.now states.old states.new at) }
     ensures lands { OnOk result ((d : _) → IsConfig d → d.place ≡ at + units_of insn → FitsSome next d → Arrived code.now states.new at d) }
 {
     match next {
         None => Ok(()),
-        Some(state) => arrive(code, states, at, at + insn.units(), state),
+        Some(state) => arrive(alloc, code, states, at, at + insn.units(), state),
     }
 }
 
 /// Follows the edge of a jump.
-fn follow_jump<A: Allocator>(
+fn follow_jump<A: Allocator + Copy>(
+    alloc: A,
     code: &Code<A>,
-    states: &mut [Option<State>],
+    states: &mut States<A>,
     at: usize,
     insn: Insn,
     jump: Option<State>,
-) -> Result<(), VerifyFault>
-    requires { at < 4096 }
-    ensures grows { OnOk result (Grows states.old states.new at) }
+) -> Result<(), AllocError>
+    requires short { at < 4096 }
+    requires are { AreStates code.now states.old }
+    requires forward { pos 0 ≤ℤ distance_of insn }
+    requires begins { IsSome jump → (k : ℕ) → distance_of insn ≡ pos k → IsSome (fetch code.now (at + 1 + k)) }
+    ensures adds { OnOk result (Adds code.now states.old states.new at) }
     ensures lands { OnOk result ((d : _) (k : ℕ) → IsConfig d → distance_of insn ≡ pos k → d.place ≡ at + 1 + k → FitsSome jump d → Arrived code.now states.new at d) }
 {
     match jump {
         None => Ok(()),
-        Some(state) => {
-            let far = distance(insn);
-            if far < 0 || far > 0x8000_0000 {
-                return Err(VerifyFault::Backward(at));
-            }
-            arrive(code, states, at, at + 1 + far as usize, state)
-        }
+        Some(state) => arrive(
+            alloc,
+            code,
+            states,
+            at,
+            at + 1 + distance(insn) as usize,
+            state,
+        ),
     }
 }
 
-/// Takes the instruction at a unit.
-fn visit<A: Allocator>(
+/// Takes the instruction at a unit, if a state stands there: the states on its edges are added.
+fn visit<A: Allocator + Copy>(
+    alloc: A,
     code: &Code<A>,
-    states: &mut [Option<State>],
+    states: &mut States<A>,
     at: usize,
 ) -> Result<(), VerifyFault>
     requires built { IsBuilt code.now }
-    ensures grows { OnOk result (Grows states.old states.new at) }
+    requires are { AreStates code.now states.old }
+    ensures adds { OnOk result (Adds code.now states.old states.new at) }
     ensures consistent { OnOk result (ConsistentAt code.now states.new at) }
+    ensures met { IfErr result (IsMet code.now) }
 {
-    let Some(state) = state_of(states, at) else {
+    let Some(state) = states.get(at) else {
         return Ok(());
     };
     let Some(insn) = code.insn_at(at) else {
-        return Err(VerifyFault::JumpIntoWide(at));
+        unreachable!();
     };
-    let edges = match flow(insn, &state) {
+    let edges = match flow(insn, state) {
         Ok(edges) => edges,
         Err(fault) => return Err(fault.at(at)),
     };
-    follow_next(code, states, at, insn, edges.next)?;
-    follow_jump(code, states, at, insn, edges.jump)?;
+    follow_next(alloc, code, states, at, insn, edges.next)?;
+    follow_jump(alloc, code, states, at, insn, edges.jump)?;
     Ok(())
 }
 
-/// Takes each instruction, the lowest first.
-fn fill<A: Allocator>(code: &Code<A>, states: &mut [Option<State>]) -> Result<(), VerifyFault>
-    requires long { length states.old ≡ unit_count code.now }
-    requires starts { Starts states.old }
-    requires built { IsBuilt code.now }
-    ensures { OnOk result (IsVerified code.now states.new) }
+/// The states of a code whose structure has no fault. Each instruction is taken once, the lowest first.
+fn states_of<A: Allocator + Copy>(alloc: A, code: &Code<A>) -> Result<States<A>, VerifyFault>
+    requires { IsBuilt code.now }
+    ensures verified { IfOk result (IsVerified code.now) }
+    ensures met { IfErr result (IsMet code.now) }
 {
-    let units = states.len();
+    let units = code.units();
+    let mut states = States::none(alloc, units)?;
+    states.put(alloc, 0, State::at_start())?;
     for at in 0..units {
-        visit(code, states, at)?;
+        visit(alloc, code, &mut states, at)?;
     }
-    Ok(())
+    Ok(states)
 }
 
-/// Accepts a program, which is then safe, or says why not.
+/// Accepts a program, which is then safe, or says why not and gives it back.
+///
+/// The structure comes first: each instruction is tested, the lowest first, whether anything reaches it or
+/// not. Then each instruction that is reached is taken once, the lowest first, with what is known before it;
+/// its first fault is told. `NoMemory` comes only behind the structure.
 pub fn verify<A: Allocator + Copy>(
     alloc: A,
     code: Code<A>,
@@ -198,23 +170,14 @@ pub fn verify<A: Allocator + Copy>(
     ensures value { IfOk result (λ v. v.code ≡ code) }
     ensures safe { IfOk result (λ v. Safe v.code) }
     ensures built { IfOk result (λ v. IsBuilt v.code) }
-    ensures faults { IfErr result (λ e. IsBuilt code ⊎ IsFirst code e.0) }
+    ensures refused { IfErr result (λ e. IsRefused code e.0) }
     ensures back { IfErr result (λ e. e.1 ≡ code) }
 {
-    let units = code.units();
-    if units == 0 {
-        return Err((VerifyFault::Empty, code));
-    }
     if let Err(fault) = structure(&code) {
         return Err((fault, code));
     }
-    let mut states: Vec<Option<State>, A> = match vec![in alloc; None; units] {
-        Ok(states) => states,
-        Err(_) => return Err((VerifyFault::NoMemory, code)),
-    };
-    states[0] = Some(start_state());
-    match fill(&code, &mut states) {
-        Ok(()) => Ok(Verified::new(code, states)),
+    match states_of(alloc, &code) {
+        Ok(states) => Ok(Verified::new(code, states)),
         Err(fault) => Err((fault, code)),
     }
 }

@@ -1,4 +1,3 @@
-use Rattle.std.proofs.Common.{sym}
 use Rattle.bpf_verify.proofs.Calling.{now_called, present_called, who_called}
 use Rattle.bpf_verify.proofs.calls.called.Goals as goal
 

@@ -1,4 +1,4 @@
-use Rattle.std.proofs.Common.{rules, arith, ◌≡◌, ◌≤ℤ◌, ◌+ℤ◌, neg_ℤ, pos, refl}
+use Rattle.std.proofs.Common.{rules, arith, ◌≤ℤ◌, ◌+ℤ◌, neg_ℤ, pos, refl}
 use Rattle.std.proofs.lemmas.Int.{ints, to_z-of_z}
 use Rattle.std.specs.Prelude.{FitsSigned}
 use Rattle.std.specs.Int.{w64}

@@ -11,10 +11,13 @@ use Rattle.bpf_helpers.specs.Machine.{Config, effect, exit_code, arrives, step, 
 use Rattle.bpf_verify.specs.declared.state.State.{State}
 use Rattle.bpf_verify.specs.declared.state.Edges.{Edges}
 use Rattle.bpf_verify.specs.States.{States, state_at, Fits, IsConfig}
-use Rattle.bpf_verify.specs.Steps.{Sound, FitsSome, distance_of}
+use Rattle.bpf_verify.specs.Steps.{Sound, Flows, FitsSome, distance_of}
+use Rattle.bpf_verify.specs.Structure.{IsBuilt}
 use Rattle.bpf_verify.specs.Verified.{FitsAt, GoesOn, Consistent}
-use Rattle.bpf_verify.specs.Visits.{AreStates, Grows, Adds, Arrived, ConsistentAt}
+use Rattle.bpf_verify.specs.Visits.{AreStates, Joins, Follows, Grows, Adds, Arrived, ConsistentAt}
+use Rattle.bpf_verify.proofs.Built.{can_flow, next_begins, jump_begins, distance_forward}
 use Rattle.bpf_verify.proofs.Configs.{keeps_config}
+use Rattle.bpf_verify.proofs.Jumping.{natural}
 
 pub get_same : (xs : States) (i : ℕ) (s : State) → i < length xs → state_at (slice_set xs i (Some s)) i ≡ Some s
 get_same [] i s h = absurd (omega arith)
@@ -56,16 +59,27 @@ are_set code old to both are begins = record {
       (cases_eq u to);
 }
 
--- a state that has the old one is put at a later unit
-pub adds_one : (code : List Insn) (old : States) (at to : ℕ) (both : State) → at < to → IsSome (fetch code to) → AreStates code old → ((s : State) (c : Config) → state_at old to ≡ Some s → Fits s c → Fits both c) → Adds code old (slice_set old to (Some both)) at
-adds_one code old at to both later begins are j = record { grows = grows_set old at to both later (begins_within code old to are begins) j; are = are_set code old to both are begins }
+adds_one : (code : List Insn) (old new : States) (at to : ℕ) (added : State) → at < to → IsSome (fetch code to) → AreStates code old → Joins old new to added → Adds code old new at
+adds_one code old new at to added later begins are j = rw j.is (record { grows = grows_set old at to j.both later (begins_within code old to are begins) j.kept; are = are_set code old to j.both are begins })
 
-pub arrived : (code : List Insn) (old : States) (at to : ℕ) (both : State) (c : Config) → at < to → IsSome (fetch code to) → AreStates code old → IsConfig c → c.place ≡ to → Fits both c → Arrived code (slice_set old to (Some both)) at c
-arrived code old at to both c later begins are config e f = record {
+arrived : (code : List Insn) (old new : States) (at to : ℕ) (added : State) (c : Config) → at < to → IsSome (fetch code to) → AreStates code old → Joins old new to added → IsConfig c → c.place ≡ to → Fits added c → Arrived code new at c
+arrived code old new at to added c later begins are j config e f = record {
   later = rw e later;
   begins = rw e begins;
-  fits = record { state = both; stands = rw e (get_same old to both (begins_within code old to are begins)); fits = f; config = config };
+  fits = record { state = j.both; stands = rw (e, j.is) (get_same old to j.both (begins_within code old to are begins)); fits = j.takes c f; config = config };
 }
+
+adds_none : (code : List Insn) (old new : States) (at : ℕ) → AreStates code old → new ≡ old → Adds code old new at
+adds_none code old new at are e = rw e (record { grows = record { long = refl; same = λ u p. refl; more = λ c f. f }; are = are })
+
+-- an edge that leads to a later unit adds a state there, and what fits the edge fits it
+pub adds_edge : (code : List Insn) (old new : States) (at to : ℕ) (edge : Option State) → at < to → (IsSome edge → IsSome (fetch code to)) → AreStates code old → Follows old new to edge → Adds code old new at
+adds_edge code old new at to None later begins are e = adds_none code old new at are e
+adds_edge code old new at to (Some added) later begins are j = adds_one code old new at to added later (begins refl) are j
+
+pub lands_edge : (code : List Insn) (old new : States) (at to : ℕ) (edge : Option State) (c : Config) → at < to → (IsSome edge → IsSome (fetch code to)) → AreStates code old → Follows old new to edge → IsConfig c → c.place ≡ to → FitsSome edge c → Arrived code new at c
+lands_edge code old new at to None c later begins are e config p f = absurd f
+lands_edge code old new at to (Some added) c later begins are j config p f = arrived code old new at to added c later (begins refl) are j config p f
 
 -- no states yet
 pub are_none : (code : List Insn) (states : States) → length states ≡ unit_count code → ((u : ℕ) → state_at states u ≡ None) → AreStates code states
@@ -78,11 +92,8 @@ grows_again old mid new at g h = record {
   more = λ c f. h.more c (g.more c f);
 }
 
-pub adds_again : (code : List Insn) (old mid new : States) (at : ℕ) → Adds code old mid at → Adds code mid new at → Adds code old new at
+adds_again : (code : List Insn) (old mid new : States) (at : ℕ) → Adds code old mid at → Adds code mid new at → Adds code old new at
 adds_again code old mid new at g h = record { grows = grows_again old mid new at g.grows h.grows; are = h.are }
-
-pub adds_none : (code : List Insn) (old : States) (at : ℕ) → AreStates code old → Adds code old old at
-adds_none code old at are = record { grows = record { long = refl; same = λ u p. refl; more = λ c f. f }; are = are }
 
 -- what was consistent below stays so
 pub still : (code : List Insn) (old new : States) (at p : ℕ) → Grows old new at → p ≤ at → ConsistentAt code old p → ConsistentAt code new p
@@ -104,7 +115,7 @@ ended_is code i c f h = let e : ended code c ≡ exit_code i c = ap (λ o. optio
 pub unreached : (code : List Insn) (states : States) (at : ℕ) → state_at states at ≡ None → ConsistentAt code states at
 unreached code states at e = λ c p f. let n : None ≡ Some f.state = sym e ∙ ap (state_at states) (sym p) ∙ f.stands in let h : ⊥ = cc in absurd h
 
-pub visits : (code : List Insn) (old mid new : States) (at : ℕ) (i : Insn) (s : State) (e : Edges)
+visits : (code : List Insn) (old mid new : States) (at : ℕ) (i : Insn) (s : State) (e : Edges)
     → state_at old at ≡ Some s → fetch code at ≡ Some i → Sound i s e
     → Grows old mid at → Grows mid new at
     → ((d : Config) → IsConfig d → d.place ≡ at + units_of i → FitsSome e.next d → Arrived code mid at d)
@@ -126,6 +137,27 @@ visits code old mid new at i s e known here sound g h next jump = λ c place fit
     goes.2 in
     inr (record { next = d; steps = step_is code i c d at_c goes.1 a.begins; later = rw place a.later; fits = a.fits }))
     (sound c fits.config f)
+
+-- the instruction at a unit is taken, and what is known on its edges is added
+pub visited : (code : List Insn) (old mid new : States) (at n to : ℕ) (i : Insn) (s : State) (e : Edges)
+    → IsBuilt code → fetch code at ≡ Some i → state_at old at ≡ Some s → AreStates code old → Flows i s e
+    → n ≡ units_of i → ((k : ℕ) → distance_of i ≡ pos k → to ≡ at + 1 + k)
+    → Follows old mid (at + n) e.next → Follows mid new to e.jump
+    → Adds code old new at × ConsistentAt code new at
+visited code old mid new at n to i s e built here known are flows units far first second =
+    let k = natural (distance_of i) (distance_forward i (can_flow code at i built here)) in
+    let to_is : to ≡ at + 1 + k.0 = far k.0 k.1 in
+    let later : at < at + n = omega (arith, units) in
+    let begins : IsSome e.next → IsSome (fetch code (at + n)) = λ h. rw units (next_begins code at i built here (flows.next h)) in
+    let target : IsSome e.jump → IsSome (fetch code to) = λ h. rw to_is (jump_begins code at k.0 i built here (flows.jump h) k.1) in
+    let further : at < to = omega arith in
+    let g : Adds code old mid at = adds_edge code old mid at (at + n) e.next later begins are first in
+    let h : Adds code mid new at = adds_edge code mid new at to e.jump further target g.are second in (
+      adds_again code old mid new at g h,
+      visits code old mid new at i s e known here flows.sound g.grows h.grows
+          (λ d config p f. lands_edge code old mid at (at + n) e.next d later begins are first config (p ∙ ap (λ x. at + x) (sym units)) f)
+          (λ d j config leads p f. lands_edge code mid new at to e.jump d further target g.are second config (p ∙ sym (far j leads)) f),
+    )
 
 state_within : (states : States) (u : ℕ) (s : State) → state_at states u ≡ Some s → u < length states
 state_within [] u s e = let f : ⊥ = cc in absurd f

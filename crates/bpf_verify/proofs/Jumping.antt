@@ -20,7 +20,7 @@ use Rattle.bpf_verify.specs.States.{Fits}
 use Rattle.bpf_verify.specs.Steps.{Sound, Flows, Lands, FitsSome}
 use Rattle.bpf_verify.proofs.Memories.{same_fits}
 
-natural : (z : ℤ) → pos 0 ≤ℤ z → (k : ℕ) × (z ≡ pos k)
+pub natural : (z : ℤ) → pos 0 ≤ℤ z → (k : ℕ) × (z ≡ pos k)
 natural (pos k) h = (k, refl)
 natural (negsuc k) h = absurd (omega (arith, ints))
 

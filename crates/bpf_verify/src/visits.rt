@@ -1,14 +1,14 @@
 //! The pass over a program's instructions.
 
-ghost use Rattle.std.specs.Prelude.{◌≡◌, ◌<◌, ◌≤◌, ◌+◌, ◌≤ℤ◌, pos, ℕ, IsSome, OnOk, IfOk, IfErr, Some};
+ghost use Rattle.std.specs.Prelude.{◌≡◌, ◌<◌, ◌≤◌, ◌+◌, ◌≤ℤ◌, pos, ℕ, IsSome, OnOk, IfOk, IfErr, Some, length};
 ghost use Rattle.std.specs.Option.{option_map};
 ghost use Rattle.bpf_insn.specs.Code.{unit_count, units_of, fetch};
 ghost use Rattle.bpf_helpers.specs.Runs.{Safe};
-ghost use Rattle.bpf_verify.specs.States.{Fits, IsConfig, state_at};
-ghost use Rattle.bpf_verify.specs.Steps.{FitsSome, distance_of};
+ghost use Rattle.bpf_verify.specs.States.{Fits};
+ghost use Rattle.bpf_verify.specs.Steps.{distance_of};
 ghost use Rattle.bpf_verify.specs.Structure.{IsBuilt, IsMisbuilt, IsMet, IsRefused};
 ghost use Rattle.bpf_verify.specs.Verified.{Starts, IsVerified};
-ghost use Rattle.bpf_verify.specs.Visits.{AreStates, Adds, Arrived, ConsistentAt};
+ghost use Rattle.bpf_verify.specs.Visits.{AreStates, Follows, Adds, ConsistentAt};
 
 use crate::fault::VerifyFault;
 use crate::flow::flow;
@@ -31,23 +31,19 @@ fn joined(old: Option<&State>, state: State) -> State
     }
 }
 
-/// Adds what is known on an edge from `at` to a later unit, where an instruction begins.
-fn arrive<A: Allocator + Copy>(
+/// Adds what is known on an edge to the unit where it leads, if it may be taken.
+fn follow<A: Allocator + Copy>(
     alloc: A,
-    code: &Code<A>,
     states: &mut States<A>,
-    at: usize,
     to: usize,
-    state: State,
+    edge: Option<State>,
 ) -> Result<(), AllocError>
-    requires later { at < to }
-    requires begins { IsSome (fetch code.now to) }
-    requires are { AreStates code.now states.old }
-    ensures adds { OnOk result (Adds code.now states.old states.new at) }
-    ensures arrived { OnOk result ((c : _) → IsConfig c → c.place ≡ to → Fits state c → Arrived code.now states.new at c) }
+    requires { IsSome edge → to < length states.old }
+    ensures { OnOk result (Follows states.old states.new to edge) }
 {
-    let _code = code;
-    let _at = at;
+    let Some(state) = edge else {
+        return Ok(());
+    };
     let both = joined(states.get(to), state);
     states.put(alloc, to, both)
 }
@@ -62,56 +58,6 @@ fn distance(insn: Insn) -> i64
         Insn::Jump { offset } => offset as i64,
         Insn::JumpFar { offset } => offset as i64,
         _ => 0,
-    }
-}
-
-/// Follows the edge to the next instruction.
-fn follow_next<A: Allocator + Copy>(
-    alloc: A,
-    code: &Code<A>,
-    states: &mut States<A>,
-    at: usize,
-    insn: Insn,
-    next: Option<State>,
-) -> Result<(), AllocError>
-    requires short { at < 4096 }
-    requires are { AreStates code.now states.old }
-    requires begins { IsSome next → IsSome (fetch code.now (at + units_of insn)) }
-    ensures adds { OnOk result (Adds code.now states.old states.new at) }
-    ensures lands { OnOk result ((d : _) → IsConfig d → d.place ≡ at + units_of insn → FitsSome next d → Arrived code.now states.new at d) }
-{
-    match next {
-        None => Ok(()),
-        Some(state) => arrive(alloc, code, states, at, at + insn.units(), state),
-    }
-}
-
-/// Follows the edge of a jump.
-fn follow_jump<A: Allocator + Copy>(
-    alloc: A,
-    code: &Code<A>,
-    states: &mut States<A>,
-    at: usize,
-    insn: Insn,
-    jump: Option<State>,
-) -> Result<(), AllocError>
-    requires short { at < 4096 }
-    requires are { AreStates code.now states.old }
-    requires forward { pos 0 ≤ℤ distance_of insn }
-    requires begins { IsSome jump → (k : ℕ) → distance_of insn ≡ pos k → IsSome (fetch code.now (at + 1 + k)) }
-    ensures adds { OnOk result (Adds code.now states.old states.new at) }
-    ensures lands { OnOk result ((d : _) (k : ℕ) → IsConfig d → distance_of insn ≡ pos k → d.place ≡ at + 1 + k → FitsSome jump d → Arrived code.now states.new at d) }
-{
-    match jump {
-        None => Ok(()),
-        Some(state) => arrive(
-            alloc,
-            code,
-            states,
-            at,
-            at + 1 + distance(insn) as usize,
-            state,
-        ),
     }
 }
 
@@ -138,8 +84,8 @@ fn visit<A: Allocator + Copy>(
         Ok(edges) => edges,
         Err(fault) => return Err(fault.at(at)),
     };
-    follow_next(alloc, code, states, at, insn, edges.next)?;
-    follow_jump(alloc, code, states, at, insn, edges.jump)?;
+    follow(alloc, states, at + insn.units(), edges.next)?;
+    follow(alloc, states, at + 1 + distance(insn) as usize, edges.jump)?;
     Ok(())
 }
 

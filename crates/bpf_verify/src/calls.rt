@@ -23,14 +23,15 @@ const COPY_LIMIT: u64 = 1024;
 fn answered(state: &State, answer: Known) -> State
     ensures { (c : _) (a : Answer) → Fits state.now c → Contains answer a.value → Fits result (after_answer a c) }
 {
+    let lost = Kind::Unset;
     State {
         kinds: [
             Kind::Num(answer),
-            Kind::Unset,
-            Kind::Unset,
-            Kind::Unset,
-            Kind::Unset,
-            Kind::Unset,
+            lost,
+            lost,
+            lost,
+            lost,
+            lost,
             state.kind(6),
             state.kind(7),
             state.kind(8),

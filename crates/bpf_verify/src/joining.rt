@@ -21,13 +21,13 @@ fn join_numbers(
     ensures left { (m n : ℕ) (v : _) → In a_bytes m → In a_argument n → HoldsKind a m n v → HoldsKind result m n v }
     ensures right { (m n : ℕ) (v : _) → In b_bytes m → In b_argument n → HoldsKind b m n v → HoldsKind result m n v }
 {
-    let Some(x) = number_of(a, a_bytes, a_argument) else {
-        return Kind::Unset;
-    };
-    let Some(y) = number_of(b, b_bytes, b_argument) else {
-        return Kind::Unset;
-    };
-    Kind::Num(join(x, y))
+    match (
+        number_of(a, a_bytes, a_argument),
+        number_of(b, b_bytes, b_argument),
+    ) {
+        (Some(x), Some(y)) => Kind::Num(join(x, y)),
+        _ => Kind::Unset,
+    }
 }
 
 /// What either kind holds; a length counts as its range.

@@ -1,0 +1,85 @@
+//! Joins of states.
+
+ghost use Rattle.std.specs.Prelude.{◌≡◌, ◌<◌, ◌≤◌, ℕ, length, slice_set};
+ghost use Rattle.bpf_range.specs.Sets.{In};
+ghost use Rattle.bpf_verify.specs.Kinds.{HoldsKind};
+ghost use Rattle.bpf_verify.specs.States.{Fits};
+
+use crate::numbers::number_of;
+use crate::state::State;
+use bpf_range::{Kind, Range, hull, join};
+
+/// The numbers of both kinds; no number is any value.
+fn join_numbers(
+    a: Kind,
+    a_bytes: Range,
+    a_argument: Range,
+    b: Kind,
+    b_bytes: Range,
+    b_argument: Range,
+) -> Kind
+    ensures left { (m n : ℕ) (v : _) → In a_bytes m → In a_argument n → HoldsKind a m n v → HoldsKind result m n v }
+    ensures right { (m n : ℕ) (v : _) → In b_bytes m → In b_argument n → HoldsKind b m n v → HoldsKind result m n v }
+{
+    match (
+        number_of(a, a_bytes, a_argument),
+        number_of(b, b_bytes, b_argument),
+    ) {
+        (Some(x), Some(y)) => Kind::Num(join(x, y)),
+        _ => Kind::Unset,
+    }
+}
+
+/// What either kind holds; a length counts as its range.
+fn join_kinds(
+    a: Kind,
+    a_bytes: Range,
+    a_argument: Range,
+    b: Kind,
+    b_bytes: Range,
+    b_argument: Range,
+) -> Kind
+    ensures left { (m n : ℕ) (v : _) → In a_bytes m → In a_argument n → HoldsKind a m n v → HoldsKind result m n v }
+    ensures right { (m n : ℕ) (v : _) → In b_bytes m → In b_argument n → HoldsKind b m n v → HoldsKind result m n v }
+{
+    match (a, b) {
+        (Kind::RecLen, Kind::RecLen) => Kind::RecLen,
+        (Kind::ArgLen, Kind::ArgLen) => Kind::ArgLen,
+        (Kind::Rec { lo: a_lo, hi: a_hi }, Kind::Rec { lo: b_lo, hi: b_hi }) => Kind::Rec {
+            lo: a_lo.min(b_lo),
+            hi: a_hi.max(b_hi),
+        },
+        (Kind::Arg { lo: a_lo, hi: a_hi }, Kind::Arg { lo: b_lo, hi: b_hi }) => Kind::Arg {
+            lo: a_lo.min(b_lo),
+            hi: a_hi.max(b_hi),
+        },
+        (Kind::Stack { lo: a_lo, hi: a_hi }, Kind::Stack { lo: b_lo, hi: b_hi }) => Kind::Stack {
+            lo: a_lo.min(b_lo),
+            hi: a_hi.max(b_hi),
+        },
+        _ => join_numbers(a, a_bytes, a_argument, b, b_bytes, b_argument),
+    }
+}
+
+/// What fits one of two states fits this.
+pub fn join_states(a: &State, b: &State) -> State
+    ensures left { (c : _) → Fits a.now c → Fits result c }
+    ensures right { (c : _) → Fits b.now c → Fits result c }
+{
+    let mut kinds = a.kinds;
+    for r in 0..11u8 {
+        kinds[r as usize] = join_kinds(
+            a.kind(r),
+            a.bytes,
+            a.argument,
+            b.kind(r),
+            b.bytes,
+            b.argument,
+        );
+    }
+    State {
+        kinds,
+        bytes: hull(a.bytes, b.bytes),
+        argument: hull(a.argument, b.argument),
+    }
+}

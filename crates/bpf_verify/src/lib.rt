@@ -1,0 +1,26 @@
+//! Which programs are accepted, and what is known before each of their instructions.
+//!
+//! `verify` tests a program's structure and then takes its instructions once, the lowest first, with
+//! what is known of the registers before each. What it accepts is safe: it never reads a register that
+//! was not set, touches nothing outside its record, argument and stack, stays in its code, and ends
+//! within as many steps as it has instructions.
+#![tactic(auto)]
+
+mod alu;
+mod branches;
+mod calls;
+mod fault;
+mod flow;
+mod joining;
+mod loads;
+mod memory;
+mod numbers;
+mod state;
+mod structure;
+mod table;
+mod verified;
+mod visits;
+
+pub use fault::VerifyFault;
+pub use verified::Verified;
+pub use visits::verify;

@@ -1,0 +1,99 @@
+//! What loads and stores make of what is known.
+
+ghost use Rattle.std.specs.Prelude.{◌≡◌, ◌≢◌, ◌≤◌, IfOk, OnOk, length, Some, None};
+ghost use Rattle.bpf_insn.specs.Arithmetic.{bytes_of};
+ghost use Rattle.bpf_verify.specs.States.{Fits};
+ghost use Rattle.bpf_verify.specs.Steps.{Passes, Reaching};
+
+use crate::fault::FlowFault;
+use crate::memory::{count_of, greatest_loaded, inside, writable};
+use crate::numbers::{number_of, place_of, written};
+use crate::state::State;
+use bpf_helpers::Region;
+use bpf_insn::{Insn, Size};
+use bpf_range::{Kind, Known};
+
+/// What is tested of an address: each access at it is inside.
+fn reached(size: Size, base: u8, offset: i16, state: &State) -> Result<Region, FlowFault>
+    requires { base ≤ 10 }
+    ensures { IfOk result (λ q. Reaching state.now base offset (bytes_of size) q) }
+{
+    written(state.kind(base))?;
+    let Some(place) = place_of(state.kind(base)) else {
+        return Err(FlowFault::NotPointer);
+    };
+    inside(place, state, offset as i64, count_of(size))?;
+    Ok(place.region)
+}
+
+pub fn after_load(
+    size: Size,
+    dst: u8,
+    base: u8,
+    offset: i16,
+    state: &State,
+) -> Result<State, FlowFault>
+    requires dst { dst ≤ 10 }
+    requires frame { dst ≢ 10 }
+    requires base { base ≤ 10 }
+    ensures { IfOk result (Passes (Insn.Load size dst base offset) state.now) }
+{
+    let _region = reached(size, base, offset, state)?;
+    let loaded = Known::of(0, greatest_loaded(size));
+    Ok(state.with(dst, Kind::Num(loaded)))
+}
+
+pub fn after_load_signed(
+    size: Size,
+    dst: u8,
+    base: u8,
+    offset: i16,
+    state: &State,
+) -> Result<State, FlowFault>
+    requires dst { dst ≤ 10 }
+    requires frame { dst ≢ 10 }
+    requires base { base ≤ 10 }
+    ensures { IfOk result (Passes (Insn.LoadSigned size dst base offset) state.now) }
+{
+    let _region = reached(size, base, offset, state)?;
+    let loaded = Known::of(0, u64::MAX);
+    Ok(state.with(dst, Kind::Num(loaded)))
+}
+
+pub fn after_store(
+    size: Size,
+    base: u8,
+    offset: i16,
+    src: u8,
+    state: &State,
+) -> Result<State, FlowFault>
+    requires base { base ≤ 10 }
+    requires src { src ≤ 10 }
+    ensures { IfOk result (Passes (Insn.Store size base offset src) state.now) }
+{
+    written(state.kind(base))?;
+    written(state.kind(src))?;
+    let Some(place) = place_of(state.kind(base)) else {
+        return Err(FlowFault::NotPointer);
+    };
+    let Some(_number) = number_of(state.kind(src), state.bytes, state.argument) else {
+        return Err(FlowFault::PointerStored);
+    };
+    writable(place.region)?;
+    inside(place, state, offset as i64, count_of(size))?;
+    Ok(*state)
+}
+
+/// The number that is stored does not matter.
+pub fn after_store_imm(size: Size, base: u8, offset: i16, state: &State) -> Result<State, FlowFault>
+    requires { base ≤ 10 }
+    ensures { IfOk result (λ t. (value : _) → Passes (Insn.StoreImm size base offset value) state.now t) }
+{
+    written(state.kind(base))?;
+    let Some(place) = place_of(state.kind(base)) else {
+        return Err(FlowFault::NotPointer);
+    };
+    writable(place.region)?;
+    inside(place, state, offset as i64, count_of(size))?;
+    Ok(*state)
+}

@@ -1,0 +1,58 @@
+//! The states of a program, by unit.
+
+ghost use Rattle.std.specs.Prelude.{◌≡◌, ◌<◌, ℕ, length, slice_set, Some, None, IfOk, OnOk};
+ghost use Rattle.std.specs.Option.{option_map};
+ghost use Rattle.bpf_verify.specs.States.{state_at};
+
+use crate::state::State;
+use std::alloc::{AllocError, Allocator, Global};
+use std::marker::Model;
+
+/// For each unit the state that stands there, if any. A unit without one takes the room of a pointer.
+#[derive(Drop)]
+pub struct States<A: Allocator = Global> {
+    boxes: Vec<Option<Box<State, A>>, A>,
+}
+
+impl<A: Allocator> Model for States<A> {
+    ghost use Rattle.bpf_verify.specs.States.{States as StateList, unboxed};
+
+    ghost Value = { StateList };
+
+    ghost view = { λ a. unboxed a.boxes.items };
+}
+
+impl<A: Allocator> States<A> {
+    /// No state at any of so many units.
+    pub fn none(alloc: A, units: usize) -> Result<States<A>, AllocError>
+        ensures long { IfOk result (λ s. length s ≡ units) }
+        ensures none { IfOk result (λ s. (at : ℕ) → state_at s at ≡ None) }
+    {
+        let mut boxes = Vec::new(alloc);
+        boxes.reserve(units)?;
+        for _ in 0..units {
+            boxes.push(None)?;
+        }
+        Ok(States { boxes })
+    }
+
+    /// The state at a unit.
+    pub fn get(&self, at: usize) -> Option<&State>
+        ensures { option_map (λ s. s.now) result ≡ state_at self.now at }
+    {
+        let Some(boxed) = self.boxes.get(at)? else {
+            return None;
+        };
+        Some(&**boxed)
+    }
+
+    /// Puts a state at a unit, in the place of the one that stands there. Without memory nothing changes.
+    pub fn put(&mut self, alloc: A, at: usize, state: State) -> Result<(), AllocError>
+        requires { at < length self.old }
+        ensures ok { OnOk result (self.new ≡ slice_set self.old at (Some state)) }
+    {
+        let boxed = Box::new(alloc, state)?;
+        self.boxes[at] = Some(boxed);
+        Ok(())
+    }
+}

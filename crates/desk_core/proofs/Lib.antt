@@ -1,2 +1,4 @@
-pub mod Working
-pub mod Stepping
+pub mod WorkLemmas
+pub mod Lifting
+pub mod Acting
+pub mod DeskLemmas

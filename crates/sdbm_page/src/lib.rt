@@ -243,6 +243,18 @@ impl<A: Allocator> Page<A> {
     }
 }
 
+impl<A: Allocator> Page<A> {
+    /// Whether two pages have one size and the same pairs in the same order. No memory is taken.
+    pub fn equals(&self, other: &Page<A>) -> bool
+        ensures { IsTrue result ↔ (self.now ≡ other.now) }
+    {
+        if self.size != other.size {
+            return false;
+        }
+        self.bytes.as_slice() == other.bytes.as_slice()
+    }
+}
+
 impl<A: Allocator> PartialEq for Page<A> {
     ghost use Rattle.std.specs.Prelude.{◌≡◌, ◌↔◌, IsTrue};
     ghost use Rattle.std.specs.Str.{bytes_eq};
@@ -255,7 +267,7 @@ impl<A: Allocator> PartialEq for Page<A> {
 
     ghost laws = { on_per sized_bytes (partial_equiv_from_equiv nat_list_eq_equiv) };
 
-    /// Whether two pages have one size and the same pairs in the same order. No memory is taken.
+    /// Whether two pages are equal, as `equals` says.
     fn eq(&self, other: &Self) -> bool
         ensures exact { IsTrue result ↔ (self.now ≡ other.now) }
         ensures value { result ≡ bytes_eq (sized_bytes self.now) (sized_bytes other.now) }

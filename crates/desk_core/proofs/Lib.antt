@@ -1,4 +1,5 @@
 pub mod WorkLemmas
 pub mod Lifting
 pub mod Acting
+pub mod Playing
 pub mod DeskLemmas

@@ -5,3 +5,4 @@ pub mod Jobs
 pub mod Desk
 pub mod Acts
 pub mod Calls
+pub mod Events

@@ -15,11 +15,13 @@ ghost use Rattle.desk_core.specs.Leads.{MayChange, IsPlaceOf, changed_by};
 ghost use Rattle.desk_core.specs.Desk.{IsSound, first_hold, open_count, ticket_of};
 
 mod action;
+mod events;
 mod job;
 mod page_copy;
 mod work;
 
 pub use action::act;
+pub use events::{Event, Outcome};
 pub use hold_modes::Ticket;
 use hold_modes::{Hold, Holds};
 pub use job::{Done, Job, Open};
@@ -166,6 +168,27 @@ impl<A: Allocator + Copy> Desk<A> {
                 Err(refused) => Err(refused),
             },
         }
+    }
+
+    // Whether a command may be asked, but for memory.
+    fn may_ask(&self, command: &Command<A>) -> Result<(), AskFault>
+        ensures ok { OnOk result (MayAsk self.now command.now) }
+        ensures refused { IfErr result (λ fault. IsAskFault self.now command.now fault) }
+    {
+        if check(command, self.image.page_size()).is_err() {
+            return Err(AskFault::PairTooLarge);
+        }
+        if self.limit <= self.trail.entries.len() + self.tickets.len() {
+            return Err(AskFault::TrailFull);
+        }
+        let Some(mode) = hold_for(command) else {
+            return Ok(());
+        };
+        let place = self.image.place(key_in(command));
+        if self.holds.bars(place.page, mode) {
+            return Err(AskFault::Busy);
+        }
+        Ok(())
     }
 
     /// Answers a session's command in one call, without a ticket. After a refusal the desk is as it was, and the command comes back.

@@ -9,6 +9,8 @@ mod deep;
 #[cfg(test)]
 mod desk;
 #[cfg(test)]
+mod events;
+#[cfg(test)]
 mod files;
 #[cfg(test)]
 mod files_memory;
@@ -26,6 +28,8 @@ mod pages;
 mod plan_cases;
 #[cfg(test)]
 mod plans;
+#[cfg(test)]
+mod random;
 #[cfg(test)]
 mod sinks;
 #[cfg(test)]

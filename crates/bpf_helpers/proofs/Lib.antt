@@ -2,4 +2,5 @@ mod AnswerFacts
 mod Running
 mod ArithmeticExamples
 mod Examples
+mod HelperExamples
 mod StuckExamples

@@ -79,8 +79,8 @@ impl Helper {
         }
     }
 
-    /// The greatest number that the helper gives: 0 of `Reply`, 1 of `Present`, 1,024 of `Copy`, and any
-    /// number of the others.
+    /// The greatest number that the helper gives: 0 of `Reply`, 1 of `Present`, 1,024 of `Copy`,
+    /// and any number of the others.
     fn greatest(self) -> u64
         ensures { result ≡ greatest_answer self }
     {
@@ -92,8 +92,8 @@ impl Helper {
         }
     }
 
-    /// What is known of the number that the helper gives: it is 0 from `Reply`, at most 1 from `Present`,
-    /// at most 1,024 from `Copy`, and any number from the others.
+    /// What is known of the number that the helper gives: it is 0 from `Reply`, at most 1 from
+    /// `Present`, at most 1,024 from `Copy`, and any number from the others.
     #[tactic(auto, using(crate::proofs::AnswerFacts::answer_fits))]
     pub fn result(self) -> Known
         ensures contains { AnswersIn (Contains result) self }
@@ -103,8 +103,8 @@ impl Helper {
     }
 }
 
-/// What is known of the number that the helper with a number gives, as `Helper::result` has it. There has
-/// to be such a helper. No memory is taken.
+/// What is known of the number that the helper with a number gives, as `Helper::result` has it.
+/// There has to be such a helper. No memory is taken.
 pub fn result(id: i32) -> Known
     requires { IsSome (numbered id) }
     ensures contains { IfSome (numbered id) (AnswersIn (Contains result)) }
@@ -116,8 +116,8 @@ pub fn result(id: i32) -> Known
     }
 }
 
-/// The number that the helper with a number gives, as `Helper::answer` does. `given` is R1 for 1 and
-/// the number of bytes for 5. `None` only where there is no such helper; the reply word is then
+/// The number that the helper with a number gives, as `Helper::answer` does. `given` is R1 for 1
+/// and the number of bytes for 5. `None` only where there is no such helper; the reply word is then
 /// unchanged. No memory is taken.
 pub fn call(id: i32, given: u64, env: &Env, word: &mut u64) -> Option<u64>
     ensures { Answers id given env.entry.now word.old result word.new }

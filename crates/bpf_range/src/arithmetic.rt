@@ -30,7 +30,8 @@ pub fn add(max: u64, a: Range, b: Range) -> Range
     all(max)
 }
 
-/// Differences, cut to the width. The ends are subtracted where every difference wraps or none does.
+/// Differences, cut to the width. The ends are subtracted where every difference wraps or none
+/// does.
 pub fn sub(max: u64, a: Range, b: Range) -> Range
     requires a_fits { a.hi ≤ max }
     requires b_fits { b.hi ≤ max }

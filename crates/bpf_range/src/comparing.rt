@@ -61,8 +61,8 @@ fn same(a: Range, b: Range) -> Option<(Range, Range)>
     Some((common, common))
 }
 
-/// A range without the number of `other`, where that has a single one and it is an end of the range.
-/// The last number is never taken out.
+/// A range without the number of `other`, where that has a single one and it is an end of the
+/// range. The last number is never taken out.
 fn without(a: Range, other: Range) -> Range
     ensures keeps { (x y : ℕ) → In a x → In other y → x ≢ y → In result x }
     ensures within { Within result a }
@@ -119,8 +119,8 @@ fn turned(found: Option<(Range, Range)>) -> Option<(Range, Range)>
     Some((b, a))
 }
 
-/// The numbers that are left where an unsigned test comes out as `taken`: `None` where no numbers of
-/// the ranges do so. A signed test tells nothing here.
+/// The numbers that are left where an unsigned test comes out as `taken`: `None` where no numbers
+/// of the ranges do so. A signed test tells nothing here.
 pub fn compare(test: Test, a: Range, b: Range, taken: bool) -> Option<(Range, Range)>
     ensures keeps { (x y : ℕ) → In a x → In b y → comparison test Width.W64 x y ≡ taken → IsSomeAnd result (λ p. In p.0 x × In p.1 y) }
     ensures within { IfSome result (λ p. Within p.0 a × Within p.1 b) }

@@ -30,9 +30,9 @@ pub fn common_bits(a: Bits, b: Bits) -> Bits
     }
 }
 
-/// What is known of a number of which one or the other is known: the numbers of both, and often more.
-/// The range is the least that has both; a bit is known where it is known of both and the same; then
-/// both are settled.
+/// What is known of a number of which one or the other is known: the numbers of both, and often
+/// more. The range is the least that has both; a bit is known where it is known of both and the
+/// same; then both are settled.
 pub fn join(a: Known, b: Known) -> Known
     ensures left { (x : ℕ) → Contains a x → Contains result x }
     ensures right { (x : ℕ) → Contains b x → Contains result x }

@@ -2,11 +2,11 @@
 
 use crate::known::Known;
 
-/// What is known of a register. `Unset` is for one that may hold anything, nothing included.
-/// The offsets of a pointer are from the beginning of its region, on the stack from its end, and
-/// `lo` is never meant to be above `hi`.
+/// What is known of a register. The offset of a pointer is from `lo` to `hi`, both included,
+/// counted from the beginning of its region and on the stack from the end.
 #[derive(Clone, Copy, Debug, PartialEq, Eq)]
 pub enum Kind {
+    /// Anything, also nothing.
     Unset,
     /// A number.
     Num(Known),

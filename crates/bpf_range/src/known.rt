@@ -2,14 +2,16 @@
 
 mod settling;
 
+use crate::bits::any_bits;
 use crate::values::{Bits, Range};
 pub use settling::settle;
+use settling::share_high_bits;
 
-/// What is known of a number: that it is in a range, and some of its bits. It contains the numbers of
-/// which both are true. Its range is never empty, and no bit is known to be 1 and unknown.
+/// What is known of a number: that it is in a range, and some of its bits. It contains the numbers
+/// of which both are true. Its range is never empty, and no bit is known to be 1 and unknown.
 ///
-/// It is settled where the range and the bits each tell what the other says, as far as that goes. What
-/// the functions of this crate answer is settled, but for `from_parts`.
+/// It is settled where the range and the bits each tell what the other says, as far as that goes.
+/// What the functions of this crate answer is settled, but for `from_parts`.
 #[derive(Clone, Copy, Debug, PartialEq, Eq)]
 pub struct Known {
     range: Range,
@@ -18,27 +20,22 @@ pub struct Known {
 
 impl Known {
     ghost use Rattle.std.specs.Prelude.{◌≡◌, ◌≤◌, ◌⊎◌, ◌<◌, ℕ, bit_and, MatchBool, MatchOption};
-    ghost use Rattle.bpf_range.specs.Sets.{Contains, In, HasBits, IsOf, range_of, bits_of};
+    ghost use Rattle.bpf_range.specs.Sets.{Contains, In, IsOnly, HasBits, IsOf, range_of, bits_of};
 
-    /// The numbers from `lo` to `hi`, settled: the bits in which all of them agree are known.
+    /// The numbers from `lo` to `hi`, settled: the bits above the highest in which the ends differ
+    /// are known.
     pub fn of(lo: u64, hi: u64) -> Known
         requires { lo ≤ hi }
         ensures contains { (x : ℕ) → lo ≤ x → x ≤ hi → Contains result x }
-        ensures only { (x : ℕ) → Contains result x → (lo ≤ x) × (x ≤ hi) }
+        ensures range { ((range_of result).lo ≡ lo) × ((range_of result).hi ≡ hi) }
     {
-        settle(
-            Range { lo, hi },
-            Bits {
-                value: 0,
-                unknown: u64::MAX,
-            },
-        )
+        share_high_bits(Range { lo, hi }, any_bits())
     }
 
     /// The one number.
     pub fn single(n: u64) -> Known
         ensures contains { Contains result n }
-        ensures only { (x : ℕ) → Contains result x → x ≡ n }
+        ensures range { IsOnly (range_of result) n }
     {
         Known {
             range: Range { lo: n, hi: n },

@@ -35,9 +35,9 @@ fn greatest_tested(test: Test, width: Width) -> u64
     }
 }
 
-/// The numbers of two ranges that are left where a test of them comes out as `taken`. `None` only where
-/// no numbers of the ranges do so. Two single numbers are tested. At 32 bits a test tells nothing of
-/// numbers above 2^32 - 1, and a signed one nothing where the sign's bit may be set.
+/// The numbers of two ranges that are left where a test of them comes out as `taken`. `None` only
+/// where no numbers of the ranges do so. Two single numbers are tested. At 32 bits a test tells
+/// nothing of numbers above 2^32 - 1, and a signed one nothing where the sign's bit may be set.
 pub fn refine_range(
     test: Test,
     width: Width,
@@ -65,8 +65,8 @@ pub fn refine_range(
     compare(unsigned(test), a, b, taken)
 }
 
-/// The first operand's bits where a test comes out as `taken`. Only that it has no bit in common with a
-/// single number, at 64 bits, tells something: those bits are 0.
+/// The first operand's bits where a test comes out as `taken`. Only that it has no bit in common
+/// with a single number, at 64 bits, tells something: those bits are 0.
 fn tested_bits(test: Test, width: Width, a: Bits, b: Range, taken: bool) -> Bits
     ensures { (x y : ℕ) → x < 2 ^ 64 → HasBits a x → In b y → holds_of test width x y ≡ taken → HasBits result x }
 {
@@ -79,8 +79,8 @@ fn tested_bits(test: Test, width: Width, a: Bits, b: Range, taken: bool) -> Bits
     }
 }
 
-/// What is known of a test's operands where it comes out as `taken`. `None` only where no numbers that
-/// they contain do so: that edge of a conditional jump is never taken. The ranges are those of
+/// What is known of a test's operands where it comes out as `taken`. `None` only where no numbers
+/// that they contain do so: that edge of a conditional jump is never taken. The ranges are those of
 /// `refine_range`; the bits stay known, and both are settled.
 pub fn refine(test: Test, width: Width, a: Known, b: Known, taken: bool) -> Option<(Known, Known)>
     ensures keeps { (x y : ℕ) → Contains a x → Contains b y → holds_of test width x y ≡ taken → IsSomeAnd result (λ p. Contains p.0 x × Contains p.1 y) }

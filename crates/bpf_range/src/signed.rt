@@ -49,8 +49,8 @@ pub fn signed_shift(width: Width, a: Range, count: Range) -> Range
     shift_right(width, a, count)
 }
 
-/// The low parts of numbers with their signs, cut to the width: the numbers themselves where they have
-/// no more than such a part and its sign's bit is not set.
+/// The low parts of numbers with their signs, cut to the width: the numbers themselves where they
+/// have no more than such a part and its sign's bit is not set.
 pub fn extended(width: Width, size: Size, b: Range) -> Range
     requires { b.hi < modulus width }
     ensures { (y : ℕ) → In b y → In result (sign_extension size y % modulus width) }

@@ -73,11 +73,11 @@ fn swapped(size: Size) -> Range
     all(greatest_part(size))
 }
 
-/// The results of an operation on the destination `a` and the operand `b` (RFC 9669, section 4.1), by
-/// their ends alone. `Neg` and the byte orders read `a` alone, `Mov` and `MovSx` `b` alone. Where what is
-/// read is a single number, so is the answer. Else both are cut to the width, but for a byte order, and
-/// the answer has the results of their ends, where no result between these can wrap or has another sign,
-/// and else all numbers of the width. No memory is taken.
+/// The results of an operation on the destination `a` and the operand `b` (RFC 9669, section 4.1),
+/// by their ends alone. `Neg` and the byte orders read `a` alone, `Mov` and `MovSx` `b` alone.
+/// Where what is read is a single number, so is the answer. Else both are cut to the width, but for
+/// a byte order, and the answer has the results of their ends, where no result between these can
+/// wrap or has another sign, and else all numbers of the width. No memory is taken.
 pub fn transfer_range(op: Op, width: Width, a: Range, b: Range) -> Range
     ensures covers { Covers (result_of op width) a b result }
     ensures single { (x y : ℕ) → IsOnly a x → IsOnly b y → IsOnly result (result_of op width x y) }
@@ -93,8 +93,8 @@ pub fn transfer_range(op: Op, width: Width, a: Range, b: Range) -> Range
     }
 }
 
-/// The bits of the results; `a` and `b` are the operands' bits at the width, and `count` is the second
-/// operand's range. Of operations that carry from bit to bit none is known.
+/// The bits of the results; `a` and `b` are the operands' bits at the width, and `count` is the
+/// second operand's range. Of operations that carry from bit to bit none is known.
 fn transfer_bits(op: Op, width: Width, a: Bits, b: Bits, count: Range) -> Bits
     ensures { (x y : ℕ) → x < modulus width → y < modulus width → HasBits a x → HasBits b y → In count y → HasBits result (uncut_result op width x y % modulus width) }
 {
@@ -119,10 +119,10 @@ fn transfer_bits(op: Op, width: Width, a: Bits, b: Bits, count: Range) -> Bits
     }
 }
 
-/// What is known of the result of an operation on the destination `a` and the operand `b` (RFC 9669,
-/// section 4.1). Its range is that of `transfer_range`. Its bits are those that the operands' known bits
-/// decide where the operation is `And`, `Or`, `Xor`, `Mov` or a `Lsh` or `Rsh` by a single count; at 32 bits
-/// the upper half is 0. Both are then settled. No memory is taken.
+/// What is known of the result of an operation on the destination `a` and the operand `b` (RFC
+/// 9669, section 4.1). Its range is that of `transfer_range`. Its bits are those that the operands'
+/// known bits decide where the operation is `And`, `Or`, `Xor`, `Mov` or a `Lsh` or `Rsh` by a
+/// single count; at 32 bits the upper half is 0. Both are then settled. No memory is taken.
 pub fn transfer(op: Op, width: Width, a: Known, b: Known) -> Known
     ensures contains { (x y : ℕ) → Contains a x → Contains b y → Contains result (result_of op width x y) }
     ensures single { (x y : ℕ) → IsOnly (range_of a) x → IsOnly (range_of b) y → IsOnly (range_of result) (result_of op width x y) }

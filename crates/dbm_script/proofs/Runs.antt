@@ -1,11 +1,10 @@
 -- Lines that run one after another, and texts that are written in parts.
-use Rattle.std.proofs.Common.{◌≡◌, List, [], ◌∷◌, ◌++◌, ℕ, Option, Some, None, inl, inr, IfSome, length, eqb, false, refl, ap, ◌∙◌, sym, subst, append_assoc}
+use Rattle.std.proofs.Common.{◌≡◌, List, [], ◌∷◌, ◌++◌, ℕ, Option, Some, None, IfSome, length, eqb, false, refl, ap, ◌∙◌, sym, subst, append_assoc}
 use Rattle.std.specs.Io.KnownBytes.{Appends}
 use Rattle.std.proofs.lemmas.Bool.{false≢true}
 use Rattle.dbm_script.specs.Pieces.{pieces_of}
 use Rattle.sdbm_addr.specs.Database.{Database}
 use Rattle.store_cmd.specs.declared.Command.{Command}
-use Rattle.store_cmd.specs.declared.Reply.{Reply}
 use Rattle.desk_core.proofs.Acting.{Acts-unique}
 use Rattle.dbm_script.specs.Commands.{command_of}
 use Rattle.dbm_script.specs.Answers.{IsAnswerTo, answer_text}

@@ -53,10 +53,10 @@ pub record KeepsDesk {A : Type 0} (old new : DeskState A) : Type 0 where
   pub kind : new.database.kind ≡ old.database.kind
   pub size : new.database.size ≡ old.database.size
 
--- known bytes grow by the first bytes of a text
+-- known bytes grow by the first bytes of a text, and not by all of them
 pub record WritesPart (old new : Option (List ℕ)) (text : List ℕ) : Type 0 where
   pub count : ℕ
-  pub within : count ≤ length text
+  pub within : count < length text
   pub appends : Appends old new (take count text)
 
 -- the text of a fault: its name

@@ -18,7 +18,7 @@ pub enum Answer<A: Allocator> {
 /// Writes the text of an answer after a text.
 ///
 /// # Errors
-/// `AllocError` where there is no memory for it. Some of it may stand after the text then.
+/// `AllocError` where there is no memory for it. The text is of no use then.
 pub fn show_answer<A: Allocator + Copy>(
     alloc: A,
     answer: &Answer<A>,
@@ -61,7 +61,7 @@ fn show_reply<A: Allocator + Copy>(
 /// Writes bytes in lower-case hex after a text, or a dot for none.
 ///
 /// # Errors
-/// `AllocError` where there is no memory for them. Some of them may stand after the text then.
+/// `AllocError` where there is no memory for them. The text is of no use then.
 pub fn show_bytes<A: Allocator + Copy>(
     alloc: A,
     bytes: &[u8],

@@ -8,7 +8,7 @@ use memchr::memchr;
 pub fn lines_in(text: &[u8]) -> usize
     ensures { result ≡ length (pieces_of 10 text.now) }
 {
-    text.split(|byte| *byte == 10).count()
+    text.split(|byte| *byte == b'\n').count()
 }
 
 /// A text as far as the first byte of a kind, and what is left behind that byte, where there is one.

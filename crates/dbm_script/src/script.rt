@@ -1,5 +1,5 @@
 //! Scripts: all that is read, run as one session, and the text of the answers.
-ghost use Rattle.std.specs.Prelude.{◌≡◌, ◌++◌, ◌<◌, ◌≤◌, List, ℕ, IfOk, OnOk, IfErr, IfSome, IsErrOf, ◌∷◌, [], length};
+ghost use Rattle.std.specs.Prelude.{◌≡◌, ◌++◌, ◌<◌, ◌≤◌, List, ℕ, IfOk, OnOk, OnErr, IfErr, IfSome, IsErrOf, ◌∷◌, [], length};
 ghost use Rattle.std.specs.Io.KnownBytes.{Appends, Keeps};
 ghost use Rattle.sdbm_addr.specs.Database.{Database};
 ghost use Rattle.dbm_script.specs.Pieces.{pieces_of};
@@ -88,7 +88,7 @@ fn answer_line<A: Allocator + Copy>(
         return Ok(());
     }
     answer_words(alloc, desk, line, text)?;
-    Ok(text.push(10)?)
+    Ok(text.push(b'\n')?)
 }
 
 // Answers the words of a line: a command by its answer, and anything else by the words for a bad line.
@@ -115,7 +115,7 @@ fn answer_words<A: Allocator + Copy>(
 /// Answers a command on a desk, of which no page is held, as session 0, whose entry is added to the trail.
 ///
 /// # Errors
-/// `AllocError` where there is no memory left for it.
+/// `AllocError` where there is no memory left for it. The desk is as it was then.
 pub fn answer_command<A: Allocator + Copy>(
     desk: &mut Desk<A>,
     command: Command<A>,
@@ -123,6 +123,7 @@ pub fn answer_command<A: Allocator + Copy>(
     requires { IsFree desk.old }
     ensures answer { IfOk result (λ answer. IsAnswerTo A desk.old.database command answer desk.new.database) }
     ensures entry { IfOk result (λ answer. desk.new.entries ≡ desk.old.entries ++ entries_of command answer) }
+    ensures err { OnErr result (desk.new ≡ desk.old) }
     ensures desk { OnOk result (KeepsDesk desk.old desk.new) }
 {
     match desk.step(0, command) {

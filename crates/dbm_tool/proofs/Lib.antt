@@ -1,3 +1,5 @@
 pub mod PairLines
 pub mod Faults
 pub mod Playing
+pub mod Examples
+pub mod FilesGiven

@@ -1,11 +1,10 @@
 -- Scripts whose bytes were read.
-use Rattle.std.proofs.Common.{◌≡◌, ℕ, List, Option, Some, IfSome, subst, sym, ap}
+use Rattle.std.proofs.Common.{◌≡◌, ℕ, List, Option, Some, IfSome, subst, sym}
 use Rattle.std.specs.declared.alloc.Global.{Global}
-use Rattle.std.specs.declared.vec.Vec.{Vec}
 use Rattle.sdbm_addr.specs.Database.{Database}
 use Rattle.dbm_script.specs.Script.{IsScriptRun}
 use Rattle.dbm_script.proofs.Runs.{known_read}
-use Rattle.dbm_tool.specs.declared.report.Report.{Report}
+use Rattle.dbm_tool.specs.declared.subcommands.Report.{Report}
 use Rattle.dbm_tool.specs.Reports.{Plays}
 
 -- what was read is what is known

@@ -1,10 +1,9 @@
 -- Why nothing comes of a wish: the causes of each fault before a line is written.
-use Rattle.std.specs.Prelude.{◌≡◌, ◌≢◌, ℕ, ◌<◌, List, Option, Some, None, IfSome, length, ⊤}
+use Rattle.std.specs.Prelude.{◌≡◌, ◌≢◌, ℕ, ◌<◌, List, Option, None, IfSome, length, ⊤}
 use Rattle.std.specs.declared.alloc.Global.{Global}
 use Rattle.std.specs.Str.{IsUtf8}
 use Rattle.sdbm_files.specs.declared.opening.OpenFault.{OpenFault}
-use Rattle.sdbm_addr.specs.Database.{Database}
-use Rattle.store_cmd.specs.declared.Command.{Command}
+use Rattle.sdbm_addr.specs.Database.{Database, IsDatabase}
 use Rattle.bpf_insn.specs.Decoding.{HasFault}
 use Rattle.bpf_insn.specs.declared.fault.DecodeFault.{DecodeFault}
 use Rattle.bpf_asm.specs.Denotes.{DenotesNone}
@@ -60,8 +59,8 @@ IsCaused causes Write = ⊥
 IsCaused causes NoMemory = ⊤
 
 -- files that do not open
-abbrev pub file_causes : Form → Given → Causes
-file_causes form given = record no_causes { opening = IsShut form given }
+abbrev pub opening_causes : Form → Given → Causes
+opening_causes form given = record no_causes { opening = IsShut form given }
 
 -- a command: its words come before the files
 abbrev pub command_causes : Form → Given → List (List ℕ) → Causes
@@ -98,18 +97,9 @@ image_causes file = record no_causes { decoding = HasFault file }
 
 -- why the files of a database are not made
 abbrev pub IsFilesFault : Database → ServeFault → Type 0
-IsFilesFault db ReadFile = ⊥
-IsFilesFault db FileTooLong = IsTooLong db
-IsFilesFault db WriteFile = ⊥
-IsFilesFault db BadHex = ⊥
-IsFilesFault db (Open reason) = ⊥
-IsFilesFault db NotText = ⊥
-IsFilesFault db (Assemble fault) = ⊥
-IsFilesFault db (Decode fault) = ⊥
-IsFilesFault db Read = ⊥
-IsFilesFault db TooLong = ⊥
-IsFilesFault db Write = ⊥
+IsFilesFault db FileTooLong = IsDatabase db × IsTooLong db
 IsFilesFault db NoMemory = ⊤
+IsFilesFault db _ = ⊥
 
 -- the fault of a stream
 abbrev pub stream_fault : ScriptFault → ServeFault

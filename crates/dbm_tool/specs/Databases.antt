@@ -14,18 +14,18 @@ use Rattle.dbm_tool.specs.declared.serve.Given.{Given}
 use Rattle.dbm_tool.specs.declared.databases.Files.{Files}
 
 -- how keys hash and how large pages are, by the options
-abbrev pub kind_of : Bool → KeyBytes
-kind_of unsigned = cond unsigned Unsigned Signed
+abbrev pub key_bytes_of : Bool → KeyBytes
+key_bytes_of unsigned = cond unsigned Unsigned Signed
 
-abbrev pub size_of : Bool → PageSize
-size_of wide = cond wide Wide Small
+abbrev pub page_size_of : Bool → PageSize
+page_size_of wide = cond wide Wide Small
 
 -- the files, read as the form says, spell this database and no other
 pub record IsOpened (form : Form) (given : Given) (db : Database) : Type 0 where
   pub spells : SpellsDatabase db given.dir.items given.pag.items
-  pub kind : db.kind ≡ kind_of form.unsigned
-  pub size : db.size ≡ size_of form.wide
-  pub only : (other : Database) → other.kind ≡ kind_of form.unsigned → other.size ≡ size_of form.wide
+  pub kind : db.kind ≡ key_bytes_of form.unsigned
+  pub size : db.size ≡ page_size_of form.wide
+  pub only : (other : Database) → other.kind ≡ key_bytes_of form.unsigned → other.size ≡ page_size_of form.wide
       → SpellsDatabase other given.dir.items given.pag.items → other ≡ db
 
 -- the files open
@@ -34,7 +34,7 @@ Opens form given = (db : Database) × IsOpened form given db
 
 -- why the files do not open
 abbrev pub IsShut : Form → Given → OpenFault → Type 0
-IsShut form given = IsOpenFault (kind_of form.unsigned) (size_of form.wide) given.dir.items given.pag.items
+IsShut form given = IsOpenFault (key_bytes_of form.unsigned) (page_size_of form.wide) given.dir.items given.pag.items
 
 -- the program writes no `.pag` that is longer
 abbrev pub pag_limit : ℕ

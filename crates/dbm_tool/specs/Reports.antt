@@ -21,9 +21,9 @@ use Rattle.dbm_script.specs.Answers.{IsAnswerTo, answer_text, shown}
 use Rattle.dbm_script.specs.Commands.{command_of}
 use Rattle.dbm_script.specs.Script.{IsScriptRun}
 use Rattle.dbm_words.specs.declared.wish.Form.{Form}
-use Rattle.dbm_tool.specs.declared.report.Report.{Report}
+use Rattle.dbm_tool.specs.declared.subcommands.Report.{Report}
 use Rattle.dbm_tool.specs.declared.serve.Given.{Given}
-use Rattle.dbm_tool.specs.Databases.{IsOpened, kind_of, size_of}
+use Rattle.dbm_tool.specs.Databases.{IsOpened, key_bytes_of, page_size_of}
 
 -- a text is printed, and that is all
 pub record Prints (text : List ℕ) (report : Report) : Type 0 where
@@ -48,7 +48,7 @@ status_of (Replied reply) = reply_status reply
 status_of PairTooLarge = 1
 
 -- a command is answered, by its answer in a line and the status that goes with it
-pub record Answers (before : Database) (command : Command Global) (after : Database) (report : Report) : Type 0 where
+pub record IsCommandReport (before : Database) (command : Command Global) (after : Database) (report : Report) : Type 0 where
   pub answer : Answer Global
   pub answers : IsAnswerTo Global before command answer after
   pub kind : after.kind ≡ before.kind
@@ -58,11 +58,11 @@ pub record Answers (before : Database) (command : Command Global) (after : Datab
 
 -- a command that changes no file
 abbrev pub Looks : Database → Command Global → Report → Type 0
-Looks before command report = (after : Database) × (Answers before command after report × (report.database ≡ None))
+Looks before command report = (after : Database) × (IsCommandReport before command after report × (report.database ≡ None))
 
 -- a command after which the files are written
 abbrev pub Changes : Database → Command Global → Report → Type 0
-Changes before command report = (after : Database) × (Answers before command after report × (report.database ≡ Some after))
+Changes before command report = (after : Database) × (IsCommandReport before command after report × (report.database ≡ Some after))
 
 -- the words of a command on the database of the files, of which P holds
 pub record OnCommand (form : Form) (given : Given) (words : List (List ℕ)) (P : Database → Command Global → Type 0) : Type 0 where
@@ -132,7 +132,7 @@ pub record Plays (before : Database) (input : Option (List ℕ)) (after : Databa
 -- on an empty database, which is not kept
 abbrev pub PlaysAlone : Form → Option (List ℕ) → Report → Type 0
 PlaysAlone form input report =
-    (after : Database) × (Plays (empty_database (kind_of form.unsigned) (size_of form.wide)) input after report × (report.database ≡ None))
+    (after : Database) × (Plays (empty_database (key_bytes_of form.unsigned) (page_size_of form.wide)) input after report × (report.database ≡ None))
 
 -- on a database, which is written after it
 abbrev pub PlaysOn : Option (List ℕ) → Report → Database → Type 0

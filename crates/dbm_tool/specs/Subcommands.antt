@@ -2,10 +2,10 @@
 use Rattle.std.specs.Prelude.{ℕ, Bool, true, false, List, Option, Some, None}
 use Rattle.dbm_words.specs.declared.wish.Wish.{Wish}
 use Rattle.dbm_words.specs.declared.wish.Wish.TheVariants as wish
-use Rattle.dbm_tool.specs.declared.report.Report.{Report}
+use Rattle.dbm_tool.specs.declared.subcommands.Report.{Report}
 use Rattle.dbm_tool.specs.declared.serve.Given.{Given}
 use Rattle.dbm_tool.specs.Reports.{OnCommand, OnDatabase, Looks, Changes, Lists, Counts, PlaysAlone, PlaysOn, Widens, PrintsOf, IsAssembled, IsDisassembled, fetch_words, store_words, delete_words, small_form}
-use Rattle.dbm_tool.specs.Causes.{Causes, command_causes, file_causes, input_causes, script_causes, text_causes, image_causes}
+use Rattle.dbm_tool.specs.Causes.{Causes, command_causes, opening_causes, input_causes, script_causes, text_causes, image_causes}
 
 pub record Subcommand : Type 1 where
   -- what comes of it
@@ -14,44 +14,44 @@ pub record Subcommand : Type 1 where
   pub causes : Causes
 
 -- What is known of a subcommand, by the bytes of its files and of what is read.
-abbrev pub subcommand_of : Wish → Given → Option (List ℕ) → Subcommand
-subcommand_of (wish.Fetch base form key) given input = record {
+abbrev pub subcommand_for : Wish → Given → Option (List ℕ) → Subcommand
+subcommand_for (wish.Fetch base form key) given input = record {
   reports = λ report. OnCommand form given (fetch_words key) (λ db command. Looks db command report);
   causes = command_causes form given (fetch_words key);
 }
-subcommand_of (wish.Store base form key value insert) given input = record {
+subcommand_for (wish.Store base form key value insert) given input = record {
   reports = λ report. OnCommand form given (store_words key value insert) (λ db command. Changes db command report);
   causes = command_causes form given (store_words key value insert);
 }
-subcommand_of (wish.Delete base form key) given input = record {
+subcommand_for (wish.Delete base form key) given input = record {
   reports = λ report. OnCommand form given (delete_words key) (λ db command. Changes db command report);
   causes = command_causes form given (delete_words key);
 }
-subcommand_of (wish.List base form) given input = record {
+subcommand_for (wish.List base form) given input = record {
   reports = λ report. OnDatabase form given (Lists report);
-  causes = file_causes form given;
+  causes = opening_causes form given;
 }
-subcommand_of (wish.Check base form) given input = record {
+subcommand_for (wish.Check base form) given input = record {
   reports = λ report. OnDatabase form given (Counts report);
-  causes = file_causes form given;
+  causes = opening_causes form given;
 }
-subcommand_of (wish.Script None form) given input = record {
+subcommand_for (wish.Script None form) given input = record {
   reports = PlaysAlone form input;
   causes = input_causes input;
 }
-subcommand_of (wish.Script (Some base) form) given input = record {
+subcommand_for (wish.Script (Some base) form) given input = record {
   reports = λ report. OnDatabase form given (PlaysOn input report);
   causes = script_causes form given input;
 }
-subcommand_of (wish.Widen base unsigned) given input = record {
+subcommand_for (wish.Widen base unsigned) given input = record {
   reports = λ report. OnDatabase (small_form unsigned) given (Widens report);
-  causes = file_causes (small_form unsigned) given;
+  causes = opening_causes (small_form unsigned) given;
 }
-subcommand_of (wish.Asm file) given input = record {
+subcommand_for (wish.Asm file) given input = record {
   reports = PrintsOf IsAssembled given.file.items;
   causes = text_causes given.file.items;
 }
-subcommand_of (wish.Disasm file) given input = record {
+subcommand_for (wish.Disasm file) given input = record {
   reports = PrintsOf IsDisassembled given.file.items;
   causes = image_causes given.file.items;
 }

@@ -1,14 +1,14 @@
 //! The database that files spell, and the files that are written for one.
 ghost use Rattle.std.specs.Prelude.{◌≡◌, Some, IfOk, IfErr};
 ghost use Rattle.sdbm_addr.specs.Database.{Database};
-ghost use Rattle.dbm_tool.specs.Databases.{AreFilesOf, AreFilesToWrite, IsOpened, kind_of, size_of};
-ghost use Rattle.dbm_tool.specs.Causes.{IsCaused, IsFilesFault, file_causes};
+ghost use Rattle.dbm_tool.specs.Databases.{AreFilesOf, AreFilesToWrite, IsOpened, key_bytes_of, page_size_of};
+ghost use Rattle.dbm_tool.specs.Causes.{IsCaused, IsFilesFault, opening_causes};
 
 use crate::fault::ServeFault;
 use crate::serve::Given;
 use dbm_words::Form;
 use sdbm_addr::{KeyBytes, PageSize};
-use sdbm_files::{Image, MemSink};
+use sdbm_files::{Image, MemSink, OpenFault};
 use std::alloc::Global;
 
 /// A `.pag` file of the program has at most this many bytes.
@@ -22,8 +22,8 @@ pub struct Files {
 }
 
 /// How keys hash.
-pub fn kind_of(form: Form) -> KeyBytes
-    ensures { result ≡ kind_of form.unsigned }
+pub fn key_bytes_of(form: Form) -> KeyBytes
+    ensures { result ≡ key_bytes_of form.unsigned }
 {
     if form.unsigned {
         KeyBytes::Unsigned
@@ -33,8 +33,8 @@ pub fn kind_of(form: Form) -> KeyBytes
 }
 
 /// How large pages are.
-pub fn size_of(form: Form) -> PageSize
-    ensures { result ≡ size_of form.wide }
+pub fn page_size_of(form: Form) -> PageSize
+    ensures { result ≡ page_size_of form.wide }
 {
     if form.wide {
         PageSize::Wide
@@ -46,15 +46,16 @@ pub fn size_of(form: Form) -> PageSize
 /// The database that the files spell. Their bytes are let go.
 ///
 /// # Errors
-/// `Open` with the fault of the files, or for want of memory.
+/// `Open` with the fault of the files, and `NoMemory`.
 pub fn open(alloc: Global, given: Given, form: Form) -> Result<Image<Global>, ServeFault>
     ensures ok { IfOk result (IsOpened form given) }
-    ensures fault { IfErr result (IsCaused (file_causes form given)) }
+    ensures fault { IfErr result (IsCaused (opening_causes form given)) }
 {
     let dir = given.dir.as_slice();
     let pag = given.pag.as_slice();
-    match Image::open(alloc, dir, pag, kind_of(form), size_of(form)) {
+    match Image::open(alloc, dir, pag, key_bytes_of(form), page_size_of(form)) {
         Ok(image) => Ok(image),
+        Err(OpenFault::NoMemory) => Err(ServeFault::NoMemory),
         Err(fault) => Err(ServeFault::Open(fault)),
     }
 }

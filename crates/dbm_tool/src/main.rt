@@ -11,8 +11,8 @@ mod listing;
 mod lock;
 mod names;
 mod programs;
-mod report;
 mod serve;
+mod subcommands;
 
 use dbm_words::{Wish, read_words};
 use ending::{Ending, ending_of, exit_status};

@@ -4,7 +4,7 @@ ghost use Rattle.dbm_tool.specs.Reports.{IsAssembled, IsDisassembled, PrintsOf};
 ghost use Rattle.dbm_tool.specs.Causes.{IsCaused, text_causes, image_causes};
 
 use crate::fault::ServeFault;
-use crate::report::{Report, printed};
+use crate::subcommands::{Report, printed};
 use bpf_asm::{FaultKind, assemble, disassemble};
 use bpf_insn::{DecodeFault, decode, encode};
 use std::alloc::Global;
@@ -12,7 +12,8 @@ use std::alloc::Global;
 /// The image of a program's text, in hex, in a line.
 ///
 /// # Errors
-/// `NotText` where the file is not UTF-8, `Assemble` with the first line at fault, and `NoMemory`.
+/// `NotText` where the file is not UTF-8, `Assemble` where it is the text of no program, with a line and a fault, and `NoMemory`. Which
+/// line and fault are told is `assemble`'s.
 pub fn assemble_file(alloc: Global, file: &[u8]) -> Result<Report, ServeFault>
     ensures ok { IfOk result (PrintsOf IsAssembled file.now) }
     ensures fault { IfErr result (IsCaused (text_causes file.now)) }
@@ -34,7 +35,7 @@ pub fn assemble_file(alloc: Global, file: &[u8]) -> Result<Report, ServeFault>
 /// The text of a program's image, an instruction a line.
 ///
 /// # Errors
-/// `Decode` with the first unit at fault, and `NoMemory`.
+/// `Decode` where the file is the image of no program, with the first unit at fault, and `NoMemory`.
 pub fn disassemble_file(alloc: Global, file: &[u8]) -> Result<Report, ServeFault>
     ensures ok { IfOk result (PrintsOf IsDisassembled file.now) }
     ensures fault { IfErr result (IsCaused (image_causes file.now)) }

@@ -1,17 +1,18 @@
 //! What each subcommand does with the bytes of its files, with standard input and standard output.
-ghost use Rattle.std.specs.Prelude.{◌≡◌, ◌∷◌, false, map, IfOk, IfErr, IfSome, IsNone, Some, None};
+ghost use Rattle.std.specs.Prelude.{◌≡◌, ◌∷◌, false, map, IfOk, IfErr, IfSome, IsNone, Some, None, is_some};
 ghost use Rattle.dbm_script.specs.Commands.{command_of};
+ghost use Rattle.dbm_words.specs.Wishes.{writes_files};
 ghost use Rattle.dbm_words.specs.declared.wish.Wish.TheVariants as wish;
-ghost use Rattle.dbm_tool.specs.Causes.{IsCaused, command_causes, file_causes, input_causes, script_causes};
+ghost use Rattle.dbm_tool.specs.Causes.{IsCaused, command_causes, opening_causes, input_causes, script_causes};
 ghost use Rattle.dbm_tool.specs.Databases.{IsOpened};
-ghost use Rattle.dbm_tool.specs.Outcomes.{IsServed, IsRefused};
+ghost use Rattle.dbm_tool.specs.Outcomes.{IsServed, IsUnserved};
 ghost use Rattle.dbm_tool.specs.Reports.{OnCommand, OnDatabase, Looks, Changes, Lists, Counts, PlaysAlone, PlaysOn, Widens, delete_words, fetch_words, small_form, store_name, store_words};
-ghost use Rattle.dbm_tool.specs.Subcommands.{subcommand_of, reads_input};
+ghost use Rattle.dbm_tool.specs.Subcommands.{subcommand_for, reads_input};
 
-use crate::databases::{Files, files_to_write, kind_of, open, size_of};
+use crate::databases::{Files, files_to_write, key_bytes_of, open, page_size_of};
 use crate::fault::ServeFault;
 use crate::programs::{assemble_file, disassemble_file};
-use crate::report::{Report, change, check, list, look, play, printed, widen_pages};
+use crate::subcommands::{Report, change, check, list, look, play, printed, widen_pages};
 use dbm_script::{read_all, read_command, write_all};
 use dbm_words::{Form, Wish};
 use sdbm_files::Image;
@@ -47,7 +48,7 @@ struct Served {
 
 /// Serves a wish: reads what its words mean, opens the database, reads standard input for a script, does what is asked, writes the
 /// lines that it prints, and makes the files. The status is 1 where the answer is that nothing was found or changed, and `FAULT`
-/// where there is a fault. Files are given where they are to be written, and none where there is a fault.
+/// where there is a fault. Files are given exactly for a wish that writes (`Wish::writes`), and none where there is a fault.
 ///
 /// # Errors
 /// The first that is met, in this order: `BadHex` where a word is no bytes; `Open` where the files do not open; `NotText` and
@@ -63,8 +64,9 @@ pub fn serve<R: Read, W: Write>(
     writer: &mut W,
 ) -> Outcome
     ensures served { IsNone result.err → IsServed wish.entry given (R.remaining reader.old) (W.contents writer.old) (W.contents writer.new) result.status result.files }
-    ensures fault { IfSome result.err (IsRefused wish.entry given (R.remaining reader.old) (W.contents writer.old) (W.contents writer.new)) }
+    ensures fault { IfSome result.err (IsUnserved wish.entry given (R.remaining reader.old) (W.contents writer.old) (W.contents writer.new)) }
     ensures unread { reads_input wish.entry ≡ false → R.remaining reader.new ≡ R.remaining reader.old }
+    ensures files { IsNone result.err → is_some result.files ≡ writes_files wish.entry }
     ensures status { IfSome result.err (λ _. result.status ≡ 2) }
     ensures none { IfSome result.err (λ _. result.files ≡ None) }
 {
@@ -91,10 +93,11 @@ fn serve_wish<R: Read, W: Write>(
     writer: &mut W,
 ) -> Result<Served, ServeFault>
     ensures ok { IfOk result (λ served. IsServed wish.entry given (R.remaining reader.old) (W.contents writer.old) (W.contents writer.new) served.status served.files) }
-    ensures fault { IfErr result (IsRefused wish.entry given (R.remaining reader.old) (W.contents writer.old) (W.contents writer.new)) }
+    ensures fault { IfErr result (IsUnserved wish.entry given (R.remaining reader.old) (W.contents writer.old) (W.contents writer.new)) }
+    ensures files { IfOk result (λ served. is_some served.files ≡ writes_files wish.entry) }
     ensures unread { reads_input wish.entry ≡ false → R.remaining reader.new ≡ R.remaining reader.old }
 {
-    let report = report(alloc, wish, given, reader)?;
+    let report = report_on(alloc, wish, given, reader)?;
     write_all(writer, report.text.as_slice())?;
     let files = files_to_write(alloc, &report.database)?;
     Ok(Served {
@@ -103,15 +106,15 @@ fn serve_wish<R: Read, W: Write>(
     })
 }
 
-// What comes of a wish.
-fn report<R: Read>(
+// What comes of a wish: it is found before a line is written.
+fn report_on<R: Read>(
     alloc: Global,
     wish: Wish<'_>,
     given: Given,
     reader: &mut R,
 ) -> Result<Report, ServeFault>
-    ensures ok { IfOk result (λ report. (subcommand_of wish.entry given (R.remaining reader.old)).reports report) }
-    ensures fault { IfErr result (IsCaused (subcommand_of wish.entry given (R.remaining reader.old)).causes) }
+    ensures ok { IfOk result (λ report. (subcommand_for wish.entry given (R.remaining reader.old)).reports report) }
+    ensures fault { IfErr result (IsCaused (subcommand_for wish.entry given (R.remaining reader.old)).causes) }
     ensures unread { reads_input wish.entry ≡ false → R.remaining reader.new ≡ R.remaining reader.old }
 {
     match wish {
@@ -193,7 +196,7 @@ fn report_delete(alloc: Global, given: Given, form: Form, key: &str) -> Result<R
 
 fn report_list(alloc: Global, given: Given, form: Form) -> Result<Report, ServeFault>
     ensures ok { IfOk result (λ report. OnDatabase form given (Lists report)) }
-    ensures fault { IfErr result (IsCaused (file_causes form given)) }
+    ensures fault { IfErr result (IsCaused (opening_causes form given)) }
 {
     let image = open(alloc, given, form)?;
     Ok(list(alloc, &image)?)
@@ -201,7 +204,7 @@ fn report_list(alloc: Global, given: Given, form: Form) -> Result<Report, ServeF
 
 fn report_check(alloc: Global, given: Given, form: Form) -> Result<Report, ServeFault>
     ensures ok { IfOk result (λ report. OnDatabase form given (Counts report)) }
-    ensures fault { IfErr result (IsCaused (file_causes form given)) }
+    ensures fault { IfErr result (IsCaused (opening_causes form given)) }
 {
     let image = open(alloc, given, form)?;
     Ok(check(alloc, &image)?)
@@ -214,8 +217,8 @@ fn report_script<R: Read>(
     form: Form,
     reader: &mut R,
 ) -> Result<Report, ServeFault>
-    ensures ok { IfOk result (λ report. (subcommand_of (wish.Script base.entry form) given (R.remaining reader.old)).reports report) }
-    ensures fault { IfErr result (IsCaused (subcommand_of (wish.Script base.entry form) given (R.remaining reader.old)).causes) }
+    ensures ok { IfOk result (λ report. (subcommand_for (wish.Script base.entry form) given (R.remaining reader.old)).reports report) }
+    ensures fault { IfErr result (IsCaused (subcommand_for (wish.Script base.entry form) given (R.remaining reader.old)).causes) }
 {
     match base {
         None => report_alone(alloc, form, reader),
@@ -228,7 +231,7 @@ fn report_alone<R: Read>(alloc: Global, form: Form, reader: &mut R) -> Result<Re
     ensures ok { IfOk result (PlaysAlone form (R.remaining reader.old)) }
     ensures fault { IfErr result (IsCaused (input_causes (R.remaining reader.old))) }
 {
-    let image = Image::empty(alloc, kind_of(form), size_of(form));
+    let image = Image::empty(alloc, key_bytes_of(form), page_size_of(form));
     let script = read_all(alloc, reader)?;
     let Report { text, .. } = play(alloc, image, script.as_slice())?;
     Ok(printed(text))
@@ -251,7 +254,7 @@ fn report_played<R: Read>(
 
 fn report_widen(alloc: Global, given: Given, unsigned: bool) -> Result<Report, ServeFault>
     ensures ok { IfOk result (λ report. OnDatabase (small_form unsigned) given (Widens report)) }
-    ensures fault { IfErr result (IsCaused (file_causes (small_form unsigned) given)) }
+    ensures fault { IfErr result (IsCaused (opening_causes (small_form unsigned) given)) }
 {
     let form = Form {
         unsigned,

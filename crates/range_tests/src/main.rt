@@ -13,9 +13,10 @@
 //! | `helper NUMBER` | what is known of the number that a helper gives, or `never` where there is no such helper |
 //!
 //! A range is `LO..HI`, what is known `LO..HI,VALUE,UNKNOWN`, and an edge `taken` or `untaken`;
-//! operations and tests have the names of the assembler. The first lines of each kind have the answers
-//! of an independent implementation of the rules, and the others those of a second one that agrees
-//! with it. The last lines were worked out by hand.
+//! operations and tests have the names of the assembler. The first 48 lines of `transfer`, 56 of
+//! `refine`, 18 of `known` and 4 of `join` have the answers of an independent implementation of the
+//! rules, and the others those of a second one, which agrees with it on these. The last 15 lines were
+//! worked out by hand.
 #![tactic(auto)]
 
 mod lines;

@@ -11,8 +11,6 @@ ghost use Rattle.sdbm_dir.specs.Faults.{AreFaultless, IsDirFault, SpellsNoDirect
 
 mod bitmap;
 mod fault_text;
-#[cfg(test)]
-mod tests;
 
 use bitmap::{
     BLOCK_BYTES, end_of, has_deep_bit, has_orphan_bit, is_set, used_blocks, whole_blocks,

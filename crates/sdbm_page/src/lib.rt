@@ -79,7 +79,11 @@ impl<A: Allocator> Page<A> {
         Ok(Page { size, bytes })
     }
 
-    /// The page that bytes spell, as many as a page of the size has. Its free bytes may be anything, and are cleared.
+    /// The page that bytes spell, as many as a page of the size has. Its free bytes may be anything, and are cleared in the page.
+    /// Nothing is copied before all tests are passed.
+    ///
+    /// # Errors
+    /// `Count`, `Offsets` or `DoubleKey`, the first of them that holds; else `NoMemory`, where no memory is left for the page.
     pub fn from_bytes(alloc: A, bytes: &[u8], size: PageSize) -> Result<Self, PageFault>
         requires { length bytes.now ≡ page_bytes size }
         ensures size { IfOk result (λ page. page.size ≡ size) }

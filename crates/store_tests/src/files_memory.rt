@@ -41,6 +41,29 @@ fn opened_in_each_heap(rt: HostRuntime) -> Result<(), Fail> {
     Err(Fail::from("no heap is large enough"))
 }
 
+// Pages that count no pair take a place in the list of pages, 40 bytes, and no page's memory: beside 64 places there is none
+// for a page.
+#[test]
+fn holes_in_a_small_heap(rt: HostRuntime) -> Result<(), Fail> {
+    let heap = LocalHeap::new(rt.alloc(), 3072)?;
+    let mut pag = vec![in rt.alloc(); 0u8; 65_536]?;
+    for number in 0..64 {
+        if let Some(byte) = pag.as_mut_slice().get_mut(1024 * number + 1000) {
+            *byte = 97;
+        }
+    }
+    let image = Image::open(
+        &heap,
+        &[],
+        pag.as_slice(),
+        KeyBytes::Signed,
+        PageSize::Small,
+    );
+    assert_eq!(rt; image.map(|image| image.count()), Ok(0));
+    assert_eq!(rt; heap.used(), 0);
+    Ok(())
+}
+
 // Sinks in a heap too small have whole puts from the first on, and tell that one is missing.
 #[test]
 fn written_in_each_heap(rt: HostRuntime) -> Result<(), Fail> {

@@ -9,6 +9,8 @@ mod deep;
 #[cfg(test)]
 mod desk;
 #[cfg(test)]
+mod dirs;
+#[cfg(test)]
 mod events;
 #[cfg(test)]
 mod files;
@@ -32,6 +34,8 @@ mod plans;
 mod random;
 #[cfg(test)]
 mod sinks;
+#[cfg(test)]
+mod splits;
 #[cfg(test)]
 mod trail;
 #[cfg(test)]

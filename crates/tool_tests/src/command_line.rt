@@ -279,6 +279,10 @@ fn help_and_version(rt: HostRuntime) -> Result<(), Fail> {
     assert_eq!(rt; version.as_str(), "dbm 0.1.0\n");
     let help = answer(alloc, &["widen", "--help"])?.unwrap_or(String::new(alloc));
     assert_eq!(rt; help.as_str(), WIDEN_HELP);
+    let help = answer(alloc, &["script", "--help"])?.unwrap_or(String::new(alloc));
+    assert!(rt;
+        help.as_str().contains("\n      --base <BASE>  The database in BASE.dir and BASE.pag;")
+    );
     let help = answer(alloc, &["--help"])?.unwrap_or(String::new(alloc));
     assert!(rt; help.as_str().contains("\n\nUsage: dbm <COMMAND>\n\n"));
     assert!(rt;

@@ -1,9 +1,9 @@
 //! Scripts from readers and to writers of every kind: texts written by hand from the rules for lines, and streams that fail.
-use dbm_script::{ScriptFault, run_script};
 use crate::script_cases::{
     CASES_1, CASES_2, CASES_3, CASES_4, CASES_5, CASES_6, CASES_7, CASES_8, CASES_9, CASES_10,
     CASES_11, CASES_12, CASES_13, CASES_14, CASES_15, CASES_16,
 };
+use dbm_script::{ScriptFault, run_script};
 use sdbm_addr::{KeyBytes, PageSize};
 use sdbm_files::Image;
 use std::alloc::{AllocError, Global};

@@ -5,15 +5,16 @@ ghost use Rattle.bpf_range.specs.Sets.{Contains, In, Within, HasBits, range_of};
 ghost use Rattle.bpf_range.specs.Bits.{IsFill};
 
 use super::Known;
+use crate::bits::any_bits;
 use crate::filling::fill;
 use crate::values::{Bits, Range};
 
 /// The range, and its bits with those of the lower end above the highest in which the ends differ:
 /// there all numbers of the range agree.
 #[tactic(auto, using(crate::proofs::FillFacts::shared, crate::proofs::FillFacts::shared_apart))]
-fn share_high_bits(range: Range, bits: Bits) -> Known
+pub fn share_high_bits(range: Range, bits: Bits) -> Known
     ensures keeps { (x : ℕ) → In range x → HasBits bits x → Contains result x }
-    ensures within { Within (range_of result) range }
+    ensures range { range_of result ≡ range }
 {
     let low = fill(range.lo ^ range.hi);
     Known {
@@ -25,9 +26,9 @@ fn share_high_bits(range: Range, bits: Bits) -> Known
     }
 }
 
-/// The numbers of a range that have such bits. The range is cut to the least and the greatest number
-/// with such bits; where nothing would be left, it stays and no bit is known. Then the bits above the
-/// highest in which its ends differ are known to be those of its lower end.
+/// The numbers of a range that have such bits. The range is cut to the least and the greatest
+/// number with such bits; where nothing would be left, it stays and no bit is known. Then the bits
+/// above the highest in which its ends differ are known to be those of its lower end.
 #[tactic(auto, using(crate::proofs::MatchFacts::match_least, crate::proofs::MatchFacts::match_greatest))]
 pub fn settle(range: Range, bits: Bits) -> Known
     ensures keeps { (x : ℕ) → In range x → HasBits bits x → Contains result x }
@@ -38,12 +39,6 @@ pub fn settle(range: Range, bits: Bits) -> Known
     if lo <= hi {
         share_high_bits(Range { lo, hi }, bits)
     } else {
-        share_high_bits(
-            range,
-            Bits {
-                value: 0,
-                unknown: u64::MAX,
-            },
-        )
+        share_high_bits(range, any_bits())
     }
 }

@@ -1,4 +1,4 @@
-use Rattle.std.proofs.Common.{◌≡◌, ◌∙◌, ◌∷◌, List, ℕ, None, Option, sym, ap}
+use Rattle.std.proofs.Common.{◌≡◌, ◌∙◌, ◌∷◌, List, ℕ, sym, ap}
 use Rattle.dbm_script.specs.Pieces.{pieces_left, pieces_of}
 use Rattle.dbm_script.specs.Commands.{command_of}
 use Rattle.dbm_script.proofs.Cuts.{too_many_words}

@@ -7,7 +7,7 @@ returns-in-Ok-clause-ok c =
     let pag = c.as_slice-pag.ensures.value in
     record {
       spells = rw (sym dir, sym pag) c.in-Ok.ensures.database;
-      kind = c.in-Ok.ensures.kind ∙ c.kind_of.ensures;
-      size = c.in-Ok.ensures.size ∙ c.size_of.ensures;
-      only = λ other kind size spells. c.in-Ok.ensures.only other (kind ∙ sym c.kind_of.ensures) (size ∙ sym c.size_of.ensures) (rw (dir, pag) spells);
+      kind = c.in-Ok.ensures.kind ∙ c.key_bytes_of.ensures;
+      size = c.in-Ok.ensures.size ∙ c.page_size_of.ensures;
+      only = λ other kind size spells. c.in-Ok.ensures.only other (kind ∙ sym c.key_bytes_of.ensures) (size ∙ sym c.page_size_of.ensures) (rw (dir, pag) spells);
     }

@@ -1,4 +1,4 @@
-use Rattle.std.proofs.Common.{ap, subst, ◌∙◌, ◌≡◌, List, ℕ, Some}
+use Rattle.std.proofs.Common.{ap, subst, ◌∙◌}
 use Rattle.sdbm_addr.specs.declared.KeyBytes.{KeyBytes}
 use Rattle.sdbm_addr.specs.Database.{Database, empty_database}
 use Rattle.dbm_tool.specs.Reports.{Plays}
@@ -9,8 +9,8 @@ pub returns-clause-ok : goal.returns-clause-ok
 returns-clause-ok g c =
     let played = c.in_ok-text.ensures in
     let known = g.R.Read.remaining c.args.reader.now in
-    let empty = c.empty-image.ensures ∙ ap (λ (kind : KeyBytes). empty_database kind c.size_of.result) c.kind_of.ensures
-    ∙ ap (empty_database _) c.size_of.ensures in
+    let empty = c.empty-image.ensures ∙ ap (λ (kind : KeyBytes). empty_database kind c.page_size_of.result) c.key_bytes_of.ensures
+    ∙ ap (empty_database _) c.page_size_of.ensures in
     let here = plays_known c.empty-image.result known c.as_slice.result.now played.0 c.in_ok-text.field-0 (rw c.as_slice.ensures.value c.in_ok-script.ensures.all) played.1.0 in
     let text = ap (λ v. v.items) c.printed.ensures.text in (
       played.0,

@@ -1,4 +1,4 @@
-use Rattle.std.proofs.Common.{Err, Global, ap, subst, sym, ◌≡◌, Option, List, ℕ, Some}
+use Rattle.std.proofs.Common.{Err, ap}
 use Rattle.dbm_tool.specs.Causes.{IsCaused, script_causes}
 use Rattle.dbm_tool.proofs.Faults.{as_err, input_fault}
 use Rattle.dbm_tool.proofs.Playing.{plays_known}

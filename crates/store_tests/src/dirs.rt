@@ -1,5 +1,5 @@
 //! Places in directories of known bits, and the bytes of these.
-use super::{Dir, DirFault, Place};
+use sdbm_dir::{Dir, DirFault, Place};
 use std::alloc::{AllocError, Allocator};
 use std::test::Fail;
 

@@ -1,4 +1,4 @@
-use Rattle.dbm_tool.proofs.serve.report.Goals as goal
+use Rattle.dbm_tool.proofs.serve.report_on.Goals as goal
 
 pub returns-in-List-clause-ok : goal.returns-in-List-clause-ok
 returns-in-List-clause-ok g c = rw (c.in-List.is) c.report_list.ensures.ok

@@ -1,6 +1,6 @@
 use Rattle.std.proofs.Common.{refl, ap, ◌∙◌, ◌++◌, ◌∷◌, [], List, ℕ}
 use Rattle.dbm_script.specs.Answers.{answer_text}
-use Rattle.dbm_tool.proofs.report.change.Goals as goal
+use Rattle.dbm_tool.proofs.subcommands.change.Goals as goal
 
 pub returns : goal.returns
 returns c =

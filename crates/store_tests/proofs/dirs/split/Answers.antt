@@ -3,7 +3,7 @@ use Rattle.sdbm_addr.specs.Directory.{Splits}
 use Rattle.sdbm_addr.proofs.DirectoryLemmas.{child_fits}
 use Rattle.sdbm_dir.specs.Words.{HasParent}
 use Rattle.sdbm_dir.proofs.BitmapLemmas.{HasParent-of_depth}
-use Rattle.sdbm_dir.proofs.tests.split.Goals as goal
+use Rattle.store_tests.proofs.dirs.split.Goals as goal
 
 pub mark-requires-clause-shallow : goal.mark-requires-clause-shallow
 mark-requires-clause-shallow g c = child_fits c.place-place.result.depth c.args.hash c.place-place.result.bit (omega arith) c.place-place.ensures.bit

@@ -2,7 +2,7 @@
 ghost use Rattle.std.specs.Prelude.{◌≡◌, ◌++◌, ◌∷◌, [], None, Some, IfOk};
 ghost use Rattle.sdbm_addr.specs.Database.{Database};
 ghost use Rattle.dbm_script.specs.Answers.{IsAnswerTo};
-ghost use Rattle.dbm_tool.specs.Reports.{Answers, Looks, Changes, Lists, Counts, Plays, Widens, status_of};
+ghost use Rattle.dbm_tool.specs.Reports.{Looks, Changes, Lists, Counts, Plays, Widens, status_of};
 
 use crate::listing::{list_pairs, show_ok};
 use dbm_script::{Answer, run_lines, show_answer};

@@ -1,5 +1,5 @@
 use Rattle.std.proofs.Common.{refl}
-use Rattle.dbm_tool.proofs.report.look.Goals as goal
+use Rattle.dbm_tool.proofs.subcommands.look.Goals as goal
 
 pub returns : goal.returns
 returns c =

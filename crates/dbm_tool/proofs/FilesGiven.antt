@@ -1,0 +1,31 @@
+-- Wishes after which files are written.
+use Rattle.std.proofs.Common.{◌≡◌, ℕ, List, Option, Some, None, is_some, refl, ap}
+use Rattle.sdbm_addr.specs.Database.{Database}
+use Rattle.dbm_words.specs.Wishes.{writes_files}
+use Rattle.dbm_words.specs.declared.wish.Wish.{Wish}
+use Rattle.dbm_words.specs.declared.wish.Wish.TheVariants as wish
+use Rattle.dbm_tool.specs.declared.databases.Files.{Files}
+use Rattle.dbm_tool.specs.declared.subcommands.Report.{Report}
+use Rattle.dbm_tool.specs.declared.serve.Given.{Given}
+use Rattle.dbm_tool.specs.Databases.{AreFilesToWrite}
+use Rattle.dbm_tool.specs.Subcommands.{subcommand_for}
+
+-- a subcommand reports a database exactly where its files are written
+pub database_given : (wish : Wish) (given : Given) (input : Option (List ℕ)) (report : Report)
+    → (subcommand_for wish given input).reports report → is_some report.database ≡ writes_files wish
+database_given (wish.Fetch base form key) given input report comes = ap (λ (db : Option Database). is_some db) comes.holds.1.1
+database_given (wish.Store base form key value insert) given input report comes = ap (λ (db : Option Database). is_some db) comes.holds.1.1
+database_given (wish.Delete base form key) given input report comes = ap (λ (db : Option Database). is_some db) comes.holds.1.1
+database_given (wish.List base form) given input report comes = ap (λ (db : Option Database). is_some db) comes.1.1.written
+database_given (wish.Check base form) given input report comes = ap (λ (db : Option Database). is_some db) comes.1.1.written
+database_given (wish.Script None form) given input report comes = ap (λ (db : Option Database). is_some db) comes.1.1
+database_given (wish.Script (Some base) form) given input report comes = ap (λ (db : Option Database). is_some db) comes.1.1.1.1
+database_given (wish.Widen base unsigned) given input report comes = ap (λ (db : Option Database). is_some db) comes.1.1.written
+database_given (wish.Asm file) given input report comes = ap (λ (db : Option Database). is_some db) comes.1.written
+database_given (wish.Disasm file) given input report comes = ap (λ (db : Option Database). is_some db) comes.1.written
+
+pub files_given : (database : Option Database) (files : Option Files) → AreFilesToWrite database files → is_some files ≡ is_some database
+files_given None None are = refl
+files_given None (Some files) are = absurd are
+files_given (Some db) None are = absurd are
+files_given (Some db) (Some files) are = refl

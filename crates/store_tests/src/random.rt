@@ -1,4 +1,6 @@
 //! Random lists of events on a desk, against a plain model: an array of values, the open tickets, and what is in hand.
+ghost use Rattle.std.specs.Prelude.{◌<◌};
+
 use crate::asks::{Ask, Told};
 use crate::events::{Comes, Does, come_of};
 use desk_core::{AskFault, ConvertFault, Desk, Event, FinishFault};

@@ -36,7 +36,9 @@ use Rattle.desk_core.specs.Works.{PageResult, works, HasKey, key_of, IsWorkable}
 use Rattle.desk_core.specs.Jobs.{worked}
 use Rattle.desk_core.specs.Leads.{state_of, changed_by, MayChange, LeadsTo, IsPlaceOf, IsSameBeside}
 use Rattle.desk_core.specs.Desk.{DeskState, IsSound, IsTied, Ties, MayHold, first_hold, the_ticket}
+use Rattle.desk_core.specs.Acts.{Acts}
 use Rattle.desk_core.specs.Calls.{Changes}
+use Rattle.desk_core.proofs.Acting.{Acts-on_page}
 use Rattle.desk_core.proofs.Lifting.{works_lead, keys_lead}
 
 abbrev slot : {A : Type 0} → List (Option (Open A)) → ℕ → Option (Open A)
@@ -243,14 +245,27 @@ closed_sound {A} db db' op es es' ts ts' hs hs' limit t sound changes held legal
 
 -- ---- finish
 
+-- an open ticket comes to what its command comes to on the page as it stands
+tied_works : {A : Type 0} (db : Database) (hs : List Held) (t : ℕ) (o : Open A) → IsTied db hs t o → worked o ≡ works o.place db.kind db.size (pairs_at db o.place.page) o.session o.command
+tied_works db hs t o tie =
+    ap (λ (k : KeyBytes). works o.place k o.page.size o.page.pairs o.session o.command) tie.kind
+    ∙ ap (λ (s : PageSize). works o.place db.kind s o.page.pairs o.session o.command) tie.size
+    ∙ ap (λ (ps : List Pair). works o.place db.kind db.size ps o.session o.command) tie.pairs
+
 -- what an open ticket comes to, installed, is one move
 pub tied_leads : {A : Type 0} (db : Database) → IsDatabase db → (hs : List Held) (t : ℕ) (o : Open A) → IsTied db hs t o → LeadsTo db o.session o.command o.place.page (worked o)
 tied_leads {A} db ok hs t o tie =
-    subst (λ (r : PageResult A). LeadsTo db o.session o.command o.place.page r)
-    (sym (ap (λ (k : KeyBytes). works o.place k o.page.size o.page.pairs o.session o.command) tie.kind
-    ∙ ap (λ (s : PageSize). works o.place db.kind s o.page.pairs o.session o.command) tie.size
-    ∙ ap (λ (ps : List Pair). works o.place db.kind db.size ps o.session o.command) tie.pairs))
+    subst (λ (r : PageResult A). LeadsTo db o.session o.command o.place.page r) (sym (tied_works db hs t o tie))
     (works_lead db ok o.place o.session o.command (keyed_may o.command tie.mode tie.may) tie.small tie.place)
+
+-- and is what its command does
+pub tied_acts : {A : Type 0} (db db' : Database) → IsDatabase db → (hs : List Held) (t : ℕ) (o : Open A) → IsTied db hs t o → (r : Reply A) → r ≡ (worked o).reply
+    → db' ≡ changed_by db o.place.page (worked o).change → Acts db o.session o.command r db'
+tied_acts {A} db db' ok hs t o tie r is installed =
+    let same : worked o ≡ works o.place db.kind db.size (pairs_at db o.place.page) o.session o.command = tied_works db hs t o tie in
+    Acts-on_page db db' ok o.place o.session o.command r (keyed_may o.command tie.mode tie.may) tie.small tie.place
+    (is ∙ ap (λ (x : PageResult A). x.reply) same)
+    (installed ∙ ap (λ (x : PageResult A). changed_by db o.place.page x.change) same)
 
 -- another ticket's page stays
 pub tied_still : {A : Type 0} (db : Database) (n : ℕ) (change : Option PageChange) (hs : List Held) (u : ℕ) (q : Open A) → IsSameBeside db n (changed_by db n change)

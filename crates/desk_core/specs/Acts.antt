@@ -1,10 +1,11 @@
 -- What one command of a session does to a database, page by page.
-use Rattle.std.specs.Prelude.{◌≡◌, ℕ}
+use Rattle.std.specs.Prelude.{◌≡◌, ℕ, List, [], ◌∷◌}
 use Rattle.std.specs.FinMap as map
 use Rattle.sdbm_addr.specs.Database.{Database, pairs_at, map_of}
 use Rattle.sdbm_dir.specs.declared.Place.{Place}
 use Rattle.store_cmd.specs.declared.Command.{Command}
 use Rattle.store_cmd.specs.declared.Command.TheVariants.{Fetch, Store, Delete, Count}
+use Rattle.store_cmd.specs.declared.Entry.{Entry}
 use Rattle.store_cmd.specs.declared.Reply.{Reply}
 use Rattle.store_cmd.specs.declared.Reply.TheVariants as reply
 use Rattle.store_cmd.specs.Moves.{Moves}
@@ -31,3 +32,8 @@ pub record Acts {A : Type 0} (db : Database) (session : ℕ) (command : Command 
   pub move : Moves db.size db.kind (state_of db) session command answer (state_of db')
   pub kind : db'.kind ≡ db.kind
   pub size : db'.size ≡ db.size
+
+-- entries whose commands are done one after another, with these replies
+abbrev pub ActsInTurn : {A : Type 0} → Database → List (Entry A) → Database → Type 0
+ActsInTurn db [] db' = db' ≡ db
+ActsInTurn {A} db (e ∷ es) db' = (mid : Database) × (Acts db e.session e.command e.reply mid × ActsInTurn mid es db')

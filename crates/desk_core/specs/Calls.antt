@@ -129,13 +129,13 @@ IsConvertFault s t cf.Busy = IsSome (ticket_of s t) × ((is_updating (the_ticket
 abbrev pub is_exclusive : {A : Type 0} → DeskState A → ℕ → Bool
 is_exclusive s t = exclusive_in (held_by (the_ticket t) s.holds)
 
--- what was worked under the ticket is installed as one move, its entry added, and the ticket closed
+-- what was worked under the ticket is what its command does: it is installed, its entry added, and the ticket closed
 pub record Finishes {A : Type 0} (s : DeskState A) (d : Ticketed A) (reply : Reply A) (s' : DeskState A) : Type 0 where
   pub own : ticket_of s d.ticket ≡ Some d.asked
   pub alone : is_some (worked d.asked).change ≡ true → is_exclusive s d.ticket ≡ true
   pub reply_is : reply ≡ (worked d.asked).reply
   pub database : s'.database ≡ changed_by s.database d.asked.place.page (worked d.asked).change
-  pub move : Moves s.database.size s.database.kind (state_of s.database) d.asked.session d.asked.command reply (state_of s'.database)
+  pub acts : Acts s.database d.asked.session d.asked.command reply s'.database
   pub entries : s'.entries ≡ s.entries ++ record { session = d.asked.session; command = d.asked.command; reply = reply } ∷ []
   pub closes : Closes s d.ticket s'
 

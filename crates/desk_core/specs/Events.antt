@@ -1,6 +1,7 @@
 -- Lists of events on a desk: what each does, and what comes of it.
-use Rattle.std.specs.Prelude.{◌≡◌, ℕ, Bool, true, false, cond, nat_eq, List, [], ◌∷◌, Option, Some, None}
+use Rattle.std.specs.Prelude.{◌≡◌, ℕ, Bool, true, false, cond, nat_eq, List, [], ◌∷◌, ◌++◌, Option, Some, None}
 use Rattle.store_cmd.specs.declared.Command.{Command}
+use Rattle.store_cmd.specs.declared.Entry.{Entry}
 use Rattle.desk_core.specs.declared.events.Event.{Event}
 use Rattle.desk_core.specs.declared.events.Event.TheVariants as event
 use Rattle.desk_core.specs.declared.events.Outcome.{Outcome}
@@ -8,6 +9,7 @@ use Rattle.desk_core.specs.declared.events.Outcome.TheVariants as outcome
 use Rattle.desk_core.specs.declared.events.InHand.{InHand}
 use Rattle.desk_core.specs.declared.events.InHand.TheVariants as hand
 use Rattle.desk_core.specs.declared.Asked.TheVariants as asked
+use Rattle.desk_core.specs.Acts.{ActsInTurn}
 use Rattle.desk_core.specs.Jobs.{Ticketed}
 use Rattle.desk_core.specs.Desk.{DeskState, ticket_of}
 use Rattle.desk_core.specs.Calls.{Asks, IsAskFault, Converts, IsConvertFault, Finishes, IsFinishFault, Abandons}
@@ -125,3 +127,9 @@ Plays s h [] [] s' h' = (s' ≡ s) × Stay h h'
 Plays s h [] (out ∷ outs) s' h' = ⊥
 Plays s h (e ∷ es) [] s' h' = ⊥
 Plays {A} s h (e ∷ es) (out ∷ outs) s' h' = (mid : DeskState A) × ((held : Hands A) × (Does s h e out mid held × Plays mid held es outs s' h'))
+
+-- entries are added, which lead from the database before to the one after
+pub record GoesOn {A : Type 0} (s s' : DeskState A) : Type 0 where
+  pub added : List (Entry A)
+  pub entries : s'.entries ≡ s.entries ++ added
+  pub acts : ActsInTurn s.database added s'.database

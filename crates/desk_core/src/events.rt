@@ -2,7 +2,7 @@
 ghost use Rattle.std.specs.Prelude.{◌≡◌, ◌+◌, ◌≤◌, ◌<◌, nat_eq, vec_len, vec_capacity, length, IfOk, IfErr, IfSome, IfNone, OnOk, OnErr, Some, None, true, false};
 ghost use Rattle.std.specs.HashMap.{get, spare};
 ghost use Rattle.desk_core.specs.Calls.{MayAsk, IsAskFault, Asks};
-ghost use Rattle.desk_core.specs.Events.{Hands, Plays, Does, OnAsk, OnWork, OnConvert, OnFinish, OnAbandon, Put, Stay, no_hands, is_job, is_done};
+ghost use Rattle.desk_core.specs.Events.{Hands, Plays, GoesOn, Does, OnAsk, OnWork, OnConvert, OnFinish, OnAbandon, Put, Stay, no_hands, is_job, is_done};
 
 use crate::{AskFault, Asked, ConvertFault, Desk, Done, FinishFault, Job};
 use hold_modes::Ticket;
@@ -76,6 +76,7 @@ impl<A: Allocator + Copy> Desk<A> {
     /// `AllocError` where no memory is left for the outcomes and what is in hand, which is taken first. The desk is then as it was.
     pub fn play(&mut self, events: &[Event<A>]) -> Result<Vec<Outcome<A>, A>, AllocError>
         ensures plays { IfOk result (λ outcomes. (last : Hands A) × Plays self.old no_hands events.now outcomes.items self.new last) }
+        ensures goes_on { IfOk result (λ _. GoesOn self.old self.new) }
         ensures err { OnErr result (self.new ≡ self.old) }
     {
         let mut hands: ByTicket<A> = HashMap::with_capacity(self.alloc, events.len())?;

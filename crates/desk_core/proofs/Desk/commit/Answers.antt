@@ -12,7 +12,7 @@ use Rattle.desk_core.specs.Jobs.{Ticketed, worked}
 use Rattle.desk_core.specs.Leads.{MayChange, changed_by, state_of}
 use Rattle.desk_core.specs.Desk.{DeskState, IsTied, Ties, ticket_of}
 use Rattle.desk_core.specs.Calls.{is_exclusive}
-use Rattle.desk_core.proofs.DeskLemmas.{tied_leads, committed, some_mapped}
+use Rattle.desk_core.proofs.DeskLemmas.{tied_leads, tied_acts, committed, some_mapped}
 use Rattle.desk_core.proofs.Desk.commit.Goals as goal
 
 pub put_in-requires : goal.put_in-requires
@@ -79,8 +79,7 @@ returns-clause-ok g c =
       alone = alone;
       reply_is = c.done.invariant.reply_is;
       database = installed;
-      move = subst (λ (d : Database). Moves db.size db.kind (state_of db) o.session o.command c.done.inside.reply (state_of d)) (sym installed)
-          (subst (λ (r : Reply g.row.A.Denot). Moves db.size db.kind (state_of db) o.session o.command r (state_of (changed_by db o.place.page (worked o).change))) (sym c.done.invariant.reply_is) leads.move);
+      acts = tied_acts db c.put_in.new.image c.page-page.ensures.database c.self.inside.holds t o tie c.done.inside.reply c.done.invariant.reply_is installed;
       entries = c.push_reserved.ensures.items ∙ ap (λ (r : Reply g.row.A.Denot). old ++ entry r ∷ []) (c.done.invariant.copy_is ∙ sym c.done.invariant.reply_is);
       closes = record { tickets = record { here = u.updates.changed; others = u.updates.others }; holds = c.release.ensures.rest; opening = refl; limit_is = refl };
     })

@@ -4,7 +4,7 @@ use Rattle.std.specs.HashMap.{get}
 use Rattle.desk_core.specs.declared.events.Event.{Event}
 use Rattle.desk_core.specs.declared.events.Outcome.{Outcome}
 use Rattle.desk_core.specs.Events.{Plays, no_hands}
-use Rattle.desk_core.proofs.Playing.{Plays-push}
+use Rattle.desk_core.proofs.Playing.{Plays-push, GoesOn-from_Plays}
 use Rattle.desk_core.proofs.Desk.play.Goals as goal
 
 pub loop-event-preserved : goal.loop-event-preserved
@@ -34,3 +34,8 @@ returns-clause-plays g c =
       get nat_eq c.loop-event.hands,
       subst (λ (es : List (Event g.row.A.Denot)). Plays c.args.self.now (no_hands {A = g.row.A.Denot}) es c.loop-event.outcomes.items c.loop-event.self (get nat_eq c.loop-event.hands)) all before.plays,
     )
+
+pub returns-clause-goes_on : goal.returns-clause-goes_on
+returns-clause-goes_on g c =
+    GoesOn-from_Plays c.args.self.now c.loop-event.self (no_hands {A = g.row.A.Denot}) (get nat_eq c.loop-event.hands)
+    (take c.loop-event.event-index c.args.events.now) c.loop-event.outcomes.items c.loop-event.invariant.plays

@@ -1,15 +1,11 @@
 -- Lines that run one after another, and texts that are written in parts.
 use Rattle.std.proofs.Common.{◌≡◌, List, [], ◌∷◌, ◌++◌, ℕ, Option, Some, None, IfSome, length, eqb, false, refl, ap, ◌∙◌, sym, subst, append_assoc}
 use Rattle.std.specs.Io.KnownBytes.{Appends}
-use Rattle.sdbm_addr.specs.declared.KeyBytes.{KeyBytes}
-use Rattle.sdbm_addr.specs.declared.PageSize.{PageSize}
-use Rattle.store_cmd.specs.Moves.{State}
 use Rattle.std.proofs.lemmas.Bool.{false≢true}
 use Rattle.dbm_script.specs.Pieces.{pieces_of}
 use Rattle.sdbm_addr.specs.Database.{Database}
 use Rattle.store_cmd.specs.declared.Command.{Command}
-use Rattle.store_cmd.proofs.MovesLemmas.{Moves-unique}
-use Rattle.desk_core.specs.Desk.{state_of}
+use Rattle.desk_core.proofs.Acting.{Acts-unique}
 use Rattle.dbm_script.specs.Commands.{command_of}
 use Rattle.dbm_script.specs.Answers.{IsAnswerTo, answer_text}
 use Rattle.dbm_script.specs.declared.answers.Answer.{Answer}
@@ -28,19 +24,19 @@ known_read None read P h p = tt
 known_read (Some x) read P h p = subst P h p
 
 -- more lines
-pub RunsLines-append : (A : Type 0) (size : PageSize) (kind : KeyBytes) (s mid s' : State) (lines more : List (List ℕ)) (text added : List ℕ) → RunsLines A size kind s lines text mid → RunsLines A size kind mid more added s'
-    → RunsLines A size kind s (lines ++ more) (text ++ added) s'
-RunsLines-append A size kind s mid s' [] more text added r q =
-    subst (λ (x : List ℕ). RunsLines A size kind s more (x ++ added) s') (sym r.0) (subst (λ (m : State). RunsLines A size kind m more added s') r.1 q)
-RunsLines-append A size kind s mid s' ([] ∷ lines) more text added r q = RunsLines-append A size kind s mid s' lines more text added r q
-RunsLines-append A size kind s mid s' ((c ∷ cs) ∷ lines) more text added r q =
-    (r.0, (r.1.0 ++ added, (r.1.1.0, (r.1.1.1.0, (RunsLines-append A size kind r.1.1.0 mid s' lines more r.1.0 added r.1.1.1.1.0 q, ap (λ xs. xs ++ added) r.1.1.1.1.1 ∙ append_assoc r.0 (10 ∷ r.1.0) added)))))
+pub RunsLines-append : (A : Type 0) (s mid s' : Database) (lines more : List (List ℕ)) (text added : List ℕ) → RunsLines A s lines text mid → RunsLines A mid more added s'
+    → RunsLines A s (lines ++ more) (text ++ added) s'
+RunsLines-append A s mid s' [] more text added r q =
+    subst (λ (x : List ℕ). RunsLines A s more (x ++ added) s') (sym r.0) (subst (λ (m : Database). RunsLines A m more added s') r.1 q)
+RunsLines-append A s mid s' ([] ∷ lines) more text added r q = RunsLines-append A s mid s' lines more text added r q
+RunsLines-append A s mid s' ((c ∷ cs) ∷ lines) more text added r q =
+    (r.0, (r.1.0 ++ added, (r.1.1.0, (r.1.1.1.0, (RunsLines-append A r.1.1.0 mid s' lines more r.1.0 added r.1.1.1.1.0 q, ap (λ xs. xs ++ added) r.1.1.1.1.1 ∙ append_assoc r.0 (10 ∷ r.1.0) added)))))
 
 -- one line that is not empty
-pub line_runs : (A : Type 0) (size : PageSize) (kind : KeyBytes) (s s' : State) (line : List ℕ) (old mid new : List ℕ) → eqb (length line) 0 ≡ false
-    → Adds old mid (λ added. AnswersLine A size kind s (command_of (pieces_of 32 line)) added s') → new ≡ mid ++ 10 ∷ [] → Adds old new (λ added. RunsLines A size kind s (line ∷ []) added s')
-line_runs A size kind s s' [] old mid new some adds more = absurd (false≢true (sym some))
-line_runs A size kind s s' (c ∷ cs) old mid new some adds more = record {
+pub line_runs : (A : Type 0) (s s' : Database) (line : List ℕ) (old mid new : List ℕ) → eqb (length line) 0 ≡ false
+    → Adds old mid (λ added. AnswersLine A s (command_of (pieces_of 32 line)) added s') → new ≡ mid ++ 10 ∷ [] → Adds old new (λ added. RunsLines A s (line ∷ []) added s')
+line_runs A s s' [] old mid new some adds more = absurd (false≢true (sym some))
+line_runs A s s' (c ∷ cs) old mid new some adds more = record {
   added = adds.added ++ 10 ∷ [];
   is = more ∙ ap (λ xs. xs ++ 10 ∷ []) adds.is ∙ append_assoc old adds.added (10 ∷ []);
   holds = (adds.added, ([], (s', (adds.holds, ((refl, refl), refl)))));
@@ -49,32 +45,32 @@ line_runs A size kind s s' (c ∷ cs) old mid new some adds more = record {
 -- ---- one text and one state
 
 -- the answer to a command, and the state after it, are determined
-IsAnswerTo-unique : (A : Type 0) (size : PageSize) (kind : KeyBytes) (s : State) (command : Command A) (x y : Answer A) (a b : State)
-    → IsAnswerTo A size kind s command x a → IsAnswerTo A size kind s command y b → (x ≡ y) × (a ≡ b)
-IsAnswerTo-unique A size kind s command (Replied x) (Replied y) a b p q =
-    let same = Moves-unique size kind s command x y a b p.1 q.1 in (ap Replied same.0, same.1)
-IsAnswerTo-unique A size kind s command (Replied x) PairTooLarge a b p q = absurd (q.0 p.0)
-IsAnswerTo-unique A size kind s command PairTooLarge (Replied y) a b p q = absurd (p.0 q.0)
-IsAnswerTo-unique A size kind s command PairTooLarge PairTooLarge a b p q = (refl, p.1 ∙ sym q.1)
+IsAnswerTo-unique : (A : Type 0) (s : Database) (command : Command A) (x y : Answer A) (a b : Database)
+    → IsAnswerTo A s command x a → IsAnswerTo A s command y b → (x ≡ y) × (a ≡ b)
+IsAnswerTo-unique A s command (Replied x) (Replied y) a b p q =
+    let same = Acts-unique s 0 command x y a b p.1 q.1 in (ap Replied same.0, same.1)
+IsAnswerTo-unique A s command (Replied x) PairTooLarge a b p q = absurd (q.0 p.0)
+IsAnswerTo-unique A s command PairTooLarge (Replied y) a b p q = absurd (p.0 q.0)
+IsAnswerTo-unique A s command PairTooLarge PairTooLarge a b p q = (refl, p.1 ∙ sym q.1)
 
 -- what a line does, and the text of its answer, are determined
-AnswersLine-unique : (A : Type 0) (size : PageSize) (kind : KeyBytes) (s : State) (command : Option (Command A)) (t u : List ℕ) (a b : State) → AnswersLine A size kind s command t a → AnswersLine A size kind s command u b → (t ≡ u) × (a ≡ b)
-AnswersLine-unique A size kind s None t u a b x y = (x.0 ∙ sym y.0, x.1 ∙ sym y.1)
-AnswersLine-unique A size kind s (Some command) t u a b x y =
-    let same = IsAnswerTo-unique A size kind s command x.0 y.0 a b x.1.0 y.1.0 in
+AnswersLine-unique : (A : Type 0) (s : Database) (command : Option (Command A)) (t u : List ℕ) (a b : Database) → AnswersLine A s command t a → AnswersLine A s command u b → (t ≡ u) × (a ≡ b)
+AnswersLine-unique A s None t u a b x y = (x.0 ∙ sym y.0, x.1 ∙ sym y.1)
+AnswersLine-unique A s (Some command) t u a b x y =
+    let same = IsAnswerTo-unique A s command x.0 y.0 a b x.1.0 y.1.0 in
     (x.1.1 ∙ ap (λ (answer : Answer A). answer_text answer) same.0 ∙ sym y.1.1, same.1)
 
-pub RunsLines-unique : (A : Type 0) (size : PageSize) (kind : KeyBytes) (s : State) (lines : List (List ℕ)) (t u : List ℕ) (a b : State) → RunsLines A size kind s lines t a → RunsLines A size kind s lines u b → (t ≡ u) × (a ≡ b)
-RunsLines-unique A size kind s [] t u a b x y = (x.0 ∙ sym y.0, x.1 ∙ sym y.1)
-RunsLines-unique A size kind s ([] ∷ lines) t u a b x y = RunsLines-unique A size kind s lines t u a b x y
-RunsLines-unique A size kind s ((c ∷ cs) ∷ lines) t u a b x y =
-    let first = AnswersLine-unique A size kind s (command_of (pieces_of 32 (c ∷ cs))) x.0 y.0 x.1.1.0 y.1.1.0 x.1.1.1.0 y.1.1.1.0 in
-    let there : RunsLines A size kind x.1.1.0 lines y.1.0 b = subst (λ (m : State). RunsLines A size kind m lines y.1.0 b) (sym first.1) y.1.1.1.1.0 in
-    let rest = RunsLines-unique A size kind x.1.1.0 lines x.1.0 y.1.0 a b x.1.1.1.1.0 there in
+pub RunsLines-unique : (A : Type 0) (s : Database) (lines : List (List ℕ)) (t u : List ℕ) (a b : Database) → RunsLines A s lines t a → RunsLines A s lines u b → (t ≡ u) × (a ≡ b)
+RunsLines-unique A s [] t u a b x y = (x.0 ∙ sym y.0, x.1 ∙ sym y.1)
+RunsLines-unique A s ([] ∷ lines) t u a b x y = RunsLines-unique A s lines t u a b x y
+RunsLines-unique A s ((c ∷ cs) ∷ lines) t u a b x y =
+    let first = AnswersLine-unique A s (command_of (pieces_of 32 (c ∷ cs))) x.0 y.0 x.1.1.0 y.1.1.0 x.1.1.1.0 y.1.1.1.0 in
+    let there : RunsLines A x.1.1.0 lines y.1.0 b = subst (λ (m : Database). RunsLines A m lines y.1.0 b) (sym first.1) y.1.1.1.1.0 in
+    let rest = RunsLines-unique A x.1.1.0 lines x.1.0 y.1.0 a b x.1.1.1.1.0 there in
     (x.1.1.1.1.1 ∙ ap (λ xs. xs ++ 10 ∷ x.1.0) first.0 ∙ ap (λ xs. y.0 ++ 10 ∷ xs) rest.0 ∙ sym y.1.1.1.1.1, rest.1)
 
-pub IsScriptRun-from : (A : Type 0) (db : Database) (input text : List ℕ) (s' : State) → RunsScript A db input text s' → IsScriptRun A db input text s'
+pub IsScriptRun-from : (A : Type 0) (db : Database) (input text : List ℕ) (s' : Database) → RunsScript A db input text s' → IsScriptRun A db input text s'
 IsScriptRun-from A db input text s' runs = record {
   runs = runs;
-  only = λ other s also. RunsLines-unique A db.size db.kind (state_of db) (pieces_of 10 input) other text s s' also runs;
+  only = λ other s also. RunsLines-unique A db (pieces_of 10 input) other text s s' also runs;
 }

@@ -1,20 +1,25 @@
 -- The answer to a command, and its text.
 use Rattle.std.specs.Prelude.{◌≡◌, ℕ, List, [], ◌∷◌, ◌++◌, codes, decimal}
 use Rattle.hex.specs.Hex.{encode_lower}
-use Rattle.sdbm_addr.specs.declared.KeyBytes.{KeyBytes}
-use Rattle.sdbm_addr.specs.declared.PageSize.{PageSize}
+use Rattle.sdbm_addr.specs.Database.{Database}
 use Rattle.store_cmd.specs.declared.Command.{Command}
 use Rattle.store_cmd.specs.declared.Reply.{Reply}
 use Rattle.store_cmd.specs.declared.Reply.TheVariants.{Found, Missing, Stored, Exists, Crowded, Deleted, Count}
 use Rattle.store_cmd.specs.Command.{IsSmall}
-use Rattle.store_cmd.specs.Moves.{State, Moves}
+use Rattle.store_cmd.specs.declared.Entry.{Entry}
+use Rattle.desk_core.specs.Acts.{Acts}
 use Rattle.dbm_script.specs.declared.answers.Answer.{Answer}
 use Rattle.dbm_script.specs.declared.answers.Answer.TheVariants.{Replied, PairTooLarge}
 
--- A command that is small enough is one move, and its answer the reply; a larger one is refused, and moves nothing.
-abbrev pub IsAnswerTo : (A : Type 0) → PageSize → KeyBytes → State → Command A → Answer A → State → Type 0
-IsAnswerTo A size kind s command (Replied reply) s' = IsSmall size command × Moves size kind s command reply s'
-IsAnswerTo A size kind s command PairTooLarge s' = (¬ (IsSmall size command)) × (s' ≡ s)
+-- A command of session 0 that is small enough is done, and its answer is the reply; a larger one is refused, and changes nothing.
+abbrev pub IsAnswerTo : (A : Type 0) → Database → Command A → Answer A → Database → Type 0
+IsAnswerTo A db command (Replied reply) db' = IsSmall db.size command × Acts db 0 command reply db'
+IsAnswerTo A db command PairTooLarge db' = (¬ (IsSmall db.size command)) × (db' ≡ db)
+
+-- what an answer adds to the trail: an entry of session 0, and nothing for a command that was refused
+abbrev pub entries_of : {A : Type 0} → Command A → Answer A → List (Entry A)
+entries_of command (Replied reply) = record { session = 0; command = command; reply = reply } ∷ []
+entries_of command PairTooLarge = []
 
 -- bytes in lower-case hex, or a dot for none
 abbrev pub shown : List ℕ → List ℕ

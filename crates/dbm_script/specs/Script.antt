@@ -1,12 +1,9 @@
 -- Scripts: what the lines of a text do, and the text of the answers.
 use Rattle.std.specs.Prelude.{◌≡◌, ℕ, ◌+◌, ◌<◌, ◌≤◌, List, [], ◌∷◌, ◌++◌, codes, length, take, Option, Some, None}
 use Rattle.std.specs.Io.KnownBytes.{Appends}
-use Rattle.sdbm_addr.specs.declared.KeyBytes.{KeyBytes}
-use Rattle.sdbm_addr.specs.declared.PageSize.{PageSize}
 use Rattle.sdbm_addr.specs.Database.{Database}
 use Rattle.store_cmd.specs.declared.Command.{Command}
-use Rattle.store_cmd.specs.Moves.{State}
-use Rattle.desk_core.specs.Desk.{DeskState, state_of}
+use Rattle.desk_core.specs.Desk.{DeskState, open_count}
 use Rattle.dbm_script.specs.Pieces.{pieces_of}
 use Rattle.dbm_script.specs.Commands.{command_of}
 use Rattle.dbm_script.specs.Answers.{IsAnswerTo, answer_text}
@@ -15,26 +12,26 @@ use Rattle.dbm_script.specs.declared.fault.ScriptFault.{ScriptFault}
 use Rattle.dbm_script.specs.declared.fault.ScriptFault.TheVariants.{Read, TooLong, Write, NoMemory}
 
 -- What one line does, by the command that it asks, and the text of its answer. A line that asks none does nothing.
-abbrev pub AnswersLine : (A : Type 0) → PageSize → KeyBytes → State → Option (Command A) → List ℕ → State → Type 0
-AnswersLine A size kind s None text s' = (text ≡ codes "bad line") × (s' ≡ s)
-AnswersLine A size kind s (Some command) text s' =
-    (answer : Answer A) × (IsAnswerTo A size kind s command answer s' × (text ≡ answer_text answer))
+abbrev pub AnswersLine : (A : Type 0) → Database → Option (Command A) → List ℕ → Database → Type 0
+AnswersLine A db None text db' = (text ≡ codes "bad line") × (db' ≡ db)
+AnswersLine A db (Some command) text db' =
+    (answer : Answer A) × (IsAnswerTo A db command answer db' × (text ≡ answer_text answer))
 
 -- What lines do in order, and the text of their answers: an empty line has none, and each other line has one, with its end.
-abbrev pub RunsLines : (A : Type 0) → PageSize → KeyBytes → State → List (List ℕ) → List ℕ → State → Type 0
-RunsLines A size kind s [] text s' = (text ≡ []) × (s' ≡ s)
-RunsLines A size kind s ([] ∷ lines) text s' = RunsLines A size kind s lines text s'
-RunsLines A size kind s ((c ∷ cs) ∷ lines) text s' =
-    (first : List ℕ) × ((rest : List ℕ) × ((mid : State) × (AnswersLine A size kind s (command_of (pieces_of 32 (c ∷ cs))) first mid × (RunsLines A size kind mid lines rest s' × (text ≡ first ++ 10 ∷ rest)))))
+abbrev pub RunsLines : (A : Type 0) → Database → List (List ℕ) → List ℕ → Database → Type 0
+RunsLines A db [] text db' = (text ≡ []) × (db' ≡ db)
+RunsLines A db ([] ∷ lines) text db' = RunsLines A db lines text db'
+RunsLines A db ((c ∷ cs) ∷ lines) text db' =
+    (first : List ℕ) × ((rest : List ℕ) × ((mid : Database) × (AnswersLine A db (command_of (pieces_of 32 (c ∷ cs))) first mid × (RunsLines A mid lines rest db' × (text ≡ first ++ 10 ∷ rest)))))
 
 -- a script on a database: its lines end with LF, the last one may lack it
-abbrev pub RunsScript : (A : Type 0) → Database → List ℕ → List ℕ → State → Type 0
-RunsScript A db input text s' = RunsLines A db.size db.kind (state_of db) (pieces_of 10 input) text s'
+abbrev pub RunsScript : (A : Type 0) → Database → List ℕ → List ℕ → Database → Type 0
+RunsScript A db input text db' = RunsLines A db (pieces_of 10 input) text db'
 
--- a script writes this text and leads to this state, and to no other ones
-pub record IsScriptRun (A : Type 0) (db : Database) (input text : List ℕ) (s' : State) : Type 0 where
-  pub runs : RunsScript A db input text s'
-  pub only : (other : List ℕ) (s : State) → RunsScript A db input other s → (other ≡ text) × (s ≡ s')
+-- a script writes this text and leads to this database, page by page, and to no other ones
+pub record IsScriptRun (A : Type 0) (db : Database) (input text : List ℕ) (db' : Database) : Type 0 where
+  pub runs : RunsScript A db input text db'
+  pub only : (other : List ℕ) (d : Database) → RunsScript A db input other d → (other ≡ text) × (d ≡ db')
 
 -- new is old and then some bytes, of which P holds
 pub record Adds (old new : List ℕ) (P : List ℕ → Type 0) : Type 0 where
@@ -42,9 +39,16 @@ pub record Adds (old new : List ℕ) (P : List ℕ → Type 0) : Type 0 where
   pub is : new ≡ old ++ added
   pub holds : P added
 
--- a desk has at most one entry more, and keeps its limit, size and way of hashing
+-- a desk with room for one more entry, of which no page is held
+pub record IsFree {A : Type 0} (s : DeskState A) : Type 0 where
+  pub room : length s.entries + open_count s < s.limit
+  pub holds : s.holds ≡ []
+
+-- a desk has at most one entry more, and keeps its tickets, holds, limit, size and way of hashing
 pub record KeepsDesk {A : Type 0} (old new : DeskState A) : Type 0 where
   pub entries : length new.entries ≤ length old.entries + 1
+  pub tickets : new.tickets ≡ old.tickets
+  pub holds : new.holds ≡ old.holds
   pub limit_is : new.limit ≡ old.limit
   pub kind : new.database.kind ≡ old.database.kind
   pub size : new.database.size ≡ old.database.size

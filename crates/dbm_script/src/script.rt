@@ -1,11 +1,11 @@
 //! Scripts: all that is read, run as one session, and the text of the answers.
-ghost use Rattle.std.specs.Prelude.{◌≡◌, ◌+◌, ◌<◌, ◌≤◌, List, ℕ, IfOk, OnOk, OnErr, IfErr, IfSome, IsErrOf, ◌∷◌, [], length};
+ghost use Rattle.std.specs.Prelude.{◌≡◌, ◌++◌, ◌<◌, ◌≤◌, List, ℕ, IfOk, OnOk, OnErr, IfErr, IfSome, IsErrOf, ◌∷◌, [], length};
 ghost use Rattle.std.specs.Io.KnownBytes.{Appends, Keeps};
-ghost use Rattle.desk_core.specs.Desk.{state_of};
+ghost use Rattle.sdbm_addr.specs.Database.{Database};
 ghost use Rattle.dbm_script.specs.Pieces.{pieces_of};
 ghost use Rattle.dbm_script.specs.Commands.{command_of};
-ghost use Rattle.dbm_script.specs.Answers.{IsAnswerTo};
-ghost use Rattle.dbm_script.specs.Script.{IsScriptRun, RunsLines, AnswersLine, Adds, KeepsDesk, WritesPart};
+ghost use Rattle.dbm_script.specs.Answers.{IsAnswerTo, entries_of};
+ghost use Rattle.dbm_script.specs.Script.{IsScriptRun, RunsLines, AnswersLine, Adds, IsFree, KeepsDesk, WritesPart};
 
 use crate::answers::{Answer, show_answer};
 use crate::commands::read_line;
@@ -30,9 +30,9 @@ pub fn run_script<A: Allocator + Copy, R: Read, W: Write>(
     image: Image<A>,
 ) -> Result<Image<A>, ScriptFault>
     ensures ok { IfOk result (λ after. IfSome (R.remaining reader.old) (λ input. (text : List ℕ) ×
-        (IsScriptRun A image input text (state_of after) × Appends (W.contents writer.old) (W.contents writer.new) text))) }
+        (IsScriptRun A image input text after × Appends (W.contents writer.old) (W.contents writer.new) text))) }
     ensures short { IfOk result (λ _. IfSome (R.remaining reader.old) (λ input. length input ≤ 16777216)) }
-    ensures part { IsErrOf result ScriptFault.Write → IfSome (R.remaining reader.old) (λ input. (text : List ℕ) × ((after : _) ×
+    ensures part { IsErrOf result ScriptFault.Write → IfSome (R.remaining reader.old) (λ input. (text : List ℕ) × ((after : Database) ×
         (IsScriptRun A image input text after × WritesPart (W.contents writer.old) (W.contents writer.new) text))) }
     ensures nothing { IfErr result (λ fault. (fault ≡ ScriptFault.Write → ⊥) → Keeps (W.contents writer.old) (W.contents writer.new)) }
     ensures kept { IfOk result (λ after. (after.kind ≡ image.kind) × (after.size ≡ image.size)) }
@@ -55,7 +55,7 @@ pub fn run_lines<A: Allocator + Copy>(
     image: Image<A>,
     input: &[u8],
 ) -> Result<(Image<A>, Vec<u8, A>), AllocError>
-    ensures runs { IfOk result (λ r. IsScriptRun A image input.now r.1.items (state_of r.0)) }
+    ensures runs { IfOk result (λ r. IsScriptRun A image input.now r.1.items r.0) }
     ensures kept { IfOk result (λ r. (r.0.kind ≡ image.kind) × (r.0.size ≡ image.size)) }
 {
     let Ok(mut desk) = Desk::open(alloc, image, lines_in(input)) else {
@@ -79,9 +79,9 @@ fn answer_line<A: Allocator + Copy>(
     line: &[u8],
     text: &mut Vec<u8, A>,
 ) -> Result<(), AllocError>
-    requires { length desk.old.entries < desk.old.limit }
+    requires { IsFree desk.old }
     ensures answer { OnOk result (Adds text.old.items text.new.items (λ added.
-        RunsLines A desk.old.database.size desk.old.database.kind (state_of desk.old.database) (line.now ∷ []) added (state_of desk.new.database))) }
+        RunsLines A desk.old.database (line.now ∷ []) added desk.new.database)) }
     ensures desk { OnOk result (KeepsDesk desk.old desk.new) }
 {
     if line.is_empty() {
@@ -98,9 +98,9 @@ fn answer_words<A: Allocator + Copy>(
     line: &[u8],
     text: &mut Vec<u8, A>,
 ) -> Result<(), AllocError>
-    requires { length desk.old.entries < desk.old.limit }
+    requires { IsFree desk.old }
     ensures answer { OnOk result (Adds text.old.items text.new.items (λ added.
-        AnswersLine A desk.old.database.size desk.old.database.kind (state_of desk.old.database) (command_of (pieces_of 32 line.now)) added (state_of desk.new.database))) }
+        AnswersLine A desk.old.database (command_of (pieces_of 32 line.now)) added desk.new.database)) }
     ensures desk { OnOk result (KeepsDesk desk.old desk.new) }
 {
     match read_line(alloc, line)? {
@@ -112,7 +112,7 @@ fn answer_words<A: Allocator + Copy>(
     }
 }
 
-/// Answers a command on a desk as session 0.
+/// Answers a command on a desk, of which no page is held, as session 0, whose entry is added to the trail.
 ///
 /// # Errors
 /// `AllocError` where there is no memory left for it. The desk is as it was then.
@@ -120,8 +120,9 @@ pub fn answer_command<A: Allocator + Copy>(
     desk: &mut Desk<A>,
     command: Command<A>,
 ) -> Result<Answer<A>, AllocError>
-    requires { length desk.old.entries < desk.old.limit }
-    ensures answer { IfOk result (λ answer. IsAnswerTo A desk.old.database.size desk.old.database.kind (state_of desk.old.database) command answer (state_of desk.new.database)) }
+    requires { IsFree desk.old }
+    ensures answer { IfOk result (λ answer. IsAnswerTo A desk.old.database command answer desk.new.database) }
+    ensures entry { IfOk result (λ answer. desk.new.entries ≡ desk.old.entries ++ entries_of command answer) }
     ensures err { OnErr result (desk.new ≡ desk.old) }
     ensures desk { OnOk result (KeepsDesk desk.old desk.new) }
 {
@@ -129,6 +130,7 @@ pub fn answer_command<A: Allocator + Copy>(
         Ok(reply) => Ok(Answer::Replied(reply)),
         Err((AskFault::PairTooLarge, _command)) => Ok(Answer::PairTooLarge),
         Err((AskFault::TrailFull, _command)) => unreachable!(),
+        Err((AskFault::Busy, _command)) => unreachable!(),
         Err((AskFault::NoMemory, _command)) => Err(AllocError),
     }
 }

@@ -11,7 +11,6 @@ use Rattle.sdbm_files.specs.Widened.{widened}
 use Rattle.store_cmd.specs.declared.Command.{Command}
 use Rattle.store_cmd.specs.declared.Reply.{Reply}
 use Rattle.store_cmd.specs.declared.Reply.TheVariants.{Found, Missing, Stored, Exists, Crowded, Deleted, Count}
-use Rattle.desk_core.specs.Desk.{state_of}
 use Rattle.bpf_insn.specs.declared.insn.Insn.{Insn}
 use Rattle.bpf_insn.specs.Code.{IsImage}
 use Rattle.bpf_asm.specs.Denotes.{Denotes, IsOnlyCode}
@@ -51,7 +50,7 @@ status_of PairTooLarge = 1
 -- a command is answered, by its answer in a line and the status that goes with it
 pub record IsCommandReport (before : Database) (command : Command Global) (after : Database) (report : Report) : Type 0 where
   pub answer : Answer Global
-  pub answers : IsAnswerTo Global before.size before.kind (state_of before) command answer (state_of after)
+  pub answers : IsAnswerTo Global before command answer after
   pub kind : after.kind ≡ before.kind
   pub size : after.size ≡ before.size
   pub text_is : report.text.items ≡ answer_text answer ++ 10 ∷ []
@@ -125,7 +124,7 @@ small_form unsigned = record { unsigned = unsigned; wide = false }
 
 -- the answers to a script, whose bytes may not be known, and the database after it
 pub record Plays (before : Database) (input : Option (List ℕ)) (after : Database) (report : Report) : Type 0 where
-  pub runs : IfSome input (λ bytes. IsScriptRun Global before bytes report.text.items (state_of after))
+  pub runs : IfSome input (λ bytes. IsScriptRun Global before bytes report.text.items after)
   pub kind : after.kind ≡ before.kind
   pub size : after.size ≡ before.size
   pub status_is : report.status ≡ 0

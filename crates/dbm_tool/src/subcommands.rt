@@ -1,13 +1,12 @@
 //! What comes of each subcommand on a database that is open.
 ghost use Rattle.std.specs.Prelude.{◌≡◌, ◌++◌, ◌∷◌, [], None, Some, IfOk};
 ghost use Rattle.sdbm_addr.specs.Database.{Database};
-ghost use Rattle.desk_core.specs.Desk.{state_of};
 ghost use Rattle.dbm_script.specs.Answers.{IsAnswerTo};
 ghost use Rattle.dbm_tool.specs.Reports.{Looks, Changes, Lists, Counts, Plays, Widens, status_of};
 
 use crate::listing::{list_pairs, show_ok};
-use dbm_script::{Answer, answer_command, run_lines, show_answer};
-use desk_core::Desk;
+use dbm_script::{Answer, run_lines, show_answer};
+use desk_core::act;
 use sdbm_files::{Image, widen};
 use std::alloc::{AllocError, Global};
 use store_cmd::{Command, Reply};
@@ -67,16 +66,16 @@ fn answer_one(
     image: Image<Global>,
     command: Command<Global>,
 ) -> Result<(Image<Global>, Answer<Global>), AllocError>
-    ensures answer { IfOk result (λ r. IsAnswerTo _ image.size image.kind (state_of image) command r.1 (state_of r.0)) }
+    ensures answer { IfOk result (λ r. IsAnswerTo _ image command r.1 r.0) }
     ensures kind { IfOk result (λ r. r.0.kind ≡ image.kind) }
     ensures size { IfOk result (λ r. r.0.size ≡ image.size) }
 {
-    let Ok(mut desk) = Desk::open(alloc, image, 1) else {
-        return Err(AllocError);
-    };
-    let answer = answer_command(&mut desk, command)?;
-    let (image, _) = desk.into_parts();
-    Ok((image, answer))
+    if store_cmd::check(&command, image.page_size()).is_err() {
+        return Ok((image, Answer::PairTooLarge));
+    }
+    let mut image = image;
+    let reply = act(alloc, &mut image, 0, &command)?;
+    Ok((image, Answer::Replied(reply)))
 }
 
 // The status that goes with an answer: 1 where nothing was found, or nothing changed that was to be changed.

@@ -1,2 +1,5 @@
-pub mod Working
-pub mod Stepping
+pub mod WorkLemmas
+pub mod Lifting
+pub mod Acting
+pub mod Playing
+pub mod DeskLemmas

@@ -1,3 +1,8 @@
+pub mod Works
+pub mod Worked
+pub mod Leads
+pub mod Jobs
 pub mod Desk
-pub mod Work
-pub mod Step
+pub mod Acts
+pub mod Calls
+pub mod Events

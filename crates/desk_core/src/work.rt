@@ -1,194 +1,170 @@
-//! What a command comes to: its reply, and the change that it asks for. Nothing is changed here.
-ghost use Rattle.std.specs.Prelude.{◌≡◌, ◌≤◌, length, ◌+◌, IfOk, IfErr, OnOk, OnErr};
-ghost use Rattle.sdbm_addr.specs.Pairs.{pair_limit};
-ghost use Rattle.sdbm_addr.specs.Database.{IsDatabase, pairs_at};
+//! What a command comes to, from the page of its key alone: its reply, and what becomes of the page. Nothing is changed here.
+ghost use Rattle.std.specs.Prelude.{◌≡◌, ◌+◌, ◌≤◌, length, IfOk, IfSome, None};
+ghost use Rattle.sdbm_addr.specs.Pairs.{HasDistinctKeys, pair_limit};
 ghost use Rattle.store_cmd.specs.declared.Command.TheVariants.{Fetch, Store, Delete};
-ghost use Rattle.store_cmd.specs.Command.{IsSmall};
-ghost use Rattle.desk_core.specs.Work.{ComesTo, MayChange, changed_by, IsPlaceOf, IsStoreChange, IsNoChange};
+ghost use Rattle.desk_core.specs.Works.{works, IsWorkable, IsPageOfKey, pairs_lent};
+ghost use Rattle.desk_core.specs.Worked.{IsWorked};
 
-use sdbm_addr::{Bytes, Mode};
+use sdbm_addr::{Bytes, KeyBytes, Mode, PageSize};
 use sdbm_dir::Place;
-use sdbm_files::Image;
-use sdbm_page::Page;
+use sdbm_page::{Page, SharedPage};
 use sdbm_split::{Plan, PlanFault, plan_store};
 use std::alloc::{AllocError, Allocator};
 use store_cmd::{Command, Reply};
 
-/// A plan for the page of a place.
-#[derive(Drop)]
-pub struct Change<A: Allocator> {
-    pub place: Place,
-    pub plan: Plan<A>,
-}
-
-/// What a command comes to: its reply, twice, and a change, where it asks for one.
+/// What a command comes to: its reply, and what becomes of its page, where that changes.
 #[derive(Drop)]
 pub struct Worked<A: Allocator> {
     pub reply: Reply<A>,
-    pub copy: Reply<A>,
-    pub change: Option<Change<A>>,
+    pub change: Option<Plan<A>>,
 }
 
-/// Works a command out on a database that stays as it is.
-pub fn work_out<A: Allocator + Copy>(
+/// Works a session's command out on the page of its place, or on none where that has no pairs.
+pub fn work_on<A: Allocator + Copy>(
     alloc: A,
-    image: &Image<A>,
+    page: Option<&Page<A>>,
+    place: Place,
+    kind: KeyBytes,
+    size: PageSize,
+    session: u64,
     command: &Command<A>,
 ) -> Result<Worked<A>, AllocError>
-    requires { IsSmall image.now.size command.now }
-    ensures outcome { IfOk result (λ a. ComesTo image.now command.now a.reply a.change) }
-    ensures same { IfOk result (λ a. a.copy ≡ a.reply) }
-{
-    let (reply, change) = answer(alloc, image, command)?;
-    let copy = reply.try_clone(alloc)?;
-    Ok(Worked {
-        reply,
-        copy,
-        change,
-    })
-}
-
-/// Installs a change, where there is one. Where no memory is left, the database is as it was.
-pub fn put_in<A: Allocator + Copy>(
-    image: &mut Image<A>,
-    change: Option<Change<A>>,
-) -> Result<(), AllocError>
-    requires { MayChange image.old change }
-    ensures ok { OnOk result (image.new ≡ changed_by image.old change) }
-    ensures err { OnErr result (image.new ≡ image.old) }
-{
-    let Some(Change { place, plan }) = change else {
-        return Ok(());
-    };
-    match image.install(place, plan) {
-        Ok(()) => Ok(()),
-        Err((error, _plan)) => Err(error),
-    }
-}
-
-// The reply to a command, and the change that it asks for.
-fn answer<A: Allocator + Copy>(
-    alloc: A,
-    image: &Image<A>,
-    command: &Command<A>,
-) -> Result<(Reply<A>, Option<Change<A>>), AllocError>
-    requires { IsSmall image.now.size command.now }
-    ensures { IfOk result (λ r. ComesTo image.now command.now r.0 r.1) }
+    requires size { IfSome page (λ p. p.now.size ≡ size) }
+    requires may { IsWorkable place kind size (pairs_lent page) command.now }
+    ensures { IfOk result (IsWorked (works place kind size (pairs_lent page.entry) session command.now)) }
 {
     match command {
-        Command::Fetch { key } => fetch(alloc, image, key.as_slice()),
+        Command::Fetch { key } => fetch(alloc, page, place, kind, size, session, key.as_slice()),
         Command::Store { key, value, mode } => {
-            store(alloc, image, key.as_slice(), value.as_slice(), *mode)
+            store(
+                alloc,
+                page,
+                place,
+                kind,
+                size,
+                session,
+                key.as_slice(),
+                value.as_slice(),
+                *mode,
+            )
         }
-        Command::Delete { key } => delete(alloc, image, key.as_slice()),
-        Command::Count => Ok((Reply::Count(image.count()), None)),
+        Command::Delete { key } => delete(alloc, page, place, kind, size, session, key.as_slice()),
+        Command::Count => unreachable!(),
     }
 }
 
 // The reply to a fetch, which copies the value alone.
 fn fetch<A: Allocator + Copy>(
     alloc: A,
-    image: &Image<A>,
+    page: Option<&Page<A>>,
+    place: Place,
+    kind: KeyBytes,
+    size: PageSize,
+    session: u64,
     key: &[u8],
-) -> Result<(Reply<A>, Option<Change<A>>), AllocError>
-    ensures { IfOk result (λ r. ComesTo image.now (Fetch key.now) r.0 r.1) }
+) -> Result<Worked<A>, AllocError>
+    ensures { IfOk result (IsWorked (works place kind size (pairs_lent page.entry) session (Fetch key.now))) }
 {
-    let Some(page) = image.page(image.place(key).page) else {
-        return Ok((Reply::Missing, None));
+    let Some(page) = page else {
+        return Ok(unchanged(Reply::Missing));
     };
     let Some(i) = page.find(key) else {
-        return Ok((Reply::Missing, None));
+        return Ok(unchanged(Reply::Missing));
     };
     let value = Bytes::from_slice(alloc, page.record(i))?;
-    Ok((Reply::Found(value), None))
+    Ok(unchanged(Reply::Found(value)))
 }
 
 // The reply to a delete, and the page without the pair.
 fn delete<A: Allocator + Copy>(
     alloc: A,
-    image: &Image<A>,
+    page: Option<&Page<A>>,
+    place: Place,
+    kind: KeyBytes,
+    size: PageSize,
+    session: u64,
     key: &[u8],
-) -> Result<(Reply<A>, Option<Change<A>>), AllocError>
-    ensures { IfOk result (λ r. ComesTo image.now (Delete key.now) r.0 r.1) }
+) -> Result<Worked<A>, AllocError>
+    requires size { IfSome page (λ p. p.now.size ≡ size) }
+    requires distinct { HasDistinctKeys (pairs_lent page) }
+    ensures { IfOk result (IsWorked (works place kind size (pairs_lent page.entry) session (Delete key.now))) }
 {
-    let place = image.place(key);
-    let Some(page) = image.page(place.page) else {
-        return Ok((Reply::Missing, None));
+    let Some(page) = page else {
+        return Ok(unchanged(Reply::Missing));
     };
     let Some(i) = page.find(key) else {
-        return Ok((Reply::Missing, None));
+        return Ok(unchanged(Reply::Missing));
     };
-    let mut leaf = page.try_clone()?;
-    leaf.remove(i);
-    let plan = Plan {
-        leaf,
-        twins: Vec::new(alloc),
-        bits: Vec::new(alloc),
-    };
-    Ok((Reply::Deleted, Some(Change { place, plan })))
+    let mut made = page.try_clone()?;
+    made.remove(i);
+    let leaf = SharedPage::new(alloc, made)?;
+    Ok(Worked {
+        reply: Reply::Deleted,
+        change: Some(Plan {
+            leaf,
+            twins: Vec::new(alloc),
+            bits: Vec::new(alloc),
+        }),
+    })
 }
 
-// The reply to a store, and the plan for it.
+// The reply to a store, and the plan for it: on an empty page where there is none.
 fn store<A: Allocator + Copy>(
     alloc: A,
-    image: &Image<A>,
+    page: Option<&Page<A>>,
+    place: Place,
+    kind: KeyBytes,
+    size: PageSize,
+    session: u64,
     key: &[u8],
     value: &[u8],
     mode: Mode,
-) -> Result<(Reply<A>, Option<Change<A>>), AllocError>
-    requires { length key.now + length value.now ≤ pair_limit image.now.size }
-    ensures { IfOk result (λ r. ComesTo image.now (Store key.now value.now mode) r.0 r.1) }
+) -> Result<Worked<A>, AllocError>
+    requires size { IfSome page (λ p. p.now.size ≡ size) }
+    requires small { length key.now + length value.now ≤ pair_limit size }
+    requires placed { IsPageOfKey place kind size (pairs_lent page) key.now }
+    ensures { IfOk result (IsWorked (works place kind size (pairs_lent page.entry) session (Store key.now value.now mode))) }
 {
-    match store_change(alloc, image, key, value, mode) {
-        Ok(change) => Ok((Reply::Stored, Some(change))),
-        Err(PlanFault::Exists) => Ok((Reply::Exists, None)),
-        Err(PlanFault::Crowded) => Ok((Reply::Crowded, None)),
+    if let Some(page) = page {
+        return store_on(alloc, page, place, kind, session, key, value, mode);
+    }
+    let page = Page::empty(alloc, size)?;
+    store_on(alloc, &page, place, kind, session, key, value, mode)
+}
+
+// The same on a page that is there.
+fn store_on<A: Allocator + Copy>(
+    alloc: A,
+    page: &Page<A>,
+    place: Place,
+    kind: KeyBytes,
+    session: u64,
+    key: &[u8],
+    value: &[u8],
+    mode: Mode,
+) -> Result<Worked<A>, AllocError>
+    requires small { length key.now + length value.now ≤ pair_limit page.now.size }
+    requires placed { IsPageOfKey place kind page.now.size page.now.pairs key.now }
+    ensures { IfOk result (IsWorked (works place kind page.now.size page.now.pairs session (Store key.now value.now mode))) }
+{
+    match plan_store(alloc, page, place, kind, key, value, mode) {
+        Ok(plan) => Ok(Worked {
+            reply: Reply::Stored,
+            change: Some(plan),
+        }),
+        Err(PlanFault::Exists) => Ok(unchanged(Reply::Exists)),
+        Err(PlanFault::Crowded) => Ok(unchanged(Reply::Crowded)),
         Err(PlanFault::NoMemory) => Err(AllocError),
     }
 }
 
-// The plan for a store on the page to which its key leads, an empty one where that has no pairs.
-fn store_change<A: Allocator + Copy>(
-    alloc: A,
-    image: &Image<A>,
-    key: &[u8],
-    value: &[u8],
-    mode: Mode,
-) -> Result<Change<A>, PlanFault>
-    requires { length key.now + length value.now ≤ pair_limit image.now.size }
-    ensures change { IfOk result (λ c. IsStoreChange image.now key.now value.now mode c) }
-    ensures fault { IfErr result (IsNoChange image.now key.now value.now mode) }
-    ensures database { IsDatabase image.now }
+// A reply that leaves the page as it is.
+fn unchanged<A: Allocator>(reply: Reply<A>) -> Worked<A>
+    ensures reply { result.reply ≡ reply }
+    ensures change { result.change ≡ None }
 {
-    let place = image.place(key);
-    if let Some(page) = image.page(place.page) {
-        return plan_on(alloc, image, page, place, key, value, mode);
-    }
-    let Ok(page) = Page::empty(alloc, image.page_size()) else {
-        return Err(PlanFault::NoMemory);
-    };
-    plan_on(alloc, image, &page, place, key, value, mode)
-}
-
-// The plan for a store on a page, which is that of the place.
-fn plan_on<A: Allocator + Copy>(
-    alloc: A,
-    image: &Image<A>,
-    page: &Page<A>,
-    place: Place,
-    key: &[u8],
-    value: &[u8],
-    mode: Mode,
-) -> Result<Change<A>, PlanFault>
-    requires small { length key.now + length value.now ≤ pair_limit image.now.size }
-    requires place { IsPlaceOf image.now key.now place }
-    requires size { page.now.size ≡ image.now.size }
-    requires pairs { page.now.pairs ≡ pairs_at image.now place.page }
-    ensures change { IfOk result (λ c. IsStoreChange image.now key.now value.now mode c) }
-    ensures fault { IfErr result (IsNoChange image.now key.now value.now mode) }
-{
-    match plan_store(alloc, page, place, image.key_bytes(), key, value, mode) {
-        Ok(plan) => Ok(Change { place, plan }),
-        Err(fault) => Err(fault),
+    Worked {
+        reply,
+        change: None,
     }
 }

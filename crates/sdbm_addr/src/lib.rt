@@ -126,6 +126,25 @@ impl<A: Allocator> Bytes<A> {
     }
 }
 
+impl<A: Allocator> PartialEq for Bytes<A> {
+    ghost use Rattle.std.specs.Prelude.{◌≡◌, ◌↔◌, IsTrue};
+    ghost use Rattle.std.specs.Str.{bytes_eq};
+    ghost use Rattle.std.specs.Cmp.{partial_equiv_from_equiv};
+    ghost use Rattle.std.specs.Cmp.Lexicographic.{nat_list_eq_equiv};
+
+    ghost eq = { bytes_eq };
+
+    ghost laws = { partial_equiv_from_equiv nat_list_eq_equiv };
+
+    /// Whether the bytes are the same. No memory is taken.
+    fn eq(&self, other: &Self) -> bool
+        ensures exact { IsTrue result ↔ (self.now ≡ other.now) }
+        ensures value { result ≡ bytes_eq self.now other.now }
+    {
+        self.as_slice() == other.as_slice()
+    }
+}
+
 /// Equal pairs of a key and a value, in the same order, or the error where no memory is left for them.
 pub fn clone_pairs<A: Allocator + Copy>(
     alloc: A,

@@ -23,7 +23,7 @@ use opening::{keep_pages, misplaced, read_dir, read_pages};
 use pages::{Pages, copy_pairs, count_pairs, grow_all, mark_all, put_page, put_pages, sort_pairs};
 use sdbm_addr::{Bytes, KeyBytes, PageSize, hash};
 use sdbm_dir::{Dir, Place};
-use sdbm_page::Page;
+use sdbm_page::SharedPage;
 use sdbm_split::Plan;
 pub use sink::{MemSink, Sink, SinkFault};
 use std::alloc::{AllocError, Allocator};
@@ -133,7 +133,7 @@ impl<A: Allocator + Copy> Image<A> {
     }
 
     /// The page with a number, where it has pairs.
-    pub fn page(&self, number: u32) -> Option<&Page<A>>
+    pub fn page(&self, number: u32) -> Option<&SharedPage<A>>
         ensures pairs { option_map (λ p. p.now.pairs) result ≡ map.get self.now.pages number }
         ensures size { IfSome result (λ p. p.now.size ≡ self.now.size) }
         ensures database { IsDatabase self.now }

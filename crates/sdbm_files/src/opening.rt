@@ -9,7 +9,7 @@ ghost use Rattle.sdbm_files.specs.Opened.{AreRead, IsRead, IsFaultOf, IsFaultOfP
 use crate::pages::{Pages, put_page};
 use sdbm_addr::{KeyBytes, PageSize, hash, mask};
 use sdbm_dir::{Dir, DirFault};
-use sdbm_page::{Page, PageFault, spells_empty};
+use sdbm_page::{Page, PageFault, SharedPage, spells_empty};
 use std::alloc::{AllocError, Allocator};
 use std::collections::HashMap;
 
@@ -154,7 +154,8 @@ pub fn keep_pages<A: Allocator + Copy>(
     let mut number = 0usize;
     for page in read {
         if let Some(page) = page {
-            keep_page(&mut pages, number as u32, page)?;
+            let shared = SharedPage::new(alloc, page)?;
+            keep_page(&mut pages, number as u32, shared)?;
         }
         number += 1;
     }
@@ -165,7 +166,7 @@ pub fn keep_pages<A: Allocator + Copy>(
 fn keep_page<A: Allocator + Copy>(
     pages: &mut Pages<A>,
     number: u32,
-    page: Page<A>,
+    page: SharedPage<A>,
 ) -> Result<(), AllocError>
     ensures pages { OnOk result (pages_of pages.new.entries ≡ put_page (pages_of pages.old.entries) number page.pairs) }
     ensures sizes { OnOk result (AreSized page.size pages.old.entries → AreSized page.size pages.new.entries) }

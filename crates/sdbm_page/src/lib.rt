@@ -18,12 +18,14 @@ mod fields;
 mod keys;
 mod layout;
 mod noted;
+mod shared;
 
 use edits::{clear, put_pair, take_pair};
 use fields::{end_at, key_in, key_start, number_at, value_in, value_start};
 use keys::has_distinct_keys;
 use layout::{Layout, layout_of};
 use sdbm_addr::PageSize;
+pub use shared::SharedPage;
 use std::alloc::{AllocError, Allocator};
 use std::marker::Model;
 
@@ -242,6 +244,42 @@ impl<A: Allocator> Page<A> {
     {
         let bytes = self.bytes.as_slice();
         (value_start(bytes, i), key_start(bytes, i))
+    }
+}
+
+impl<A: Allocator> Page<A> {
+    /// Whether two pages have one size and the same pairs in the same order. No memory is taken.
+    pub fn equals(&self, other: &Page<A>) -> bool
+        ensures { IsTrue result ↔ (self.now ≡ other.now) }
+    {
+        if self.size != other.size {
+            return false;
+        }
+        self.bytes.as_slice() == other.bytes.as_slice()
+    }
+}
+
+impl<A: Allocator> PartialEq for Page<A> {
+    ghost use Rattle.std.specs.Prelude.{◌≡◌, ◌↔◌, IsTrue};
+    ghost use Rattle.std.specs.Str.{bytes_eq};
+    ghost use Rattle.std.specs.Cmp.{on_per, partial_equiv_from_equiv};
+    ghost use Rattle.std.specs.Cmp.Lexicographic.{nat_list_eq_equiv};
+    ghost use Rattle.sdbm_addr.specs.Pairs.{Content};
+    ghost use Rattle.sdbm_page.specs.Equal.{sized_bytes};
+
+    ghost eq = { λ c d. bytes_eq (sized_bytes c) (sized_bytes d) };
+
+    ghost laws = { on_per sized_bytes (partial_equiv_from_equiv nat_list_eq_equiv) };
+
+    /// Whether two pages are equal, as `equals` says.
+    fn eq(&self, other: &Self) -> bool
+        ensures exact { IsTrue result ↔ (self.now ≡ other.now) }
+        ensures value { result ≡ bytes_eq (sized_bytes self.now) (sized_bytes other.now) }
+    {
+        if self.size != other.size {
+            return false;
+        }
+        self.bytes.as_slice() == other.bytes.as_slice()
     }
 }
 

@@ -10,6 +10,7 @@ use std::alloc::{AllocError, Allocator};
 
 /// What a session asks of the store.
 #[derive(Drop)]
+#[derive_where(PartialEq)]
 pub enum Command<A: Allocator> {
     /// The value of a key.
     Fetch {
@@ -31,6 +32,7 @@ pub enum Command<A: Allocator> {
 
 /// What the store answers.
 #[derive(Drop)]
+#[derive_where(PartialEq)]
 pub enum Reply<A: Allocator> {
     /// To a fetch: the key's value.
     Found(Bytes<A>),
@@ -72,6 +74,7 @@ pub enum Refusal {
 
 /// A command that was answered.
 #[derive(Drop)]
+#[derive_where(PartialEq)]
 pub struct Entry<A: Allocator> {
     pub session: u64,
     pub command: Command<A>,

@@ -27,7 +27,7 @@ fn play(
 // Whether a page has one pair, with a key.
 fn has_only(image: &Image<Global>, number: u32, key: &[u8]) -> bool {
     match image.page(number) {
-        Some(page) => page.len() == 1 && page.find(key) == Some(0),
+        Some(page) => page.page().len() == 1 && page.page().find(key) == Some(0),
         None => false,
     }
 }

@@ -11,6 +11,8 @@ mod desk;
 #[cfg(test)]
 mod dirs;
 #[cfg(test)]
+mod events;
+#[cfg(test)]
 mod files;
 #[cfg(test)]
 mod files_memory;
@@ -28,6 +30,8 @@ mod pages;
 mod plan_cases;
 #[cfg(test)]
 mod plans;
+#[cfg(test)]
+mod random;
 #[cfg(test)]
 mod sinks;
 #[cfg(test)]

@@ -89,9 +89,10 @@ fn database(alloc: Global, case: &PlanCase) -> Result<Image<Global>, AllocError>
 
 // Whether a page has these keys, in this order.
 fn has_keys(image: &Image<Global>, number: u32, keys: &[&[u8]]) -> bool {
-    let Some(page) = image.page(number) else {
+    let Some(shared) = image.page(number) else {
         return keys.is_empty();
     };
+    let page = shared.page();
     if page.len() != keys.len() {
         return false;
     }

@@ -1,4 +1,6 @@
 //! Trails: their limit, and equal copies of them.
+ghost use Rattle.std.specs.Prelude.{◌≡◌, ◌↔◌, IsTrue};
+
 use crate::asks::{Ask, Told, answer, open};
 use desk_core::AskFault;
 use sdbm_addr::{Bytes, PageSize};
@@ -20,47 +22,24 @@ pub fn same_pairs<A: Allocator>(a: &[(Bytes<A>, Bytes<A>)], b: &[(Bytes<A>, Byte
 }
 
 /// Whether two commands are the same.
-pub fn same_command<A: Allocator>(a: &Command<A>, b: &Command<A>) -> bool {
-    match (a, b) {
-        (Command::Fetch { key }, Command::Fetch { key: other }) => {
-            key.as_slice() == other.as_slice()
-        }
-        (
-            Command::Store { key, value, mode },
-            Command::Store {
-                key: other_key,
-                value: other_value,
-                mode: other_mode,
-            },
-        ) => {
-            key.as_slice() == other_key.as_slice()
-                && value.as_slice() == other_value.as_slice()
-                && mode == other_mode
-        }
-        (Command::Delete { key }, Command::Delete { key: other }) => {
-            key.as_slice() == other.as_slice()
-        }
-        (Command::Count, Command::Count) => true,
-        _ => false,
-    }
+pub fn same_command<A: Allocator>(a: &Command<A>, b: &Command<A>) -> bool
+    ensures { IsTrue result ↔ (a.now ≡ b.now) }
+{
+    a == b
 }
 
 /// Whether two replies are the same.
-pub fn same_reply<A: Allocator>(a: &Reply<A>, b: &Reply<A>) -> bool {
-    match (a, b) {
-        (Reply::Found(value), Reply::Found(other)) => value.as_slice() == other.as_slice(),
-        (Reply::Count(count), Reply::Count(other)) => count == other,
-        (Reply::Missing, Reply::Missing) => true,
-        (Reply::Stored, Reply::Stored) => true,
-        (Reply::Exists, Reply::Exists) => true,
-        (Reply::Crowded, Reply::Crowded) => true,
-        (Reply::Deleted, Reply::Deleted) => true,
-        _ => false,
-    }
+pub fn same_reply<A: Allocator>(a: &Reply<A>, b: &Reply<A>) -> bool
+    ensures { IsTrue result ↔ (a.now ≡ b.now) }
+{
+    a == b
 }
 
-fn same_entry<A: Allocator>(a: &Entry<A>, b: &Entry<A>) -> bool {
-    a.session == b.session && same_command(&a.command, &b.command) && same_reply(&a.reply, &b.reply)
+/// Whether two entries are the same.
+pub fn same_entry<A: Allocator>(a: &Entry<A>, b: &Entry<A>) -> bool
+    ensures { IsTrue result ↔ (a.now ≡ b.now) }
+{
+    a == b
 }
 
 /// Whether two trails are the same.

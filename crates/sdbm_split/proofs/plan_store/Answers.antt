@@ -56,3 +56,27 @@ returns-in-Ok-split_pages-clause-pages g c =
     ArePages-from c.args.kind c.args.page.now c.args.key.now c.args.value.now c.args.place.depth c.in-Some.splits c.in-Ok-split_pages.plan.leaf c.in-Ok-split_pages.plan.twins.items c.requires.distinct c.goes_on.ensures.laid c.requires.small c.in-Some.ensures.some.room
     (leaf_along c.args.kind c.args.page.now c.args.key.now c.args.value.now c.args.place.depth c.in-Some.splits c.hash-key_hash.result c.in-Ok-split_pages.plan.leaf c.hash-key_hash.ensures c.in-Ok-split_pages.ensures.leaf)
     (c.in-Ok-split_pages.ensures.twins ∙ ap (λ n. twins_along c.args.page.now.size c.args.kind n c.args.place.depth c.in-Some.splits c.in-Some.splits (stored c.args.page.now.pairs c.args.key.now c.args.value.now)) c.hash-key_hash.ensures)
+
+pub returns-in-Ok-clause-exact : goal.returns-in-Ok-clause-exact
+returns-in-Ok-clause-exact g c =
+    let leads = Leads-own c.args.kind c.args.page.now.pairs c.args.key.now c.args.place.depth c.args.place.page c.requires.key_leads c.requires.keys_lead in
+    let least = IsLeastSplits-none c.args.kind c.args.page.now c.args.key.now c.args.value.now c.args.place.depth c.requires.shallow leads (c.if-goes_on.ensures.room.0 refl) in (
+      0,
+      record {
+        splits = least;
+        leaf = leaf-none c.args.kind c.args.page.now c.in-Ok.plan.leaf c.args.key.now c.args.value.now c.args.place.depth leads c.in-Ok.ensures.leaf;
+        twins = c.in-Ok.ensures.twins;
+        bits = c.in-Ok.ensures.bits;
+      },
+    )
+
+pub returns-in-Ok-split_pages-clause-exact : goal.returns-in-Ok-split_pages-clause-exact
+returns-in-Ok-split_pages-clause-exact g c = (
+  c.in-Some.splits,
+  record {
+    splits = c.in-Some.ensures.some;
+    leaf = leaf_along c.args.kind c.args.page.now c.args.key.now c.args.value.now c.args.place.depth c.in-Some.splits c.hash-key_hash.result c.in-Ok-split_pages.plan.leaf c.hash-key_hash.ensures c.in-Ok-split_pages.ensures.leaf;
+    twins = c.in-Ok-split_pages.ensures.twins ∙ ap (λ n. twins_along c.args.page.now.size c.args.kind n c.args.place.depth c.in-Some.splits c.in-Some.splits (stored c.args.page.now.pairs c.args.key.now c.args.value.now)) c.hash-key_hash.ensures;
+    bits = c.in-Ok-split_pages.ensures.bits ∙ ap (λ n. bits_of n c.args.place.depth c.in-Some.splits) c.hash-key_hash.ensures;
+  },
+)

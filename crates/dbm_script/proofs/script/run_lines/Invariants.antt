@@ -1,5 +1,4 @@
-use Rattle.std.proofs.Common.{◌≡◌, ◌≤◌, ◌+◌, ◌++◌, List, ℕ, length}
-use Rattle.desk_core.specs.Desk.{state_of}
+use Rattle.std.proofs.Common.{◌≡◌, ◌≤◌, ◌+◌, ◌++◌, [], List, ℕ, length}
 use Rattle.dbm_script.specs.Pieces.{pieces_of, pieces_left}
 use Rattle.dbm_script.specs.Script.{RunsLines}
 use Rattle.dbm_script.proofs.script.run_lines.Given as goal
@@ -9,8 +8,10 @@ abbrev pub invariant-loop-rest : goal.invariant-loop-rest
 invariant-loop-rest g l = record {
   done : List (List ℕ);
   lines : done ++ pieces_left 10 l.rest ≡ pieces_of 10 l.input;
-  ran : RunsLines g.row.A.Denot l.fn.image.size l.fn.image.kind (state_of l.fn.image) done l.text.items (state_of l.desk.database);
+  ran : RunsLines g.row.A.Denot l.fn.image done l.text.items l.desk.database;
   room : length l.desk.entries + length (pieces_left 10 l.rest) ≤ l.desk.limit;
+  tickets : l.desk.tickets ≡ [];
+  holds : l.desk.holds ≡ [];
   kind : l.desk.database.kind ≡ l.fn.image.kind;
   size : l.desk.database.size ≡ l.fn.image.size;
 }

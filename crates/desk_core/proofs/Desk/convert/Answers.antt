@@ -1,0 +1,41 @@
+use Rattle.std.proofs.Common.{◌≡◌, true, false, None, Option, ap, sym, refl, rules}
+use Rattle.std.specs.Prelude.{slice_index_or, IsSome}
+use Rattle.hold_modes.specs.Held.{is_updating, is_shared, made_exclusive, update_in, held_by}
+use Rattle.desk_core.proofs.DeskLemmas.{converted_sound}
+use Rattle.desk_core.proofs.Desk.convert.Goals as goal
+
+pub returns-then-not-is_updating-clause-refused : goal.returns-then-not-is_updating-clause-refused
+returns-then-not-is_updating-clause-refused g c =
+    let there : IsSome (slice_index_or c.self.inside.tickets.slots c.args.ticket.0 None) = c.if-not-contains.ensures.0 refl in
+    let upd : is_updating c.args.ticket c.self.inside.holds ≡ false = search rules in
+    rw (← c.self.view_is) (there, upd)
+
+pub invariant_of-self : goal.invariant_of-self
+invariant_of-self g c = let same : c.convert.new.self ≡ c.self.inside.holds = search rules in rw same c.self.invariant
+
+pub returns-then-is_err-clause-refused : goal.returns-then-is_err-clause-refused
+returns-then-is_err-clause-refused g c =
+    let there : IsSome (slice_index_or c.self.inside.tickets.slots c.args.ticket.0 None) = c.if-not-contains.ensures.0 refl in
+    let upd : is_updating c.args.ticket c.self.inside.holds ≡ true = search rules in
+    let busy : is_shared c.args.ticket c.self.inside.holds ≡ true = search rules in
+    rw (← c.self.view_is) (there, (upd, busy))
+
+pub returns-then-is_err-clause-err : goal.returns-then-is_err-clause-err
+returns-then-is_err-clause-err g c = let same : c.convert.new.self ≡ c.self.inside.holds = search rules in rw same c.self.view_is
+
+pub invariant_of-self-2 : goal.invariant_of-self-2
+invariant_of-self-2 g c =
+    let upd : update_in (held_by c.args.ticket c.self.inside.holds) ≡ true = search rules in
+    let held : c.convert.new.self ≡ made_exclusive c.args.ticket c.self.inside.holds = search rules in (
+      converted_sound c.self.inside.image c.self.inside.trail.opening.items c.self.inside.trail.entries.items c.self.inside.tickets.slots c.self.inside.holds c.convert.new.self c.self.inside.limit c.args.ticket.0
+          c.self.invariant.0 upd held c.convert.ensures.rule,
+      c.self.invariant.1,
+    )
+
+pub returns-clause-ok : goal.returns-clause-ok
+returns-clause-ok g c =
+    let there : IsSome (slice_index_or c.self.inside.tickets.slots c.args.ticket.0 None) = c.if-not-contains.ensures.0 refl in
+    let upd : is_updating c.args.ticket c.self.inside.holds ≡ true = search rules in
+    let alone : is_shared c.args.ticket c.self.inside.holds ≡ false = search rules in
+    let held : c.convert.new.self ≡ made_exclusive c.args.ticket c.self.inside.holds = search rules in
+    rw (← c.self.view_is) (record { there = there; updating = upd; alone = alone; is = rw held refl })

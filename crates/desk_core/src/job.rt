@@ -1,0 +1,170 @@
+//! What is open: commands that were asked and not yet answered.
+ghost use Rattle.std.specs.Prelude.{◌≡◌, ◌↔◌, IsTrue, IfOk, IfErr, is_some};
+ghost use Rattle.desk_core.specs.Jobs.{worked, IsJob};
+ghost use Rattle.desk_core.specs.Worked.{IsWorked};
+
+use crate::page_copy::PageCopy;
+use crate::work::{Worked, work_on};
+use hold_modes::Ticket;
+use sdbm_addr::KeyBytes;
+use sdbm_dir::Place;
+use sdbm_split::Plan;
+use std::alloc::{AllocError, Allocator};
+use std::marker::Model;
+use store_cmd::{Command, Reply};
+
+/// What stands under an open ticket: who asked what, the place to which the key leads in a database whose keys hash so, and the
+/// page as it was.
+#[derive(Drop)]
+pub struct Open<A: Allocator> {
+    pub session: u64,
+    pub command: Command<A>,
+    pub place: Place,
+    pub kind: KeyBytes,
+    pub page: PageCopy<A>,
+}
+
+impl<A: Allocator> Open<A> {
+    /// Whether session, command, place, kind of key bytes and page are the same.
+    pub fn equals(&self, other: &Open<A>) -> bool
+        ensures { IsTrue result ↔ (self.now ≡ other.now) }
+    {
+        if self.session != other.session {
+            return false;
+        }
+        if self.place != other.place {
+            return false;
+        }
+        if self.kind != other.kind {
+            return false;
+        }
+        if self.command != other.command {
+            return false;
+        }
+        self.page.equals(&other.page)
+    }
+}
+
+/// A command that was asked, to be worked without the desk, seen as its ticket and what stands under it.
+#[derive(Drop)]
+pub struct Job<A: Allocator> {
+    pub(crate) alloc: A,
+    pub(crate) ticket: Ticket,
+    pub(crate) asked: Open<A>,
+}
+
+impl<A: Allocator> Model for Job<A> {
+    ghost use Rattle.desk_core.specs.Jobs.{Ticketed, IsJob};
+
+    ghost Value = { Ticketed A };
+
+    ghost view = { λ a. record { ticket = a.ticket.0; asked = a.asked } };
+
+    ghost invariant = { λ a. IsJob a.asked };
+}
+
+/// A command that was worked, seen as its ticket and what stands under it. What it comes to follows from that.
+#[derive(Drop)]
+pub struct Done<A: Allocator> {
+    pub(crate) ticket: Ticket,
+    pub(crate) asked: Open<A>,
+    pub(crate) reply: Reply<A>,
+    pub(crate) copy: Reply<A>,
+    pub(crate) change: Option<Plan<A>>,
+}
+
+impl<A: Allocator> Model for Done<A> {
+    ghost use Rattle.desk_core.specs.Jobs.{Ticketed, IsDone};
+
+    ghost Value = { Ticketed A };
+
+    ghost view = { λ a. record { ticket = a.ticket.0; asked = a.asked } };
+
+    ghost invariant = { λ a. IsDone a.asked a.reply a.copy a.change };
+}
+
+impl<A: Allocator> Job<A> {
+    /// The ticket under which it was asked.
+    pub fn ticket(&self) -> Ticket
+        ensures { result.0 ≡ self.now.ticket }
+    {
+        self.ticket
+    }
+
+    /// The number of its page.
+    pub fn page(&self) -> u32
+        ensures { result ≡ self.now.asked.place.page }
+    {
+        self.asked.place.page
+    }
+
+    /// Works the command out on the page as it was asked, and touches nothing else. Where no memory is left, the job comes back.
+    pub fn work(self) -> Result<Done<A>, (AllocError, Job<A>)>
+    where
+        A: Copy,
+        ensures ok { IfOk result (λ done. done ≡ self) }
+        ensures returned { IfErr result (λ refused. refused.1 ≡ self) }
+    {
+        let Ok(worked) = work_asked(self.alloc, &self.asked) else {
+            return Err((AllocError, self));
+        };
+        let Ok(copy) = worked.reply.try_clone(self.alloc) else {
+            return Err((AllocError, self));
+        };
+        let Worked { reply, change } = worked;
+        let Job { ticket, asked, .. } = self;
+        Ok(Done {
+            ticket,
+            asked,
+            reply,
+            copy,
+            change,
+        })
+    }
+}
+
+// What a command that was asked comes to.
+fn work_asked<A: Allocator + Copy>(alloc: A, asked: &Open<A>) -> Result<Worked<A>, AllocError>
+    requires { IsJob asked.now }
+    ensures { IfOk result (IsWorked (worked asked.now)) }
+{
+    work_on(
+        alloc,
+        asked.page.page(),
+        asked.place,
+        asked.kind,
+        asked.page.page_size(),
+        asked.session,
+        &asked.command,
+    )
+}
+
+impl<A: Allocator> Done<A> {
+    /// The ticket under which it was asked.
+    pub fn ticket(&self) -> Ticket
+        ensures { result.0 ≡ self.now.ticket }
+    {
+        self.ticket
+    }
+
+    /// What stands under it.
+    pub fn asked(&self) -> &Open<A>
+        ensures { result.now ≡ self.now.asked }
+    {
+        &self.asked
+    }
+
+    /// Whether it changes its page.
+    pub fn changes(&self) -> bool
+        ensures { result ≡ is_some (worked self.now.asked).change }
+    {
+        self.change.is_some()
+    }
+
+    /// The reply.
+    pub fn reply(&self) -> &Reply<A>
+        ensures { result.now ≡ (worked self.now.asked).reply }
+    {
+        &self.reply
+    }
+}

@@ -7,6 +7,7 @@ use std::alloc::Global;
 
 /// The longest record and argument of a run.
 pub const RECORD_LIMIT: usize = 8008;
+
 pub const ARGUMENT_LIMIT: usize = 1024;
 
 /// A run that is asked for.

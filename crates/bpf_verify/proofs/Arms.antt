@@ -1,5 +1,5 @@
 -- Each form of instruction, from what is known before it.
-use Rattle.std.proofs.Common.{◌≡◌, ◌≢◌, ℕ, ◌+◌, ◌<◌, ◌≤◌, length, refl, ap, ◌∙◌, arith, List, Option, Some, None, ⊎_elim, inl, inr, cond}
+use Rattle.std.proofs.Common.{ℤ, ◌≡◌, ◌≢◌, ℕ, ◌+◌, ◌<◌, ◌≤◌, length, refl, ap, ◌∙◌, arith, List, Option, Some, None, ⊎_elim, inl, inr, cond}
 use Rattle.std.specs.Prelude.{slice_set, slice_index_or}
 use Rattle.std.specs.Option.{option_and_then}
 use Rattle.std.proofs.lemmas.Bool.{cases_eq, ne_eqb}
@@ -9,7 +9,8 @@ use Rattle.bpf_insn.specs.declared.insn.Width.{Width}
 use Rattle.bpf_insn.specs.declared.insn.Op.{Op}
 use Rattle.bpf_insn.specs.declared.insn.Operand.{Operand}
 use Rattle.bpf_insn.specs.declared.insn.Insn.{Insn}
-use Rattle.bpf_insn.specs.declared.insn.Insn.TheVariants.{Alu, Unary, Wide}
+use Rattle.bpf_insn.specs.declared.insn.Insn.TheVariants.{Alu, Unary, Branch, Jump, JumpFar, Call, Exit, Load, LoadSigned, StoreImm, Store, Wide}
+use Rattle.bpf_insn.specs.declared.insn.Size.{Size}
 use Rattle.bpf_helpers.specs.declared.values.Value.{Value}
 use Rattle.bpf_helpers.specs.declared.values.Value.TheVariants.{Nothing, Number}
 use Rattle.bpf_helpers.specs.Machine.{Config, register, operand, outcome_of, with_register}
@@ -20,7 +21,7 @@ use Rattle.bpf_range.specs.declared.kinds.Kind.TheVariants.{Unset, Num}
 use Rattle.bpf_verify.specs.declared.state.State.{State}
 use Rattle.bpf_verify.specs.Kinds.{HoldsKind, KindKeeps}
 use Rattle.bpf_verify.specs.States.{Fits, IsConfig}
-use Rattle.bpf_verify.specs.Steps.{Gives, Passes, Sets, Flows, HasNext}
+use Rattle.bpf_verify.specs.Steps.{Gives, Passes, Sets, Flows, HasNext, IsAccess}
 
 -- a kept value
 pub kept : (k : Kind) (m n : ℕ) (o : Option Value) → KindKeeps k m n o → (v : Value) × (o ≡ Some v) × HoldsKind k m n v
@@ -82,3 +83,23 @@ flows i s t has passes = record {
   next = λ _. has;
   jump = λ h. let e : ⊥ = cc in absurd e;
 }
+
+-- an access is a load or a store
+pub no_access : (i : Insn) → IsAccess i
+    → ((n : Size) (d b : ℕ) (off : ℤ) → i ≡ Load n d b off → ⊥)
+    → ((n : Size) (d b : ℕ) (off : ℤ) → i ≡ LoadSigned n d b off → ⊥)
+    → ((n : Size) (b : ℕ) (off k : ℤ) → i ≡ StoreImm n b off k → ⊥)
+    → ((n : Size) (b : ℕ) (off : ℤ) (s : ℕ) → i ≡ Store n b off s → ⊥)
+    → ⊥
+no_access (Load n d b off) is l e m s = l n d b off refl
+no_access (LoadSigned n d b off) is l e m s = e n d b off refl
+no_access (StoreImm n b off k) is l e m s = m n b off k refl
+no_access (Store n b off r) is l e m s = s n b off r refl
+no_access (Alu op w d r) is l e m s = absurd is
+no_access (Unary op w d) is l e m s = absurd is
+no_access (Branch t w d r off) is l e m s = absurd is
+no_access (Jump off) is l e m s = absurd is
+no_access (JumpFar off) is l e m s = absurd is
+no_access (Call id) is l e m s = absurd is
+no_access Exit is l e m s = absurd is
+no_access (Wide d n) is l e m s = absurd is

@@ -1,7 +1,7 @@
 -- What an instruction makes of what is known.
 use Rattle.std.specs.Prelude.{ℕ, ◌≡◌, ◌≤◌, ◌+◌, ◌⊎◌, ℤ, pos, ◌+ℤ◌, ⊤, length, slice_set, Option, Some, None, IsSome}
 use Rattle.bpf_insn.specs.declared.insn.Insn.{Insn}
-use Rattle.bpf_insn.specs.declared.insn.Insn.TheVariants.{Branch, Jump, JumpFar, Exit}
+use Rattle.bpf_insn.specs.declared.insn.Insn.TheVariants.{Branch, Jump, JumpFar, Exit, Load, LoadSigned, StoreImm, Store}
 use Rattle.bpf_insn.specs.Code.{units_of}
 use Rattle.bpf_helpers.specs.declared.helpers.Helper.{Helper}
 use Rattle.bpf_helpers.specs.declared.values.Value.{Value}
@@ -35,6 +35,14 @@ Accesses r lo hi s off size = (c : Config) → IsConfig c → Fits s c → (o : 
 -- a register points into a region, and each access of so many bytes at it is inside
 abbrev pub Reaching : State → ℕ → ℤ → ℕ → Region → Type 0
 Reaching s a off n q = (c : Config) → IsConfig c → Fits s c → IsPointer q (λ o. IsSome (access c q (o +ℤ off) n)) (register c a)
+
+-- loads and stores
+abbrev pub IsAccess : Insn → Type 0
+IsAccess (Load n d b off) = ⊤
+IsAccess (LoadSigned n d b off) = ⊤
+IsAccess (StoreImm n b off k) = ⊤
+IsAccess (Store n b off s) = ⊤
+IsAccess i = ⊥
 
 -- ---- edges
 

@@ -2,7 +2,7 @@
 use Rattle.std.specs.Prelude.{ℕ, ◌≡◌, ◌<◌, ◌⊎◌, length, List, Option, Some, IsSome}
 use Rattle.std.specs.Option.{option_map}
 use Rattle.bpf_insn.specs.declared.insn.Insn.{Insn}
-use Rattle.bpf_insn.specs.Code.{unit_count, image_of}
+use Rattle.bpf_insn.specs.Code.{unit_count, fetch, image_of}
 use Rattle.bpf_helpers.specs.declared.values.Env.{Env}
 use Rattle.bpf_helpers.specs.Machine.{Config, step, ended}
 use Rattle.bpf_helpers.specs.Runs.{start, IsInput}
@@ -36,10 +36,11 @@ Consistent code states = (c : Config) → FitsAt states c → IsSome (ended code
 abbrev pub Starts : States → Type 0
 Starts states = (bytes argument : List ℕ) (env : Env) → IsInput bytes argument env → FitsAt states (start bytes argument env)
 
--- The states of an accepted program: one or none for each unit, so that each start fits, and each run goes on
--- from what fits to what fits.
+-- The states of an accepted program: one or none for each unit, and none but where an instruction begins. Each
+-- start fits, and each run goes on from what fits to what fits.
 pub record IsVerified (code : List Insn) (states : States) : Type 0 where
   pub long : length states ≡ unit_count code
+  pub begin : (u : ℕ) → IsSome (state_at states u) → IsSome (fetch code u)
   pub starts : Starts states
   pub each : Consistent code states
 

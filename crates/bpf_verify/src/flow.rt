@@ -2,7 +2,7 @@
 
 ghost use Rattle.std.specs.Prelude.{◌≡◌, ◌≢◌, ◌≤◌, ◌≤ℤ◌, pos, IfOk, Some, None};
 ghost use Rattle.bpf_insn.specs.Spelling.{HasSpelling, IsOperand};
-ghost use Rattle.bpf_verify.specs.Steps.{Passes, Flows};
+ghost use Rattle.bpf_verify.specs.Steps.{IsAccess, Passes, Flows};
 ghost use Rattle.bpf_verify.specs.Structure.{CanFlow};
 
 use crate::alu::alu_kind;
@@ -49,6 +49,42 @@ fn after_wide(dst: u8, n: u64, state: &State) -> State
     ensures { Passes (Insn.Wide dst n) state.now result }
 {
     state.with(dst, Kind::Num(Known::single(n)))
+}
+
+/// What is known after a load or a store.
+fn after_access(insn: Insn, state: &State) -> Result<State, FlowFault>
+    requires has { HasSpelling insn }
+    requires built { CanFlow insn }
+    requires access { IsAccess insn }
+    ensures { IfOk result (Passes insn state.now) }
+{
+    match insn {
+        Insn::Load {
+            size,
+            dst,
+            base,
+            offset,
+        } => after_load(size, dst, base, offset, state),
+        Insn::LoadSigned {
+            size,
+            dst,
+            base,
+            offset,
+        } => after_load_signed(size, dst, base, offset, state),
+        Insn::StoreImm {
+            size,
+            base,
+            offset,
+            ..
+        } => after_store_imm(size, base, offset, state),
+        Insn::Store {
+            size,
+            base,
+            offset,
+            src,
+        } => after_store(size, base, offset, src, state),
+        _ => unreachable!(),
+    }
 }
 
 /// A program ends with a number in R0.
@@ -111,30 +147,10 @@ pub fn flow(insn: Insn, state: &State) -> Result<Edges, FlowFault>
         Insn::JumpFar { .. } => Ok(to_target(*state)),
         Insn::Call { helper } => Ok(to_next(after_call(helper, state)?)),
         Insn::Exit => flow_exit(state),
-        Insn::Load {
-            size,
-            dst,
-            base,
-            offset,
-        } => Ok(to_next(after_load(size, dst, base, offset, state)?)),
-        Insn::LoadSigned {
-            size,
-            dst,
-            base,
-            offset,
-        } => Ok(to_next(after_load_signed(size, dst, base, offset, state)?)),
-        Insn::StoreImm {
-            size,
-            base,
-            offset,
-            ..
-        } => Ok(to_next(after_store_imm(size, base, offset, state)?)),
-        Insn::Store {
-            size,
-            base,
-            offset,
-            src,
-        } => Ok(to_next(after_store(size, base, offset, src, state)?)),
+        Insn::Load { .. } => Ok(to_next(after_access(insn, state)?)),
+        Insn::LoadSigned { .. } => Ok(to_next(after_access(insn, state)?)),
+        Insn::StoreImm { .. } => Ok(to_next(after_access(insn, state)?)),
+        Insn::Store { .. } => Ok(to_next(after_access(insn, state)?)),
         Insn::Wide { dst, value } => Ok(to_next(after_wide(dst, value, state))),
     }
 }

@@ -11,6 +11,12 @@ ghost use Rattle.bpf_verify.specs.Steps.{Sets};
 use bpf_insn::Operand;
 use bpf_range::{Kind, Known, Range};
 
+/// The longest record of a run.
+const RECORD_LIMIT: u64 = 8008;
+
+/// The longest argument of a run.
+const ARGUMENT_LIMIT: u64 = 1024;
+
 /// What is known before an instruction: the kind of each register, and the lengths of the record and
 /// the argument.
 #[derive(Clone, Copy, Debug)]
@@ -39,8 +45,14 @@ impl State {
                 Kind::Unset,
                 Kind::Stack { lo: 0, hi: 0 },
             ],
-            bytes: Range { lo: 0, hi: 8008 },
-            argument: Range { lo: 0, hi: 1024 },
+            bytes: Range {
+                lo: 0,
+                hi: RECORD_LIMIT,
+            },
+            argument: Range {
+                lo: 0,
+                hi: ARGUMENT_LIMIT,
+            },
         }
     }
 

@@ -1,6 +1,6 @@
 //! The pass over a program's instructions.
 
-ghost use Rattle.std.specs.Prelude.{◌≡◌, ◌<◌, ◌≤◌, ◌+◌, ◌≤ℤ◌, pos, ℕ, IsSome, OnOk, IfOk, IfErr, Some, length};
+ghost use Rattle.std.specs.Prelude.{◌≡◌, ◌<◌, ◌≤◌, ◌+◌, ◌≤ℤ◌, pos, ℕ, IsSome, OnOk, IfOk, IfErr, IsErrAnd, Some, length};
 ghost use Rattle.std.specs.Option.{option_map};
 ghost use Rattle.bpf_insn.specs.Code.{unit_count, units_of, fetch};
 ghost use Rattle.bpf_helpers.specs.Runs.{Safe};
@@ -117,6 +117,7 @@ pub fn verify<A: Allocator + Copy>(
     ensures safe { IfOk result (λ v. Safe v.code) }
     ensures built { IfOk result (λ v. IsBuilt v.code) }
     ensures refused { IfErr result (λ e. IsRefused code e.0) }
+    ensures structure { (fault : _) → IsMisbuilt code fault → IsErrAnd result (λ e. e.0 ≡ fault) }
     ensures back { IfErr result (λ e. e.1 ≡ code) }
 {
     if let Err(fault) = structure(&code) {

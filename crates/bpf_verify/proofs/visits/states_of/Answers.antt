@@ -36,6 +36,7 @@ pub returns-clause-verified : goal.returns-clause-verified
 returns-clause-verified g c =
     record {
       long = c.loop-at.invariant.are.long;
+      begin = c.loop-at.invariant.are.begin;
       starts = c.loop-at.invariant.starts;
       each = all_units _ _ (λ p h. c.loop-at.invariant.each p (omega (arith, c.loop-at.invariant.units, c.loop-at.invariant.are.long)));
     }

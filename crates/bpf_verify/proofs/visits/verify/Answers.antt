@@ -1,5 +1,12 @@
+use Rattle.bpf_verify.proofs.Misbuilt.{only_misbuilt, built_not}
 use Rattle.bpf_verify.proofs.Safety.{safe}
 use Rattle.bpf_verify.proofs.visits.verify.Goals as goal
 
+pub returns-in-Err-clause-structure : goal.returns-in-Err-clause-structure
+returns-in-Err-clause-structure g c = λ fault is. only_misbuilt c.args.code c.in-Err.fault fault c.in-Err.ensures.err is
+
 pub returns-in-Ok-clause-safe : goal.returns-in-Ok-clause-safe
 returns-in-Ok-clause-safe g c = rw c.new.ensures.code (safe c.args.code c.in-Ok.states c.in-Ok.ensures.verified)
+
+pub returns-in-Ok-clause-structure : goal.returns-in-Ok-clause-structure
+returns-in-Ok-clause-structure g c = λ fault is. built_not c.args.code fault c.in_default.ensures.ok is

@@ -3,7 +3,7 @@
 ghost use Rattle.std.specs.Prelude.{◌≡◌, ◌≤◌, ◌↔◌, ℕ, Some, IsTrue, IsSome, IfSome};
 ghost use Rattle.bpf_helpers.specs.declared.helpers.Helper.TheVariants.{Reply, Copy};
 ghost use Rattle.bpf_helpers.specs.Helpers.{numbered, Answers, AnswersIn, answer_of, greatest_answer};
-ghost use Rattle.bpf_range.specs.Sets.{Contains};
+ghost use Rattle.bpf_range.specs.Sets.{Contains, range_of};
 
 use crate::values::Env;
 use bpf_range::Known;
@@ -98,6 +98,7 @@ impl Helper {
     pub fn result(self) -> Known
         ensures contains { AnswersIn (Contains result) self }
         ensures exact { (x : ℕ) → Contains result x ↔ (x ≤ greatest_answer self) }
+        ensures range { ((range_of result).lo ≡ 0) × ((range_of result).hi ≡ greatest_answer self) }
     {
         Known::of(0, self.greatest())
     }
@@ -109,6 +110,7 @@ pub fn result(id: i32) -> Known
     requires { IsSome (numbered id) }
     ensures contains { IfSome (numbered id) (AnswersIn (Contains result)) }
     ensures exact { IfSome (numbered id) (λ helper. (x : ℕ) → Contains result x ↔ (x ≤ greatest_answer helper)) }
+    ensures range { IfSome (numbered id) (λ helper. ((range_of result).lo ≡ 0) × ((range_of result).hi ≡ greatest_answer helper)) }
 {
     match helper_of(id) {
         Some(helper) => helper.result(),

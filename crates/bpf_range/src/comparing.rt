@@ -119,8 +119,8 @@ fn turned(found: Option<(Range, Range)>) -> Option<(Range, Range)>
     Some((b, a))
 }
 
-/// The numbers that are left where an unsigned test comes out as `taken`: `None` where no numbers
-/// of the ranges do so. A signed test tells nothing here.
+/// The numbers that are left where an unsigned test comes out as `taken`: `None` only where no
+/// numbers of the ranges do so. A signed test tells nothing here.
 pub fn compare(test: Test, a: Range, b: Range, taken: bool) -> Option<(Range, Range)>
     ensures keeps { (x y : ℕ) → In a x → In b y → comparison test Width.W64 x y ≡ taken → IsSomeAnd result (λ p. In p.0 x × In p.1 y) }
     ensures within { IfSome result (λ p. Within p.0 a × Within p.1 b) }

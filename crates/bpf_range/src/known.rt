@@ -10,8 +10,8 @@ use settling::share_high_bits;
 /// What is known of a number: that it is in a range, and some of its bits. It contains the numbers
 /// of which both are true. Its range is never empty, and no bit is known to be 1 and unknown.
 ///
-/// It is settled where the range and the bits each tell what the other says, as far as that goes.
-/// What the functions of this crate answer is settled, but for `from_parts`.
+/// What the functions of this crate answer is settled once, but for `from_parts`: the range is cut
+/// by the bits, and then the bits above the highest in which its ends differ are known.
 #[derive(Clone, Copy, Debug, PartialEq, Eq)]
 pub struct Known {
     range: Range,

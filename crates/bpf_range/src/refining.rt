@@ -81,7 +81,7 @@ fn tested_bits(test: Test, width: Width, a: Bits, b: Range, taken: bool) -> Bits
 
 /// What is known of a test's operands where it comes out as `taken`. `None` only where no numbers
 /// that they contain do so: that edge of a conditional jump is never taken. The ranges are those of
-/// `refine_range`; the bits stay known, and both are settled.
+/// `refine_range`, cut by the bits, which stay known.
 pub fn refine(test: Test, width: Width, a: Known, b: Known, taken: bool) -> Option<(Known, Known)>
     ensures keeps { (x y : ℕ) → Contains a x → Contains b y → holds_of test width x y ≡ taken → IsSomeAnd result (λ p. Contains p.0 x × Contains p.1 y) }
     ensures within { IfSome result (λ p. Within (range_of p.0) (range_of a) × Within (range_of p.1) (range_of b)) }

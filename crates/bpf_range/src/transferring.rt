@@ -120,9 +120,9 @@ fn transfer_bits(op: Op, width: Width, a: Bits, b: Bits, count: Range) -> Bits
 }
 
 /// What is known of the result of an operation on the destination `a` and the operand `b` (RFC
-/// 9669, section 4.1). Its range is that of `transfer_range`. Its bits are those that the operands'
+/// 9669, section 4.1). Its range is that of `transfer_range`, cut by the bits. Its bits are those that the operands'
 /// known bits decide where the operation is `And`, `Or`, `Xor`, `Mov` or a `Lsh` or `Rsh` by a
-/// single count; at 32 bits the upper half is 0. Both are then settled. No memory is taken.
+/// single count; at 32 bits the upper half is 0. No memory is taken.
 pub fn transfer(op: Op, width: Width, a: Known, b: Known) -> Known
     ensures contains { (x y : ℕ) → Contains a x → Contains b y → Contains result (result_of op width x y) }
     ensures single { (x y : ℕ) → IsOnly (range_of a) x → IsOnly (range_of b) y → IsOnly (range_of result) (result_of op width x y) }

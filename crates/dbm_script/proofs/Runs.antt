@@ -5,6 +5,7 @@ use Rattle.std.proofs.lemmas.Bool.{false≢true}
 use Rattle.dbm_script.specs.Pieces.{pieces_of}
 use Rattle.sdbm_addr.specs.Database.{Database}
 use Rattle.store_cmd.specs.declared.Command.{Command}
+use Rattle.store_cmd.specs.declared.Entry.{Entry}
 use Rattle.desk_core.proofs.Acting.{Acts-unique}
 use Rattle.dbm_script.specs.Commands.{command_of}
 use Rattle.dbm_script.specs.Answers.{IsAnswerTo, answer_text}
@@ -44,11 +45,15 @@ line_runs A s s' (c ∷ cs) old mid new some adds more = record {
 
 -- ---- one text and one state
 
--- the answer to a command, and the state after it, are determined
+same_entry : {A : Type 0} (x y : Entry A) → x.session ≡ y.session → x.command ≡ y.command → x.reply ≡ y.reply → x ≡ y
+same_entry x y s c r = λ i. record { session = s i; command = c i; reply = r i }
+
+-- the answer to a command, and the database after it, are determined
 IsAnswerTo-unique : (A : Type 0) (s : Database) (command : Command A) (x y : Answer A) (a b : Database)
     → IsAnswerTo A s command x a → IsAnswerTo A s command y b → (x ≡ y) × (a ≡ b)
 IsAnswerTo-unique A s command (Replied x) (Replied y) a b p q =
-    let same = Acts-unique s 0 command x y a b p.1 q.1 in (ap Replied same.0, same.1)
+    let same = Acts-unique s 0 command x.reply y.reply a b p.1.1.1 q.1.1.1 in
+    (ap Replied (same_entry x y (p.1.0 ∙ sym q.1.0) (p.1.1.0 ∙ sym q.1.1.0) same.0), same.1)
 IsAnswerTo-unique A s command (Replied x) PairTooLarge a b p q = absurd (q.0 p.0)
 IsAnswerTo-unique A s command PairTooLarge (Replied y) a b p q = absurd (p.0 q.0)
 IsAnswerTo-unique A s command PairTooLarge PairTooLarge a b p q = (refl, p.1 ∙ sym q.1)

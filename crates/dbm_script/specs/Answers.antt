@@ -6,20 +6,14 @@ use Rattle.store_cmd.specs.declared.Command.{Command}
 use Rattle.store_cmd.specs.declared.Reply.{Reply}
 use Rattle.store_cmd.specs.declared.Reply.TheVariants.{Found, Missing, Stored, Exists, Crowded, Deleted, Count}
 use Rattle.store_cmd.specs.Command.{IsSmall}
-use Rattle.store_cmd.specs.declared.Entry.{Entry}
 use Rattle.desk_core.specs.Acts.{Acts}
 use Rattle.dbm_script.specs.declared.answers.Answer.{Answer}
 use Rattle.dbm_script.specs.declared.answers.Answer.TheVariants.{Replied, PairTooLarge}
 
 -- A command of session 0 that is small enough is done, and its answer is the reply; a larger one is refused, and changes nothing.
 abbrev pub IsAnswerTo : (A : Type 0) → Database → Command A → Answer A → Database → Type 0
-IsAnswerTo A db command (Replied reply) db' = IsSmall db.size command × Acts db 0 command reply db'
+IsAnswerTo A db command (Replied entry) db' = IsSmall db.size command × ((entry.session ≡ 0) × ((entry.command ≡ command) × Acts db 0 command entry.reply db'))
 IsAnswerTo A db command PairTooLarge db' = (¬ (IsSmall db.size command)) × (db' ≡ db)
-
--- what an answer adds to the trail: an entry of session 0, and nothing for a command that was refused
-abbrev pub entries_of : {A : Type 0} → Command A → Answer A → List (Entry A)
-entries_of command (Replied reply) = record { session = 0; command = command; reply = reply } ∷ []
-entries_of command PairTooLarge = []
 
 -- bytes in lower-case hex, or a dot for none
 abbrev pub shown : List ℕ → List ℕ
@@ -36,5 +30,5 @@ reply_text Deleted = codes "deleted"
 reply_text (Count n) = codes "count " ++ decimal n
 
 abbrev pub answer_text : {A : Type 0} → Answer A → List ℕ
-answer_text (Replied reply) = reply_text reply
+answer_text (Replied entry) = reply_text entry.reply
 answer_text PairTooLarge = codes "refused PairTooLarge"

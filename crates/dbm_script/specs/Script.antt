@@ -3,7 +3,6 @@ use Rattle.std.specs.Prelude.{◌≡◌, ℕ, ◌+◌, ◌<◌, ◌≤◌, List,
 use Rattle.std.specs.Io.KnownBytes.{Appends}
 use Rattle.sdbm_addr.specs.Database.{Database}
 use Rattle.store_cmd.specs.declared.Command.{Command}
-use Rattle.desk_core.specs.Desk.{DeskState, open_count}
 use Rattle.dbm_script.specs.Pieces.{pieces_of}
 use Rattle.dbm_script.specs.Commands.{command_of}
 use Rattle.dbm_script.specs.Answers.{IsAnswerTo, answer_text}
@@ -38,20 +37,6 @@ pub record Adds (old new : List ℕ) (P : List ℕ → Type 0) : Type 0 where
   pub added : List ℕ
   pub is : new ≡ old ++ added
   pub holds : P added
-
--- a desk with room for one more entry, of which no page is held
-pub record IsFree {A : Type 0} (s : DeskState A) : Type 0 where
-  pub room : length s.entries + open_count s < s.limit
-  pub holds : s.holds ≡ []
-
--- a desk has at most one entry more, and keeps its tickets, holds, limit, size and way of hashing
-pub record KeepsDesk {A : Type 0} (old new : DeskState A) : Type 0 where
-  pub entries : length new.entries ≤ length old.entries + 1
-  pub tickets : new.tickets ≡ old.tickets
-  pub holds : new.holds ≡ old.holds
-  pub limit_is : new.limit ≡ old.limit
-  pub kind : new.database.kind ≡ old.database.kind
-  pub size : new.database.size ≡ old.database.size
 
 -- known bytes grow by the first bytes of a text, and not by all of them
 pub record WritesPart (old new : Option (List ℕ)) (text : List ℕ) : Type 0 where

@@ -4,13 +4,13 @@ ghost use Rattle.dbm_script.specs.Answers.{shown, reply_text, answer_text};
 
 use itoa::Buffer;
 use std::alloc::{AllocError, Allocator};
-use store_cmd::Reply;
+use store_cmd::{Entry, Reply};
 
 /// The answer to a command.
 #[derive(Drop)]
 pub enum Answer<A: Allocator> {
-    /// Its reply.
-    Replied(Reply<A>),
+    /// Its session, the command and the reply.
+    Replied(Entry<A>),
     /// It is refused: the key and the value to be stored have more bytes together than a pair may have.
     PairTooLarge,
 }
@@ -27,7 +27,7 @@ pub fn show_answer<A: Allocator + Copy>(
     ensures { OnOk result (text.new.items ≡ text.old.items ++ answer_text answer.now) }
 {
     match answer {
-        Answer::Replied(reply) => show_reply(alloc, reply, text),
+        Answer::Replied(entry) => show_reply(alloc, &entry.reply, text),
         Answer::PairTooLarge => text.extend_from_slice(b"refused PairTooLarge"),
     }
 }

@@ -11,6 +11,6 @@ mod streams;
 pub use answers::{Answer, show_answer, show_bytes};
 pub use commands::{read_bytes, read_command, read_line};
 pub use fault::ScriptFault;
-pub use pieces::{first_piece, lines_in};
+pub use pieces::first_piece;
 pub use script::{answer_command, run_lines, run_script};
 pub use streams::{SCRIPT_LIMIT, read_all, write_all};

@@ -1,15 +1,8 @@
 //! Texts cut into pieces, without a copy.
-ghost use Rattle.std.specs.Prelude.{◌≡◌, length, ◌∷◌};
+ghost use Rattle.std.specs.Prelude.{◌≡◌, ◌∷◌};
 ghost use Rattle.dbm_script.specs.Pieces.{pieces_of, pieces_left};
 
 use memchr::memchr;
-
-/// The number of lines of a text, the one behind its last LF too.
-pub fn lines_in(text: &[u8]) -> usize
-    ensures { result ≡ length (pieces_of 10 text.now) }
-{
-    text.split(|byte| *byte == b'\n').count()
-}
 
 /// A text as far as the first byte of a kind, and what is left behind that byte, where there is one.
 pub fn first_piece(end: u8, text: &[u8]) -> (&[u8], Option<&[u8]>)

@@ -1,22 +1,25 @@
 //! Scripts: all that is read, run as one session, and the text of the answers.
-ghost use Rattle.std.specs.Prelude.{◌≡◌, ◌++◌, ◌<◌, ◌≤◌, List, ℕ, IfOk, OnOk, OnErr, IfErr, IfSome, IsErrOf, ◌∷◌, [], length};
+ghost use Rattle.std.specs.Prelude.{◌≡◌, ◌<◌, ◌≤◌, List, ℕ, IfOk, OnOk, OnErr, IfErr, IfSome, IsErrOf, ◌∷◌, [], length};
 ghost use Rattle.std.specs.Io.KnownBytes.{Appends, Keeps};
 ghost use Rattle.sdbm_addr.specs.Database.{Database};
 ghost use Rattle.dbm_script.specs.Pieces.{pieces_of};
 ghost use Rattle.dbm_script.specs.Commands.{command_of};
-ghost use Rattle.dbm_script.specs.Answers.{IsAnswerTo, entries_of};
-ghost use Rattle.dbm_script.specs.Script.{IsScriptRun, RunsLines, AnswersLine, Adds, IsFree, KeepsDesk, WritesPart};
+ghost use Rattle.dbm_script.specs.Answers.{IsAnswerTo};
+ghost use Rattle.dbm_script.specs.Script.{IsScriptRun, RunsLines, AnswersLine, Adds, WritesPart};
 
 use crate::answers::{Answer, show_answer};
 use crate::commands::read_line;
 use crate::fault::ScriptFault;
-use crate::pieces::{first_piece, lines_in};
+use crate::pieces::first_piece;
 use crate::streams::{read_all, write_all};
-use desk_core::{AskFault, Desk};
+use desk_core::act;
 use sdbm_files::Image;
 use std::alloc::{AllocError, Allocator};
 use std::io::{Read, Write};
-use store_cmd::Command;
+use store_cmd::{Command, check};
+
+/// The session of all commands of a script.
+const SCRIPT_SESSION: u64 = 0;
 
 /// Reads a script, runs all its lines on an image as session 0, writes the answers, and gives the image after it.
 ///
@@ -58,79 +61,73 @@ pub fn run_lines<A: Allocator + Copy>(
     ensures runs { IfOk result (λ r. IsScriptRun A image input.now r.1.items r.0) }
     ensures kept { IfOk result (λ r. (r.0.kind ≡ image.kind) × (r.0.size ≡ image.size)) }
 {
-    let Ok(mut desk) = Desk::open(alloc, image, lines_in(input)) else {
-        return Err(AllocError);
-    };
+    let mut image = image;
     let mut text = Vec::new(alloc);
     let mut rest = Some(input);
     while let Some(left) = rest {
         let (line, after) = first_piece(b'\n', left);
-        answer_line(alloc, &mut desk, line, &mut text)?;
+        answer_line(alloc, &mut image, line, &mut text)?;
         rest = after;
     }
-    let (image, _) = desk.into_parts();
     Ok((image, text))
 }
 
 // Answers one line, unless it is empty.
 fn answer_line<A: Allocator + Copy>(
     alloc: A,
-    desk: &mut Desk<A>,
+    image: &mut Image<A>,
     line: &[u8],
     text: &mut Vec<u8, A>,
 ) -> Result<(), AllocError>
-    requires { IsFree desk.old }
     ensures answer { OnOk result (Adds text.old.items text.new.items (λ added.
-        RunsLines A desk.old.database (line.now ∷ []) added desk.new.database)) }
-    ensures desk { OnOk result (KeepsDesk desk.old desk.new) }
+        RunsLines A image.old (line.now ∷ []) added image.new)) }
+    ensures kept { OnOk result ((image.new.kind ≡ image.old.kind) × (image.new.size ≡ image.old.size)) }
 {
     if line.is_empty() {
         return Ok(());
     }
-    answer_words(alloc, desk, line, text)?;
+    answer_words(alloc, image, line, text)?;
     Ok(text.push(b'\n')?)
 }
 
 // Answers the words of a line: a command by its answer, and anything else by the words for a bad line.
 fn answer_words<A: Allocator + Copy>(
     alloc: A,
-    desk: &mut Desk<A>,
+    image: &mut Image<A>,
     line: &[u8],
     text: &mut Vec<u8, A>,
 ) -> Result<(), AllocError>
-    requires { IsFree desk.old }
     ensures answer { OnOk result (Adds text.old.items text.new.items (λ added.
-        AnswersLine A desk.old.database (command_of (pieces_of 32 line.now)) added desk.new.database)) }
-    ensures desk { OnOk result (KeepsDesk desk.old desk.new) }
+        AnswersLine A image.old (command_of (pieces_of 32 line.now)) added image.new)) }
+    ensures kept { OnOk result ((image.new.kind ≡ image.old.kind) × (image.new.size ≡ image.old.size)) }
 {
     match read_line(alloc, line)? {
         None => text.extend_from_slice(b"bad line"),
         Some(command) => {
-            let answer = answer_command(desk, command)?;
+            let answer = answer_command(alloc, image, command)?;
             show_answer(alloc, &answer, text)
         }
     }
 }
 
-/// Answers a command on a desk, of which no page is held, as session 0, whose entry is added to the trail.
+/// Answers a command on a database as session 0. No trail is kept.
 ///
 /// # Errors
-/// `AllocError` where there is no memory left for it. The desk is as it was then.
+/// `AllocError` where there is no memory left for it. The database is as it was then.
 pub fn answer_command<A: Allocator + Copy>(
-    desk: &mut Desk<A>,
+    alloc: A,
+    image: &mut Image<A>,
     command: Command<A>,
 ) -> Result<Answer<A>, AllocError>
-    requires { IsFree desk.old }
-    ensures answer { IfOk result (λ answer. IsAnswerTo A desk.old.database command answer desk.new.database) }
-    ensures entry { IfOk result (λ answer. desk.new.entries ≡ desk.old.entries ++ entries_of command answer) }
-    ensures err { OnErr result (desk.new ≡ desk.old) }
-    ensures desk { OnOk result (KeepsDesk desk.old desk.new) }
+    ensures answer { IfOk result (λ answer. IsAnswerTo A image.old command answer image.new) }
+    ensures kept { OnOk result ((image.new.kind ≡ image.old.kind) × (image.new.size ≡ image.old.size)) }
+    ensures err { OnErr result (image.new ≡ image.old) }
 {
-    match desk.step(0, command) {
-        Ok(reply) => Ok(Answer::Replied(reply)),
-        Err((AskFault::PairTooLarge, _command)) => Ok(Answer::PairTooLarge),
-        Err((AskFault::TrailFull, _command)) => unreachable!(),
-        Err((AskFault::Busy, _command)) => unreachable!(),
-        Err((AskFault::NoMemory, _command)) => Err(AllocError),
+    if check(&command, image.page_size()).is_err() {
+        return Ok(Answer::PairTooLarge);
+    }
+    match act(alloc, image, SCRIPT_SESSION, command) {
+        Ok(entry) => Ok(Answer::Replied(entry)),
+        Err((error, _command)) => Err(error),
     }
 }

@@ -44,7 +44,7 @@ reply_status Deleted = 0
 reply_status (Count n) = 0
 
 abbrev pub status_of : {A : Type 0} → Answer A → ℕ
-status_of (Replied reply) = reply_status reply
+status_of (Replied entry) = reply_status entry.reply
 status_of PairTooLarge = 1
 
 -- a command is answered, by its answer in a line and the status that goes with it

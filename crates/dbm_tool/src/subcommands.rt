@@ -5,8 +5,7 @@ ghost use Rattle.dbm_script.specs.Answers.{IsAnswerTo};
 ghost use Rattle.dbm_tool.specs.Reports.{Looks, Changes, Lists, Counts, Plays, Widens, status_of};
 
 use crate::listing::{list_pairs, show_ok};
-use dbm_script::{Answer, run_lines, show_answer};
-use desk_core::act;
+use dbm_script::{Answer, answer_command, run_lines, show_answer};
 use sdbm_files::{Image, widen};
 use std::alloc::{AllocError, Global};
 use store_cmd::{Command, Reply};
@@ -70,12 +69,9 @@ fn answer_one(
     ensures kind { IfOk result (λ r. r.0.kind ≡ image.kind) }
     ensures size { IfOk result (λ r. r.0.size ≡ image.size) }
 {
-    if store_cmd::check(&command, image.page_size()).is_err() {
-        return Ok((image, Answer::PairTooLarge));
-    }
     let mut image = image;
-    let reply = act(alloc, &mut image, 0, &command)?;
-    Ok((image, Answer::Replied(reply)))
+    let answer = answer_command(alloc, &mut image, command)?;
+    Ok((image, answer))
 }
 
 // The status that goes with an answer: 1 where nothing was found, or nothing changed that was to be changed.
@@ -83,8 +79,10 @@ fn status_of(answer: &Answer<Global>) -> u8
     ensures { result ≡ status_of answer.now }
 {
     match answer {
-        Answer::Replied(Reply::Missing | Reply::Exists | Reply::Crowded) => 1,
-        Answer::Replied(_) => 0,
+        Answer::Replied(entry) => match entry.reply {
+            Reply::Missing | Reply::Exists | Reply::Crowded => 1,
+            _ => 0,
+        },
         Answer::PairTooLarge => 1,
     }
 }

@@ -1,4 +1,4 @@
-use Rattle.std.proofs.Common.{◌≡◌, ◌≤◌, ◌+◌, ◌++◌, [], List, ℕ, length}
+use Rattle.std.proofs.Common.{◌≡◌, ◌++◌, List, ℕ, length}
 use Rattle.dbm_script.specs.Pieces.{pieces_of, pieces_left}
 use Rattle.dbm_script.specs.Script.{RunsLines}
 use Rattle.dbm_script.proofs.script.run_lines.Given as goal
@@ -8,12 +8,9 @@ abbrev pub invariant-loop-rest : goal.invariant-loop-rest
 invariant-loop-rest g l = record {
   done : List (List ℕ);
   lines : done ++ pieces_left 10 l.rest ≡ pieces_of 10 l.input;
-  ran : RunsLines g.row.A.Denot l.fn.image done l.text.items l.desk.database;
-  room : length l.desk.entries + length (pieces_left 10 l.rest) ≤ l.desk.limit;
-  tickets : l.desk.tickets ≡ [];
-  holds : l.desk.holds ≡ [];
-  kind : l.desk.database.kind ≡ l.fn.image.kind;
-  size : l.desk.database.size ≡ l.fn.image.size;
+  ran : RunsLines g.row.A.Denot l.fn.image done l.text.items l.image;
+  kind : l.image.kind ≡ l.fn.image.kind;
+  size : l.image.size ≡ l.fn.image.size;
 }
 
 abbrev pub decreases-loop-rest : goal.decreases-loop-rest

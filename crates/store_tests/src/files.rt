@@ -1,5 +1,4 @@
 //! The files of databases, worked out by hand from the hashes of the keys.
-use crate::asks::{Ask, Told, answer, open};
 use crate::page_bytes::begins_and_ends;
 use sdbm_addr::{Bytes, KeyBytes, Mode, PageSize};
 use sdbm_files::{Image, MemSink, widen};
@@ -7,6 +6,7 @@ use std::alloc::{AllocError, Allocator, Global};
 use std::process::Abort;
 use std::test::Fail;
 use store_cmd::{Command, Reply};
+use test_asks::{Ask, Told, answer, open};
 
 /// Both files of a database.
 #[derive(Drop)]

@@ -1,11 +1,11 @@
 //! Memory that runs out while files are read, written and widened.
 use crate::files::{Files, database, files_of, same_files};
-use crate::heap::fill;
 use linked_list_allocator::LocalHeap;
 use sdbm_addr::{KeyBytes, PageSize};
 use sdbm_files::{Image, MemSink, OpenFault, Sink, SinkFault, WriteFault, widen};
 use std::process::Abort;
 use std::test::Fail;
+use test_asks::fill;
 
 // The database of files in a heap.
 fn open_in<'a>(heap: &'a LocalHeap, files: &Files) -> Result<Image<&'a LocalHeap>, OpenFault> {

@@ -1,6 +1,4 @@
 //! Memory that runs out, at each step of a run: what is refused changes nothing, and is answered as usual with more memory.
-use crate::asks::{Ask, Told, said_by};
-use crate::trail::{same_command, same_pairs, same_trail};
 use desk_core::{AskFault, Desk};
 use linked_list_allocator::LocalHeap;
 use sdbm_addr::{KeyBytes, PageSize};
@@ -8,26 +6,7 @@ use sdbm_files::Image;
 use std::alloc::{AllocError, Global};
 use std::process::Abort;
 use std::test::Fail;
-
-/// Takes all memory of a heap but for the last blocks, which are the smaller ones.
-pub fn fill<'a>(
-    alloc: Global,
-    heap: &'a LocalHeap,
-    spared: usize,
-) -> Result<Vec<Vec<u8, &'a LocalHeap>>, AllocError> {
-    let mut blocks = Vec::new(alloc);
-    for size in [4096, 512, 64, 16] {
-        for _ in 0..100 {
-            let Ok(block) = Vec::with_capacity(heap, size) else {
-                break;
-            };
-            blocks.push(block)?;
-        }
-    }
-    let kept = blocks.len().saturating_sub(spared);
-    blocks.truncate(kept);
-    Ok(blocks)
-}
+use test_asks::{Ask, Told, fill, said_by, same_command, same_pairs, same_trail};
 
 // Asks a command with more and more memory until it is answered, and tells how often it was refused. The desk has to stay as
 // it was at each refusal.

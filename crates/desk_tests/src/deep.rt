@@ -1,5 +1,4 @@
 //! Directories as deep as they may be, and a bit deeper.
-use crate::asks::Told;
 use crate::plans::put;
 use desk_core::Desk;
 use sdbm_addr::{KeyBytes, Mode, PageSize};
@@ -7,6 +6,7 @@ use sdbm_dir::DirFault;
 use sdbm_files::{Image, OpenFault};
 use std::alloc::AllocError;
 use std::test::Fail;
+use test_asks::Told;
 
 // The prefixes of zeros are split, each up to 30 letters: their bits are 2^k - 1.
 #[test]

@@ -1,6 +1,5 @@
 //! Stores on pages of every depth, against an independent model: which pages there are then, what stands on them in which
 //! order, and which prefixes were split.
-use crate::asks::{Told, open, said_by, store};
 use crate::plan_cases::{
     CASES_1, CASES_2, CASES_3, CASES_4, CASES_5, CASES_6, CASES_7, CASES_8, CASES_9, CASES_10,
     CASES_11, CASES_12,
@@ -12,6 +11,7 @@ use std::alloc::{AllocError, Global};
 use std::process::Abort;
 use std::test::Fail;
 use store_cmd::Command;
+use test_asks::{Told, open, said_by, store};
 
 /// A store on a page of so many zero bytes under each key.
 pub struct PlanCase {

@@ -1,11 +1,11 @@
 //! What a desk answers, on databases whose splits were worked out by hand from the hashes of the keys.
-use crate::asks::{Ask, Told, answer, open};
 use desk_core::{AskFault, Desk};
 use sdbm_addr::{Bytes, KeyBytes, PageSize};
 use sdbm_files::Image;
 use std::alloc::{AllocError, Global};
 use std::process::Abort;
 use std::test::Fail;
+use test_asks::{Ask, Told, answer, open};
 
 const TOO_LARGE: Told = Told::Refused(AskFault::PairTooLarge);
 

@@ -1,5 +1,5 @@
 //! Commands and what is answered to them, as the tables of the tests write them: they own no memory.
-use crate::trail::same_command;
+use crate::same::same_command;
 use desk_core::{AskFault, Desk};
 use sdbm_addr::{Bytes, KeyBytes, Mode, PageSize};
 use sdbm_files::Image;

@@ -1,13 +1,13 @@
 //! Random lists of events on a desk, against a plain model: an array of values, the open tickets, and what is in hand.
 ghost use Rattle.std.specs.Prelude.{◌<◌};
 
-use crate::asks::{Ask, Told};
 use crate::events::{Comes, Does, come_of};
 use desk_core::{AskFault, ConvertFault, Desk, Event, FinishFault};
 use sdbm_addr::{KeyBytes, PageSize};
 use sdbm_files::Image;
 use std::alloc::{AllocError, Global};
 use std::test::Fail;
+use test_asks::{Ask, Told};
 
 // Keys and the pages to which they lead once page 0 is split: the lowest bit of a hash, which is that of the byte.
 const KEYS: [(&[u8], u32); 5] = [(b"a", 1), (b"b", 0), (b"c", 1), (b"d", 0), (b"e", 1)];

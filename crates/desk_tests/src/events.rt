@@ -1,11 +1,11 @@
 //! Lists of events on a desk, as tables, and what comes of each.
-use crate::asks::{Ask, Told, open, said_by};
 use desk_core::{AskFault, Asked, ConvertFault, Desk, Done, Event, FinishFault, Outcome, Ticket};
 use sdbm_addr::{KeyBytes, PageSize};
 use sdbm_files::Image;
 use std::alloc::{AllocError, Allocator, Global};
 use std::test::Fail;
 use store_cmd::Reply;
+use test_asks::{Ask, Told, open, said_by};
 
 /// An event that owns no memory.
 #[derive(Clone, Copy, Debug)]

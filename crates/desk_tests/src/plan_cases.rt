@@ -1,7 +1,7 @@
 //! Stores on one page and what they make of it, by an independent model of the store.
-use crate::asks::Told;
 use crate::plans::PlanCase;
 use sdbm_addr::Mode::{Insert, Replace};
+use test_asks::Told;
 
 pub const CASES_1: &[PlanCase] = &[
     PlanCase {

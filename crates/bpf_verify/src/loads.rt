@@ -26,6 +26,8 @@ fn reached(size: Size, base: u8, offset: i16, state: &State) -> Result<Region, F
     Ok(place.region)
 }
 
+/// What is known after a load, which gives a number of so many bytes (RFC 9669, section 5.1). The error is
+/// what is wrong with the address, or that it lies outside its region.
 pub fn after_load(
     size: Size,
     dst: u8,
@@ -43,6 +45,8 @@ pub fn after_load(
     Ok(state.with(dst, Kind::Num(loaded)))
 }
 
+/// What is known after a load with sign, which gives any number (RFC 9669, section 5.2). The error is that
+/// of `after_load`.
 pub fn after_load_signed(
     size: Size,
     dst: u8,
@@ -60,6 +64,8 @@ pub fn after_load_signed(
     Ok(state.with(dst, Kind::Num(loaded)))
 }
 
+/// What is known after a store of a register: what was known before (RFC 9669, section 5.1). The error is that
+/// of `after_load`, or that a pointer is stored or the argument written.
 pub fn after_store(
     size: Size,
     base: u8,

@@ -1,3 +1,5 @@
 pub mod Ends
 pub mod Cpu
 pub mod Checked
+pub mod Words
+pub mod Seen

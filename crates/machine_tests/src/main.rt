@@ -15,6 +15,7 @@
 //! worked out by hand from the rules of a step.
 #![tactic(auto)]
 
+mod both;
 mod lines;
 mod report;
 

@@ -1,7 +1,11 @@
 //! Answers to the lines of standard input.
 
+use crate::both::{Tally, count_changed, count_runs};
 use crate::lines::{ARGUMENT_LIMIT, RECORD_LIMIT, Run, read_run};
+use bpf_helpers::Env;
+use bpf_insn::Code;
 use bpf_machine::{Checked, run_checked};
+use bpf_verify::{Verified, verify};
 use std::alloc::{AllocError, Global};
 
 /// Bytes in hex, with the number of the zeros at their end.
@@ -16,19 +20,58 @@ fn show_bytes(alloc: Global, bytes: &[u8]) -> Result<String, AllocError> {
     format!(in alloc; "{digits}+{zeros}")
 }
 
-/// What comes of a run, and the record that it leaves.
-fn show_run(alloc: Global, run: Run) -> Result<String, AllocError> {
-    let mut run = run;
-    if run.bytes.len() > RECORD_LIMIT || run.argument.len() > ARGUMENT_LIMIT {
+/// What comes of a run on the checked machine, and the record that it leaves.
+fn show_checked(
+    alloc: Global,
+    code: &Code,
+    env: &Env,
+    bytes: &[u8],
+    argument: &[u8],
+) -> Result<String, AllocError> {
+    let mut bytes = Vec::from_slice(alloc, bytes)?;
+    if bytes.len() > RECORD_LIMIT || argument.len() > ARGUMENT_LIMIT {
         return String::from_str(alloc, "a record or an argument that is too long");
     }
-    let answer = run_checked(&run.code, &run.env, &mut run.bytes, &run.argument);
-    let left = show_bytes(alloc, &run.bytes)?;
+    let answer = run_checked(code, env, &mut bytes, argument);
+    let left = show_bytes(alloc, &bytes)?;
     match answer {
         Checked::Ended(end) => {
             format!(in alloc; "ended {} {} {} {left}", end.code, end.word, end.steps)
         }
         Checked::Stuck(at) => format!(in alloc; "stuck {at} {left}"),
+    }
+}
+
+/// The same of an accepted program, with what comes of it and its like on both machines.
+fn show_both(
+    alloc: Global,
+    program: &Verified,
+    env: &Env,
+    bytes: &[u8],
+    argument: &[u8],
+) -> Result<String, AllocError> {
+    let answer = show_checked(alloc, program.code(), env, bytes, argument)?;
+    let mut tally = Tally::new();
+    count_runs(alloc, program, env, bytes, argument, &mut tally)?;
+    count_changed(alloc, program, env, bytes, argument, &mut tally)?;
+    let alike = tally.alike;
+    if tally.unlike == 0 {
+        return format!(in alloc; "{answer}, alike in {alike} runs");
+    }
+    format!(in alloc; "{answer}, unlike in {} runs", tally.unlike)
+}
+
+/// What comes of a run.
+fn show_run(alloc: Global, run: Run) -> Result<String, AllocError> {
+    let Run {
+        code,
+        env,
+        bytes,
+        argument,
+    } = run;
+    match verify(alloc, code) {
+        Ok(program) => show_both(alloc, &program, &env, &bytes, &argument),
+        Err((_, code)) => show_checked(alloc, &code, &env, &bytes, &argument),
     }
 }
 

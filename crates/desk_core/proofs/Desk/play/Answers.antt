@@ -1,11 +1,24 @@
-use Rattle.std.proofs.Common.{◌≡◌, ◌+◌, ◌≤◌, ◌++◌, ◌∷◌, [], List, nat_eq, take, length, sym, ap, ◌∙◌, subst, arith}
+use Rattle.std.proofs.Common.{◌≡◌, ◌+◌, ◌≤◌, ◌++◌, ◌∷◌, [], List, nat_eq, take, length, sym, ap, ◌∙◌, subst, refl, arith}
 use Rattle.std.proofs.lemmas.List.{take_more, take_all}
 use Rattle.std.specs.HashMap.{get}
+use Rattle.std.specs.Map.{lookup}
 use Rattle.desk_core.specs.declared.events.Event.{Event}
 use Rattle.desk_core.specs.declared.events.Outcome.{Outcome}
 use Rattle.desk_core.specs.Events.{Plays, no_hands}
 use Rattle.desk_core.proofs.Playing.{Plays-push, GoesOn-from_Plays}
 use Rattle.desk_core.proofs.Desk.play.Goals as goal
+
+pub loop-event-init : goal.loop-event-init
+loop-event-init g c =
+    let hands = c.in_ok-hands.ensures in
+    let outcomes = c.in_ok-outcomes.ensures in
+    record {
+      plays = subst (λ (outs : List (Outcome g.row.A.Denot)). Plays c.args.self.now (no_hands {A = g.row.A.Denot}) [] outs c.args.self.now (get nat_eq c.in_ok-hands.hands)) (sym outcomes.items)
+          (refl, λ t. ap (lookup (nat_eq t)) hands.empty);
+      len = outcomes.len;
+      capacity = outcomes.capacity;
+      room = let spare = hands.spare in omega (arith, spare);
+    }
 
 pub loop-event-preserved : goal.loop-event-preserved
 loop-event-preserved g c =

@@ -1,18 +1,14 @@
-use Rattle.std.proofs.Common.{◌≡◌, ℕ, ◌+◌, ◌<◌, ◌≤◌, Bool, true, false, ◌&&◌, ◌||◌, not, List, [], ◌∷◌, ◌++◌, refl, sym, ap, subst, ◌∙◌, arith, Option, Some, None, rules, length, take, drop, add-one, zero, suc}
+use Rattle.std.proofs.Common.{◌≡◌, ℕ, Bool, true, false, ◌&&◌, ◌||◌, not, List, [], ◌∷◌, ◌++◌, refl, sym, ap, subst, ◌∙◌, arith, Option, Some, None}
 use Rattle.std.proofs.lemmas.Grind.{common_steps}
 use Rattle.std.proofs.lemmas.Bool.{eqb-true, eq-eqb}
-use Rattle.std.specs.Prelude.{◌==◌, if◌then◌else◌, slice_index_or, slice_set, remove}
-use Rattle.std.specs.List.{list_any, position, position_or_len, remove as removed}
-use Rattle.std.specs.Prelude.{nat_lt}
-use Rattle.std.proofs.lemmas.Bool.{ltb-false}
-use Rattle.std.proofs.lemmas.List.Quantifiers.{position-Some}
-use Rattle.std.proofs.lemmas.List.Folds.{list_any-append, list_any_none}
-use Rattle.std.proofs.lemmas.List.Sums.{fails_before_first}
+use Rattle.std.specs.Prelude.{◌==◌, if◌then◌else◌}
+use Rattle.std.specs.List.{list_any}
+use Rattle.std.proofs.lemmas.List.Folds.{list_any-append}
 use Rattle.hold_modes.specs.declared.modes.Hold.{Hold}
 use Rattle.hold_modes.specs.declared.modes.Hold.TheVariants.{Read, Update, Exclusive}
 use Rattle.hold_modes.specs.declared.modes.Ticket.{Ticket}
 use Rattle.hold_modes.specs.declared.modes.Held.{Held}
-use Rattle.hold_modes.specs.Held.{are_compatible, bars, is_of, is_beside, held_by, without, made_exclusive, obeys_rule, is_shared, is_updating, update_in, page_of}
+use Rattle.hold_modes.specs.Held.{are_compatible, bars, is_of, is_beside, held_by, without, made_exclusive, obeys_rule, is_shared, page_of}
 
 pub eq_comm : (a b : ℕ) → (a == b) ≡ (b == a)
 eq_comm a b = grind (arith, common_steps)
@@ -74,34 +70,6 @@ obeys_rule-push (x ∷ xs) h o b t =
     let p1 : list_any (bars x.page x.mode) (xs ++ h ∷ []) ≡ false = list_any-append (bars x.page x.mode) xs (h ∷ []) ∙ either_false (list_any (bars x.page x.mode) xs) (bars x.page x.mode h || false) (not_to_false (list_any (bars x.page x.mode) xs) o1) (either_false (bars x.page x.mode h) false bx refl) in
     let p2 : list_any (is_of x.ticket) (xs ++ h ∷ []) ≡ false = list_any-append (is_of x.ticket) xs (h ∷ []) ∙ either_false (list_any (is_of x.ticket) xs) (is_of x.ticket h || false) (not_to_false (list_any (is_of x.ticket) xs) o2) (either_false (is_of x.ticket h) false tx refl) in
     rw (p1, p2, rest) refl
-
--- the first hold of the ticket stands at i
-pub record StandsAt (t : Ticket) (hs : List Held) (i : ℕ) (h : Held) : Type 0 where
-  pub held : held_by t hs ≡ Some (h.page, h.mode)
-  pub page : page_of t hs ≡ h.page
-  pub rest : without t hs ≡ removed hs i
-  pub exclusive : made_exclusive t hs ≡ slice_set hs i (record h { mode = Exclusive })
-
-pub stands_at : (t : Ticket) (hs : List Held) (i : ℕ) (d : Held) → i < length hs → is_of t (slice_index_or hs i d) ≡ true → ((k : ℕ) → k < i → is_of t (slice_index_or hs k d) ≡ false) → StandsAt t hs i (slice_index_or hs i d)
-stands_at t [] i d l y n = absurd (omega arith)
-stands_at t (x ∷ xs) zero d l y n = record {
-  held = rw y refl;
-  page = rw y refl;
-  rest = rw y refl;
-  exclusive = rw y refl;
-}
-stands_at t (x ∷ xs) (suc i) d l y n =
-    let nx : is_of t x ≡ false = n 0 (omega arith) in
-    let r = stands_at t xs i d (omega arith) y (λ k lk. n (suc k) (omega arith)) in record {
-      held = rw nx r.held;
-      page = rw nx r.page;
-      rest = rw nx (ap (λ ys. x ∷ ys) r.rest);
-      exclusive = rw nx (ap (λ ys. x ∷ ys) r.exclusive);
-    }
-
-pub found : (t : Ticket) (hs : List Held) (i : ℕ) (d : Held) → position (is_of t) hs ≡ Some i → (i < length hs) × StandsAt t hs i (slice_index_or hs i d)
-found t hs i d p =
-    let r = position-Some (is_of t) hs i d p in (r.0, stands_at t hs i d r.0 r.1 r.2)
 
 -- what no hold passes, no hold passes once one is gone
 pub list_any-without : (p : Held → Bool) (t : Ticket) (hs : List Held) → list_any p hs ≡ false → list_any p (without t hs) ≡ false
@@ -188,24 +156,6 @@ obeys_rule-made t (x ∷ xs) o =
           (list_any-made (is_of x.ticket) (λ h. refl) t xs ∙ p.1)
           (obeys_rule-made t xs p.2 (or_false_r (is_beside (page_of t xs) t x) (list_any (is_beside (page_of t xs) t) xs) s))
     ]) refl
-
-pub none_before : (p : Held → Bool) (xs : List Held) → length xs ≤ position_or_len p xs → list_any p xs ≡ false
-none_before p xs h = list_any_none p xs (λ k d l. fails_before_first p xs k d (omega arith))
-
-pub position_none : (p : Held → Bool) (xs : List Held) → position p xs ≡ None → list_any p xs ≡ false
-position_none p xs =
-    let Q : Bool → Type 0 = λ b. nat_lt (position_or_len p xs) (length xs) ≡ b → (if b then Some (position_or_len p xs) else None) ≡ None → list_any p xs ≡ false in
-    (elim (nat_lt (position_or_len p xs) (length xs)) as Q [
-      | true ↦ λ is h. absurd cc
-      | false ↦ λ is h. none_before p xs (ltb-false (position_or_len p xs) (length xs) is)
-    ]) refl
-
-pub missing : (t : Ticket) (hs : List Held) → position (is_of t) hs ≡ None → (held_by t hs ≡ None) × (without t hs ≡ hs)
-missing t hs p = not_found t hs (position_none (is_of t) hs p)
-
--- a ticket with an update hold holds something
-pub updating_is_there : (t : Ticket) (hs : List Held) → list_any (is_of t) hs ≡ false → is_updating t hs ≡ false
-updating_is_there t hs n = ap update_in (not_found t hs n).0
 
 -- what the others hold stays
 pub held_by-without_other : (t u : Ticket) → ((u.0 == t.0) ≡ false) → (hs : List Held) → held_by u (without t hs) ≡ held_by u hs
@@ -303,5 +253,3 @@ held_by-made_self t (x ∷ xs) p m =
       | true ↦ λ y h. rw y (ap (λ k. Some (k, Exclusive)) (ap page_in h))
       | false ↦ λ y h. rw y (held_by-made_self t xs p m h)
     ]) refl
-
-pub ruleset TakeRules = (obeys_rule-push)

@@ -4,8 +4,11 @@ ghost use Rattle.std.specs.List.{list_any, position};
 ghost use Rattle.hold_modes.specs.Held.{bars, is_of, is_beside, is_shared, is_updating, held_by, without, made_exclusive, obeys_rule, update_in, exclusive_in};
 ghost use Rattle.hold_modes.specs.declared.modes.Hold.TheVariants.{Update};
 
-use crate::modes::{Held, Hold, Ticket, compatible};
-use std::alloc::{AllocFailed, Allocator, Global};
+use crate::modes::{Hold, Ticket};
+use crate::pages::Pages;
+use crate::taken::Taken;
+use crate::uses::Uses;
+use std::alloc::{AllocError, Allocator, Global};
 use std::marker::Model;
 
 /// Another ticket holds the page, so that the hold cannot be had.
@@ -22,54 +25,36 @@ pub enum HoldFault {
 }
 
 /// Which pages are held, seen as the list of holds in the order in which they were taken. Each ticket holds once at most, and any
-/// two holds of one page are compatible.
+/// two holds of one page are compatible. Holds are found by ticket and by page, without going over the others.
 #[derive(Drop)]
 pub struct Holds<A: Allocator = Global> {
-    held: Vec<Held, A>,
+    taken: Taken<A>,
+    pages: Pages<A>,
 }
 
 impl<A: Allocator> Model for Holds<A> {
     ghost use Rattle.std.specs.Prelude.{List, ◌≡◌, true};
     ghost use Rattle.hold_modes.specs.declared.modes.Held.{Held};
     ghost use Rattle.hold_modes.specs.Held.{obeys_rule};
+    ghost use Rattle.hold_modes.specs.Uses.{IsIndex};
 
     ghost Value = { List Held };
 
-    ghost view = { λ s. s.held.items };
+    ghost view = { λ s. s.taken };
 
-    ghost invariant = { λ s. obeys_rule s.held.items ≡ true };
+    ghost invariant = { λ s. (obeys_rule s.taken ≡ true) × IsIndex s.pages.uses s.taken };
 }
 
-// Whether a hold bars this mode of the page.
-fn is_barred(held: &[Held], page: u32, mode: Hold) -> bool
-    ensures { result ≡ list_any (bars page mode) held.now }
-{
-    held.iter()
-        .any(|h| h.page == page && !compatible(h.mode, mode))
-}
+impl<A: Allocator + Copy> Holds<A> {
+    ghost use Rattle.hold_modes.specs.Uses.{uses_of};
 
-// Where the ticket's hold stands.
-fn place_of(held: &[Held], ticket: Ticket) -> Option<usize>
-    ensures { result ≡ position (is_of ticket) held.now }
-{
-    held.iter().position(|h| h.ticket.0 == ticket.0)
-}
-
-// Whether another ticket has a hold on the page.
-fn is_used_beside(held: &[Held], page: u32, ticket: Ticket) -> bool
-    ensures { result ≡ list_any (is_beside page ticket) held.now }
-{
-    held.iter()
-        .any(|h| h.page == page && h.ticket.0 != ticket.0)
-}
-
-impl<A: Allocator> Holds<A> {
     /// No holds. It takes no memory.
     pub fn new(alloc: A) -> Self
         ensures { result ≡ [] }
     {
         Holds {
-            held: Vec::new(alloc),
+            taken: Taken::new(alloc),
+            pages: Pages::new(alloc),
         }
     }
 
@@ -77,7 +62,6 @@ impl<A: Allocator> Holds<A> {
     ///
     /// # Errors
     /// `Busy` exactly where another ticket holds the page in a mode that bars this one; else `NoMemory` where none is left.
-    #[tactic(auto, using(crate::proofs::HeldLemmas::TakeRules))]
     pub fn take(&mut self, page: u32, mode: Hold, ticket: Ticket) -> Result<(), HoldFault>
         requires { list_any (is_of ticket) self.old ≡ false }
         ensures ok { OnOk result (self.new ≡ self.old ++ record { page = page; mode = mode; ticket = ticket } ∷ []) }
@@ -85,12 +69,43 @@ impl<A: Allocator> Holds<A> {
         ensures err { OnErr result (self.new ≡ self.old) }
         ensures rule { obeys_rule self.new ≡ true }
     {
-        if is_barred(self.held.as_slice(), page, mode) {
+        let uses = self.pages.at(page);
+        if uses.bar(mode) {
             return Err(HoldFault::Busy);
         }
-        if self.held.push(Held { page, mode, ticket }).is_err() {
+        if self.add(uses, page, mode, ticket).is_err() {
             return Err(HoldFault::NoMemory);
         }
+        Ok(())
+    }
+
+    /// Holds a page that no hold bars, for a ticket that holds nothing. It is `take` for a caller that has asked `bars` already.
+    ///
+    /// # Errors
+    /// `AllocError` where no memory is left for one more hold. The holds are then as they were.
+    pub fn take_free(&mut self, page: u32, mode: Hold, ticket: Ticket) -> Result<(), AllocError>
+        requires ticket { list_any (is_of ticket) self.old ≡ false }
+        requires free { list_any (bars page mode) self.old ≡ false }
+        ensures ok { OnOk result (self.new ≡ self.old ++ record { page = page; mode = mode; ticket = ticket } ∷ []) }
+        ensures err { OnErr result (self.new ≡ self.old) }
+        ensures rule { obeys_rule self.new ≡ true }
+    {
+        let uses = self.pages.at(page);
+        self.add(uses, page, mode, ticket)
+    }
+
+    // The same, where it is known how the page is held.
+    fn add(&mut self, uses: Uses, page: u32, mode: Hold, ticket: Ticket) -> Result<(), AllocError>
+        requires ticket { list_any (is_of ticket) self.old ≡ false }
+        requires free { list_any (bars page mode) self.old ≡ false }
+        requires uses { uses ≡ uses_of page self.old }
+        ensures ok { OnOk result (self.new ≡ self.old ++ record { page = page; mode = mode; ticket = ticket } ∷ []) }
+        ensures err { OnErr result (self.new ≡ self.old) }
+        ensures rule { obeys_rule self.new ≡ true }
+    {
+        self.pages.reserve()?;
+        self.taken.push(page, mode, ticket)?;
+        self.pages.put(page, uses.with(mode));
         Ok(())
     }
 
@@ -98,16 +113,14 @@ impl<A: Allocator> Holds<A> {
     pub fn bars(&self, page: u32, mode: Hold) -> bool
         ensures { result ≡ list_any (bars page mode) self.now }
     {
-        is_barred(self.held.as_slice(), page, mode)
+        self.pages.at(page).bar(mode)
     }
 
     /// The page and the mode that the ticket holds.
     pub fn get(&self, ticket: Ticket) -> Option<(u32, Hold)>
         ensures { result ≡ held_by ticket self.now }
     {
-        let at = place_of(self.held.as_slice(), ticket)?;
-        let h = self.held[at];
-        Some((h.page, h.mode))
+        self.taken.get(ticket)
     }
 
     /// Whether the ticket holds for update.
@@ -142,14 +155,15 @@ impl<A: Allocator> Holds<A> {
         ensures err { OnErr result (self.new ≡ self.old) }
         ensures rule { obeys_rule self.new ≡ true }
     {
-        let Some(at) = place_of(self.held.as_slice(), ticket) else {
+        let Some((page, _)) = self.taken.get(ticket) else {
             unreachable!()
         };
-        let page = self.held[at].page;
-        if is_used_beside(self.held.as_slice(), page, ticket) {
+        let others = self.pages.at(page).without(Hold::Update);
+        if !others.is_none() {
             return Err(Busy);
         }
-        self.held[at].mode = Hold::Exclusive;
+        self.taken.make_exclusive(ticket);
+        self.pages.change(page, others.with(Hold::Exclusive));
         Ok(())
     }
 
@@ -159,8 +173,9 @@ impl<A: Allocator> Holds<A> {
         ensures rest { self.new ≡ without ticket self.old }
         ensures rule { obeys_rule self.new ≡ true }
     {
-        let at = place_of(self.held.as_slice(), ticket)?;
-        let h = self.held.remove(at);
-        Some((h.page, h.mode))
+        let (page, mode) = self.taken.remove(ticket)?;
+        let others = self.pages.at(page).without(mode);
+        self.pages.change(page, others);
+        Some((page, mode))
     }
 }

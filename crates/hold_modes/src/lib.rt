@@ -3,6 +3,9 @@
 
 pub mod holds;
 pub mod modes;
+mod pages;
+mod taken;
+mod uses;
 
 pub use holds::{Busy, HoldFault, Holds};
 pub use modes::{Held, Hold, Ticket};

@@ -1,52 +1,56 @@
-use Rattle.std.proofs.Common.{rules, ◌≡◌, ◌∙◌, sym, ap, arith, ℕ, Bool, true, false, List, refl, Some, None, subst, slice_set}
-use Rattle.hold_modes.specs.declared.modes.Hold.TheVariants.{Exclusive}
-use Rattle.hold_modes.specs.declared.modes.Held.{Held}
-use Rattle.std.specs.List.{list_any, position}
-use Rattle.hold_modes.specs.Held.{bars, is_of, is_beside, is_shared, is_updating, held_by, without, made_exclusive, obeys_rule, page_of}
-use Rattle.hold_modes.proofs.HeldLemmas.{missing, found, obeys_rule-without, obeys_rule-made, position_none, updating_is_there}
+use Rattle.std.proofs.Common.{◌≡◌, false, true, ap, sym, ◌∙◌, refl, subst, not}
+use Rattle.hold_modes.specs.declared.modes.Hold.TheVariants.{Update, Exclusive}
+use Rattle.hold_modes.specs.Held.{is_shared, without}
+use Rattle.hold_modes.specs.Uses.{uses_of, uses_at, is_free, fewer, more, kept, Puts}
+use Rattle.hold_modes.proofs.HeldLemmas.{obeys_rule-made}
+use Rattle.hold_modes.proofs.UsesLemmas.{index-made, others-are, is-used, is-there, shared-is, updating-is}
 use Rattle.hold_modes.proofs.holds.Holds.convert.Goals as goal
 
-pub unreachable-requires : goal.unreachable-requires
-unreachable-requires g c =
-    let none = position_none (is_of c.args.ticket) c.self.inside.held.items (sym (c.in_default.ensures ∙ ap (position (is_of c.args.ticket)) c.as_slice.ensures.value)) in
-    let no = updating_is_there c.args.ticket c.self.inside.held.items none in
-    let yes : is_updating c.args.ticket c.self.inside.held.items ≡ true = rw c.self.view_is c.requires in
-    let z : true ≡ false = sym yes ∙ no in cc
+pub without-others-requires : goal.without-others-requires
+without-others-requires g c =
+    let hs = c.self.inside.taken in
+    let held = updating-is c.args.ticket hs c.in-Some.page c.in-Some.field-0-1 (sym c.get.ensures ∙ c.in-Some.is) (rw c.self.view_is c.requires) in
+    rw c.at.ensures (is-used c.self.inside.pages.uses hs c.self.invariant.1 c.args.ticket c.in-Some.page Update held)
 
-pub returns-then-is_used_beside-clause-busy : goal.returns-then-is_used_beside-clause-busy
-returns-then-is_used_beside-clause-busy g c =
-    let f = found c.args.ticket c.self.inside.held.items c.in-Some.at c.index.result.now (sym (sym c.in-Some.is ∙ c.place_of.ensures ∙ ap (position (is_of c.args.ticket)) c.as_slice.ensures.value)) in
-    let page : page_of c.args.ticket c.self.inside.held.items ≡ c.index.result.now.page = f.1.page ∙ sym (ap (λ h. h.page) c.index.ensures) in
-    let shared : is_shared c.args.ticket c.self.inside.held.items ≡ true = rw page (sym (c.if-is_used_beside.ensures ∙ ap (list_any (is_beside c.index.result.now.page c.args.ticket)) c.as_slice-2.ensures.value)) in
-    (λ _. rw (← c.self.view_is) shared, λ _. refl)
+pub returns-then-not-is_none-clause-busy : goal.returns-then-not-is_none-clause-busy
+returns-then-not-is_none-clause-busy g c =
+    let hs = c.self.inside.taken in
+    let held = updating-is c.args.ticket hs c.in-Some.page c.in-Some.field-0-1 (sym c.get.ensures ∙ c.in-Some.is) (rw c.self.view_is c.requires) in
+    let others : c.without-others.result ≡ uses_of c.in-Some.page (without c.args.ticket hs) = c.without-others.ensures ∙ (ap (fewer Update) c.at.ensures ∙ others-are c.self.inside.pages.uses hs c.self.invariant.1 c.args.ticket c.in-Some.page Update held) in
+    let shared : is_shared c.args.ticket hs ≡ not c.is_none.result = shared-is c.args.ticket hs c.in-Some.page Update held c.self.invariant.0 ∙ ap not (sym (c.is_none.ensures ∙ ap is_free others)) in
+    (λ _. rw (← c.self.view_is) (shared ∙ ap not c.if-not-is_none.true), λ _. refl)
+
+pub change-requires : goal.change-requires
+change-requires g c =
+    let hs = c.self.inside.taken in
+    let held = updating-is c.args.ticket hs c.in-Some.page c.in-Some.field-0-1 (sym c.get.ensures ∙ c.in-Some.is) (rw c.self.view_is c.requires) in
+    rw (is-there c.self.inside.pages.uses hs c.self.invariant.1 c.args.ticket c.in-Some.page Update held) refl
 
 pub invariant_of-self : goal.invariant_of-self
 invariant_of-self g c =
-    let f = found c.args.ticket c.self.inside.held.items c.in-Some.at c.index.result.now (sym (sym c.in-Some.is ∙ c.place_of.ensures ∙ ap (position (is_of c.args.ticket)) c.as_slice.ensures.value)) in
-    let page : page_of c.args.ticket c.self.inside.held.items ≡ c.index.result.now.page = f.1.page ∙ sym (ap (λ h. h.page) c.index.ensures) in
-    let shared : is_shared c.args.ticket c.self.inside.held.items ≡ false = rw page (sym (c.if-is_used_beside.ensures ∙ ap (list_any (is_beside c.index.result.now.page c.args.ticket)) c.as_slice-2.ensures.value)) in
-    let f' = found c.args.ticket c.self.inside.held.items c.in-Some.at c.index_mut.result.now (sym (sym c.in-Some.is ∙ c.place_of.ensures ∙ ap (position (is_of c.args.ticket)) c.as_slice.ensures.value)) in
-    ap (λ (h : Held). obeys_rule (slice_set c.self.inside.held.items c.in-Some.at (record h { mode = Exclusive }))) c.index_mut.ensures.value
-    ∙ (sym (ap obeys_rule f'.1.exclusive) ∙ obeys_rule-made c.args.ticket c.self.inside.held.items c.self.invariant shared)
-
-pub returns-clause-ok : goal.returns-clause-ok
-returns-clause-ok g c =
-    let f = found c.args.ticket c.self.inside.held.items c.in-Some.at c.index_mut.result.now (sym (sym c.in-Some.is ∙ c.place_of.ensures ∙ ap (position (is_of c.args.ticket)) c.as_slice.ensures.value)) in
-    rw (← c.self.view_is) (ap (λ (h : Held). slice_set c.self.inside.held.items c.in-Some.at (record h { mode = Exclusive })) c.index_mut.ensures.value ∙ sym f.1.exclusive)
+    let hs = c.self.inside.taken in
+    let held = updating-is c.args.ticket hs c.in-Some.page c.in-Some.field-0-1 (sym c.get.ensures ∙ c.in-Some.is) (rw c.self.view_is c.requires) in
+    let others : c.without-others.result ≡ uses_of c.in-Some.page (without c.args.ticket hs) = c.without-others.ensures ∙ (ap (fewer Update) c.at.ensures ∙ others-are c.self.inside.pages.uses hs c.self.invariant.1 c.args.ticket c.in-Some.page Update held) in
+    let shared : is_shared c.args.ticket hs ≡ not c.is_none.result = shared-is c.args.ticket hs c.in-Some.page Update held c.self.invariant.0 ∙ ap not (sym (c.is_none.ensures ∙ ap is_free others)) in
+    let put : c.with.result ≡ more Exclusive (fewer Update (uses_at c.self.inside.pages.uses c.in-Some.page)) = c.with.ensures ∙ ap (more Exclusive) (c.without-others.ensures ∙ ap (fewer Update) c.at.ensures) in
+    let puts = subst (λ u. Puts c.self.inside.pages.uses c.change.new.self.uses c.in-Some.page (kept u)) put c.change.ensures in
+    let index = index-made c.self.inside.pages.uses hs c.self.invariant.1 c.args.ticket c.in-Some.page Update held c.change.new.self.uses puts in
+    let rule = obeys_rule-made c.args.ticket hs c.self.invariant.0 (shared ∙ ap not c.if-not-is_none.false) in
+    rw c.make_exclusive.ensures (rule, index)
 
 pub returns-clause-busy : goal.returns-clause-busy
 returns-clause-busy g c =
-    let f = found c.args.ticket c.self.inside.held.items c.in-Some.at c.index.result.now (sym (sym c.in-Some.is ∙ c.place_of.ensures ∙ ap (position (is_of c.args.ticket)) c.as_slice.ensures.value)) in
-    let page : page_of c.args.ticket c.self.inside.held.items ≡ c.index.result.now.page = f.1.page ∙ sym (ap (λ h. h.page) c.index.ensures) in
-    let shared : is_shared c.args.ticket c.self.inside.held.items ≡ false = rw page (sym (c.if-is_used_beside.ensures ∙ ap (list_any (is_beside c.index.result.now.page c.args.ticket)) c.as_slice-2.ensures.value)) in
-    let no : is_shared c.args.ticket c.args.self.now ≡ false = rw (← c.self.view_is) shared in
-    (λ z. absurd cc, λ z. absurd (let y : true ≡ false = sym z ∙ no in cc))
+    let hs = c.self.inside.taken in
+    let held = updating-is c.args.ticket hs c.in-Some.page c.in-Some.field-0-1 (sym c.get.ensures ∙ c.in-Some.is) (rw c.self.view_is c.requires) in
+    let others : c.without-others.result ≡ uses_of c.in-Some.page (without c.args.ticket hs) = c.without-others.ensures ∙ (ap (fewer Update) c.at.ensures ∙ others-are c.self.inside.pages.uses hs c.self.invariant.1 c.args.ticket c.in-Some.page Update held) in
+    let shared : is_shared c.args.ticket hs ≡ not c.is_none.result = shared-is c.args.ticket hs c.in-Some.page Update held c.self.invariant.0 ∙ ap not (sym (c.is_none.ensures ∙ ap is_free others)) in
+    let no : is_shared c.args.ticket c.args.self.now ≡ false = rw (← c.self.view_is) (shared ∙ ap not c.if-not-is_none.false) in
+    (λ z. absurd cc, λ y. absurd (let z : true ≡ false = sym y ∙ no in cc))
 
 pub returns-clause-rule : goal.returns-clause-rule
 returns-clause-rule g c =
-    let f = found c.args.ticket c.self.inside.held.items c.in-Some.at c.index.result.now (sym (sym c.in-Some.is ∙ c.place_of.ensures ∙ ap (position (is_of c.args.ticket)) c.as_slice.ensures.value)) in
-    let page : page_of c.args.ticket c.self.inside.held.items ≡ c.index.result.now.page = f.1.page ∙ sym (ap (λ h. h.page) c.index.ensures) in
-    let shared : is_shared c.args.ticket c.self.inside.held.items ≡ false = rw page (sym (c.if-is_used_beside.ensures ∙ ap (list_any (is_beside c.index.result.now.page c.args.ticket)) c.as_slice-2.ensures.value)) in
-    let f' = found c.args.ticket c.self.inside.held.items c.in-Some.at c.index_mut.result.now (sym (sym c.in-Some.is ∙ c.place_of.ensures ∙ ap (position (is_of c.args.ticket)) c.as_slice.ensures.value)) in
-    ap (λ (h : Held). obeys_rule (slice_set c.self.inside.held.items c.in-Some.at (record h { mode = Exclusive }))) c.index_mut.ensures.value
-    ∙ (sym (ap obeys_rule f'.1.exclusive) ∙ obeys_rule-made c.args.ticket c.self.inside.held.items c.self.invariant shared)
+    let hs = c.self.inside.taken in
+    let held = updating-is c.args.ticket hs c.in-Some.page c.in-Some.field-0-1 (sym c.get.ensures ∙ c.in-Some.is) (rw c.self.view_is c.requires) in
+    let others : c.without-others.result ≡ uses_of c.in-Some.page (without c.args.ticket hs) = c.without-others.ensures ∙ (ap (fewer Update) c.at.ensures ∙ others-are c.self.inside.pages.uses hs c.self.invariant.1 c.args.ticket c.in-Some.page Update held) in
+    let shared : is_shared c.args.ticket hs ≡ not c.is_none.result = shared-is c.args.ticket hs c.in-Some.page Update held c.self.invariant.0 ∙ ap not (sym (c.is_none.ensures ∙ ap is_free others)) in
+    rw c.make_exclusive.ensures (obeys_rule-made c.args.ticket hs c.self.invariant.0 (shared ∙ ap not c.if-not-is_none.false))

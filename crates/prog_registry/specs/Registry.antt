@@ -1,0 +1,61 @@
+-- A registry, and what a call of `submit` does to it (own).
+use Rattle.std.specs.Prelude.{ℕ, ◌≡◌, ◌<◌, ◌++◌, ◌⊎◌, List, [], ◌∷◌, length, None}
+use Rattle.bpf_verify.specs.declared.fault.VerifyFault.{VerifyFault}
+use Rattle.bpf_verify.specs.Verified.{Accepted}
+use Rattle.prog_registry.specs.declared.fault.RegFault.{RegFault}
+use Rattle.prog_registry.specs.declared.fault.RegFault.TheVariants.{NoMemory, Decode, Verify, Full}
+use Rattle.prog_registry.specs.Judged.{IsProgramOf, IsUndecoded, IsJudged, IsSized}
+use Rattle.prog_registry.specs.Programs.{StandsAt, IsNew, program_limit}
+use Rattle.prog_registry.specs.Verdicts.{Recent, verdict_on, with_verdict, Recalls}
+
+-- the programs by number, and the verdicts that are kept
+pub record Registered : Type 0 where
+  pub programs : List Accepted
+  pub recent : Recent
+
+-- ---- a number is given
+
+-- The program of a new image goes behind the others, and its number is how many there were.
+pub record Adds (old : Registered) (image : List ℕ) (id : ℕ) (new : Registered) : Type 0 where
+  pub is_new : IsNew old.programs image
+  pub unjudged : verdict_on old.recent.verdicts image ≡ None
+  pub room : length old.programs < program_limit
+  pub next : id ≡ length old.programs
+  pub program : Accepted
+  pub is : IsProgramOf image program
+  pub programs : new.programs ≡ old.programs ++ program ∷ []
+  pub recent : new.recent ≡ old.recent
+
+-- The number is that of the image, and nothing changes, or the image is new.
+abbrev pub Gives : Registered → List ℕ → ℕ → Registered → Type 0
+Gives old image id new = (StandsAt old.programs image id × (new ≡ old)) ⊎ Adds old image id new
+
+-- ---- a number is refused
+
+-- The verdict was kept, and nothing changes but it.
+pub record RecallsIn (old : Registered) (image : List ℕ) (fault : VerifyFault) (new : Registered) : Type 0 where
+  pub programs : new.programs ≡ old.programs
+  pub recent : Recalls old.recent image fault new.recent
+
+-- The verdict is new. It is kept, or nothing changes.
+pub record Keeps (old : Registered) (image : List ℕ) (fault : VerifyFault) (new : Registered) : Type 0 where
+  pub unjudged : verdict_on old.recent.verdicts image ≡ None
+  pub programs : new.programs ≡ old.programs
+  pub recent : (new.recent ≡ with_verdict old.recent image fault) ⊎ (new.recent ≡ old.recent)
+
+-- Neither a number nor a verdict was kept of the image.
+pub record IsUnheard (old : Registered) (image : List ℕ) : Type 0 where
+  pub is_new : IsNew old.programs image
+  pub unjudged : verdict_on old.recent.verdicts image ≡ None
+
+-- There is an accepted program of these bytes.
+pub record IsAccepted (image : List ℕ) : Type 0 where
+  pub program : Accepted
+  pub is : IsProgramOf image program
+
+-- Why an image gets no number, and what is left of the registry.
+abbrev pub Refuses : Registered → List ℕ → RegFault → Registered → Type 0
+Refuses old image NoMemory new = IsUnheard old image × (IsSized image × (new ≡ old))
+Refuses old image (Decode fault) new = IsUnheard old image × (IsUndecoded image fault × (new ≡ old))
+Refuses old image (Verify fault) new = IsNew old.programs image × (IsJudged image fault × (RecallsIn old image fault new ⊎ Keeps old image fault new))
+Refuses old image Full new = IsUnheard old image × (IsAccepted image × ((length old.programs ≡ program_limit) × (new ≡ old)))

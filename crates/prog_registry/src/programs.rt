@@ -1,0 +1,113 @@
+//! Programs by number, and numbers by image.
+
+ghost use Rattle.std.specs.Prelude.{◌≡◌, ◌<◌, ◌↔◌, ◌++◌, ◌∷◌, [], Some, IsTrue, IfSome, IfNone, IfOk, OnOk, OnErr, length, slice_get};
+ghost use Rattle.std.specs.Option.{option_map};
+ghost use Rattle.std.specs.Arc.{arc_value};
+ghost use Rattle.prog_registry.specs.Judged.{IsProgramOf};
+ghost use Rattle.prog_registry.specs.Programs.{StandsAt, IsNew, ArePrograms, program_limit};
+
+use bpf_verify::Verified;
+use std::alloc::{AllocError, Allocator};
+use std::collections::HashMap;
+use std::hash::{BuildHasherDefault, FoldHasher};
+use std::marker::Model;
+use std::sync::Arc;
+
+/// The most programs of a registry.
+pub const PROGRAM_LIMIT: usize = 4096;
+
+/// The numbers of images.
+type Numbers<A> = HashMap<Vec<u8, A>, u32, BuildHasherDefault<FoldHasher>, A>;
+
+/// Accepted programs in the order in which they came, no two of one image. A program's number is its
+/// place.
+#[derive(Drop)]
+pub struct Programs<A: Allocator> {
+    list: Vec<Arc<Verified<A>, A>, A>,
+    numbers: Numbers<A>,
+}
+
+impl<A: Allocator> Model for Programs<A> {
+    ghost use Rattle.std.specs.Prelude.{List};
+    ghost use Rattle.bpf_verify.specs.Verified.{Accepted};
+    ghost use Rattle.prog_registry.specs.Kept.{values_of, IsKept};
+
+    ghost Value = { List Accepted };
+
+    ghost view = { λ a. values_of a.list.items };
+
+    ghost invariant = { λ a. IsKept (values_of a.list.items) a.numbers.entries };
+}
+
+impl<A: Allocator> Programs<A> {
+    /// No programs. It takes no memory.
+    pub fn new(alloc: A) -> Programs<A>
+    where
+        A: Copy,
+        ensures { result ≡ [] }
+    {
+        Programs {
+            list: Vec::new(alloc),
+            numbers: HashMap::new(alloc),
+        }
+    }
+
+    /// The allocator.
+    pub fn allocator(&self) -> A
+    where
+        A: Copy,
+    {
+        *self.list.allocator()
+    }
+
+    /// The number of an image that is there, in constant time on average.
+    pub fn find(&self, image: &[u8]) -> Option<u32>
+        ensures some { IfSome result (StandsAt self.now image.now) }
+        ensures none { IfNone result (IsNew self.now image.now) }
+        ensures programs { ArePrograms self.now }
+    {
+        self.numbers.get(image).copied()
+    }
+
+    /// The program of a number.
+    pub fn get(&self, number: u32) -> Option<&Arc<Verified<A>, A>>
+        ensures value { option_map (λ p. arc_value p.now) result ≡ slice_get self.now number }
+        ensures programs { ArePrograms self.now }
+    {
+        self.list.get(number as usize)
+    }
+
+    /// Whether there are as many as there may be.
+    pub fn is_full(&self) -> bool
+        ensures value { IsTrue result ↔ (length self.now ≡ program_limit) }
+        ensures programs { ArePrograms self.now }
+    {
+        self.list.len() == PROGRAM_LIMIT
+    }
+
+    /// Adds the program of a new image behind the others, where there is room. All growths come first, so
+    /// without memory nothing changes.
+    pub fn add(&mut self, image: &[u8], program: Verified<A>) -> Result<u32, AllocError>
+    where
+        A: Copy,
+        requires room { length self.old < program_limit }
+        requires new { IsNew self.old image.now }
+        requires program { IsProgramOf image.now program }
+        ensures number { IfOk result (λ n. n ≡ length self.old) }
+        ensures ok { OnOk result (self.new ≡ self.old ++ program ∷ []) }
+        ensures err { OnErr result (self.new ≡ self.old) }
+    {
+        let alloc = *self.list.allocator();
+        self.list.reserve(1)?;
+        let key = Vec::from_slice(alloc, image)?;
+        let Ok(shared) = Arc::new(alloc, program) else {
+            return Err(AllocError);
+        };
+        let number = self.list.len() as u32;
+        if self.numbers.insert(key, number).is_err() {
+            return Err(AllocError);
+        }
+        self.list.push_reserved(shared);
+        Ok(number)
+    }
+}

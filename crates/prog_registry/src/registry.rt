@@ -1,0 +1,180 @@
+//! The registry.
+
+ghost use Rattle.std.specs.Prelude.{◌≡◌, ◌≢◌, ◌%◌, ◌<◌, ◌/◌, ◌≤◌, ◌↔◌, ◌⊎◌, ℕ, List, [], Some, IfOk, IfErr, OnOk, IsOkAnd, IsErrOf, length, slice_get};
+ghost use Rattle.std.specs.Option.{option_map};
+ghost use Rattle.std.specs.Arc.{arc_value};
+ghost use Rattle.bpf_insn.specs.declared.insn.Insn.{Insn};
+ghost use Rattle.bpf_insn.specs.declared.fault.DecodeFault.TheVariants.{Length, TooLong};
+ghost use Rattle.bpf_insn.specs.Code.{IsImage, unit_limit};
+ghost use Rattle.bpf_insn.specs.Decoding.{IsWhole};
+ghost use Rattle.bpf_verify.specs.declared.fault.VerifyFault.{VerifyFault as Fault};
+ghost use Rattle.bpf_verify.specs.Structure.{IsMisbuilt};
+ghost use Rattle.bpf_verify.specs.Verified.{Accepted};
+ghost use Rattle.prog_registry.specs.Programs.{StandsAt, IsNew, ArePrograms};
+ghost use Rattle.prog_registry.specs.Verdicts.{verdict_on, AreVerdicts};
+ghost use Rattle.prog_registry.specs.Judged.{IsProgramOf};
+ghost use Rattle.prog_registry.specs.Registry.{Gives, Refuses, RecallsIn, IsUnheard};
+
+use crate::fault::RegFault;
+use crate::judging::judge;
+use crate::programs::Programs;
+use crate::verdicts::Verdicts;
+use bpf_verify::Verified;
+use std::alloc::{AllocError, Allocator, Global};
+use std::marker::Model;
+use std::sync::Arc;
+
+/// The number of a program in its registry, from 0.
+#[derive(Clone, Copy, Debug, PartialEq, Eq)]
+pub struct ProgId(pub u32);
+
+/// Accepted programs by number, and the verdicts on the images that were refused last. Clauses see both as
+/// lists, and how many answers were given from the verdicts.
+#[derive(Drop)]
+pub struct Registry<A: Allocator = Global> {
+    programs: Programs<A>,
+    verdicts: Verdicts<A>,
+}
+
+impl<A: Allocator> Model for Registry<A> {
+    ghost use Rattle.prog_registry.specs.Registry.{Registered};
+
+    ghost Value = { Registered };
+
+    ghost view = { λ a. record { programs = a.programs; recent = a.verdicts } };
+}
+
+impl<A: Allocator + Copy> Registry<A> {
+    /// No programs and no verdicts. It takes the memory for where verdicts stand.
+    ///
+    /// # Errors
+    /// `AllocError` where there is no memory for it.
+    pub fn new(alloc: A) -> Result<Registry<A>, AllocError>
+        ensures { IfOk result (λ r. r ≡ record { programs = []; recent = record { verdicts = []; recalls = 0 } }) }
+    {
+        let verdicts = Verdicts::new(alloc)?;
+        Ok(Registry {
+            programs: Programs::new(alloc),
+            verdicts,
+        })
+    }
+}
+
+impl<A: Allocator> Registry<A> {
+    /// The program of a number, which it keeps for ever, or none where the number was not given. No memory
+    /// is taken.
+    pub fn get(&self, id: ProgId) -> Option<&Arc<Verified<A>, A>>
+        ensures value { option_map (λ p. arc_value p.now) result ≡ slice_get self.now.programs id.0 }
+        ensures programs { ArePrograms self.now.programs }
+    {
+        self.programs.get(id.0)
+    }
+
+    /// How many verdicts are kept. No memory is taken.
+    pub fn recent(&self) -> usize
+        ensures value { result ≡ length self.now.recent.verdicts }
+        ensures few { result ≤ 64 }
+        ensures verdicts { AreVerdicts self.now.recent.verdicts }
+    {
+        self.verdicts.len()
+    }
+
+    /// How many answers were given from the kept verdicts. It stays at the greatest number. No memory is
+    /// taken.
+    pub fn recalls(&self) -> u64
+        ensures { result ≡ self.now.recent.recalls }
+    {
+        self.verdicts.recalls()
+    }
+}
+
+impl<A: Allocator + Copy> Registry<A> {
+    // The accepted program of an image of which neither a number nor a verdict is kept. The verdict on one
+    // that is refused is kept, if there is memory for it.
+    fn judge_new(&mut self, image: &[u8]) -> Result<Verified<A>, RegFault>
+        requires { IsUnheard self.old image.now }
+        ensures same { OnOk result (self.new ≡ self.old) }
+        ensures program { IfOk result (IsProgramOf image.now) }
+        ensures err { IfErr result (λ fault. Refuses self.old image.now fault self.new) }
+    {
+        let alloc = self.programs.allocator();
+        match judge(alloc, image) {
+            Ok(program) => Ok(program),
+            Err(RegFault::Verify(fault)) => {
+                let _kept = self.verdicts.keep(alloc, image, fault);
+                Err(RegFault::Verify(fault))
+            }
+            Err(fault) => Err(fault),
+        }
+    }
+
+    // The next number, for the accepted program of an image of which neither a number nor a verdict is kept.
+    #[tactic(auto, using(crate::proofs::Codes::program_sized))]
+    fn enlist(&mut self, image: &[u8], program: Verified<A>) -> Result<ProgId, RegFault>
+        requires unheard { IsUnheard self.old image.now }
+        requires program { IsProgramOf image.now program }
+        ensures ok { IfOk result (λ id. Gives self.old image.now id.0 self.new) }
+        ensures err { IfErr result (λ fault. Refuses self.old image.now fault self.new) }
+    {
+        if self.programs.is_full() {
+            return Err(RegFault::Full);
+        }
+        let Ok(id) = self.programs.add(image, program) else {
+            return Err(RegFault::NoMemory);
+        };
+        Ok(ProgId(id))
+    }
+
+    // What `submit` does.
+    fn number(&mut self, image: &[u8]) -> Result<ProgId, RegFault>
+        ensures ok { IfOk result (λ id. Gives self.old image.now id.0 self.new) }
+        ensures err { IfErr result (λ fault. Refuses self.old image.now fault self.new) }
+        ensures programs { ArePrograms self.old.programs }
+    {
+        if let Some(id) = self.programs.find(image) {
+            return Ok(ProgId(id));
+        }
+        if let Some(fault) = self.verdicts.recall(image) {
+            return Err(RegFault::Verify(fault));
+        }
+        let program = self.judge_new(image)?;
+        self.enlist(image, program)
+    }
+
+    /// The number of an image's program, which is added where it is new.
+    ///
+    /// An image that is there has its number again, in constant time on average, and nothing changes. A new
+    /// one is decoded and verified, unless the verdict on it is kept, and gets the next number, from 0.
+    ///
+    /// # Errors
+    /// - `Decode` where the image is no program.
+    /// - `Verify` where the program is not accepted. The programs stay as they are. The verdict is kept as the
+    ///   one asked for last; where it was kept already, it is the answer, and is counted.
+    /// - `Full` where the program is accepted and new, and there are 4,096.
+    /// - `NoMemory` where memory ran out. It is never kept.
+    ///
+    /// After a fault other than `Verify` nothing has changed. Where there is no memory to keep a verdict, it
+    /// is answered and not kept.
+    pub fn submit(&mut self, image: &[u8]) -> Result<ProgId, RegFault>
+        // What comes of it.
+        ensures ok { IfOk result (λ id. Gives self.old image.now id.0 self.new) }
+        ensures err { IfErr result (λ fault. Refuses self.old image.now fault self.new) }
+
+        // An image that is there has its number, and a number keeps its program.
+        ensures known { (id : ℕ) → StandsAt self.old.programs image.now id → IsOkAnd result (λ r. r.0 ≡ id) × (self.new ≡ self.old) }
+        ensures stands { IfOk result (λ id. StandsAt self.new.programs image.now id.0) }
+        ensures keeps { (id : ℕ) (p : Accepted) → slice_get self.old.programs id ≡ Some p → slice_get self.new.programs id ≡ Some p }
+
+        // A verdict that is kept is the answer.
+        ensures recalled { (fault : Fault) → IsNew self.old.programs image.now → verdict_on self.old.recent.verdicts image.now ≡ Some fault →
+            IsErrOf result (RegFault.Verify fault) × RecallsIn self.old image.now fault self.new }
+
+        // When faults come.
+        ensures length { IsErrOf result (RegFault.Decode Length) ↔ (length image.now % 8 ≢ 0) }
+        ensures too_long { IsErrOf result (RegFault.Decode TooLong) ↔ (IsWhole image.now × (unit_limit < length image.now / 8)) }
+        ensures structure { (code : List Insn) (fault : Fault) → IsImage code image.now → IsMisbuilt code fault →
+            IsErrOf result (RegFault.Verify fault) ⊎ IsErrOf result RegFault.NoMemory }
+    {
+        self.number(image)
+    }
+}

@@ -1,0 +1,98 @@
+//! The verdicts on images that were refused last.
+
+ghost use Rattle.std.specs.Prelude.{◌≡◌, ◌≤◌, [], None, IfSome, IfNone, IfOk, OnOk, OnErr, length};
+ghost use Rattle.prog_registry.specs.Judged.{IsJudged};
+ghost use Rattle.prog_registry.specs.Verdicts.{verdict_on, with_verdict, Recalls, AreVerdicts};
+
+use bpf_verify::VerifyFault;
+use lru::{DefaultHasher, LruCache};
+use std::alloc::{AllocError, Allocator};
+use std::marker::Model;
+use std::num::NonZeroUsize;
+
+/// The most verdicts that are kept.
+pub const VERDICT_LIMIT: usize = 64;
+
+/// What the verifier found wrong with images, the one asked for last first, and how many answers were
+/// given from it.
+#[derive(Drop)]
+pub struct Verdicts<A: Allocator> {
+    cache: LruCache<Vec<u8, A>, VerifyFault, DefaultHasher, A>,
+    recalls: u64,
+}
+
+impl<A: Allocator> Model for Verdicts<A> {
+    ghost use Rattle.prog_registry.specs.Verdicts.{Recent};
+    ghost use Rattle.prog_registry.specs.Kept.{plain, AreKept};
+
+    ghost Value = { Recent };
+
+    ghost view = { λ a. record { verdicts = plain a.cache.entries; recalls = a.recalls } };
+
+    ghost invariant = { λ a. AreKept a.cache };
+}
+
+impl<A: Allocator> Verdicts<A> {
+    /// No verdicts, with memory for where 64 stand.
+    ///
+    /// # Errors
+    /// `AllocError` where there is no memory for it.
+    pub fn new(alloc: A) -> Result<Verdicts<A>, AllocError>
+    where
+        A: Copy,
+        ensures { IfOk result (λ v. v ≡ record { verdicts = []; recalls = 0 }) }
+    {
+        let limit = NonZeroUsize::new(VERDICT_LIMIT).unwrap();
+        let cache = LruCache::new(alloc, limit)?;
+        Ok(Verdicts { cache, recalls: 0 })
+    }
+
+    /// How many verdicts are kept.
+    pub fn len(&self) -> usize
+        ensures value { result ≡ length self.now.verdicts }
+        ensures few { result ≤ 64 }
+        ensures verdicts { AreVerdicts self.now.verdicts }
+    {
+        self.cache.len()
+    }
+
+    /// How many answers were given from here. It stays at the greatest number.
+    pub fn recalls(&self) -> u64
+        ensures { result ≡ self.now.recalls }
+    {
+        self.recalls
+    }
+
+    /// The verdict on an image, where it is kept. It is then the one asked for last, and is counted.
+    pub fn recall(&mut self, image: &[u8]) -> Option<VerifyFault>
+        ensures some { IfSome result (λ fault. Recalls self.old image.now fault self.new) }
+        ensures judged { IfSome result (IsJudged image.now) }
+        ensures none { IfNone result (verdict_on self.old.verdicts image.now ≡ None) }
+        ensures same { IfNone result (self.new ≡ self.old) }
+    {
+        let fault = self.cache.peek(image).copied()?;
+        self.cache.promote(image);
+        self.recalls = self.recalls.saturating_add(1);
+        Some(fault)
+    }
+
+    /// Keeps the verdict on an image that has none here, in the place of the one asked for least lately
+    /// where there are 64.
+    ///
+    /// # Errors
+    /// `AllocError` where there is no memory for it. Nothing changes then.
+    pub fn keep(&mut self, alloc: A, image: &[u8], fault: VerifyFault) -> Result<(), AllocError>
+    where
+        A: Copy,
+        requires new { verdict_on self.old.verdicts image.now ≡ None }
+        requires judged { IsJudged image.now fault }
+        ensures ok { OnOk result (self.new ≡ with_verdict self.old image.now fault) }
+        ensures err { OnErr result (self.new ≡ self.old) }
+    {
+        let key = Vec::from_slice(alloc, image)?;
+        if self.cache.put(key, fault).is_err() {
+            return Err(AllocError);
+        }
+        Ok(())
+    }
+}

@@ -41,6 +41,7 @@ Acts-on_page {A} db db' ok place session command answer keyed small leads is ins
     let result : PageResult A = works place db.kind db.size (pairs_at db place.page) session command in
     let lead : LeadsTo db session command place.page result = works_lead db ok place session command keyed small leads in
     record {
+      small = small;
       exact = keyed_exact db session command answer db' keyed (record { place = place; leads = leads; answer_is = is; database = installed });
       move = subst (λ (d : Database). Moves db.size db.kind (state_of db) session command answer (state_of d)) (sym installed)
           (subst (λ (r : Reply A). Moves db.size db.kind (state_of db) session command r (state_of (changed_by db place.page result.change))) (sym is) lead.move);
@@ -51,6 +52,7 @@ Acts-on_page {A} db db' ok place session command answer keyed small leads is ins
 -- a count
 pub Acts-count : {A : Type 0} (db db' : Database) (session : ℕ) (answer : Reply A) → answer ≡ reply.Count (map.len (map_of db)) → db' ≡ db → Acts db session Count answer db'
 Acts-count {A} db db' session answer is same = record {
+  small = tt;
   exact = (is, same);
   move = subst (λ (d : Database). Moves db.size db.kind (state_of db) session Count answer (state_of d)) (sym same)
       (subst (λ (r : Reply A). Moves db.size db.kind (state_of db) session Count r (state_of db)) (sym is) ((refl, refl), refl));

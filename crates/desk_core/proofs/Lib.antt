@@ -1,5 +1,7 @@
 pub mod WorkLemmas
 pub mod Lifting
 pub mod Acting
+pub mod Ties
+pub mod Sound
+pub mod Doing
 pub mod Playing
-pub mod DeskLemmas

@@ -3,12 +3,11 @@ use Rattle.std.proofs.Common.{◌≡◌, ◌≢◌, ℕ, zero, suc, ◌%◌, ◌
 use Rattle.std.proofs.lemmas.Bool.{eqb-true, cond-false, false_from_ne_true}
 use Rattle.std.specs.List.{All}
 use Rattle.std.specs.FinMap as map
-use Rattle.sdbm_addr.specs.declared.PageSize.{PageSize}
 use Rattle.sdbm_addr.specs.declared.Mode.{Mode}
 use Rattle.sdbm_addr.specs.declared.Mode.TheVariants.{Insert, Replace}
 use Rattle.sdbm_addr.specs.Hash.{hash_of}
 use Rattle.sdbm_addr.specs.Directory.{Splits, IsDepth, depth_of, page_of}
-use Rattle.sdbm_addr.specs.Pairs.{Pair, Content, same_key, value_of, without, pair_limit}
+use Rattle.sdbm_addr.specs.Pairs.{Pair, Content, same_key, value_of, without}
 use Rattle.sdbm_addr.specs.Splitting.{neighbors, map_neighbors, IsLeastSplits, IsCrowded, split_along}
 use Rattle.sdbm_addr.specs.Database.{Database, IsDatabase, pairs_at, map_of, with_page}
 use Rattle.sdbm_addr.proofs.DirectoryLemmas.{IsDepth-unique, depth_of-IsDepth, page_of_depth, same_place}
@@ -16,7 +15,7 @@ use Rattle.sdbm_addr.proofs.DatabaseLemmas.{get-map_of}
 use Rattle.sdbm_addr.proofs.PairLemmas.{same_key-refl}
 use Rattle.sdbm_dir.specs.declared.Place.{Place}
 use Rattle.sdbm_split.specs.Faults.{IsRefused}
-use Rattle.sdbm_split.specs.Planned.{PageChange, planned, least_splits}
+use Rattle.sdbm_split.specs.Planned.{planned, least_splits}
 use Rattle.sdbm_split.proofs.Least.{least_splits-cases}
 use Rattle.sdbm_split.proofs.Plans.{Leads-own, IsPlan-from, ArePages-from}
 use Rattle.sdbm_split.proofs.Install.{off_path, IsDepth-elsewhere, other_place_is_old}
@@ -30,8 +29,8 @@ use Rattle.store_cmd.specs.declared.Command.TheVariants.{Fetch, Store, Delete, C
 use Rattle.store_cmd.specs.declared.Reply.TheVariants as reply
 use Rattle.store_cmd.specs.Command.{IsSmall}
 use Rattle.store_cmd.specs.Moves.{GoesIn, IsFull, Moves}
-use Rattle.desk_core.specs.Works.{PageResult, works, HasKey, key_of, fetched, deleted, placed, is_kept, stored_unless}
-use Rattle.desk_core.specs.Leads.{state_of, changed_by, LeadsTo, IsPlaceOf, IsSameBeside}
+use Rattle.desk_core.specs.Works.{works, HasKey, key_of, fetched, deleted, placed, is_kept, stored_unless}
+use Rattle.desk_core.specs.Leads.{state_of, LeadsTo, IsPlaceOf, IsSameBeside}
 
 abbrev leads_to : Database → List ℕ → ℕ
 leads_to db key = page_of db.splits (hash_of db.kind key)

@@ -1,30 +1,34 @@
 -- Events that are played one after another.
-use Rattle.std.proofs.Common.{◌≡◌, ℕ, List, [], ◌∷◌, ◌++◌, Option, refl, sym, ap, ◌∙◌, subst, append_assoc}
+use Rattle.std.proofs.Common.{◌≡◌, ℕ, List, [], ◌∷◌, ◌++◌, refl, sym, ap, ◌∙◌, subst, append_assoc}
 use Rattle.std.proofs.lemmas.List.{append-nil}
-use Rattle.sdbm_addr.specs.Database.{Database}
+use Rattle.sdbm_addr.specs.declared.KeyBytes.{KeyBytes}
+use Rattle.sdbm_addr.specs.declared.PageSize.{PageSize}
+use Rattle.sdbm_addr.specs.Database.{Database, map_of}
 use Rattle.store_cmd.specs.declared.Command.{Command}
 use Rattle.store_cmd.specs.declared.Command.TheVariants.{Count}
 use Rattle.store_cmd.specs.declared.Entry.{Entry}
+use Rattle.store_cmd.specs.History.{History}
+use Rattle.store_cmd.proofs.MovesLemmas.{Replies-from_Moves}
 use Rattle.desk_core.specs.declared.events.Event.{Event}
 use Rattle.desk_core.specs.declared.events.Event.TheVariants as event
 use Rattle.desk_core.specs.declared.events.Outcome.TheVariants as outcome
 use Rattle.desk_core.specs.declared.events.Outcome.{Outcome}
-use Rattle.desk_core.specs.declared.events.InHand.{InHand}
-use Rattle.desk_core.specs.Desk.{DeskState}
+use Rattle.desk_core.specs.Leads.{state_of}
+use Rattle.desk_core.specs.Desk.{DeskState, IsSound}
 use Rattle.desk_core.specs.Acts.{Acts, ActsInTurn}
-use Rattle.desk_core.specs.Events.{Hands, Does, Plays, Stay, GoesOn, OnAsk, OnConvert, OnFinish, OnAbandon}
+use Rattle.desk_core.specs.Events.{Hands, Does, Plays, GoesOn, OnAsk, OnConvert, OnFinish, OnAbandon}
 use Rattle.desk_core.proofs.Acting.{Acts-count}
 
 -- one event more
 pub Plays-push : {A : Type 0} (s mid s' : DeskState A) (h held h' : Hands A) (es : List (Event A)) (outs : List (Outcome A)) (e : Event A) (out : Outcome A)
-    → Plays s h es outs mid held → Does mid held e out s' h' → Plays s h (es ++ e ∷ []) (outs ++ out ∷ []) s' h'
-Plays-push {A} s mid s' h held h' [] [] e out p d =
+    → Plays s h es outs mid held → Does mid held e out s' h' → IsSound s' → Plays s h (es ++ e ∷ []) (outs ++ out ∷ []) s' h'
+Plays-push {A} s mid s' h held h' [] [] e out p d ok =
     let same : held ≡ h = λ i u. p.1 u i in
-    (s', (h', (subst (λ (k : Hands A). Does s k e out s' h') same (subst (λ (m : DeskState A). Does m held e out s' h') p.0 d), (refl, λ u. refl))))
-Plays-push s mid s' h held h' [] (o ∷ outs) e out p d = absurd p
-Plays-push s mid s' h held h' (f ∷ es) [] e out p d = absurd p
-Plays-push s mid s' h held h' (f ∷ es) (o ∷ outs) e out p d =
-    (p.0, (p.1.0, (p.1.1.0, Plays-push p.0 mid s' p.1.0 held h' es outs e out p.1.1.1 d)))
+    (s', (h', (subst (λ (k : Hands A). Does s k e out s' h') same (subst (λ (m : DeskState A). Does m held e out s' h') p.0 d), (ok, (refl, λ u. refl)))))
+Plays-push s mid s' h held h' [] (o ∷ outs) e out p d ok = absurd p
+Plays-push s mid s' h held h' (f ∷ es) [] e out p d ok = absurd p
+Plays-push s mid s' h held h' (f ∷ es) (o ∷ outs) e out p d ok =
+    (p.0, (p.1.0, (p.1.1.0, (p.1.1.1.0, Plays-push p.0 mid s' p.1.0 held h' es outs e out p.1.1.1.1 d ok))))
 
 -- ---- entries that are added
 
@@ -32,23 +36,39 @@ ActsInTurn-append : {A : Type 0} (db mid db' : Database) (es more : List (Entry 
 ActsInTurn-append {A} db mid db' [] more p q = subst (λ (d : Database). ActsInTurn d more db') p q
 ActsInTurn-append db mid db' (e ∷ es) more p q = (p.0, (p.1.0, ActsInTurn-append p.0 mid db' es more p.1.1 q))
 
+-- what is done in turn is a legal history
+pub History-acts_in_turn : {A : Type 0} (db db' : Database) (es : List (Entry A)) → ActsInTurn db es db' → History db.size db.kind (map_of db) es (map_of db')
+History-acts_in_turn db db' [] p = ap map_of p
+History-acts_in_turn {A} db db' (e ∷ es) p =
+    let mid : Database = p.0 in
+    let acts = p.1.0 in
+    let rest : History mid.size mid.kind (map_of mid) es (map_of db') = History-acts_in_turn mid db' es p.1.1 in (
+      map_of mid,
+      (
+        (acts.small, Replies-from_Moves db.size db.kind (state_of db) e.session e.command e.reply (state_of mid) acts.move),
+        subst (λ (size : PageSize). History size db.kind (map_of mid) es (map_of db')) acts.size
+            (subst (λ (kind : KeyBytes). History mid.size kind (map_of mid) es (map_of db')) acts.kind rest),
+      ),
+    )
+
+goes_on : {A : Type 0} (s s' : DeskState A) (added : List (Entry A)) → s'.entries ≡ s.entries ++ added → ActsInTurn s.database added s'.database → GoesOn s s'
+goes_on s s' added entries acts = record { added = added; entries = entries; acts = acts; legal = History-acts_in_turn s.database s'.database added acts }
+
 -- nothing is added
 unchanged : {A : Type 0} (s s' : DeskState A) → s'.entries ≡ s.entries → s'.database ≡ s.database → GoesOn s s'
-unchanged s s' e d = record { added = []; entries = e ∙ sym (append-nil s.entries); acts = d }
+unchanged s s' e d = goes_on s s' [] (e ∙ sym (append-nil s.entries)) d
 
 same : {A : Type 0} (s s' : DeskState A) → s' ≡ s → GoesOn s s'
 same {A} s s' e = unchanged s s' (ap (λ (x : DeskState A). x.entries) e) (ap (λ (x : DeskState A). x.database) e)
 
 -- one entry is added
 one_more : {A : Type 0} (s s' : DeskState A) (e : Entry A) → s'.entries ≡ s.entries ++ e ∷ [] → Acts s.database e.session e.command e.reply s'.database → GoesOn s s'
-one_more s s' e more acts = record { added = e ∷ []; entries = more; acts = (s'.database, (acts, refl)) }
+one_more s s' e more acts = goes_on s s' (e ∷ []) more (s'.database, (acts, refl))
 
 GoesOn-trans : {A : Type 0} (s mid s' : DeskState A) → GoesOn s mid → GoesOn mid s' → GoesOn s s'
-GoesOn-trans {A} s mid s' p q = record {
-  added = p.added ++ q.added;
-  entries = q.entries ∙ ap (λ (es : List (Entry A)). es ++ q.added) p.entries ∙ append_assoc s.entries p.added q.added;
-  acts = ActsInTurn-append s.database mid.database s'.database p.added q.added p.acts q.acts;
-}
+GoesOn-trans {A} s mid s' p q =
+    goes_on s s' (p.added ++ q.added) (q.entries ∙ ap (λ (es : List (Entry A)). es ++ q.added) p.entries ∙ append_assoc s.entries p.added q.added)
+    (ActsInTurn-append s.database mid.database s'.database p.added q.added p.acts q.acts)
 
 on_ask : {A : Type 0} (s s' : DeskState A) (h h' : Hands A) (session : ℕ) (command : Command A) (out : Outcome A) → OnAsk s h session command out s' h' → GoesOn s s'
 on_ask s s' h h' session command (outcome.Asked u) p = unchanged s s' p.1.1.0.1.1.entries p.1.1.0.1.1.database
@@ -118,4 +138,4 @@ pub GoesOn-from_Plays : {A : Type 0} (s s' : DeskState A) (h h' : Hands A) (es :
 GoesOn-from_Plays s s' h h' [] [] p = same s s' p.0
 GoesOn-from_Plays s s' h h' [] (o ∷ outs) p = absurd p
 GoesOn-from_Plays s s' h h' (e ∷ es) [] p = absurd p
-GoesOn-from_Plays s s' h h' (e ∷ es) (o ∷ outs) p = GoesOn-trans s p.0 s' (does s p.0 h p.1.0 e o p.1.1.0) (GoesOn-from_Plays p.0 s' p.1.0 h' es outs p.1.1.1)
+GoesOn-from_Plays s s' h h' (e ∷ es) (o ∷ outs) p = GoesOn-trans s p.0 s' (does s p.0 h p.1.0 e o p.1.1.0) (GoesOn-from_Plays p.0 s' p.1.0 h' es outs p.1.1.1.1)

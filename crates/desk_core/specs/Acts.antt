@@ -8,6 +8,7 @@ use Rattle.store_cmd.specs.declared.Command.TheVariants.{Fetch, Store, Delete, C
 use Rattle.store_cmd.specs.declared.Entry.{Entry}
 use Rattle.store_cmd.specs.declared.Reply.{Reply}
 use Rattle.store_cmd.specs.declared.Reply.TheVariants as reply
+use Rattle.store_cmd.specs.Command.{IsSmall}
 use Rattle.store_cmd.specs.Moves.{Moves}
 use Rattle.desk_core.specs.Works.{works, key_of}
 use Rattle.desk_core.specs.Leads.{IsPlaceOf, changed_by, state_of}
@@ -26,8 +27,10 @@ IsExact db session (Store key value mode) answer db' = IsOnPage db session (Stor
 IsExact db session (Delete key) answer db' = IsOnPage db session (Delete key) answer db'
 IsExact db session Count answer db' = (answer ≡ reply.Count (map.len (map_of db))) × (db' ≡ db)
 
--- One command: exactly these pages and bits are put in, which is one move, and how keys hash and how large pages are stays.
+-- One command that is taken: exactly these pages and bits are put in, which is one move, and how keys hash and how large pages
+-- are stays.
 pub record Acts {A : Type 0} (db : Database) (session : ℕ) (command : Command A) (answer : Reply A) (db' : Database) : Type 0 where
+  pub small : IsSmall db.size command
   pub exact : IsExact db session command answer db'
   pub move : Moves db.size db.kind (state_of db) session command answer (state_of db')
   pub kind : db'.kind ≡ db.kind

@@ -7,28 +7,27 @@ use Rattle.sdbm_addr.specs.Directory.{page_of}
 use Rattle.sdbm_addr.specs.Database.{Database, pairs_at, map_of}
 use Rattle.sdbm_dir.specs.declared.Place.{Place}
 use Rattle.hold_modes.specs.declared.modes.Hold.{Hold}
-use Rattle.hold_modes.specs.declared.modes.Hold.TheVariants.{Read, Update, Exclusive}
+use Rattle.hold_modes.specs.declared.modes.Hold.TheVariants.{Exclusive}
 use Rattle.hold_modes.specs.Held.{bars, held_by, without, made_exclusive, exclusive_in, is_updating, is_shared}
 use Rattle.store_cmd.specs.declared.Command.{Command}
 use Rattle.store_cmd.specs.declared.Command.TheVariants.{Count}
 use Rattle.store_cmd.specs.declared.Reply.{Reply}
 use Rattle.store_cmd.specs.declared.Reply.TheVariants as replies
-use Rattle.store_cmd.specs.declared.Entry.{Entry}
 use Rattle.store_cmd.specs.Command.{IsSmall}
-use Rattle.store_cmd.specs.Moves.{Moves}
 use Rattle.desk_core.specs.declared.job.Open.{Open}
+use Rattle.desk_core.specs.declared.Wanted.{Wanted}
 use Rattle.desk_core.specs.declared.Asked.{Asked}
 use Rattle.desk_core.specs.declared.Asked.TheVariants as asked
-use Rattle.desk_core.specs.declared.AskFault.{AskFault}
-use Rattle.desk_core.specs.declared.AskFault.TheVariants as af
-use Rattle.desk_core.specs.declared.ConvertFault.{ConvertFault}
-use Rattle.desk_core.specs.declared.ConvertFault.TheVariants as cf
-use Rattle.desk_core.specs.declared.FinishFault.{FinishFault}
-use Rattle.desk_core.specs.declared.FinishFault.TheVariants as ff
-use Rattle.desk_core.specs.Works.{works, key_of}
+use Rattle.desk_core.specs.declared.faults.AskFault.{AskFault}
+use Rattle.desk_core.specs.declared.faults.AskFault.TheVariants as af
+use Rattle.desk_core.specs.declared.faults.ConvertFault.{ConvertFault}
+use Rattle.desk_core.specs.declared.faults.ConvertFault.TheVariants as cf
+use Rattle.desk_core.specs.declared.faults.FinishFault.{FinishFault}
+use Rattle.desk_core.specs.declared.faults.FinishFault.TheVariants as ff
+use Rattle.desk_core.specs.Works.{PageResult, works, key_of}
 use Rattle.desk_core.specs.Jobs.{Ticketed, worked}
 use Rattle.desk_core.specs.Acts.{Acts}
-use Rattle.desk_core.specs.Leads.{state_of, changed_by, does_change, IsPlaceOf}
+use Rattle.desk_core.specs.Leads.{changed_by, does_change, IsPlaceOf}
 use Rattle.desk_core.specs.Desk.{DeskState, open_count, ticket_of, the_ticket, first_hold}
 
 -- a desk that was just opened
@@ -37,6 +36,7 @@ pub record StartsWith {A : Type 0} (db : Database) (limit : ℕ) (s : DeskState 
   pub opening : s.opening ≡ map.entries (map_of db)
   pub entries : s.entries ≡ []
   pub tickets : s.tickets ≡ []
+  pub next : s.next ≡ 0
   pub holds : s.holds ≡ []
   pub limit_is : s.limit ≡ limit
 
@@ -65,6 +65,11 @@ IsAskFault s command af.TrailFull = IsSmall s.database.size command × (s.limit 
 IsAskFault s command af.Busy = IsSmall s.database.size command × ((length s.entries + open_count s < s.limit) × (is_barred s command ≡ true))
 IsAskFault s command af.NoMemory = MayAsk s command
 
+-- the place of a command's key and how its page is held at first; none for a count
+abbrev pub IsWanted : {A : Type 0} → DeskState A → Command A → Option Wanted → Type 0
+IsWanted s command None = command ≡ Count
+IsWanted s command (Some wanted) = (first_hold command ≡ Some wanted.mode) × IsPlaceOf s.database (key_of command) wanted.place
+
 -- one ticket changed, and no other
 pub record Changes {A : Type 0} (old new : List (Option (Open A))) (t : ℕ) (to : Option (Open A)) : Type 0 where
   pub here : slice_index_or new t None ≡ to
@@ -79,10 +84,11 @@ pub record IsAsked {A : Type 0} (s : DeskState A) (session : ℕ) (command : Com
   pub size : o.page.size ≡ s.database.size
   pub pairs : o.page.pairs ≡ pairs_at s.database o.place.page
 
--- a ticket is opened that was not open
+-- the ticket is opened that is next, which was not open
 pub record Opens {A : Type 0} (s : DeskState A) (command : Command A) (j : Ticketed A) (s' : DeskState A) : Type 0 where
   pub mode : Hold
   pub mode_is : first_hold command ≡ Some mode
+  pub next : j.ticket ≡ s.next
   pub fresh : ticket_of s j.ticket ≡ None
   pub tickets : Changes s.tickets s'.tickets j.ticket (Some j.asked)
   pub holds : s'.holds ≡ s.holds ++ record { page = j.asked.place.page; mode = mode; ticket = the_ticket j.ticket } ∷ []
@@ -98,6 +104,7 @@ pub record Counts {A : Type 0} (s : DeskState A) (session : ℕ) (reply : Reply 
   pub database : s'.database ≡ s.database
   pub opening : s'.opening ≡ s.opening
   pub tickets : s'.tickets ≡ s.tickets
+  pub next : s'.next ≡ s.next
   pub holds : s'.holds ≡ s.holds
   pub limit_is : s'.limit ≡ s.limit
 
@@ -106,9 +113,10 @@ abbrev pub Asks : {A : Type 0} → DeskState A → ℕ → Command A → Asked A
 Asks s session command (asked.Job j) s' = MayAsk s command × (IsAsked s session command j.asked × Opens s command j s')
 Asks s session command (asked.Answered reply) s' = MayAsk s command × ((command ≡ Count) × Counts s session reply s')
 
--- the ticket is closed and its hold released
+-- the ticket is closed, to be the next that is opened, and its hold released
 pub record Closes {A : Type 0} (s : DeskState A) (t : ℕ) (s' : DeskState A) : Type 0 where
   pub tickets : Changes s.tickets s'.tickets t None
+  pub next : s'.next ≡ t
   pub holds : s'.holds ≡ without (the_ticket t) s.holds
   pub opening : s'.opening ≡ s.opening
   pub limit_is : s'.limit ≡ s.limit
@@ -129,10 +137,14 @@ IsConvertFault s t cf.Busy = IsSome (ticket_of s t) × ((is_updating (the_ticket
 abbrev pub is_exclusive : {A : Type 0} → DeskState A → ℕ → Bool
 is_exclusive s t = exclusive_in (held_by (the_ticket t) s.holds)
 
--- what was worked under the ticket is what its command does: it is installed, its entry added, and the ticket closed
-pub record Finishes {A : Type 0} (s : DeskState A) (d : Ticketed A) (reply : Reply A) (s' : DeskState A) : Type 0 where
+-- what was worked under an open ticket, which holds its page alone where that changes
+pub record MayFinish {A : Type 0} (s : DeskState A) (d : Ticketed A) : Type 0 where
   pub own : ticket_of s d.ticket ≡ Some d.asked
   pub alone : is_some (worked d.asked).change ≡ true → is_exclusive s d.ticket ≡ true
+
+-- what was worked under the ticket is what its command does: it is installed, its entry added, and the ticket closed
+pub record Finishes {A : Type 0} (s : DeskState A) (d : Ticketed A) (reply : Reply A) (s' : DeskState A) : Type 0 where
+  pub may : MayFinish s d
   pub reply_is : reply ≡ (worked d.asked).reply
   pub database : s'.database ≡ changed_by s.database d.asked.place.page (worked d.asked).change
   pub acts : Acts s.database d.asked.session d.asked.command reply s'.database
@@ -156,11 +168,15 @@ pub record Abandons {A : Type 0} (s : DeskState A) (t : ℕ) (s' : DeskState A) 
 abbrev pub is_held : {A : Type 0} → DeskState A → Command A → Bool
 is_held s command = list_any (bars (page_led s command) Exclusive) s.holds
 
+-- what a command comes to on the page of a place as it stands
+abbrev pub works_there : {A : Type 0} → DeskState A → ℕ → Command A → Place → PageResult A
+works_there s session command place = works place s.database.kind s.database.size (pairs_at s.database place.page) session command
+
 -- a command asks for a change on the page of its place
 pub record WouldChange {A : Type 0} (s : DeskState A) (session : ℕ) (command : Command A) : Type 0 where
   pub place : Place
   pub leads : IsPlaceOf s.database (key_of command) place
-  pub change : is_some (works place s.database.kind s.database.size (pairs_at s.database place.page) session command).change ≡ true
+  pub change : is_some (works_there s session command place).change ≡ true
 
 -- the command is done on the database, and one entry more; tickets and holds stay, and only a page that nobody holds changes
 pub record Steps {A : Type 0} (s : DeskState A) (session : ℕ) (command : Command A) (reply : Reply A) (s' : DeskState A) : Type 0 where
@@ -171,12 +187,14 @@ pub record Steps {A : Type 0} (s : DeskState A) (session : ℕ) (command : Comma
   pub entries : s'.entries ≡ s.entries ++ record { session = session; command = command; reply = reply } ∷ []
   pub opening : s'.opening ≡ s.opening
   pub tickets : s'.tickets ≡ s.tickets
+  pub next : s'.next ≡ s.next
   pub holds : s'.holds ≡ s.holds
   pub limit_is : s'.limit ≡ s.limit
 
--- when each refusal of a step comes: as of an ask, and Busy also where other tickets hold a page that would change
+-- When each refusal of a step comes: as of an ask, and Busy also where other tickets hold a page that would change. Memory is
+-- wanted only where neither is so.
 abbrev pub IsStepFault : {A : Type 0} → DeskState A → ℕ → Command A → AskFault → Type 0
 IsStepFault s session command af.PairTooLarge = IsAskFault s command af.PairTooLarge
 IsStepFault s session command af.TrailFull = IsAskFault s command af.TrailFull
 IsStepFault s session command af.Busy = IsAskFault s command af.Busy ⊎ (MayAsk s command × ((is_held s command ≡ true) × WouldChange s session command))
-IsStepFault s session command af.NoMemory = MayAsk s command
+IsStepFault s session command af.NoMemory = MayAsk s command × (is_held s command ≡ true → WouldChange s session command → ⊥)

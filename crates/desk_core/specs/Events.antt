@@ -1,7 +1,9 @@
 -- Lists of events on a desk: what each does, and what comes of it.
 use Rattle.std.specs.Prelude.{◌≡◌, ℕ, Bool, true, false, cond, nat_eq, List, [], ◌∷◌, ◌++◌, Option, Some, None}
 use Rattle.store_cmd.specs.declared.Command.{Command}
+use Rattle.sdbm_addr.specs.Database.{map_of}
 use Rattle.store_cmd.specs.declared.Entry.{Entry}
+use Rattle.store_cmd.specs.History.{History}
 use Rattle.desk_core.specs.declared.events.Event.{Event}
 use Rattle.desk_core.specs.declared.events.Event.TheVariants as event
 use Rattle.desk_core.specs.declared.events.Outcome.{Outcome}
@@ -11,7 +13,7 @@ use Rattle.desk_core.specs.declared.events.InHand.TheVariants as hand
 use Rattle.desk_core.specs.declared.Asked.TheVariants as asked
 use Rattle.desk_core.specs.Acts.{ActsInTurn}
 use Rattle.desk_core.specs.Jobs.{Ticketed}
-use Rattle.desk_core.specs.Desk.{DeskState, ticket_of}
+use Rattle.desk_core.specs.Desk.{DeskState, IsSound, ticket_of}
 use Rattle.desk_core.specs.Calls.{Asks, IsAskFault, Converts, IsConvertFault, Finishes, IsFinishFault, Abandons}
 
 -- what is in hand under each ticket
@@ -121,15 +123,17 @@ Does s h (event.Convert t) out s' h' = OnConvert s t.0 out s' × Stay h h'
 Does s h (event.Finish t) out s' h' = OnFinish s h t.0 out s' h'
 Does s h (event.Abandon t) out s' h' = OnAbandon s t.0 out s' × Stay h h'
 
--- events one after another, each with its outcome
+-- events one after another, each with its outcome, and the desk sound after each
 abbrev pub Plays : {A : Type 0} → DeskState A → Hands A → List (Event A) → List (Outcome A) → DeskState A → Hands A → Type 0
 Plays s h [] [] s' h' = (s' ≡ s) × Stay h h'
 Plays s h [] (out ∷ outs) s' h' = ⊥
 Plays s h (e ∷ es) [] s' h' = ⊥
-Plays {A} s h (e ∷ es) (out ∷ outs) s' h' = (mid : DeskState A) × ((held : Hands A) × (Does s h e out mid held × Plays mid held es outs s' h'))
+Plays {A} s h (e ∷ es) (out ∷ outs) s' h' = (mid : DeskState A) × ((held : Hands A) × (Does s h e out mid held × (IsSound mid × Plays mid held es outs s' h')))
 
--- entries are added, which lead from the database before to the one after
+-- entries are added, which lead from the database before to the one after, and are a legal history from the map before to the map
+-- after
 pub record GoesOn {A : Type 0} (s s' : DeskState A) : Type 0 where
   pub added : List (Entry A)
   pub entries : s'.entries ≡ s.entries ++ added
   pub acts : ActsInTurn s.database added s'.database
+  pub legal : History s.database.size s.database.kind (map_of s.database) added (map_of s'.database)

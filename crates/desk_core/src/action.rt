@@ -1,13 +1,18 @@
 //! One command on a database, without a desk.
-ghost use Rattle.std.specs.Prelude.{◌≡◌, IfOk, IfErr, OnErr, Some};
-ghost use Rattle.sdbm_addr.specs.Database.{IsDatabase};
+ghost use Rattle.std.specs.Prelude.{◌≡◌, IfOk, IfErr, IfSome, OnOk, OnErr, is_some, true};
+ghost use Rattle.std.specs.Option.{option_map};
+ghost use Rattle.sdbm_addr.specs.Database.{IsDatabase, pairs_at};
 ghost use Rattle.store_cmd.specs.Command.{IsSmall};
 ghost use Rattle.desk_core.specs.Acts.{Acts};
-ghost use Rattle.desk_core.specs.Works.{HasKey};
+ghost use Rattle.desk_core.specs.Leads.{IsPlaceOf, MayChange, changed_by};
+ghost use Rattle.desk_core.specs.Worked.{IsWorked, takes_memory};
+ghost use Rattle.desk_core.specs.Works.{works, HasKey, key_of, change_of, pairs_lent};
 
-use crate::work::Worked;
-use crate::{key_in, put_in, work_at};
+use crate::work::{Worked, work_on};
+use sdbm_dir::Place;
 use sdbm_files::Image;
+use sdbm_page::Page;
+use sdbm_split::Plan;
 use std::alloc::{AllocError, Allocator};
 use store_cmd::{Command, Entry, Reply};
 
@@ -73,5 +78,76 @@ fn act_on_page<A: Allocator + Copy>(
     match put_in(image, place, change) {
         Ok(()) => Ok(reply),
         Err((error, _)) => Err(error),
+    }
+}
+
+/// The key of a command.
+pub(crate) fn key_in<A: Allocator>(command: &Command<A>) -> &[u8]
+    ensures { result.now ≡ key_of command.now }
+{
+    match command {
+        Command::Fetch { key } => key.as_slice(),
+        Command::Store { key, .. } => key.as_slice(),
+        Command::Delete { key } => key.as_slice(),
+        Command::Count => &[],
+    }
+}
+
+/// What a session's command comes to on its page as it stands.
+///
+/// # Errors
+/// `AllocError` where no memory is left for the value that was found, or for the pages that the command would change.
+pub(crate) fn work_at<A: Allocator + Copy>(
+    alloc: A,
+    image: &Image<A>,
+    place: Place,
+    session: u64,
+    command: &Command<A>,
+) -> Result<Worked<A>, AllocError>
+    requires place { IsPlaceOf image.now (key_of command.now) place }
+    requires keyed { HasKey command.now }
+    requires small { IsSmall image.now.size command.now }
+    requires database { IsDatabase image.now }
+    ensures worked { IfOk result (IsWorked (works place image.now.kind image.now.size (pairs_at image.now place.page) session command.now)) }
+    ensures err { OnErr result (takes_memory (works place image.now.kind image.now.size (pairs_at image.now place.page) session command.now).reply ≡ true) }
+{
+    let kind = image.key_bytes();
+    let size = image.page_size();
+    let page = page_at(image, place.page);
+    work_on(alloc, page, place, kind, size, session, command)
+}
+
+// The page with a number, where it has pairs.
+fn page_at<A: Allocator + Copy>(image: &Image<A>, number: u32) -> Option<&Page<A>>
+    ensures pairs { pairs_lent result ≡ pairs_at image.now number }
+    ensures size { IfSome result (λ page. page.now.size ≡ image.now.size) }
+{
+    match image.page(number) {
+        None => None,
+        Some(page) => Some(page.page()),
+    }
+}
+
+/// Installs a plan for the page of a place, where there is one.
+///
+/// # Errors
+/// `AllocError` where no memory is left. The database is then as it was, and the plan comes back.
+pub(crate) fn put_in<A: Allocator + Copy>(
+    image: &mut Image<A>,
+    place: Place,
+    change: Option<Plan<A>>,
+) -> Result<(), (AllocError, Option<Plan<A>>)>
+    requires { MayChange image.old place.page (option_map change_of change) }
+    ensures ok { OnOk result (image.new ≡ changed_by image.old place.page (option_map change_of change)) }
+    ensures some { OnErr result (is_some change ≡ true) }
+    ensures returned { IfErr result (λ refused. refused.1 ≡ change) }
+    ensures err { OnErr result (image.new ≡ image.old) }
+{
+    let Some(plan) = change else {
+        return Ok(());
+    };
+    match image.install(place, plan) {
+        Ok(()) => Ok(()),
+        Err((error, plan)) => Err((error, Some(plan))),
     }
 }

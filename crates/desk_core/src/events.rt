@@ -1,8 +1,8 @@
 //! Lists of events on a desk, one after another.
-ghost use Rattle.std.specs.Prelude.{◌≡◌, ◌+◌, ◌≤◌, ◌<◌, nat_eq, vec_len, vec_capacity, length, IfOk, IfErr, IfSome, IfNone, OnOk, OnErr, Some, None, true, false};
+ghost use Rattle.std.specs.Prelude.{◌≡◌, ◌+◌, ◌≤◌, nat_eq, IfOk, IfErr, IfSome, IfNone, OnErr, Some, None, true, false};
 ghost use Rattle.std.specs.HashMap.{get, spare};
-ghost use Rattle.desk_core.specs.Calls.{MayAsk, IsAskFault, Asks};
-ghost use Rattle.desk_core.specs.Events.{Hands, Plays, GoesOn, Does, OnAsk, OnWork, OnConvert, OnFinish, OnAbandon, Put, Stay, no_hands, is_job, is_done};
+ghost use Rattle.desk_core.specs.Calls.{IsAskFault, Asks};
+ghost use Rattle.desk_core.specs.Events.{Hands, Plays, GoesOn, Does, OnAsk, OnWork, OnFinish, Put, Stay, no_hands, is_job, is_done};
 
 use crate::{AskFault, Asked, ConvertFault, Desk, Done, FinishFault, Job};
 use hold_modes::Ticket;
@@ -82,7 +82,10 @@ impl<A: Allocator + Copy> Desk<A> {
         let mut hands: ByTicket<A> = HashMap::with_capacity(self.alloc, events.len())?;
         let mut outcomes = Vec::with_capacity(self.alloc, events.len())?;
         for event in events {
-            outcomes.push_reserved(self.happen(&mut hands, event));
+            let outcome = self.happen(&mut hands, event);
+            outcomes.push_reserved(outcome);
+            // What is always so of a desk is so again.
+            let _ = &self.alloc;
         }
         Ok(outcomes)
     }
@@ -136,11 +139,11 @@ impl<A: Allocator + Copy> Desk<A> {
         ensures refused { IfErr result (λ fault. IsAskFault self.old command.now fault) }
         ensures err { OnErr result (self.new ≡ self.old) }
     {
-        self.may_ask(command)?;
+        let wanted = self.may_ask(command)?;
         let Ok(copy) = command.try_clone(self.alloc) else {
             return Err(AskFault::NoMemory);
         };
-        match self.ask(session, copy) {
+        match self.admit(session, copy, wanted) {
             Ok(asked) => Ok(asked),
             Err((fault, _)) => Err(fault),
         }

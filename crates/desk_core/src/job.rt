@@ -1,6 +1,7 @@
 //! What is open: commands that were asked and not yet answered.
 ghost use Rattle.std.specs.Prelude.{◌≡◌, ◌↔◌, IsTrue, IfOk, IfErr, is_some};
 ghost use Rattle.desk_core.specs.Jobs.{worked, IsJob};
+ghost use Rattle.desk_core.specs.Leads.{does_change};
 ghost use Rattle.desk_core.specs.Worked.{IsWorked};
 
 use crate::page_copy::PageCopy;
@@ -16,7 +17,7 @@ use store_cmd::{Command, Reply};
 /// What stands under an open ticket: who asked what, the place to which the key leads in a database whose keys hash so, and the
 /// page as it was.
 #[derive(Drop)]
-pub struct Open<A: Allocator> {
+pub(crate) struct Open<A: Allocator> {
     pub session: u64,
     pub command: Command<A>,
     pub place: Place,
@@ -98,7 +99,10 @@ impl<A: Allocator> Job<A> {
         self.asked.place.page
     }
 
-    /// Works the command out on the page as it was asked, and touches nothing else. Where no memory is left, the job comes back.
+    /// Works the command out on the page as it was asked, and touches nothing else.
+    ///
+    /// # Errors
+    /// `AllocError` where no memory is left for the reply or for the pages that change. The job comes back.
     pub fn work(self) -> Result<Done<A>, (AllocError, Job<A>)>
     where
         A: Copy,
@@ -147,21 +151,22 @@ impl<A: Allocator> Done<A> {
         self.ticket
     }
 
-    /// What stands under it.
-    pub fn asked(&self) -> &Open<A>
+    // What stands under it.
+    pub(crate) fn asked(&self) -> &Open<A>
         ensures { result.now ≡ self.now.asked }
     {
         &self.asked
     }
 
-    /// Whether it changes its page.
+    /// Whether it changes its page, as exactly a store that stores and a delete that deletes do.
     pub fn changes(&self) -> bool
-        ensures { result ≡ is_some (worked self.now.asked).change }
+        ensures change { result ≡ is_some (worked self.now.asked).change }
+        ensures reply { result ≡ does_change (worked self.now.asked).reply }
     {
         self.change.is_some()
     }
 
-    /// The reply.
+    /// The reply, which is what a `finish` answers.
     pub fn reply(&self) -> &Reply<A>
         ensures { result.now ≡ (worked self.now.asked).reply }
     {

@@ -183,7 +183,8 @@ impl<A: Allocator + Copy> Image<A> {
 
     /// All pairs, sorted by the bytes of their keys, or the error where no memory is left for them.
     pub fn pairs(&self) -> Result<Vec<(Bytes<A>, Bytes<A>), A>, AllocError>
-        ensures { IfOk result (λ pairs. pairs.items ≡ map.entries (map_of self.now)) }
+        ensures pairs { IfOk result (λ pairs. pairs.items ≡ map.entries (map_of self.now)) }
+        ensures database { IsDatabase self.now }
     {
         let mut pairs = copy_pairs(self.alloc, &self.pages)?;
         sort_pairs(&mut pairs);

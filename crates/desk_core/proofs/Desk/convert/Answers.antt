@@ -1,7 +1,8 @@
-use Rattle.std.proofs.Common.{◌≡◌, true, false, None, Option, ap, sym, refl, rules}
+use Rattle.std.proofs.Common.{◌≡◌, true, false, None, refl, rules}
 use Rattle.std.specs.Prelude.{slice_index_or, IsSome}
-use Rattle.hold_modes.specs.Held.{is_updating, is_shared, made_exclusive, update_in, held_by}
-use Rattle.desk_core.proofs.DeskLemmas.{converted_sound}
+use Rattle.hold_modes.specs.Held.{is_updating, is_shared, made_exclusive}
+use Rattle.desk_core.specs.Desk.{DeskState}
+use Rattle.desk_core.proofs.Sound.{Converts-sound}
 use Rattle.desk_core.proofs.Desk.convert.Goals as goal
 
 pub returns-then-not-is_updating-clause-refused : goal.returns-then-not-is_updating-clause-refused
@@ -25,12 +26,12 @@ returns-then-is_err-clause-err g c = let same : c.convert.new.self ≡ c.self.in
 
 pub invariant_of-self-2 : goal.invariant_of-self-2
 invariant_of-self-2 g c =
-    let upd : update_in (held_by c.args.ticket c.self.inside.holds) ≡ true = search rules in
-    let held : c.convert.new.self ≡ made_exclusive c.args.ticket c.self.inside.holds = search rules in (
-      converted_sound c.self.inside.image c.self.inside.trail.opening.items c.self.inside.trail.entries.items c.self.inside.tickets.slots c.self.inside.holds c.convert.new.self c.self.inside.limit c.args.ticket.0
-          c.self.invariant.0 upd held c.convert.ensures.rule,
-      c.self.invariant.1,
-    )
+    let s : DeskState g.row.A.Denot = record { database = c.self.inside.image; opening = c.self.inside.trail.opening.items; entries = c.self.inside.trail.entries.items; tickets = c.self.inside.tickets.slots; next = c.self.inside.tickets.vacant_key; holds = c.self.inside.holds; limit = c.self.inside.limit } in
+    let there : IsSome (slice_index_or c.self.inside.tickets.slots c.args.ticket.0 None) = c.if-not-contains.ensures.0 refl in
+    let upd : is_updating c.args.ticket c.self.inside.holds ≡ true = search rules in
+    let alone : is_shared c.args.ticket c.self.inside.holds ≡ false = search rules in
+    let held : c.convert.new.self ≡ made_exclusive c.args.ticket c.self.inside.holds = search rules in
+    (Converts-sound s _ c.args.ticket.0 c.self.invariant.0 (record { there = there; updating = upd; alone = alone; is = rw held refl }) c.convert.ensures.rule, c.self.invariant.1)
 
 pub returns-clause-ok : goal.returns-clause-ok
 returns-clause-ok g c =

@@ -4,6 +4,7 @@ use Rattle.std.specs.HashMap.{get}
 use Rattle.std.specs.Map.{lookup}
 use Rattle.desk_core.specs.declared.events.Event.{Event}
 use Rattle.desk_core.specs.declared.events.Outcome.{Outcome}
+use Rattle.desk_core.specs.Desk.{DeskState, IsSound}
 use Rattle.desk_core.specs.Events.{Plays, no_hands}
 use Rattle.desk_core.proofs.Playing.{Plays-push, GoesOn-from_Plays}
 use Rattle.desk_core.proofs.Desk.play.Goals as goal
@@ -28,14 +29,14 @@ loop-event-preserved g c =
     let event = c.event-item.result in
     let more : take (k + 1) events ≡ take k events ++ event ∷ [] =
     take_more events k event c.loop-event-test.true ∙ ap (λ (e : Event g.row.A.Denot). take k events ++ e ∷ []) (sym c.event-item.is) in
-    let played = Plays-push c.args.self.now c.loop-event.self c.happen.new.self (no_hands {A = g.row.A.Denot}) (get nat_eq c.loop-event.hands) (get nat_eq c.happen.new.hands)
-    (take k events) c.loop-event.outcomes.items event c.happen.result before.plays c.happen.ensures.does in
+    let played = Plays-push c.args.self.now c.loop-event.self c.happen-outcome.new.self (no_hands {A = g.row.A.Denot}) (get nat_eq c.loop-event.hands) (get nat_eq c.happen-outcome.new.hands)
+    (take k events) c.loop-event.outcomes.items event c.happen-outcome.result before.plays c.happen-outcome.ensures.does (subst (λ (x : DeskState g.row.A.Denot). IsSound x) c.self-in-loop-event.view_is c.self-in-loop-event.invariant.0) in
     record {
-      plays = subst (λ (es : List (Event g.row.A.Denot)). Plays c.args.self.now (no_hands {A = g.row.A.Denot}) es c.push_reserved.new.self.items c.happen.new.self (get nat_eq c.happen.new.hands)) (sym more)
-          (subst (λ (outs : List (Outcome g.row.A.Denot)). Plays c.args.self.now (no_hands {A = g.row.A.Denot}) (take k events ++ event ∷ []) outs c.happen.new.self (get nat_eq c.happen.new.hands)) (sym c.push_reserved.ensures.items) played);
+      plays = subst (λ (es : List (Event g.row.A.Denot)). Plays c.args.self.now (no_hands {A = g.row.A.Denot}) es c.push_reserved.new.self.items c.happen-outcome.new.self (get nat_eq c.happen-outcome.new.hands)) (sym more)
+          (subst (λ (outs : List (Outcome g.row.A.Denot)). Plays c.args.self.now (no_hands {A = g.row.A.Denot}) (take k events ++ event ∷ []) outs c.happen-outcome.new.self (get nat_eq c.happen-outcome.new.hands)) (sym c.push_reserved.ensures.items) played);
       len = c.push_reserved.ensures.len ∙ ap (λ n. n + 1) before.len;
       capacity = subst (λ n. length events ≤ n) (sym c.push_reserved.ensures.capacity) before.capacity;
-      room = let room = before.room in let spent = c.happen.ensures.spare in omega arith;
+      room = let room = before.room in let spent = c.happen-outcome.ensures.spare in omega arith;
     }
 
 pub returns-clause-plays : goal.returns-clause-plays

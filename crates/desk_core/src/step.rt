@@ -1,0 +1,172 @@
+//! Commands on a desk in one call, without a ticket.
+ghost use Rattle.std.specs.Prelude.{◌≡◌, cond, false, true, Some, IfOk, IfErr, OnErr, is_some, ◌&&◌};
+ghost use Rattle.std.specs.List.{list_any};
+ghost use Rattle.hold_modes.specs.declared.modes.Hold.TheVariants.{Exclusive};
+ghost use Rattle.hold_modes.specs.Held as held;
+ghost use Rattle.hold_modes.specs.Held.{bars};
+ghost use Rattle.store_cmd.specs.declared.Command.TheVariants.{Count};
+ghost use Rattle.store_cmd.specs.Command.{IsSmall};
+ghost use Rattle.desk_core.specs.Works.{HasKey, key_of};
+ghost use Rattle.desk_core.specs.Worked.{IsWorked, takes_memory};
+ghost use Rattle.desk_core.specs.Leads.{IsPlaceOf};
+ghost use Rattle.desk_core.specs.Desk.{IsSound, first_hold};
+ghost use Rattle.desk_core.specs.Calls.{MayAsk, Steps, IsStepFault, works_there};
+
+use crate::action::{put_in, work_at};
+use crate::work::Worked;
+use crate::{AskFault, Desk, Wanted};
+use hold_modes::Hold;
+use sdbm_dir::Place;
+use std::alloc::{AllocError, Allocator};
+use store_cmd::{Command, Entry, Reply};
+
+impl<A: Allocator + Copy> Desk<A> {
+    /// Answers a session's command in one call, without a ticket.
+    ///
+    /// # Errors
+    /// Those of `ask`, and `Busy` also where the command comes to a change of a page that another ticket holds; `NoMemory` only
+    /// where it does not. The desk is then as it was, and the command comes back.
+    pub fn step(
+        &mut self,
+        session: u64,
+        command: Command<A>,
+    ) -> Result<Reply<A>, (AskFault, Command<A>)>
+        ensures ok { IfOk result (λ reply. Steps self.old session command reply self.new) }
+        ensures refused { IfErr result (λ refused. IsStepFault self.old session command refused.0) }
+        ensures returned { IfErr result (λ refused. refused.1 ≡ command) }
+        ensures err { OnErr result (self.new ≡ self.old) }
+    {
+        match self.may_ask(&command) {
+            Ok(Some(wanted)) => self.step_on(session, command, wanted),
+            Ok(None) => self.step_count(session, command),
+            Err(fault) => Err((fault, command)),
+        }
+    }
+
+    // The same for a count.
+    fn step_count(
+        &mut self,
+        session: u64,
+        command: Command<A>,
+    ) -> Result<Reply<A>, (AskFault, Command<A>)>
+        requires may { MayAsk self.old command }
+        requires counts { command ≡ Count }
+        ensures ok { IfOk result (λ reply. Steps self.old session command reply self.new) }
+        ensures refused { IfErr result (λ refused. IsStepFault self.old session command refused.0) }
+        ensures returned { IfErr result (λ refused. refused.1 ≡ command) }
+        ensures err { OnErr result (self.new ≡ self.old) }
+    {
+        self.answer_count(session, command)
+    }
+
+    // The same for a command that has a key, on its page as it stands.
+    fn step_on(
+        &mut self,
+        session: u64,
+        command: Command<A>,
+        wanted: Wanted,
+    ) -> Result<Reply<A>, (AskFault, Command<A>)>
+        requires may { MayAsk self.old command }
+        requires mode { first_hold command ≡ Some wanted.mode }
+        requires place { IsPlaceOf self.old.database (key_of command) wanted.place }
+        ensures ok { IfOk result (λ reply. Steps self.old session command reply self.new) }
+        ensures refused { IfErr result (λ refused. IsStepFault self.old session command refused.0) }
+        ensures returned { IfErr result (λ refused. refused.1 ≡ command) }
+        ensures err { OnErr result (self.new ≡ self.old) }
+    {
+        let Wanted { place, mode } = wanted;
+        let Ok(worked) = self.work_there(session, &command, place) else {
+            // All but a fetch take memory for a change alone.
+            return Err((self.refusal(place.page, is_update(mode)), command));
+        };
+        if self.is_in_the_way(place.page, worked.change.is_some()) {
+            return Err((AskFault::Busy, command));
+        }
+        match self.put_step(session, command, place, worked) {
+            Ok(reply) => Ok(reply),
+            Err((_, command)) => Err((AskFault::NoMemory, command)),
+        }
+    }
+
+    // What a command comes to on its page as it stands.
+    fn work_there(
+        &self,
+        session: u64,
+        command: &Command<A>,
+        place: Place,
+    ) -> Result<Worked<A>, AllocError>
+        requires keyed { HasKey command.now }
+        requires small { IsSmall self.now.database.size command.now }
+        requires place { IsPlaceOf self.now.database (key_of command.now) place }
+        ensures worked { IfOk result (IsWorked (works_there self.now session command.now place)) }
+        ensures err { OnErr result (takes_memory (works_there self.now session command.now place).reply ≡ true) }
+        ensures sound { IsSound self.now }
+    {
+        work_at(self.alloc, &self.image, place, session, command)
+    }
+
+    // Puts in what a command came to on its page, and adds its entry.
+    fn put_step(
+        &mut self,
+        session: u64,
+        command: Command<A>,
+        place: Place,
+        worked: Worked<A>,
+    ) -> Result<Reply<A>, (AllocError, Command<A>)>
+        requires may { MayAsk self.old command }
+        requires keyed { HasKey command }
+        requires place { IsPlaceOf self.old.database (key_of command) place }
+        requires worked { IsWorked (works_there self.old session command place) worked }
+        requires free { (is_some worked.change && list_any (bars place.page Exclusive) self.old.holds) ≡ false }
+        ensures ok { IfOk result (λ reply. Steps self.old session command reply self.new) }
+        ensures returned { IfErr result (λ refused. refused.1 ≡ command) }
+        ensures err { OnErr result (self.new ≡ self.old) }
+    {
+        let Ok(copy) = worked.reply.try_clone(self.alloc) else {
+            return Err((AllocError, command));
+        };
+        let Ok(()) = self.trail.entries.reserve(self.tickets.len() + 1) else {
+            return Err((AllocError, command));
+        };
+        let Worked { reply, change } = worked;
+        let Ok(()) = put_in(&mut self.image, place, change) else {
+            return Err((AllocError, command));
+        };
+        self.trail.entries.push_reserved(Entry {
+            session,
+            command,
+            reply: copy,
+        });
+        Ok(reply)
+    }
+
+    // Why a command is refused for which no memory is left.
+    fn refusal(&self, page: u32, changes: bool) -> AskFault
+        ensures { result ≡ cond (changes && list_any (bars page Exclusive) self.now.holds) AskFault.Busy AskFault.NoMemory }
+    {
+        if self.is_in_the_way(page, changes) {
+            return AskFault::Busy;
+        }
+        AskFault::NoMemory
+    }
+
+    // Whether another ticket holds a page that is to be changed.
+    fn is_in_the_way(&self, page: u32, changes: bool) -> bool
+        ensures { result ≡ (changes && list_any (bars page Exclusive) self.now.holds) }
+    {
+        if !changes {
+            return false;
+        }
+        self.holds.bars(page, Hold::Exclusive)
+    }
+}
+
+// Whether a hold is one for update.
+fn is_update(mode: Hold) -> bool
+    ensures { result ≡ held.is_update mode }
+{
+    match mode {
+        Hold::Update => true,
+        _ => false,
+    }
+}

@@ -18,7 +18,7 @@ use Rattle.desk_core.specs.Works.{PageResult, key_of, HasKey}
 use Rattle.desk_core.specs.Jobs.{Ticketed, worked}
 use Rattle.desk_core.specs.Leads.{IsPlaceOf, LeadsTo, MayChange, changed_by, does_change}
 use Rattle.desk_core.specs.Desk.{DeskState, IsSound, IsTied, Ties, first_hold, the_ticket, ticket_of}
-use Rattle.desk_core.specs.Calls.{MayAsk, IsAsked, Opens, Changes, MayFinish, Finishes, Abandons, Steps, IsStepFault, WouldChange, works_there, is_held}
+use Rattle.desk_core.specs.Calls.{MayAsk, IsAsked, Opens, Changes, MayFinish, Finishes, Abandons, Steps, IsStepFault, WouldChange, works_there, is_held, is_barred_in, page_led}
 use Rattle.desk_core.proofs.Acting.{Acts-on_page, IsPlaceOf-unique}
 use Rattle.desk_core.proofs.Lifting.{works_lead}
 use Rattle.desk_core.proofs.Ties.{led_there, tied_leads, tied_acts, unchanged_by}
@@ -122,6 +122,11 @@ abandoned s t tickets next holds there changes is_next released =
     record { there = there; database = refl; entries = refl; closes = record { tickets = changes; next = is_next; holds = released; opening = refl; limit_is = refl } }
 
 -- ---- ask
+
+-- the page of a command that may be asked can be held
+pub free_for : {A : Type 0} (s : DeskState A) (command : Command A) (place : Place) (mode : Hold) → IsSound s → MayAsk s command → first_hold command ≡ Some mode → IsPlaceOf s.database (key_of command) place → list_any (bars place.page mode) s.holds ≡ false
+free_for s command place mode sound may first leads =
+    ap (λ (n : ℕ). list_any (bars n mode) s.holds) (led_there s command place sound.database leads) ∙ sym (ap (λ (m : Option Hold). is_barred_in s (page_led s command) m) first) ∙ may.free
 
 pub changes_after : {A : Type 0} (s r n : Slab (Open A)) (key at : ℕ) (o : Open A) → r.slots ≡ s.slots → at ≡ key → Updates r n at (Some o) → Changes s.slots n.slots key (Some o)
 changes_after {A} s r n key at o same e u = record {

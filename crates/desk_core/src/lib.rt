@@ -247,9 +247,7 @@ impl<A: Allocator + Copy> Desk<A> {
         self.trail.entries.reserve(self.tickets.len() + 1)?;
         self.tickets.reserve(1)?;
         let ticket = Ticket(self.tickets.vacant_key());
-        let Ok(()) = self.holds.take(own.place.page, mode, ticket) else {
-            return Err(AllocError);
-        };
+        self.holds.take_free(own.place.page, mode, ticket)?;
         let _key = self.tickets.insert_reserved(own);
         Ok(ticket)
     }

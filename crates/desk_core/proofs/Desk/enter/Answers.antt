@@ -6,15 +6,22 @@ use Rattle.desk_core.specs.Desk.{DeskState}
 use Rattle.desk_core.specs.Calls.{MayAsk, IsAsked}
 use Rattle.desk_core.proofs.Ties.{none_held, free_ticket}
 use Rattle.desk_core.proofs.Sound.{Opens-sound}
-use Rattle.desk_core.proofs.Doing.{opened, changes_after}
+use Rattle.desk_core.proofs.Doing.{opened, changes_after, free_for}
 use Rattle.desk_core.proofs.Desk.enter.Goals as goal
 
-pub take-requires : goal.take-requires
-take-requires g c =
+pub take_free-requires-clause-ticket : goal.take_free-requires-clause-ticket
+take_free-requires-clause-ticket g c =
     let t = c.vacant_key.result in
     let s : DeskState g.row.A.Denot = record { database = c.self.inside.image; opening = c.self.inside.trail.opening.items; entries = c.self.inside.trail.entries.items; tickets = c.self.inside.tickets.slots; next = c.self.inside.tickets.vacant_key; holds = c.self.inside.holds; limit = c.self.inside.limit } in
     let fresh : slice_index_or s.tickets t None ≡ None = sym (ap (λ (x : Slab (Open g.row.A.Denot)). slice_index_or x.slots t None) c.reserve-2.ensures.rest_kept) ∙ c.vacant_key.ensures.vacant in
     none_held (record { 0 = t }) s.holds (free_ticket s t c.self.invariant.0 fresh)
+
+pub take_free-requires-clause-free : goal.take_free-requires-clause-free
+take_free-requires-clause-free g c =
+    let s : DeskState g.row.A.Denot = record { database = c.self.inside.image; opening = c.self.inside.trail.opening.items; entries = c.self.inside.trail.entries.items; tickets = c.self.inside.tickets.slots; next = c.self.inside.tickets.vacant_key; holds = c.self.inside.holds; limit = c.self.inside.limit } in
+    let may = subst (λ (x : DeskState g.row.A.Denot). MayAsk x c.args.own.command) (sym c.self.view_is) c.requires.may in
+    let asked = subst (λ (x : DeskState g.row.A.Denot). IsAsked x c.args.own.session c.args.own.command c.args.own) (sym c.self.view_is) c.requires.asked in
+    free_for s c.args.own.command c.args.own.place c.args.mode c.self.invariant.0 may c.requires.mode asked.place
 
 pub invariant_of-self-2 : goal.invariant_of-self-2
 invariant_of-self-2 g c =
@@ -26,10 +33,10 @@ invariant_of-self-2 g c =
     let same = ap (λ (x : Slab (Open g.row.A.Denot)). x.slots) c.reserve-2.ensures.rest_kept in
     let next = c.vacant_key.ensures.value ∙ ap (λ (x : Slab (Open g.row.A.Denot)). x.vacant_key) c.reserve-2.ensures.rest_kept in
     let changes = changes_after c.self.inside.tickets c.reserve-2.new.self c.insert_reserved-key.new.self t c.insert_reserved-key.result c.args.own same (c.insert_reserved-key.ensures.key ∙ sym c.vacant_key.ensures.value) c.insert_reserved-key.ensures.updates in
-    let opens = opened s t c.args.own c.args.mode c.reserve.new.self.items c.insert_reserved-key.new.self.slots c.insert_reserved-key.new.self.vacant_key c.take.new.self c.requires.mode next fresh c.reserve.ensures.items changes c.in-Ok.ensures.ok in
+    let opens = opened s t c.args.own c.args.mode c.reserve.new.self.items c.insert_reserved-key.new.self.slots c.insert_reserved-key.new.self.vacant_key c.take_free.new.self c.requires.mode next fresh c.reserve.ensures.items changes c.in_ok-take_free.ensures.ok in
     let room : vec_len c.reserve.new.self + (slab_len c.self.inside.tickets + 1) ≤ vec_capacity c.reserve.new.self = search rules in
     let more : slab_len c.insert_reserved-key.new.self ≡ slab_len c.self.inside.tickets + 1 = c.insert_reserved-key.ensures.len ∙ ap (λ (xs : List (Option (Open g.row.A.Denot))). count_by is_some xs + 1) same in
-    (Opens-sound s _ c.args.own.session c.args.own.command (record { ticket = t; asked = c.args.own }) c.self.invariant.0 may asked opens more c.take.ensures.rule, omega arith)
+    (Opens-sound s _ c.args.own.session c.args.own.command (record { ticket = t; asked = c.args.own }) c.self.invariant.0 may asked opens more c.take_free.ensures.rule, omega arith)
 
 pub returns-clause-ok : goal.returns-clause-ok
 returns-clause-ok g c =
@@ -39,4 +46,4 @@ returns-clause-ok g c =
     let same = ap (λ (x : Slab (Open g.row.A.Denot)). x.slots) c.reserve-2.ensures.rest_kept in
     let next = c.vacant_key.ensures.value ∙ ap (λ (x : Slab (Open g.row.A.Denot)). x.vacant_key) c.reserve-2.ensures.rest_kept in
     let changes = changes_after c.self.inside.tickets c.reserve-2.new.self c.insert_reserved-key.new.self t c.insert_reserved-key.result c.args.own same (c.insert_reserved-key.ensures.key ∙ sym c.vacant_key.ensures.value) c.insert_reserved-key.ensures.updates in
-    rw (← c.self.view_is) (opened s t c.args.own c.args.mode c.reserve.new.self.items c.insert_reserved-key.new.self.slots c.insert_reserved-key.new.self.vacant_key c.take.new.self c.requires.mode next fresh c.reserve.ensures.items changes c.in-Ok.ensures.ok)
+    rw (← c.self.view_is) (opened s t c.args.own c.args.mode c.reserve.new.self.items c.insert_reserved-key.new.self.slots c.insert_reserved-key.new.self.vacant_key c.take_free.new.self c.requires.mode next fresh c.reserve.ensures.items changes c.in_ok-take_free.ensures.ok)

@@ -1,0 +1,80 @@
+//! Answers to the lines of standard input.
+
+use crate::lines::Input;
+use bpf_asm::assemble;
+use bpf_machine::{Checked, Ended, run_checked};
+use bpf_verify::{Verified, verify};
+use std::alloc::{AllocError, Global};
+
+/// The longest record and argument of a run.
+const RECORD_LIMIT: usize = 8008;
+
+const ARGUMENT_LIMIT: usize = 1024;
+
+/// The program of a text, or why it is refused.
+fn accepted(alloc: Global, text: &str) -> Result<Result<Verified, String>, AllocError> {
+    let code = match assemble(alloc, text) {
+        Ok(code) => code,
+        Err(fault) => return Ok(Err(format!(in alloc; "no program: {fault}")?)),
+    };
+    match verify(alloc, code) {
+        Ok(program) => Ok(Ok(program)),
+        Err((fault, _code)) => Ok(Err(format!(in alloc; "{fault}")?)),
+    }
+}
+
+/// The verdict on a text that was written on one line.
+pub fn show_verdict(alloc: Global, text: &str) -> Result<String, AllocError> {
+    let text = if text == "." { "" } else { text };
+    let lines = text.replace(alloc, " / ", "\n")?;
+    match accepted(alloc, lines.as_str())? {
+        Ok(_program) => String::from_str(alloc, "accepted"),
+        Err(fault) => Ok(fault),
+    }
+}
+
+/// What a key has: bytes, which may be none, or no value.
+fn show_value(alloc: Global, value: Option<&[u8]>) -> Result<String, AllocError> {
+    match value {
+        None => String::from_str(alloc, "none"),
+        Some(bytes) if bytes.is_empty() => String::from_str(alloc, "."),
+        Some(bytes) => hex::encode(alloc, bytes),
+    }
+}
+
+/// What comes of a run: what it answers, and what the key has once the code has been obeyed.
+fn show_end(
+    alloc: Global,
+    end: Ended,
+    present: bool,
+    before: &[u8],
+    after: &[u8],
+) -> Result<String, AllocError> {
+    let value = match end.code {
+        1 => Some(after),
+        2 => None,
+        _ if present => Some(before),
+        _ => None,
+    };
+    let value = show_value(alloc, value)?;
+    format!(in alloc;
+        "code {}, word {}, {} steps, {value}",
+        end.code, end.word, end.steps
+    )
+}
+
+/// What comes of a text that is run on a record, or why it is refused.
+pub fn show_run(alloc: Global, text: &str, input: Input) -> Result<String, AllocError> {
+    let program = match accepted(alloc, text)? {
+        Ok(program) => program,
+        Err(fault) => return Ok(fault),
+    };
+    if input.bytes.len() > RECORD_LIMIT || input.argument.len() > ARGUMENT_LIMIT {
+        return String::from_str(alloc, "a record or an argument that is too long");
+    }
+    let mut bytes = Vec::from_slice(alloc, &input.bytes)?;
+    match run_checked(program.code(), &input.env, &mut bytes, &input.argument) {
+        Checked::Ended(end) => show_end(alloc, end, input.env.present, &input.bytes, &bytes),
+        Checked::Stuck(at) => format!(in alloc; "stuck at {at}"),
+    }
+}

@@ -392,6 +392,13 @@ impl<A: Allocator + Copy> Desk<A> {
         self.image.pairs()
     }
 
+    /// The database as it stands.
+    pub fn image(&self) -> &Image<A>
+        ensures { result.now ≡ self.now.database }
+    {
+        &self.image
+    }
+
     /// What the desk began with, and what was answered since.
     pub fn trail(&self) -> &Trail<A>
         ensures opening { result.now.opening.items ≡ self.now.opening }

@@ -1,0 +1,86 @@
+-- Steps of the loops that compare calls with a trail.
+use Rattle.std.proofs.Common.{◌≡◌, ◌∙◌, sym, ap, refl, ℕ, ◌<◌, ◌≤◌, ◌+◌, Bool, true, false, length, List, [], ◌∷◌, ◌++◌, arith, slice_index_or}
+use Rattle.std.specs.Prelude.{◌≢◌, ◌==◌, ◌&&◌, nat_eq, take, drop, map, Some}
+use Rattle.std.specs.List.{IsDistinct, list_any, slice_get}
+use Rattle.std.proofs.lemmas.Cmp.{nat_eq_equiv}
+use Rattle.std.proofs.lemmas.List.{take_more, length-take-le, take-append-drop, append-nil, append_assoc, map-append}
+use Rattle.std.proofs.lemmas.List.Elements.{All-more, All-nil, filter-append}
+use Rattle.std.proofs.lemmas.Map.Keys.{IsDistinct-push}
+use Rattle.std.proofs.lemmas.Option.{slice_get-get_or, slice_get_within, get_or_from_slice_get}
+use Rattle.std.proofs.lemmas.Bool.Decides.{Decides-and, Decides-like}
+use Rattle.std.proofs.lemmas.Slice.Eq.{bytes_eq-Decides}
+use Rattle.std.specs.Bool.{Decides}
+use Rattle.std.specs.Str.{bytes_eq}
+use Rattle.sdbm_addr.specs.Pairs.{Pair}
+use Rattle.store_cmd.specs.declared.Entry.{Entry}
+use Rattle.store_shared.specs.Shared.{CallsState}
+use Rattle.store_shared.specs.Closed.{calls_of, numbers_of, is_among, AreOwn}
+
+among_numbers : {A : Type 0} (n : ℕ) (handed : List (CallsState A)) → list_any (nat_eq n) (numbers_of handed) ≡ is_among n handed
+among_numbers n [] = refl
+among_numbers {A} n (c ∷ cs) = rw (among_numbers n cs) refl
+
+-- one more of its own number
+pub AreOwn-more : {A : Type 0} (made : ℕ) (handed : List (CallsState A)) (i : ℕ) (d : CallsState A) → i < length handed → AreOwn made (take i handed) → (slice_index_or handed i d).number < made → is_among (slice_index_or handed i d).number (take i handed) ≡ false → AreOwn made (take (i + 1) handed)
+AreOwn-more {A} made handed i d within own given new =
+    let number : CallsState A → ℕ = λ c. c.number in
+    let c = slice_index_or handed i d in
+    let e : numbers_of (take (i + 1) handed) ≡ numbers_of (take i handed) ++ c.number ∷ [] = ap (map number) (take_more handed i d within) ∙ map-append number (take i handed) (c ∷ []) in
+    record {
+      given = All-more (λ (c : CallsState A). c.number < made) handed i d within own.given given;
+      distinct = rw e (IsDistinct-push nat_eq_equiv (numbers_of (take i handed)) c.number own.distinct (among_numbers c.number (take i handed) ∙ new));
+    }
+
+-- none at all
+pub AreOwn-none : {A : Type 0} (made : ℕ) → AreOwn {A = A} made []
+unfolding IsDistinct
+AreOwn-none {A} made = record { given = All-nil (λ (c : CallsState A). c.number < made); distinct = tt }
+
+pub ruleset Here = (slice_get-get_or)
+
+-- what stands behind a list
+slice_get-behind : {X : Type 0} (front : List X) (x : X) (rest : List X) → slice_get (front ++ x ∷ rest) (length front) ≡ Some x
+slice_get-behind [] x rest = refl
+slice_get-behind (y ∷ ys) x rest = slice_get-behind ys x rest
+
+pub calls_skip : {A : Type 0} (n : ℕ) (xs : List (Entry A)) (i : ℕ) (d : Entry A) → i < length xs → ((slice_index_or xs i d).session == n) ≡ false → calls_of n (take (i + 1) xs) ≡ calls_of n (take i xs)
+calls_skip {A} n xs i d h n_o =
+    ap (calls_of n) (take_more xs i d h) ∙ (filter-append (λ (e : Entry A). e.session == n) (take i xs) (slice_index_or xs i d ∷ []) ∙ rw n_o (append-nil (calls_of n (take i xs))))
+
+pub calls_more : {A : Type 0} (n : ℕ) (xs : List (Entry A)) (i : ℕ) (d : Entry A) → i < length xs → ((slice_index_or xs i d).session == n) ≡ true → calls_of n (take (i + 1) xs) ≡ calls_of n (take i xs) ++ slice_index_or xs i d ∷ []
+calls_more {A} n xs i d h y_s =
+    ap (calls_of n) (take_more xs i d h) ∙ (filter-append (λ (e : Entry A). e.session == n) (take i xs) (slice_index_or xs i d ∷ []) ∙ rw y_s refl)
+
+-- an entry of the session stands in the trail behind so many of its calls, and not in them: they are others
+pub calls_apart : {A : Type 0} (n : ℕ) (xs made : List (Entry A)) (i at : ℕ) (d : Entry A) → i < length xs → at ≤ length made → calls_of n (take i xs) ≡ take at made → ((slice_index_or xs i d).session == n) ≡ true → slice_get made at ≢ Some (slice_index_or xs i d) → calls_of n xs ≢ made
+calls_apart {A} n xs made i at d within few same its_own other whole =
+    let p : Entry A → Bool = λ e. e.session == n in
+    let x = slice_index_or xs i d in
+    let rest = calls_of n (drop (i + 1) xs) in
+    let parts : made ≡ (take at made ++ x ∷ []) ++ rest =
+    sym whole ∙ (ap (calls_of n) (sym (take-append-drop (i + 1) xs)) ∙ (filter-append p (take (i + 1) xs) (drop (i + 1) xs) ∙ ap (λ ys. ys ++ rest) (calls_more n xs i d within its_own ∙ ap (λ ys. ys ++ x ∷ []) same))) in
+    let seam : made ≡ take at made ++ x ∷ rest = parts ∙ append_assoc (take at made) (x ∷ []) rest in
+    other (ap (λ ys. slice_get ys at) seam ∙ (ap (slice_get (take at made ++ x ∷ rest)) (sym (length-take-le at made few)) ∙ slice_get-behind (take at made) x rest))
+
+-- fewer of them stand in the trail
+pub calls_short : {A : Type 0} (n : ℕ) (xs made : List (Entry A)) (at : ℕ) → at < length made → calls_of n xs ≡ take at made → calls_of n xs ≢ made
+calls_short {A} n xs made at few same whole =
+    let l : length made ≡ at = ap length (sym whole ∙ same) ∙ length-take-le at made (omega arith) in
+    absurd (omega arith)
+
+-- one more of them stands in the trail
+pub calls_next : {A : Type 0} (n : ℕ) (xs made : List (Entry A)) (i at : ℕ) (d : Entry A) → i < length xs → calls_of n (take i xs) ≡ take at made → ((slice_index_or xs i d).session == n) ≡ true → slice_get made at ≡ Some (slice_index_or xs i d) → (calls_of n (take (i + 1) xs) ≡ take (at + 1) made) × (at + 1 ≤ length made)
+calls_next {A} n xs made i at d within same its_own here =
+    let x = slice_index_or xs i d in
+    let room : at < length made = slice_get_within made at x here in (
+      calls_more n xs i d within its_own ∙ (ap (λ ys. ys ++ x ∷ []) same ∙ (ap (λ y. take at made ++ y ∷ []) (sym (get_or_from_slice_get made at x x here)) ∙ sym (take_more made at x room))),
+      omega arith,
+    )
+
+-- whether two pairs are the same
+pub same_pair : (a b : Pair) → Decides (bytes_eq a.0 b.0 && bytes_eq a.1 b.1) (a ≡ b)
+same_pair a b =
+    let whole : (a.0 ≡ b.0) × (a.1 ≡ b.1) → a ≡ b = λ h. ap (λ x. (x, a.1)) h.0 ∙ ap (λ y. (b.0, y)) h.1 in
+    Decides-like (bytes_eq a.0 b.0 && bytes_eq a.1 b.1) whole (λ e. (ap (λ p. p.0) e, ap (λ p. p.1) e)) (Decides-and (bytes_eq a.0 b.0) (bytes_eq a.1 b.1) (bytes_eq-Decides a.0 b.0) (bytes_eq-Decides a.1 b.1))
+
+pub ruleset Called = (calls_skip, calls_more, calls_apart, calls_short, take_more)

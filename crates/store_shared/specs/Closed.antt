@@ -1,0 +1,95 @@
+-- When the calls that are handed in close a store, and why they don't.
+use Rattle.std.specs.Prelude.{◌≡◌, ◌≢◌, ℕ, ◌<◌, ◌≤◌, ◌==◌, nat_eq, Bool, true, false, List, map, take, Some}
+use Rattle.std.specs.List.{All, IsDistinct, filter, list_any, slice_get}
+use Rattle.store_cmd.specs.declared.Entry.{Entry}
+use Rattle.desk_core.specs.Desk.{DeskState}
+use Rattle.store_shared.specs.declared.close.CloseFault.{CloseFault}
+use Rattle.store_shared.specs.declared.close.CloseFault.TheVariants.{Stranger, Double, Missing, Torn, Opening}
+use Rattle.store_shared.specs.Shared.{Opened, CallsState}
+
+-- the calls of a session among entries, in their order
+abbrev pub calls_of : {A : Type 0} → ℕ → List (Entry A) → List (Entry A)
+calls_of {A} session entries = filter (λ (e : Entry A). e.session == session) entries
+
+abbrev pub numbers_of : {A : Type 0} → List (CallsState A) → List ℕ
+numbers_of {A} handed = map (λ (calls : CallsState A). calls.number) handed
+
+-- some of them have the number
+abbrev pub is_among : {A : Type 0} → ℕ → List (CallsState A) → Bool
+is_among {A} number handed = list_any (λ (calls : CallsState A). number == calls.number) handed
+
+-- no two have one number
+abbrev pub AreDistinct : {A : Type 0} → List (CallsState A) → Type 0
+AreDistinct handed = IsDistinct nat_eq (numbers_of handed)
+
+-- they are those of their number in the trail
+abbrev pub Agrees : {A : Type 0} → List (Entry A) → CallsState A → Type 0
+Agrees entries calls = calls_of calls.number entries ≡ calls.calls
+
+-- every entry's session is among them
+abbrev pub Covers : {A : Type 0} → List (Entry A) → List (CallsState A) → Type 0
+Covers {A} entries handed = All (λ (e : Entry A). is_among e.session handed ≡ true) entries
+
+-- so many sessions were made: all have a number of one, and no two the same
+pub record AreOwn {A : Type 0} (made : ℕ) (handed : List (CallsState A)) : Type 0 where
+  pub given : All (λ (calls : CallsState A). calls.number < made) handed
+  pub distinct : AreDistinct handed
+
+-- what is wrong with the number of one that is handed in behind others
+abbrev pub IsStrange : {A : Type 0} → ℕ → List (CallsState A) → ℕ → CloseFault → Type 0
+IsStrange made others number (Stranger s) = (number ≡ s) × (made ≤ number)
+IsStrange made others number (Double s) = (number ≡ s) × ((number < made) × (is_among number others ≡ true))
+IsStrange made others number (Missing s) = ⊥
+IsStrange made others number (Torn s) = ⊥
+IsStrange made others number Opening = ⊥
+
+-- the first in the list with such a number
+pub record IsFirstStrange {A : Type 0} (made : ℕ) (handed : List (CallsState A)) (fault : CloseFault) : Type 0 where
+  pub at : ℕ
+  pub calls : CallsState A
+  pub here : slice_get handed at ≡ Some calls
+  pub own : AreOwn made (take at handed)
+  pub strange : IsStrange made (take at handed) calls.number fault
+
+-- the first entry whose session is not among them
+pub record IsFirstMissing {A : Type 0} (entries : List (Entry A)) (handed : List (CallsState A)) (session : ℕ) : Type 0 where
+  pub at : ℕ
+  pub entry : Entry A
+  pub here : slice_get entries at ≡ Some entry
+  pub covered : Covers (take at entries) handed
+  pub session_is : entry.session ≡ session
+  pub missing : is_among session handed ≡ false
+
+-- the first in the list that differ from those of their number in the trail
+pub record IsFirstTorn {A : Type 0} (entries : List (Entry A)) (handed : List (CallsState A)) (session : ℕ) : Type 0 where
+  pub at : ℕ
+  pub calls : CallsState A
+  pub here : slice_get handed at ≡ Some calls
+  pub agree : All (Agrees entries) (take at handed)
+  pub session_is : calls.number ≡ session
+  pub torn : calls_of calls.number entries ≢ calls.calls
+
+-- a desk began with these pairs, and has such keys and pages
+pub record IsStartedSo {A : Type 0} (s : DeskState A) (opened : Opened) : Type 0 where
+  pub kind : s.database.kind ≡ opened.kind
+  pub size : s.database.size ≡ opened.size
+  pub opening : s.opening ≡ opened.opening
+
+-- when each fault of closing comes, over a desk and so many sessions
+abbrev pub IsCloseFault : {A : Type 0} → DeskState A → ℕ → Opened → List (CallsState A) → CloseFault → Type 0
+IsCloseFault s made opened handed (Stranger n) = IsFirstStrange made handed (Stranger n)
+IsCloseFault s made opened handed (Double n) = IsFirstStrange made handed (Double n)
+IsCloseFault s made opened handed (Missing n) = AreOwn made handed × IsFirstMissing s.entries handed n
+IsCloseFault s made opened handed (Torn n) = AreOwn made handed × (Covers s.entries handed × IsFirstTorn s.entries handed n)
+IsCloseFault s made opened handed Opening = AreOwn made handed × (Covers s.entries handed × (All (Agrees s.entries) handed × ¬ (IsStartedSo s opened)))
+
+-- the same of what stands under the lock of a store, which no contract can name
+abbrev pub IsRefusedClose : {A : Type 0} → Opened → List (CallsState A) → CloseFault → Type 0
+IsRefusedClose {A} opened handed fault = (s : DeskState A) × ((made : ℕ) × IsCloseFault s made opened handed fault)
+
+-- nothing is wrong
+pub record MayClose {A : Type 0} (s : DeskState A) (opened : Opened) (handed : List (CallsState A)) : Type 0 where
+  pub distinct : AreDistinct handed
+  pub covers : Covers s.entries handed
+  pub agree : All (Agrees s.entries) handed
+  pub started : IsStartedSo s opened

@@ -1,0 +1,86 @@
+-- What a store was opened with, and the sessions that share it.
+use Rattle.std.specs.Prelude.{◌≡◌, ℕ, ◌++◌, ◌⊎◌, List, [], ◌∷◌}
+use Rattle.std.specs.FinMap as map
+use Rattle.sdbm_addr.specs.declared.KeyBytes.{KeyBytes}
+use Rattle.sdbm_addr.specs.declared.PageSize.{PageSize}
+use Rattle.sdbm_addr.specs.Pairs.{Pair}
+use Rattle.sdbm_addr.specs.Database.{Database, map_of}
+use Rattle.store_cmd.specs.declared.Command.{Command}
+use Rattle.store_cmd.specs.declared.Command.TheVariants.{Count}
+use Rattle.store_cmd.specs.declared.Reply.{Reply}
+use Rattle.store_cmd.specs.declared.Reply.TheVariants as replies
+use Rattle.store_cmd.specs.declared.Entry.{Entry}
+use Rattle.store_cmd.specs.declared.Refusal.{Refusal}
+use Rattle.store_cmd.specs.declared.Refusal.TheVariants.{PairTooLarge, ArgTooLong, TrailFull, NoMemory, Strayed}
+use Rattle.store_cmd.specs.Command.{IsSmall}
+use Rattle.desk_core.specs.declared.Asked.{Asked}
+use Rattle.desk_core.specs.declared.Asked.TheVariants as asked
+use Rattle.desk_core.specs.declared.job.Open.{Open}
+use Rattle.desk_core.specs.Works.{HasKey}
+use Rattle.desk_core.specs.Jobs.{worked}
+
+-- how the keys of a store hash, how large its pages are, and the pairs with which it was opened
+pub record Opened : Type 0 where
+  pub kind : KeyBytes
+  pub size : PageSize
+  pub opening : List Pair
+
+abbrev pub opened_by : Database → Opened
+opened_by db = record { kind = db.kind; size = db.size; opening = map.entries (map_of db) }
+
+-- a session: its number, how large the pages of its store are, and the calls that were answered
+pub record SessionState (A : Type 0) : Type 0 where
+  pub number : ℕ
+  pub size : PageSize
+  pub calls : List (Entry A)
+
+-- what is left of a session: its number and its calls
+pub record CallsState (A : Type 0) : Type 0 where
+  pub number : ℕ
+  pub calls : List (Entry A)
+
+abbrev pub calls_left : {A : Type 0} → SessionState A → CallsState A
+calls_left s = record { number = s.number; calls = s.calls }
+
+-- one call more
+abbrev pub with_call : {A : Type 0} → SessionState A → Command A → Reply A → SessionState A
+with_call s command reply = record { number = s.number; size = s.size; calls = s.calls ++ record { session = s.number; command = command; reply = reply } ∷ [] }
+
+-- the reply is what a session's command comes to on a page
+pub record IsWorkedFor {A : Type 0} (session : ℕ) (command : Command A) (reply : Reply A) : Type 0 where
+  pub keyed : HasKey command
+  pub asked : Open A
+  pub session_is : asked.session ≡ session
+  pub command_is : asked.command ≡ command
+  pub reply_is : reply ≡ (worked asked).reply
+
+-- the command counts, and the reply is a number
+pub record IsCounted {A : Type 0} (command : Command A) (reply : Reply A) : Type 0 where
+  pub counts : command ≡ Count
+  pub count : ℕ
+  pub reply_is : reply ≡ replies.Count count
+
+-- a reply to this command of this session
+abbrev pub IsReplyTo : {A : Type 0} → ℕ → Command A → Reply A → Type 0
+IsReplyTo session command reply = IsWorkedFor session command reply ⊎ IsCounted command reply
+
+-- what was asked is this command of this session
+abbrev pub IsAskedFor : {A : Type 0} → ℕ → Command A → Asked A → Type 0
+IsAskedFor session command (asked.Job job) = HasKey command × ((job.asked.session ≡ session) × (job.asked.command ≡ command))
+IsAskedFor session command (asked.Answered reply) = IsCounted command reply
+
+-- a refusal of a call that is not for its size
+abbrev pub IsNotForSize : Refusal → Type 0
+IsNotForSize PairTooLarge = ⊥
+IsNotForSize ArgTooLong = ⊥
+IsNotForSize TrailFull = Unit {0}
+IsNotForSize NoMemory = Unit {0}
+IsNotForSize Strayed = Unit {0}
+
+-- Why a call is refused: for its size exactly where that is too large.
+abbrev pub IsRefusal : {A : Type 0} → PageSize → Command A → Refusal → Type 0
+IsRefusal size command PairTooLarge = ¬ (IsSmall size command)
+IsRefusal size command ArgTooLong = ⊥
+IsRefusal size command TrailFull = IsSmall size command
+IsRefusal size command NoMemory = IsSmall size command
+IsRefusal size command Strayed = IsSmall size command

@@ -1,0 +1,173 @@
+//! What is compared when a store is closed.
+ghost use Rattle.std.specs.Prelude.{◌≡◌, ◌↔◌, IsTrue, IfNone, IfSome, Some};
+ghost use Rattle.std.specs.List.{All, slice_get};
+ghost use Rattle.store_shared.specs.Shared.{Opened};
+ghost use Rattle.store_shared.specs.Closed.{is_among, Agrees, AreOwn, Covers, IsFirstStrange, IsFirstMissing, IsFirstTorn, IsCloseFault, MayClose, IsStartedSo};
+
+use crate::session::Calls;
+use desk_core::Desk;
+use sdbm_addr::{Bytes, KeyBytes, PageSize};
+use std::alloc::Allocator;
+use store_cmd::Entry;
+
+/// Why a store is not closed. They are tested in this order, the first two together.
+#[derive(Clone, Copy, Debug, PartialEq, Eq)]
+pub enum CloseFault {
+    /// No session of the store has this number.
+    Stranger(u64),
+    /// Two of those that are handed in have this number.
+    Double(u64),
+    /// The session with this number was answered, and its calls are not handed in.
+    Missing(u64),
+    /// The calls of this number are not those that the trail has.
+    Torn(u64),
+    /// The trail does not begin as the store was opened.
+    Opening,
+}
+
+/// Why these calls do not close a store with this desk and so many sessions, which was opened so.
+pub(crate) fn close_fault<A: Allocator + Copy>(
+    desk: &Desk<A>,
+    made: u64,
+    kind: KeyBytes,
+    size: PageSize,
+    opening: &[(Bytes<A>, Bytes<A>)],
+    handed: &[Calls<A>],
+) -> Option<CloseFault>
+    ensures none { let opened : Opened = record { kind = kind; size = size; opening = opening.now } in IfNone result (MayClose desk.now opened handed.now) }
+    ensures some { let opened : Opened = record { kind = kind; size = size; opening = opening.now } in IfSome result (IsCloseFault desk.now made opened handed.now) }
+{
+    let entries = desk.trail().entries.as_slice();
+    if let Some(fault) = first_strange(handed, made) {
+        return Some(fault);
+    }
+    if let Some(session) = first_missing(entries, handed) {
+        return Some(CloseFault::Missing(session));
+    }
+    if let Some(session) = first_torn(entries, handed) {
+        return Some(CloseFault::Torn(session));
+    }
+    if !has_started_so(desk, kind, size, opening) {
+        return Some(CloseFault::Opening);
+    }
+    None
+}
+
+// Whether one of them has the number.
+fn is_among<A: Allocator>(number: u64, handed: &[Calls<A>]) -> bool
+    ensures { result ≡ is_among number handed.now }
+{
+    handed.iter().any(|calls| number == calls.number())
+}
+
+// The first whose number no session has, or one that stood in the list before.
+#[tactic(auto, using(crate::proofs::CloseLemmas::Here))]
+fn first_strange<A: Allocator>(handed: &[Calls<A>], made: u64) -> Option<CloseFault>
+    ensures none { IfNone result (AreOwn made handed.now) }
+    ensures some { IfSome result (IsFirstStrange made handed.now) }
+{
+    for at in 0..handed.len() {
+        let number = handed[at].number();
+        if number >= made {
+            return Some(CloseFault::Stranger(number));
+        }
+        if is_among(number, &handed[..at]) {
+            return Some(CloseFault::Double(number));
+        }
+    }
+    None
+}
+
+// The session of the first entry that is not among them.
+#[tactic(auto, using(crate::proofs::CloseLemmas::Here))]
+fn first_missing<A: Allocator>(entries: &[Entry<A>], handed: &[Calls<A>]) -> Option<u64>
+    ensures none { IfNone result (Covers entries.now handed.now) }
+    ensures some { IfSome result (IsFirstMissing entries.now handed.now) }
+{
+    for entry in entries {
+        if !is_among(entry.session, handed) {
+            return Some(entry.session);
+        }
+    }
+    None
+}
+
+// The number of the first whose calls are not those of the trail.
+#[tactic(auto, using(crate::proofs::CloseLemmas::Here))]
+fn first_torn<A: Allocator>(entries: &[Entry<A>], handed: &[Calls<A>]) -> Option<u64>
+    ensures none { IfNone result (All (Agrees entries.now) handed.now) }
+    ensures some { IfSome result (IsFirstTorn entries.now handed.now) }
+{
+    for calls in handed {
+        if !agrees(entries, calls) {
+            return Some(calls.number());
+        }
+    }
+    None
+}
+
+// Whether the calls are those of their number among the entries.
+#[tactic(auto, using(crate::proofs::CloseLemmas::Called))]
+fn agrees<A: Allocator>(entries: &[Entry<A>], calls: &Calls<A>) -> bool
+    ensures { IsTrue result ↔ Agrees entries.now calls.now }
+{
+    let number = calls.number();
+    let made = calls.entries();
+    let mut at = 0;
+    for entry in entries {
+        if entry.session != number {
+            continue;
+        }
+        if !is_at(made, at, entry) {
+            return false;
+        }
+        at += 1;
+    }
+    at == made.len()
+}
+
+// Whether this entry stands at a place.
+fn is_at<A: Allocator>(made: &[Entry<A>], at: usize, entry: &Entry<A>) -> bool
+    ensures { IsTrue result ↔ (slice_get made.now at ≡ Some entry.now) }
+{
+    let Some(other) = made.get(at) else {
+        return false;
+    };
+    is_same(other, entry)
+}
+
+// Whether two entries are the same.
+fn is_same<A: Allocator>(one: &Entry<A>, other: &Entry<A>) -> bool
+    ensures { IsTrue result ↔ (one.now ≡ other.now) }
+{
+    one == other
+}
+
+// Whether a desk began with these pairs, and has such keys and pages.
+fn has_started_so<A: Allocator + Copy>(
+    desk: &Desk<A>,
+    kind: KeyBytes,
+    size: PageSize,
+    opening: &[(Bytes<A>, Bytes<A>)],
+) -> bool
+    ensures { let opened : Opened = record { kind = kind; size = size; opening = opening.now } in IsTrue result ↔ IsStartedSo desk.now opened }
+{
+    let image = desk.image();
+    if image.key_bytes() != kind {
+        return false;
+    }
+    if image.page_size() != size {
+        return false;
+    }
+    are_same_pairs(desk.trail().opening.as_slice(), opening)
+}
+
+// Whether these are the same pairs, in the same order.
+fn are_same_pairs<A: Allocator>(
+    one: &[(Bytes<A>, Bytes<A>)],
+    other: &[(Bytes<A>, Bytes<A>)],
+) -> bool
+    ensures { IsTrue result ↔ (one.now ≡ other.now) }
+{
+    one == other
+}

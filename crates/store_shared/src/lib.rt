@@ -1,0 +1,12 @@
+//! A store that threads share: sessions ask one desk under a lock, work with no lock held, and leave one legal history, in which each
+//! session finds its own calls.
+#![tactic(auto)]
+
+mod close;
+mod serving;
+mod session;
+mod store;
+
+pub use close::CloseFault;
+pub use session::{Calls, Session};
+pub use store::{Closed, Gate, NoGate, SessionFault, Store};

@@ -1,0 +1,193 @@
+//! Sessions: those who share a store.
+ghost use Rattle.std.specs.Prelude.{◌≡◌, ◌+◌, ◌≤◌, ◌↔◌, IsTrue, IfOk, IfErr, OnOk, OnErr, [], length};
+ghost use Rattle.sdbm_addr.specs.Pairs.{pair_limit};
+ghost use Rattle.store_cmd.specs.declared.Command.{Command};
+ghost use Rattle.store_cmd.specs.declared.Command.TheVariants as commands;
+ghost use Rattle.store_shared.specs.Shared.{calls_left, with_call, IsReplyTo, IsNotForSize, IsRefusal};
+
+use crate::serving::answer;
+use crate::store::{Gate, Store};
+use sdbm_addr::{Bytes, Mode, PageSize};
+use std::alloc::Allocator;
+use std::marker::Model;
+use std::sync::Wait;
+use store_cmd::{Command, Entry, Refusal, Reply};
+
+/// One of those who share a store, seen as its number, the page size of the store, and its calls that were answered, in order. Its
+/// calls have to be handed in when the store is closed: where one that was answered is let go, the store never closes.
+#[derive(Drop)]
+pub struct Session<'a, A: Allocator, G: Gate> {
+    store: &'a Store<A, G>,
+    alloc: A,
+    number: u64,
+    size: PageSize,
+    calls: Vec<Entry<A>, A>,
+}
+
+impl<'a, A: Allocator, G: Gate> Model for Session<'a, A, G> {
+    ghost use Rattle.store_shared.specs.Shared.{SessionState};
+
+    ghost Value = { SessionState A };
+
+    ghost view = { λ a. record { number = a.number; size = a.size; calls = a.calls.items } };
+}
+
+/// What is left of a session, seen as its number and its calls that were answered, in order.
+#[derive(Drop)]
+pub struct Calls<A: Allocator> {
+    number: u64,
+    calls: Vec<Entry<A>, A>,
+}
+
+impl<A: Allocator> Model for Calls<A> {
+    ghost use Rattle.store_shared.specs.Shared.{CallsState};
+
+    ghost Value = { CallsState A };
+
+    ghost view = { λ a. record { number = a.number; calls = a.calls.items } };
+}
+
+impl<A: Allocator> Calls<A> {
+    /// The number of the session.
+    pub fn number(&self) -> u64
+        ensures { result ≡ self.now.number }
+    {
+        self.number
+    }
+
+    /// Its calls that were answered, in order.
+    pub fn entries(&self) -> &[Entry<A>]
+        ensures { result.now ≡ self.now.calls }
+    {
+        self.calls.as_slice()
+    }
+}
+
+/// Each call asks the desk, works what was asked with no lock held, and commits what came of it; where the desk is busy, it waits.
+/// What is answered is added to the calls. A call that is refused commits nothing, gives its ticket back and adds nothing.
+///
+/// # Errors
+/// Of every call: `TrailFull` where the trail has as many entries and open tickets as it may have. `NoMemory` where memory is
+/// refused for copies of what is lent, for the ticket, the reply or the new pages, or for the session's own entry, which is taken
+/// before the desk commits. `Strayed` where the desk does not know the session's ticket as its own: no call here brings that about,
+/// and a test says so. Of `store` alone: `PairTooLarge`, and it is told first.
+impl<'a, A: Allocator + Copy, G: Gate> Session<'a, A, G> {
+    // A session that has made no calls.
+    pub(crate) fn new(store: &'a Store<A, G>, alloc: A, size: PageSize, number: u64) -> Self
+        ensures { result ≡ record { number = number; size = size; calls = [] } }
+    {
+        Session {
+            store,
+            alloc,
+            number,
+            size,
+            calls: Vec::new(alloc),
+        }
+    }
+
+    /// Ends the session, and leaves its calls. It takes no lock and no memory.
+    pub fn into_calls(self) -> Calls<A>
+        ensures { result ≡ calls_left self.entry }
+    {
+        let Session { number, calls, .. } = self;
+        Calls { number, calls }
+    }
+
+    /// The value of a key, of any length: `Found` or `Missing`. It waits as long as another session is changing the key's page.
+    pub fn fetch<R: Wait>(&mut self, rt: &R, key: &[u8]) -> Result<Reply<A>, Refusal>
+        ensures ok { IfOk result (λ reply. self.new ≡ with_call self.old (commands.Fetch key.now) reply) }
+        ensures reply { IfOk result (λ reply. IsReplyTo self.old.number (commands.Fetch key.now) reply) }
+        ensures refused { IfErr result IsNotForSize }
+        ensures err { OnErr result (self.new ≡ self.old) }
+    {
+        let Ok(key) = Bytes::from_slice(self.alloc, key) else {
+            return Err(Refusal::NoMemory);
+        };
+        self.call(rt, Command::Fetch { key })
+    }
+
+    /// Stores a value for a key: `Stored`, `Exists` where the mode is `Insert` and the key is there, or `Crowded` where no number of
+    /// splits makes room. It waits as long as another session is to change the key's page, and before the change as long as others
+    /// read it.
+    ///
+    /// # Errors
+    /// `PairTooLarge` exactly where key and value have more bytes together than a pair of the store may have, 1,008 or 8,008.
+    pub fn store<R: Wait>(
+        &mut self,
+        rt: &R,
+        key: &[u8],
+        value: &[u8],
+        mode: Mode,
+    ) -> Result<Reply<A>, Refusal>
+        ensures ok { IfOk result (λ reply. self.new ≡ with_call self.old (commands.Store key.now value.now mode) reply) }
+        ensures reply { IfOk result (λ reply. IsReplyTo self.old.number (commands.Store key.now value.now mode) reply) }
+        ensures small { OnOk result (length key.now + length value.now ≤ pair_limit self.old.size) }
+        ensures refused { let command : Command A = commands.Store key.now value.now mode in IfErr result (IsRefusal self.old.size command) }
+        ensures err { OnErr result (self.new ≡ self.old) }
+    {
+        if !is_small(self.size, key, value) {
+            return Err(Refusal::PairTooLarge);
+        }
+        let Ok(key) = Bytes::from_slice(self.alloc, key) else {
+            return Err(Refusal::NoMemory);
+        };
+        let Ok(value) = Bytes::from_slice(self.alloc, value) else {
+            return Err(Refusal::NoMemory);
+        };
+        self.call(rt, Command::Store { key, value, mode })
+    }
+
+    /// Takes a key, of any length, and its value out: `Deleted` or `Missing`. It waits as `store` does.
+    pub fn delete<R: Wait>(&mut self, rt: &R, key: &[u8]) -> Result<Reply<A>, Refusal>
+        ensures ok { IfOk result (λ reply. self.new ≡ with_call self.old (commands.Delete key.now) reply) }
+        ensures reply { IfOk result (λ reply. IsReplyTo self.old.number (commands.Delete key.now) reply) }
+        ensures refused { IfErr result IsNotForSize }
+        ensures err { OnErr result (self.new ≡ self.old) }
+    {
+        let Ok(key) = Bytes::from_slice(self.alloc, key) else {
+            return Err(Refusal::NoMemory);
+        };
+        self.call(rt, Command::Delete { key })
+    }
+
+    /// The number of pairs: `Count`. It waits for the lock alone.
+    pub fn count<R: Wait>(&mut self, rt: &R) -> Result<Reply<A>, Refusal>
+        ensures ok { IfOk result (λ reply. self.new ≡ with_call self.old commands.Count reply) }
+        ensures reply { IfOk result (λ reply. IsReplyTo self.old.number commands.Count reply) }
+        ensures refused { IfErr result IsNotForSize }
+        ensures err { OnErr result (self.new ≡ self.old) }
+    {
+        self.call(rt, Command::Count)
+    }
+
+    // Makes a call. The memory for its own entry is taken before the desk commits anything.
+    fn call<R: Wait>(&mut self, rt: &R, command: Command<A>) -> Result<Reply<A>, Refusal>
+        ensures ok { IfOk result (λ reply. self.new ≡ with_call self.old command reply) }
+        ensures reply { IfOk result (λ reply. IsReplyTo self.old.number command reply) }
+        ensures refused { IfErr result IsNotForSize }
+        ensures err { OnErr result (self.new ≡ self.old) }
+    {
+        let Ok(()) = self.calls.reserve(1) else {
+            return Err(Refusal::NoMemory);
+        };
+        let Ok(kept) = command.try_clone(self.alloc) else {
+            return Err(Refusal::NoMemory);
+        };
+        let session = self.number;
+        let (reply, copy) = answer(rt, self.store, self.alloc, session, command)?;
+        self.calls.push_reserved(Entry {
+            session,
+            command: kept,
+            reply: copy,
+        });
+        Ok(reply)
+    }
+}
+
+// Whether a pair may be stored.
+fn is_small(size: PageSize, key: &[u8], value: &[u8]) -> bool
+    ensures { IsTrue result ↔ (length key.now + length value.now ≤ pair_limit size) }
+{
+    let limit = size.pair_limit();
+    key.len() <= limit && value.len() <= limit - key.len()
+}

@@ -1,7 +1,7 @@
 //! The two files of a database as one value: the directory of `.dir`, and the pages of `.pag` that have pairs, by number.
 #![tactic(auto)]
 
-ghost use Rattle.std.specs.Prelude.{◌≡◌, ◌≢◌, ◌≤◌, ◌%◌, ◌^◌, IfOk, OnOk, IfErr, OnErr, IfSome};
+ghost use Rattle.std.specs.Prelude.{◌≡◌, ◌≢◌, ◌≤◌, ◌%◌, ◌^◌, [], IfOk, OnOk, IfErr, OnErr, IfSome};
 ghost use Rattle.std.specs.Option.{option_map};
 ghost use Rattle.std.specs.FinMap as map;
 ghost use Rattle.sdbm_addr.specs.Hash.{hash_of};
@@ -20,7 +20,10 @@ mod writing;
 
 pub use opening::OpenFault;
 use opening::{keep_pages, misplaced, read_dir, read_pages};
-use pages::{Pages, copy_pairs, count_pairs, grow_all, mark_all, put_page, put_pages, sort_pairs};
+use pages::{
+    Pages, copy_pairs, count_pairs, grow_all, mark_all, put_page, put_pages, replace_page,
+    sort_pairs,
+};
 use sdbm_addr::{Bytes, KeyBytes, PageSize, hash};
 use sdbm_dir::{Dir, Place};
 use sdbm_page::SharedPage;
@@ -154,13 +157,17 @@ impl<A: Allocator + Copy> Image<A> {
     }
 
     /// Puts in what a plan for the page of a place gives: its leaf under the number of that page, its twins, and its bits. All
-    /// memory is taken first: where none is left the database is as it was, and the plan comes back.
+    /// memory is taken first, for a plan without splits only where the place has no page: where none is left the database is as it
+    /// was, and the plan comes back.
     pub fn install(&mut self, place: Place, plan: Plan<A>) -> Result<(), (AllocError, Plan<A>)>
         requires { IsInstallable self.old place.page plan.leaf plan.twins.items plan.bits.items }
         ensures ok { OnOk result (self.new ≡ installed self.old place.page plan.leaf plan.twins.items plan.bits.items) }
         ensures err { OnErr result (self.new ≡ self.old) }
         ensures returned { IfErr result (λ refused. refused.1 ≡ plan) }
     {
+        if plan.twins.is_empty() && plan.bits.is_empty() {
+            return self.install_leaf(place, plan);
+        }
         let Ok(()) = self.pages.reserve(plan.twins.len() + 1) else {
             return Err((AllocError, plan));
         };
@@ -172,6 +179,22 @@ impl<A: Allocator + Copy> Image<A> {
         put_pages(&mut self.pages, twins);
         mark_all(&mut self.dir, bits.as_slice());
         Ok(())
+    }
+
+    // The same for a plan without splits, which takes memory only where the place has no page.
+    fn install_leaf(&mut self, place: Place, plan: Plan<A>) -> Result<(), (AllocError, Plan<A>)>
+        requires installable { IsInstallable self.old place.page plan.leaf plan.twins.items plan.bits.items }
+        requires twins { plan.twins.items ≡ [] }
+        requires bits { plan.bits.items ≡ [] }
+        ensures ok { OnOk result (self.new ≡ installed self.old place.page plan.leaf plan.twins.items plan.bits.items) }
+        ensures err { OnErr result (self.new ≡ self.old) }
+        ensures returned { IfErr result (λ refused. refused.1 ≡ plan) }
+    {
+        let Plan { leaf, twins, bits } = plan;
+        match replace_page(&mut self.pages, place.page, leaf) {
+            Ok(()) => Ok(()),
+            Err(leaf) => Err((AllocError, Plan { leaf, twins, bits })),
+        }
     }
 
     /// The number of pairs.

@@ -11,7 +11,7 @@
 //!
 //! Bytes are in hex, and `.` is none. `KEY` is `there`, or `absent`, where the record is zeros. `VALUE` is
 //! what the key has once the code has been obeyed: bytes, or `none`. A program is verified before it
-//! runs, on the machine that tests every step.
+//! runs.
 //!
 //! What is answered was worked out by hand, and the steps were counted by an interpreter of its own.
 #![tactic(auto)]

@@ -2,7 +2,7 @@
 
 use crate::lines::Input;
 use bpf_asm::assemble;
-use bpf_machine::{Checked, Ended, run_checked};
+use bpf_machine::{Ended, run};
 use bpf_verify::{Verified, verify};
 use std::alloc::{AllocError, Global};
 
@@ -73,8 +73,6 @@ pub fn show_run(alloc: Global, text: &str, input: Input) -> Result<String, Alloc
         return String::from_str(alloc, "a record or an argument that is too long");
     }
     let mut bytes = Vec::from_slice(alloc, &input.bytes)?;
-    match run_checked(program.code(), &input.env, &mut bytes, &input.argument) {
-        Checked::Ended(end) => show_end(alloc, end, input.env.present, &input.bytes, &bytes),
-        Checked::Stuck(at) => format!(in alloc; "stuck at {at}"),
-    }
+    let end = run(&program, &input.env, &mut bytes, &input.argument);
+    show_end(alloc, end, input.env.present, &input.bytes, &bytes)
 }

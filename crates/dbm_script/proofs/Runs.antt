@@ -52,7 +52,7 @@ same_entry x y s c r = λ i. record { session = s i; command = c i; reply = r i 
 IsAnswerTo-unique : (A : Type 0) (s : Database) (command : Command A) (x y : Answer A) (a b : Database)
     → IsAnswerTo A s command x a → IsAnswerTo A s command y b → (x ≡ y) × (a ≡ b)
 IsAnswerTo-unique A s command (Replied x) (Replied y) a b p q =
-    let same = Acts-unique s 0 command x.reply y.reply a b p.1.1.1 q.1.1.1 in
+    let same = Acts-unique s x y a b (p.1.0 ∙ sym q.1.0) (p.1.1.0 ∙ sym q.1.1.0) p.1.1.1 q.1.1.1 in
     (ap Replied (same_entry x y (p.1.0 ∙ sym q.1.0) (p.1.1.0 ∙ sym q.1.1.0) same.0), same.1)
 IsAnswerTo-unique A s command (Replied x) PairTooLarge a b p q = absurd (q.0 p.0)
 IsAnswerTo-unique A s command PairTooLarge (Replied y) a b p q = absurd (p.0 q.0)

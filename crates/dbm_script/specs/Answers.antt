@@ -12,7 +12,7 @@ use Rattle.dbm_script.specs.declared.answers.Answer.TheVariants.{Replied, PairTo
 
 -- A command of session 0 that is small enough is done, and its answer is the reply; a larger one is refused, and changes nothing.
 abbrev pub IsAnswerTo : (A : Type 0) → Database → Command A → Answer A → Database → Type 0
-IsAnswerTo A db command (Replied entry) db' = IsSmall db.size command × ((entry.session ≡ 0) × ((entry.command ≡ command) × Acts db 0 command entry.reply db'))
+IsAnswerTo A db command (Replied entry) db' = IsSmall db.size command × ((entry.session ≡ 0) × ((entry.command ≡ command) × Acts db entry db'))
 IsAnswerTo A db command PairTooLarge db' = (¬ (IsSmall db.size command)) × (db' ≡ db)
 
 -- bytes in lower-case hex, or a dot for none

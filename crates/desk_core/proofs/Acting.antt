@@ -9,56 +9,48 @@ use Rattle.sdbm_dir.specs.declared.Place.{Place}
 use Rattle.sdbm_split.specs.Planned.{PageChange}
 use Rattle.store_cmd.specs.declared.Command.{Command}
 use Rattle.store_cmd.specs.declared.Command.TheVariants.{Fetch, Store, Delete, Count}
+use Rattle.store_cmd.specs.declared.Entry.{Entry}
 use Rattle.store_cmd.specs.declared.Reply.{Reply}
 use Rattle.store_cmd.specs.declared.Reply.TheVariants as reply
 use Rattle.store_cmd.specs.Command.{IsSmall}
 use Rattle.store_cmd.specs.Moves.{Moves}
 use Rattle.desk_core.specs.Works.{PageResult, works, key_of, HasKey}
 use Rattle.desk_core.specs.Leads.{IsPlaceOf, LeadsTo, changed_by, state_of}
-use Rattle.desk_core.specs.Acts.{Acts, IsExact, IsOnPage}
+use Rattle.desk_core.specs.Acts.{Acts, IsExactFor, IsOnPage}
 use Rattle.desk_core.proofs.Lifting.{works_lead}
 
-keyed_exact : {A : Type 0} (db : Database) (session : ℕ) (command : Command A) (answer : Reply A) (db' : Database) → HasKey command → IsOnPage db session command answer db' → IsExact db session command answer db'
-keyed_exact db session (Fetch key) answer db' keyed on = on
-keyed_exact db session (Store key value mode) answer db' keyed on = on
-keyed_exact db session (Delete key) answer db' keyed on = on
-keyed_exact db session Count answer db' keyed on = absurd keyed
-
-kind_stays : (db : Database) (n : ℕ) (change : Option PageChange) → (changed_by db n change).kind ≡ db.kind
-kind_stays db n None = refl
-kind_stays db n (Some change) = refl
-
-size_stays : (db : Database) (n : ℕ) (change : Option PageChange) → (changed_by db n change).size ≡ db.size
-size_stays db n None = refl
-size_stays db n (Some change) = refl
+keyed_exact : {A : Type 0} (db : Database) (command : Command A) (e : Entry A) (db' : Database) → HasKey command → IsOnPage db e db' → IsExactFor command db e db'
+keyed_exact db (Fetch key) e db' keyed on = on
+keyed_exact db (Store key value mode) e db' keyed on = on
+keyed_exact db (Delete key) e db' keyed on = on
+keyed_exact db Count e db' keyed on = absurd keyed
 
 -- a command that was worked on the page of its place, and put in
 pub Acts-on_page : {A : Type 0} (db db' : Database) → IsDatabase db → (place : Place) (session : ℕ) (command : Command A) (answer : Reply A) → HasKey command → IsSmall db.size command → IsPlaceOf db (key_of command) place
     → answer ≡ (works place db.kind db.size (pairs_at db place.page) session command).reply
     → db' ≡ changed_by db place.page (works place db.kind db.size (pairs_at db place.page) session command).change
-    → Acts db session command answer db'
+    → Acts db (record { session = session; command = command; reply = answer }) db'
 Acts-on_page {A} db db' ok place session command answer keyed small leads is installed =
     let result : PageResult A = works place db.kind db.size (pairs_at db place.page) session command in
     let lead : LeadsTo db session command place.page result = works_lead db ok place session command keyed small leads in
+    let entry : Reply A → Entry A = λ r. record { session = session; command = command; reply = r } in
     record {
       small = small;
-      exact = keyed_exact db session command answer db' keyed (record { place = place; leads = leads; answer_is = is; database = installed });
-      move = subst (λ (d : Database). Moves db.size db.kind (state_of db) session command answer (state_of d)) (sym installed)
-          (subst (λ (r : Reply A). Moves db.size db.kind (state_of db) session command r (state_of (changed_by db place.page result.change))) (sym is) lead.move);
-      kind = ap (λ (d : Database). d.kind) installed ∙ kind_stays db place.page result.change;
-      size = ap (λ (d : Database). d.size) installed ∙ size_stays db place.page result.change;
+      exact = keyed_exact db command (entry answer) db' keyed (record { place = place; leads = leads; answer_is = is; database = installed });
+      move = subst (λ (d : Database). Moves (state_of db) (entry answer) (state_of d)) (sym installed)
+          (subst (λ (r : Reply A). Moves (state_of db) (entry r) (state_of (changed_by db place.page result.change))) (sym is) lead.move);
     }
 
 -- a count
-pub Acts-count : {A : Type 0} (db db' : Database) (session : ℕ) (answer : Reply A) → answer ≡ reply.Count (map.len (map_of db)) → db' ≡ db → Acts db session Count answer db'
-Acts-count {A} db db' session answer is same = record {
-  small = tt;
-  exact = (is, same);
-  move = subst (λ (d : Database). Moves db.size db.kind (state_of db) session Count answer (state_of d)) (sym same)
-      (subst (λ (r : Reply A). Moves db.size db.kind (state_of db) session Count r (state_of db)) (sym is) ((refl, refl), refl));
-  kind = ap (λ (d : Database). d.kind) same;
-  size = ap (λ (d : Database). d.size) same;
-}
+pub Acts-count : {A : Type 0} (db db' : Database) (session : ℕ) (answer : Reply A) → answer ≡ reply.Count (map.len (map_of db)) → db' ≡ db → Acts db (record { session = session; command = Count; reply = answer }) db'
+Acts-count {A} db db' session answer is same =
+    let entry : Reply A → Entry A = λ r. record { session = session; command = Count; reply = r } in
+    record {
+      small = tt;
+      exact = (is, same);
+      move = subst (λ (d : Database). Moves (state_of db) (entry answer) (state_of d)) (sym same)
+          (subst (λ (r : Reply A). Moves (state_of db) (entry r) (state_of db)) (sym is) (record { changes = ((refl, refl), refl); kind = refl; size = refl }));
+    }
 
 -- ---- one answer and one database
 
@@ -74,18 +66,24 @@ IsPlaceOf-unique db key p q x y =
     h
     (x.bit ∙ ap (λ k. word_number (hash_prefix k hash)) h ∙ sym y.bit)
 
-IsOnPage-unique : {A : Type 0} (db : Database) (session : ℕ) (command : Command A) (r q : Reply A) (a b : Database) → IsOnPage db session command r a → IsOnPage db session command q b → (r ≡ q) × (a ≡ b)
-IsOnPage-unique {A} db session command r q a b x y =
-    let same = IsPlaceOf-unique db (key_of command) x.place y.place x.leads y.leads in (
-      x.answer_is ∙ ap (λ (p : Place). (works p db.kind db.size (pairs_at db p.page) session command).reply) same ∙ sym y.answer_is,
-      x.database ∙ ap (λ (p : Place). changed_by db p.page (works p db.kind db.size (pairs_at db p.page) session command).change) same ∙ sym y.database,
+IsOnPage-unique : {A : Type 0} (db : Database) (e f : Entry A) (a b : Database) → e.session ≡ f.session → e.command ≡ f.command → IsOnPage db e a → IsOnPage db f b → (e.reply ≡ f.reply) × (a ≡ b)
+IsOnPage-unique {A} db e f a b sessions commands x y =
+    let leads : IsPlaceOf db (key_of e.command) y.place = subst (λ (c : Command A). IsPlaceOf db (key_of c) y.place) (sym commands) y.leads in
+    let places : x.place ≡ y.place = IsPlaceOf-unique db (key_of e.command) x.place y.place x.leads leads in
+    let result : Place → ℕ → Command A → PageResult A = λ p n c. works p db.kind db.size (pairs_at db p.page) n c in
+    let same : result x.place e.session e.command ≡ result y.place f.session f.command =
+    ap (λ (p : Place). result p e.session e.command) places ∙ ap (λ (n : ℕ). result y.place n e.command) sessions ∙ ap (λ (c : Command A). result y.place f.session c) commands in (
+      x.answer_is ∙ ap (λ (r : PageResult A). r.reply) same ∙ sym y.answer_is,
+      x.database ∙ ap (λ (p : Place). changed_by db p.page (result x.place e.session e.command).change) places ∙ ap (λ (r : PageResult A). changed_by db y.place.page r.change) same ∙ sym y.database,
     )
 
-IsExact-unique : {A : Type 0} (db : Database) (session : ℕ) (command : Command A) (r q : Reply A) (a b : Database) → IsExact db session command r a → IsExact db session command q b → (r ≡ q) × (a ≡ b)
-IsExact-unique db session (Fetch key) r q a b x y = IsOnPage-unique db session (Fetch key) r q a b x y
-IsExact-unique db session (Store key value mode) r q a b x y = IsOnPage-unique db session (Store key value mode) r q a b x y
-IsExact-unique db session (Delete key) r q a b x y = IsOnPage-unique db session (Delete key) r q a b x y
-IsExact-unique db session Count r q a b x y = (x.0 ∙ sym y.0, x.1 ∙ sym y.1)
+exact_once : {A : Type 0} (command : Command A) (db : Database) (e f : Entry A) (a b : Database) → e.session ≡ f.session → e.command ≡ f.command → IsExactFor command db e a → IsExactFor command db f b
+    → (e.reply ≡ f.reply) × (a ≡ b)
+exact_once (Fetch key) db e f a b sessions commands x y = IsOnPage-unique db e f a b sessions commands x y
+exact_once (Store key value mode) db e f a b sessions commands x y = IsOnPage-unique db e f a b sessions commands x y
+exact_once (Delete key) db e f a b sessions commands x y = IsOnPage-unique db e f a b sessions commands x y
+exact_once Count db e f a b sessions commands x y = (x.0 ∙ sym y.0, x.1 ∙ sym y.1)
 
-pub Acts-unique : {A : Type 0} (db : Database) (session : ℕ) (command : Command A) (r q : Reply A) (a b : Database) → Acts db session command r a → Acts db session command q b → (r ≡ q) × (a ≡ b)
-Acts-unique db session command r q a b x y = IsExact-unique db session command r q a b x.exact y.exact
+pub Acts-unique : {A : Type 0} (db : Database) (e f : Entry A) (a b : Database) → e.session ≡ f.session → e.command ≡ f.command → Acts db e a → Acts db f b → (e.reply ≡ f.reply) × (a ≡ b)
+Acts-unique {A} db e f a b sessions commands x y =
+    exact_once e.command db e f a b sessions commands x.exact (subst (λ (c : Command A). IsExactFor c db f b) (sym commands) y.exact)

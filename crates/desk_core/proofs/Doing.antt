@@ -13,7 +13,7 @@ use Rattle.store_cmd.specs.declared.Command.{Command}
 use Rattle.store_cmd.specs.declared.Entry.{Entry}
 use Rattle.store_cmd.specs.declared.Reply.{Reply}
 use Rattle.desk_core.specs.declared.job.Open.{Open}
-use Rattle.desk_core.specs.declared.faults.AskFault.TheVariants.{Busy, NoMemory}
+use Rattle.desk_core.specs.declared.AskFault.TheVariants.{Busy, NoMemory}
 use Rattle.desk_core.specs.Works.{PageResult, key_of, HasKey}
 use Rattle.desk_core.specs.Jobs.{Ticketed, worked}
 use Rattle.desk_core.specs.Leads.{IsPlaceOf, LeadsTo, MayChange, changed_by, does_change}

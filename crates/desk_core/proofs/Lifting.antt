@@ -38,14 +38,14 @@ leads_to db key = page_of db.splits (hash_of db.kind key)
 -- a plan that takes a pair out
 abbrev TakesOut : (A : Type 0) → Database → ℕ → List ℕ → ℕ → Content → List (ℕ × Content) → List ℕ → Type 0
 TakesOut A db session key n leaf twins bits =
-    IsInstallable db n leaf twins bits × Moves {A = A} db.size db.kind (state_of db) session (Delete key) reply.Deleted (state_of (installed db n leaf twins bits))
+    IsInstallable db n leaf twins bits × Moves {A = A} (state_of db) (record { session = session; command = Delete key; reply = reply.Deleted }) (state_of (installed db n leaf twins bits))
 
 takes_out : (A : Type 0) (db : Database) → IsDatabase db → (session : ℕ) (key value : List ℕ) (n : ℕ) (leaf : Content) → n ≡ leads_to db key → map.get (map_of db) key ≡ Some value
     → leaf.size ≡ db.size → leaf.pairs ≡ without key (pairs_at db n) → TakesOut A db session key n leaf [] []
 takes_out A db ok session key value n leaf leads there sized is =
     let gone : map_of (installed db n leaf [] []) ≡ map.remove (map_of db) key =
     ap (λ (ps : List Pair). map_of (with_page db n ps)) is ∙ map_of-taken_out db ok n key leads in
-    (IsInstallable-taken_out db ok n key leaf sized is, ((ap is_some there, gone), refl))
+    (IsInstallable-taken_out db ok n key leaf sized is, record { changes = ((ap is_some there, gone), refl); kind = refl; size = refl })
 
 -- the depth of a place
 depth_is : (db : Database) → IsDatabase db → (hash h : ℕ) → IsDepth db.splits hash h → h ≡ depth_of db.splits hash
@@ -63,7 +63,7 @@ absent_from pairs key allowed = at (value_of pairs key) refl
     at None e = refl
 
 goes_in : (db : Database) (key value : List ℕ) (h t : ℕ) (leaf : Content) (twins : List (ℕ × Content)) (bits : List ℕ) → IsStore db key value h t leaf twins bits
-    → GoesIn db.size db.kind (state_of db) key value (state_of (installed db (hash_of db.kind key % 2 ^ h) leaf twins bits)) t
+    → GoesIn (state_of db) key value (state_of (installed db (hash_of db.kind key % 2 ^ h) leaf twins bits)) t
 goes_in db key value h t leaf twins bits s =
     let hash = hash_of db.kind key in
     let deep : h ≡ depth_of db.splits hash = depth_is db s.database hash h s.depth in
@@ -77,16 +77,16 @@ goes_in db key value h t leaf twins bits s =
 -- a plan that stores a pair
 abbrev PutsIn : (A : Type 0) → Database → ℕ → List ℕ → List ℕ → Mode → ℕ → Content → List (ℕ × Content) → List ℕ → Type 0
 PutsIn A db session key value mode n leaf twins bits =
-    IsInstallable db n leaf twins bits × Moves {A = A} db.size db.kind (state_of db) session (Store key value mode) reply.Stored (state_of (installed db n leaf twins bits))
+    IsInstallable db n leaf twins bits × Moves {A = A} (state_of db) (record { session = session; command = Store key value mode; reply = reply.Stored }) (state_of (installed db n leaf twins bits))
 
 puts_in : (A : Type 0) (db : Database) (session : ℕ) (key value : List ℕ) (mode : Mode) (h t : ℕ) (leaf : Content) (twins : List (ℕ × Content)) (bits : List ℕ) → IsStore db key value h t leaf twins bits
     → (IsRefused mode (pairs_at db (hash_of db.kind key % 2 ^ h)) key → ⊥) → PutsIn A db session key value mode (hash_of db.kind key % 2 ^ h) leaf twins bits
 puts_in A db session key value Insert h t leaf twins bits s allowed = (
   IsInstallable-stored db key value h t leaf twins bits s,
-  (value_on_page db s.database key h s.depth ∙ absent_from _ key allowed, (t, goes_in db key value h t leaf twins bits s)),
+  record { changes = (value_on_page db s.database key h s.depth ∙ absent_from _ key allowed, (t, goes_in db key value h t leaf twins bits s)); kind = refl; size = refl },
 )
 puts_in A db session key value Replace h t leaf twins bits s allowed =
-    (IsInstallable-stored db key value h t leaf twins bits s, (t, goes_in db key value h t leaf twins bits s))
+    (IsInstallable-stored db key value h t leaf twins bits s, record { changes = (t, goes_in db key value h t leaf twins bits s); kind = refl; size = refl })
 
 found_at : (pairs : List Pair) (k : ℕ) (d : Pair) → k < length pairs → value_of pairs (get_or pairs k d).0 ≢ None
 found_at [] k d l none = absurd (omega arith)
@@ -140,12 +140,12 @@ stored_beside db key value h t leaf twins bits s = λ q place p other.
 -- ---- each command
 
 fetch_leads : {A : Type 0} (db : Database) (session : ℕ) (key : List ℕ) (n : ℕ) (o : Option (List ℕ)) → map.get (map_of db) key ≡ o → LeadsTo {A = A} db session (Fetch key) n (fetched o)
-fetch_leads db session key n None none = record { may = tt; move = ((none, refl), refl); beside = same_beside db _; changes = refl }
-fetch_leads db session key n (Some value) some = record { may = tt; move = ((some, refl), refl); beside = same_beside db _; changes = refl }
+fetch_leads db session key n None none = record { may = tt; move = record { changes = ((none, refl), refl); kind = refl; size = refl }; beside = same_beside db _; changes = refl }
+fetch_leads db session key n (Some value) some = record { may = tt; move = record { changes = ((some, refl), refl); kind = refl; size = refl }; beside = same_beside db _; changes = refl }
 
 delete_leads : {A : Type 0} (db : Database) → IsDatabase db → (session : ℕ) (key : List ℕ) (n : ℕ) → n ≡ leads_to db key → (o : Option (List ℕ)) → map.get (map_of db) key ≡ o
     → LeadsTo {A = A} db session (Delete key) n (deleted db.size (pairs_at db n) key o)
-delete_leads db ok session key n leads None none = record { may = tt; move = ((none, refl), refl); beside = same_beside db _; changes = refl }
+delete_leads db ok session key n leads None none = record { may = tt; move = record { changes = ((none, refl), refl); kind = refl; size = refl }; beside = same_beside db _; changes = refl }
 delete_leads {A} db ok session key n leads (Some value) some =
     let out = takes_out A db ok session key value n (record { size = db.size; pairs = without key (pairs_at db n) }) leads some refl refl in
     record { may = out.0; move = out.1; beside = taken_beside db n (record { size = db.size; pairs = without key (pairs_at db n) }); changes = refl }
@@ -164,7 +164,7 @@ module _ (A : Type 0) (db : Database) (ok : IsDatabase db) (session : ℕ) (key 
   there : map.get (map_of db) key ≡ value_of page.pairs key
   there = value_on_page db ok key h deep
 
-  is_full : IsCrowded page.size (neighbors db.kind page.pairs key) key value h → IsFull db.size db.kind (state_of db) key value
+  is_full : IsCrowded page.size (neighbors db.kind page.pairs key) key value h → IsFull (state_of db) key value
   is_full crowded =
       subst (λ (k : ℕ). IsCrowded db.size (map_neighbors db.kind (map_of db) key) key value k) (depth_is db ok hash h deep)
       (IsCrowded-map db.size db.kind db.splits (pairs_at db) (map_of db) key value h ok.directory deep (get-map_of db ok) (IsPage-pairs_at db ok (hash % 2 ^ h)).distinct crowded)
@@ -184,8 +184,8 @@ module _ (A : Type 0) (db : Database) (ok : IsDatabase db) (session : ℕ) (key 
 
   crowded_leads : (mode : Mode) → (IsRefused mode page.pairs key → ⊥) → IsCrowded page.size (neighbors db.kind page.pairs key) key value h
       → LeadsTo {A = A} db session (Store key value mode) (hash % 2 ^ h) (placed db.kind page key value h None)
-  crowded_leads Insert allowed crowded = record { may = tt; move = (there ∙ absent_from page.pairs key allowed, (is_full crowded, refl)); beside = same_beside db _; changes = refl }
-  crowded_leads Replace allowed crowded = record { may = tt; move = (is_full crowded, refl); beside = same_beside db _; changes = refl }
+  crowded_leads Insert allowed crowded = record { may = tt; move = record { changes = (there ∙ absent_from page.pairs key allowed, (is_full crowded, refl)); kind = refl; size = refl }; beside = same_beside db _; changes = refl }
+  crowded_leads Replace allowed crowded = record { may = tt; move = record { changes = (is_full crowded, refl); kind = refl; size = refl }; beside = same_beside db _; changes = refl }
 
   fits_leads : (mode : Mode) → (IsRefused mode page.pairs key → ⊥) → (t : ℕ) → IsLeastSplits page.size (neighbors db.kind page.pairs key) key value h t
       → LeadsTo {A = A} db session (Store key value mode) (hash % 2 ^ h) (placed db.kind page key value h (Some t))
@@ -209,7 +209,7 @@ module _ (A : Type 0) (db : Database) (ok : IsDatabase db) (session : ℕ) (key 
 
   insert_leads : (o : Option (List ℕ)) → value_of page.pairs key ≡ o
       → LeadsTo {A = A} db session (Store key value Insert) (hash % 2 ^ h) (stored_unless (is_kept Insert o) db.kind page key value h)
-  insert_leads (Some old) is = record { may = tt; move = (ap is_some (there ∙ is), refl); beside = same_beside db _; changes = refl }
+  insert_leads (Some old) is = record { may = tt; move = record { changes = (ap is_some (there ∙ is), refl); kind = refl; size = refl }; beside = same_beside db _; changes = refl }
   insert_leads None is = placed_leads Insert (λ r. r.there is)
 
   store_leads : (mode : Mode) → LeadsTo {A = A} db session (Store key value mode) (hash % 2 ^ h) (stored_unless (is_kept mode (value_of page.pairs key)) db.kind page key value h)

@@ -45,9 +45,9 @@ History-acts_in_turn {A} db db' (e ∷ es) p =
     let rest : History mid.size mid.kind (map_of mid) es (map_of db') = History-acts_in_turn mid db' es p.1.1 in (
       map_of mid,
       (
-        (acts.small, Replies-from_Moves db.size db.kind (state_of db) e.session e.command e.reply (state_of mid) acts.move),
-        subst (λ (size : PageSize). History size db.kind (map_of mid) es (map_of db')) acts.size
-            (subst (λ (kind : KeyBytes). History mid.size kind (map_of mid) es (map_of db')) acts.kind rest),
+        (acts.small, Replies-from_Moves (state_of db) e (state_of mid) acts.move),
+        subst (λ (size : PageSize). History size db.kind (map_of mid) es (map_of db')) acts.move.size
+            (subst (λ (kind : KeyBytes). History mid.size kind (map_of mid) es (map_of db')) acts.move.kind rest),
       ),
     )
 
@@ -62,7 +62,7 @@ same : {A : Type 0} (s s' : DeskState A) → s' ≡ s → GoesOn s s'
 same {A} s s' e = unchanged s s' (ap (λ (x : DeskState A). x.entries) e) (ap (λ (x : DeskState A). x.database) e)
 
 -- one entry is added
-one_more : {A : Type 0} (s s' : DeskState A) (e : Entry A) → s'.entries ≡ s.entries ++ e ∷ [] → Acts s.database e.session e.command e.reply s'.database → GoesOn s s'
+one_more : {A : Type 0} (s s' : DeskState A) (e : Entry A) → s'.entries ≡ s.entries ++ e ∷ [] → Acts s.database e s'.database → GoesOn s s'
 one_more s s' e more acts = goes_on s s' (e ∷ []) more (s'.database, (acts, refl))
 
 GoesOn-trans : {A : Type 0} (s mid s' : DeskState A) → GoesOn s mid → GoesOn mid s' → GoesOn s s'

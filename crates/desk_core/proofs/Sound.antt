@@ -37,21 +37,21 @@ use Rattle.desk_core.proofs.Ties.{either_way, Ties-same, held_by-push_here, held
 -- ---- histories
 
 -- one entry more on a legal history
-pub History-acts : {A : Type 0} (db db' : Database) (start : Map) (es es' : List (Entry A)) (e : Entry A) → History db.size db.kind start es (map_of db) → Acts db e.session e.command e.reply db' → es' ≡ es ++ e ∷ []
+pub History-acts : {A : Type 0} (db db' : Database) (start : Map) (es es' : List (Entry A)) (e : Entry A) → History db.size db.kind start es (map_of db) → Acts db e db' → es' ≡ es ++ e ∷ []
     → History db'.size db'.kind start es' (map_of db')
 History-acts {A} db db' start es es' e legal acts more =
-    let replies : Replies db.size db.kind (map_of db) e.session e.command e.reply (map_of db') = Replies-from_Moves db.size db.kind (state_of db) e.session e.command e.reply (state_of db') acts.move in
+    let replies : Replies db.size db.kind (map_of db) e.session e.command e.reply (map_of db') = Replies-from_Moves (state_of db) e (state_of db') acts.move in
     let pushed = History-push db.size db.kind start (map_of db) (map_of db') es e legal (acts.small, replies) in
     subst (λ (xs : List (Entry A)). History db'.size db'.kind start xs (map_of db')) (sym more)
-    (subst (λ (size : PageSize). History size db'.kind start (es ++ e ∷ []) (map_of db')) (sym acts.size)
-    (subst (λ (kind : KeyBytes). History db.size kind start (es ++ e ∷ []) (map_of db')) (sym acts.kind) pushed))
+    (subst (λ (size : PageSize). History size db'.kind start (es ++ e ∷ []) (map_of db')) (sym acts.move.size)
+    (subst (λ (kind : KeyBytes). History db.size kind start (es ++ e ∷ []) (map_of db')) (sym acts.move.kind) pushed))
 
 -- the opening of a desk, as a map
 abbrev start_of : {A : Type 0} → DeskState A → Map
 start_of s = map.from_entries {R = key_cmp} s.opening
 
 -- the desk's history with an entry more
-legal_more : {A : Type 0} (s s' : DeskState A) (e : Entry A) → IsSound s → Acts s.database e.session e.command e.reply s'.database → s'.entries ≡ s.entries ++ e ∷ [] → s'.opening ≡ s.opening
+legal_more : {A : Type 0} (s s' : DeskState A) (e : Entry A) → IsSound s → Acts s.database e s'.database → s'.entries ≡ s.entries ++ e ∷ [] → s'.opening ≡ s.opening
     → History s'.database.size s'.database.kind (start_of s') s'.entries (map_of s'.database)
 legal_more s s' e sound acts more same =
     subst (λ (op : List Pair). History s'.database.size s'.database.kind (map.from_entries {R = key_cmp} op) s'.entries (map_of s'.database)) (sym same)
@@ -216,7 +216,7 @@ kept_ties {A} s s' sound tickets holds beside u =
     at (Some q) h = beside u q h
 
 -- what is there after one entry more, where tickets and holds stay
-more_sound : {A : Type 0} (s s' : DeskState A) (e : Entry A) → IsSound s → MayAsk s e.command → Acts s.database e.session e.command e.reply s'.database → s'.entries ≡ s.entries ++ e ∷ [] → s'.opening ≡ s.opening
+more_sound : {A : Type 0} (s s' : DeskState A) (e : Entry A) → IsSound s → MayAsk s e.command → Acts s.database e s'.database → s'.entries ≡ s.entries ++ e ∷ [] → s'.opening ≡ s.opening
     → s'.tickets ≡ s.tickets → s'.holds ≡ s.holds → s'.limit ≡ s.limit → IsDatabase s'.database → ((u : ℕ) (q : Open A) → IsTied s.database s.holds u q → IsTied s'.database s.holds u q) → IsSound s'
 more_sound {A} s s' e sound may acts entries opening tickets holds limit ok beside = record {
   database = ok;
@@ -229,7 +229,7 @@ more_sound {A} s s' e sound may acts entries opening tickets holds limit ok besi
 
 -- a step that is on a page
 on_page_sound : {A : Type 0} (s s' : DeskState A) (session : ℕ) (command : Command A) (reply : Reply A) → HasKey command → IsSound s → Steps s session command reply s'
-    → IsOnPage s.database session command reply s'.database → IsSound s'
+    → IsOnPage s.database (record { session = session; command = command; reply = reply }) s'.database → IsSound s'
 on_page_sound {A} s s' session command reply keyed sound steps on =
     more_sound s s' (record { session = session; command = command; reply = reply }) sound steps.may steps.acts steps.entries steps.opening steps.tickets steps.holds steps.limit_is
     (subst IsDatabase (sym on.database) (changed_database s.database on.place.page result.change sound.database leads.may))

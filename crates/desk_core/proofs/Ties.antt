@@ -148,7 +148,7 @@ tied_leads {A} db ok hs t o tie =
 
 -- and is what its command does
 pub tied_acts : {A : Type 0} (db db' : Database) → IsDatabase db → (hs : List Held) (t : ℕ) (o : Open A) → IsTied db hs t o → (r : Reply A) → r ≡ (worked o).reply
-    → db' ≡ changed_by db o.place.page (worked o).change → Acts db o.session o.command r db'
+    → db' ≡ changed_by db o.place.page (worked o).change → Acts db (record { session = o.session; command = o.command; reply = r }) db'
 tied_acts {A} db db' ok hs t o tie r is installed =
     let same : worked o ≡ works o.place db.kind db.size (pairs_at db o.place.page) o.session o.command = tied_works db hs t o tie in
     Acts-on_page db db' ok o.place o.session o.command r (keyed_may o.command tie.mode tie.may) tie.small tie.place

@@ -18,12 +18,12 @@ use Rattle.desk_core.specs.declared.job.Open.{Open}
 use Rattle.desk_core.specs.declared.Wanted.{Wanted}
 use Rattle.desk_core.specs.declared.Asked.{Asked}
 use Rattle.desk_core.specs.declared.Asked.TheVariants as asked
-use Rattle.desk_core.specs.declared.faults.AskFault.{AskFault}
-use Rattle.desk_core.specs.declared.faults.AskFault.TheVariants as af
-use Rattle.desk_core.specs.declared.faults.ConvertFault.{ConvertFault}
-use Rattle.desk_core.specs.declared.faults.ConvertFault.TheVariants as cf
-use Rattle.desk_core.specs.declared.faults.FinishFault.{FinishFault}
-use Rattle.desk_core.specs.declared.faults.FinishFault.TheVariants as ff
+use Rattle.desk_core.specs.declared.AskFault.{AskFault}
+use Rattle.desk_core.specs.declared.AskFault.TheVariants as af
+use Rattle.desk_core.specs.declared.ConvertFault.{ConvertFault}
+use Rattle.desk_core.specs.declared.ConvertFault.TheVariants as cf
+use Rattle.desk_core.specs.declared.FinishFault.{FinishFault}
+use Rattle.desk_core.specs.declared.FinishFault.TheVariants as ff
 use Rattle.desk_core.specs.Works.{PageResult, works, key_of}
 use Rattle.desk_core.specs.Jobs.{Ticketed, worked}
 use Rattle.desk_core.specs.Acts.{Acts}
@@ -147,7 +147,7 @@ pub record Finishes {A : Type 0} (s : DeskState A) (d : Ticketed A) (reply : Rep
   pub may : MayFinish s d
   pub reply_is : reply ≡ (worked d.asked).reply
   pub database : s'.database ≡ changed_by s.database d.asked.place.page (worked d.asked).change
-  pub acts : Acts s.database d.asked.session d.asked.command reply s'.database
+  pub acts : Acts s.database (record { session = d.asked.session; command = d.asked.command; reply = reply }) s'.database
   pub entries : s'.entries ≡ s.entries ++ record { session = d.asked.session; command = d.asked.command; reply = reply } ∷ []
   pub closes : Closes s d.ticket s'
 
@@ -183,7 +183,7 @@ pub record Steps {A : Type 0} (s : DeskState A) (session : ℕ) (command : Comma
   pub may : MayAsk s command
   pub alone : does_change reply ≡ true → is_held s command ≡ false
   pub quiet : does_change reply ≡ false → s'.database ≡ s.database
-  pub acts : Acts s.database session command reply s'.database
+  pub acts : Acts s.database (record { session = session; command = command; reply = reply }) s'.database
   pub entries : s'.entries ≡ s.entries ++ record { session = session; command = command; reply = reply } ∷ []
   pub opening : s'.opening ≡ s.opening
   pub tickets : s'.tickets ≡ s.tickets

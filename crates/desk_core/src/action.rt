@@ -30,7 +30,7 @@ pub fn act<A: Allocator + Copy>(
     requires small { IsSmall image.old.size command }
     ensures session { IfOk result (λ entry. entry.session ≡ session) }
     ensures command { IfOk result (λ entry. entry.command ≡ command) }
-    ensures ok { IfOk result (λ entry. Acts image.old session command entry.reply image.new) }
+    ensures ok { IfOk result (λ entry. Acts image.old entry image.new) }
     ensures returned { IfErr result (λ refused. refused.1 ≡ command) }
     ensures err { OnErr result (image.new ≡ image.old) }
 {
@@ -52,7 +52,7 @@ fn reply_to<A: Allocator + Copy>(
     command: &Command<A>,
 ) -> Result<Reply<A>, AllocError>
     requires small { IsSmall image.old.size command.now }
-    ensures ok { IfOk result (λ reply. Acts image.old session command.now reply image.new) }
+    ensures ok { IfOk result (λ reply. Acts image.old (record { session = session; command = command.now; reply = reply }) image.new) }
     ensures err { OnErr result (image.new ≡ image.old) }
 {
     match command {
@@ -70,7 +70,7 @@ fn act_on_page<A: Allocator + Copy>(
 ) -> Result<Reply<A>, AllocError>
     requires keyed { HasKey command.now }
     requires small { IsSmall image.old.size command.now }
-    ensures ok { IfOk result (λ reply. Acts image.old session command.now reply image.new) }
+    ensures ok { IfOk result (λ reply. Acts image.old (record { session = session; command = command.now; reply = reply }) image.new) }
     ensures err { OnErr result (image.new ≡ image.old) }
 {
     let place = image.place(key_in(command));

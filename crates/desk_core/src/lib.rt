@@ -12,7 +12,6 @@ ghost use Rattle.desk_core.specs.Desk.{IsSound, first_hold, ticket_of};
 
 mod action;
 mod events;
-mod faults;
 mod job;
 mod page_copy;
 mod step;
@@ -21,7 +20,6 @@ mod work;
 pub use action::act;
 use action::{key_in, put_in};
 pub use events::{Event, Outcome};
-pub use faults::{AskFault, ConvertFault, FinishFault, NoTicket};
 pub use hold_modes::Ticket;
 use hold_modes::{Hold, Holds};
 use job::Open;
@@ -63,6 +61,47 @@ impl<A: Allocator> Model for Desk<A> {
     ghost invariant = { λ a. IsSound (record { database = a.image; opening = a.trail.opening.items; entries = a.trail.entries.items; tickets = a.tickets.slots; next = a.tickets.vacant_key; holds = a.holds; limit = a.limit })
         × (vec_len a.trail.entries + slab_len a.tickets ≤ vec_capacity a.trail.entries) };
 }
+
+/// Why a command is refused. They are tested in this order.
+#[derive(Clone, Copy, Debug, PartialEq, Eq)]
+pub enum AskFault {
+    /// The key and the value to be stored have more bytes together than a pair may have.
+    PairTooLarge,
+    /// Entries and open tickets are as many as there may be.
+    TrailFull,
+    /// Another ticket holds the page so that it cannot be held.
+    Busy,
+    /// No memory is left for the command.
+    NoMemory,
+}
+
+/// Why a hold is not made exclusive. They are tested in this order.
+#[derive(Clone, Copy, Debug, PartialEq, Eq)]
+pub enum ConvertFault {
+    /// The ticket is not open.
+    NoTicket,
+    /// It does not hold for update.
+    NotUpdating,
+    /// Another ticket reads the page.
+    Busy,
+}
+
+/// Why what was worked is not finished. They are tested in this order.
+#[derive(Clone, Copy, Debug, PartialEq, Eq)]
+pub enum FinishFault {
+    /// The ticket is not open.
+    NoTicket,
+    /// Session, command, place or page are not those of the ticket.
+    Foreign,
+    /// It changes the page, and the ticket does not hold it alone.
+    NotExclusive,
+    /// No memory is left to install it.
+    NoMemory,
+}
+
+/// The ticket is not open.
+#[derive(Clone, Copy, Debug, PartialEq, Eq)]
+pub struct NoTicket;
 
 /// What an ask gives.
 #[derive(Drop)]

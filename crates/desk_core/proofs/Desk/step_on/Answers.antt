@@ -4,7 +4,7 @@ use Rattle.sdbm_addr.specs.Database.{pairs_at}
 use Rattle.sdbm_split.specs.Planned.{PageChange}
 use Rattle.hold_modes.specs.declared.modes.Hold.TheVariants.{Exclusive}
 use Rattle.hold_modes.specs.Held.{bars}
-use Rattle.desk_core.specs.declared.faults.AskFault.{AskFault}
+use Rattle.desk_core.specs.declared.AskFault.{AskFault}
 use Rattle.desk_core.specs.Works.{change_of}
 use Rattle.desk_core.specs.Calls.{IsStepFault}
 use Rattle.desk_core.proofs.Ties.{keyed_may, may_first, some_mapped}

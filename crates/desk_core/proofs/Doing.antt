@@ -1,6 +1,6 @@
 -- What a call has done, from what was done to the parts of a desk.
-use Rattle.std.proofs.Common.{◌≡◌, ℕ, Bool, true, false, cond, ◌&&◌, List, [], ◌∷◌, ◌++◌, refl, sym, ap, subst, ◌∙◌, Option, Some, None, is_some, inr}
-use Rattle.std.specs.Prelude.{IsSome, slice_index_or}
+use Rattle.std.proofs.Common.{◌≡◌, ◌+◌, ℕ, Bool, true, false, cond, ◌&&◌, List, [], ◌∷◌, ◌++◌, refl, sym, ap, subst, ◌∙◌, Option, Some, None, is_some, inr}
+use Rattle.std.specs.Prelude.{IsSome, slice_index_or, count_by}
 use Rattle.slab.specs.Slab.{Slab, Updates}
 use Rattle.std.specs.List.{list_any}
 use Rattle.sdbm_addr.specs.Database.{Database}
@@ -17,7 +17,7 @@ use Rattle.desk_core.specs.declared.AskFault.TheVariants.{Busy, NoMemory}
 use Rattle.desk_core.specs.Works.{PageResult, key_of, HasKey}
 use Rattle.desk_core.specs.Jobs.{Ticketed, worked}
 use Rattle.desk_core.specs.Leads.{IsPlaceOf, LeadsTo, MayChange, changed_by, does_change}
-use Rattle.desk_core.specs.Desk.{DeskState, IsSound, IsTied, Ties, first_hold, the_ticket, ticket_of}
+use Rattle.desk_core.specs.Desk.{DeskState, IsSound, IsTied, Ties, first_hold, the_ticket, ticket_of, open_count}
 use Rattle.desk_core.specs.Calls.{MayAsk, IsAsked, Opens, Changes, MayFinish, Finishes, Abandons, Steps, IsStepFault, WouldChange, works_there, is_held, is_barred_in, page_led}
 use Rattle.desk_core.proofs.Acting.{Acts-on_page, IsPlaceOf-unique}
 use Rattle.desk_core.proofs.Lifting.{works_lead}
@@ -40,15 +40,15 @@ module _ {A : Type 0} (s : DeskState A) (d : Ticketed A) (sound : IsSound s) (ma
   -- it was put in, its entry added, and the ticket closed
   pub finished : (reply copy : Reply A) (db : Database) (entries : List (Entry A)) (tickets : List (Option (Open A))) (next : ℕ) (holds : List Held) → reply ≡ (worked d.asked).reply → copy ≡ (worked d.asked).reply
       → db ≡ changed_by s.database d.asked.place.page (worked d.asked).change → entries ≡ s.entries ++ record { session = d.asked.session; command = d.asked.command; reply = copy } ∷ []
-      → Changes s.tickets tickets d.ticket None → next ≡ d.ticket → holds ≡ without (the_ticket d.ticket) s.holds
+      → Changes s.tickets tickets d.ticket None → next ≡ d.ticket → count_by is_some tickets + 1 ≡ open_count s → holds ≡ without (the_ticket d.ticket) s.holds
       → Finishes s d reply (record s { database = db; entries = entries; tickets = tickets; next = next; holds = holds })
-  finished reply copy db entries tickets next holds reply_is copy_is installed more changes is_next released = record {
+  finished reply copy db entries tickets next holds reply_is copy_is installed more changes is_next counted released = record {
     may = may;
     reply_is = reply_is;
     database = installed;
     acts = tied_acts s.database db sound.database s.holds d.ticket d.asked tie reply reply_is installed;
     entries = more ∙ ap (λ (r : Reply A). s.entries ++ record { session = d.asked.session; command = d.asked.command; reply = r } ∷ []) (copy_is ∙ sym reply_is);
-    closes = record { tickets = changes; next = is_next; holds = released; opening = refl; limit_is = refl };
+    closes = record { tickets = changes; next = is_next; holds = released; opening = refl; limit_is = refl; count = counted };
   }
 
 -- ---- step
@@ -116,10 +116,10 @@ module _ {A : Type 0} (s : DeskState A) (session : ℕ) (command : Command A) (p
 -- ---- abandon
 
 -- the ticket was closed
-pub abandoned : {A : Type 0} (s : DeskState A) (t : ℕ) (tickets : List (Option (Open A))) (next : ℕ) (holds : List Held) → IsSome (ticket_of s t) → Changes s.tickets tickets t None → next ≡ t → holds ≡ without (the_ticket t) s.holds
+pub abandoned : {A : Type 0} (s : DeskState A) (t : ℕ) (tickets : List (Option (Open A))) (next : ℕ) (holds : List Held) → IsSome (ticket_of s t) → Changes s.tickets tickets t None → next ≡ t → count_by is_some tickets + 1 ≡ open_count s → holds ≡ without (the_ticket t) s.holds
     → Abandons s t (record s { tickets = tickets; next = next; holds = holds })
-abandoned s t tickets next holds there changes is_next released =
-    record { there = there; database = refl; entries = refl; closes = record { tickets = changes; next = is_next; holds = released; opening = refl; limit_is = refl } }
+abandoned s t tickets next holds there changes is_next counted released =
+    record { there = there; database = refl; entries = refl; closes = record { tickets = changes; next = is_next; holds = released; opening = refl; limit_is = refl; count = counted } }
 
 -- ---- ask
 
@@ -136,9 +136,9 @@ changes_after {A} s r n key at o same e u = record {
 
 -- the next ticket was opened
 pub opened : {A : Type 0} (s : DeskState A) (t : ℕ) (own : Open A) (mode : Hold) (entries : List (Entry A)) (tickets : List (Option (Open A))) (next : ℕ) (holds : List Held) → first_hold own.command ≡ Some mode → t ≡ s.next → ticket_of s t ≡ None
-    → entries ≡ s.entries → Changes s.tickets tickets t (Some own) → holds ≡ s.holds ++ record { page = own.place.page; mode = mode; ticket = the_ticket t } ∷ []
+    → entries ≡ s.entries → Changes s.tickets tickets t (Some own) → count_by is_some tickets ≡ open_count s + 1 → holds ≡ s.holds ++ record { page = own.place.page; mode = mode; ticket = the_ticket t } ∷ []
     → Opens s own.command (record { ticket = t; asked = own }) (record s { entries = entries; tickets = tickets; next = next; holds = holds })
-opened s t own mode entries tickets next holds first is_next fresh same changes held = record {
+opened s t own mode entries tickets next holds first is_next fresh same changes counted held = record {
   mode = mode;
   mode_is = first;
   next = is_next;
@@ -149,6 +149,7 @@ opened s t own mode entries tickets next holds first is_next fresh same changes 
   opening = refl;
   entries = same;
   limit_is = refl;
+  count = counted;
 }
 
 -- what stands under the ticket is what its job has

@@ -106,11 +106,11 @@ opened_tie {A} s s' session command j sound may asked opens =
     }
 
 pub Opens-sound : {A : Type 0} (s s' : DeskState A) (session : ℕ) (command : Command A) (j : Ticketed A) → IsSound s → MayAsk s command → IsAsked s session command j.asked → Opens s command j s'
-    → open_count s' ≡ open_count s + 1 → obeys_rule s'.holds ≡ true → IsSound s'
-Opens-sound {A} s s' session command j sound may asked opens counted obeys = record {
+    → obeys_rule s'.holds ≡ true → IsSound s'
+Opens-sound {A} s s' session command j sound may asked opens obeys = record {
   database = subst IsDatabase (sym opens.database) sound.database;
   legal = legal_same s s' sound opens.database opens.entries opens.opening;
-  within = let long : length s'.entries ≡ length s.entries = ap length opens.entries in let room = may.room in let limit = opens.limit_is in omega arith;
+  within = let long : length s'.entries ≡ length s.entries = ap length opens.entries in let room = may.room in let limit = opens.limit_is in let counted = opens.count in omega arith;
   obeys = obeys;
   tied = λ u. subst (λ (d : Database). Ties d s'.holds u (ticket_of s' u)) (sym opens.database) (either_way u j.ticket (Ties s.database s'.holds u (ticket_of s' u))
       (λ is.
@@ -175,22 +175,22 @@ closed_ties {A} s s' t sound closes beside u = either_way u t (Ties s'.database 
     at differ None h = h
     at differ (Some q) h = beside u differ q h
 
-pub Abandons-sound : {A : Type 0} (s s' : DeskState A) (t : ℕ) → IsSound s → Abandons s t s' → open_count s' + 1 ≡ open_count s → obeys_rule s'.holds ≡ true → IsSound s'
-Abandons-sound {A} s s' t sound abandons counted obeys = record {
+pub Abandons-sound : {A : Type 0} (s s' : DeskState A) (t : ℕ) → IsSound s → Abandons s t s' → obeys_rule s'.holds ≡ true → IsSound s'
+Abandons-sound {A} s s' t sound abandons obeys = record {
   database = subst IsDatabase (sym abandons.database) sound.database;
   legal = legal_same s s' sound abandons.database abandons.entries abandons.closes.opening;
-  within = let before = sound.within in let long : length s'.entries ≡ length s.entries = ap length abandons.entries in let limit = abandons.closes.limit_is in omega arith;
+  within = let before = sound.within in let long : length s'.entries ≡ length s.entries = ap length abandons.entries in let limit = abandons.closes.limit_is in let counted = abandons.closes.count in omega arith;
   obeys = obeys;
   tied = closed_ties s s' t sound abandons.closes (λ u differ q tie. subst (λ (d : Database). IsTied d s.holds u q) (sym abandons.database) tie);
 }
 
-pub Finishes-sound : {A : Type 0} (s s' : DeskState A) (d : Ticketed A) (reply : Reply A) → IsSound s → Finishes s d reply s' → open_count s' + 1 ≡ open_count s → obeys_rule s'.holds ≡ true → IsSound s'
-Finishes-sound {A} s s' d reply sound finishes counted obeys =
+pub Finishes-sound : {A : Type 0} (s s' : DeskState A) (d : Ticketed A) (reply : Reply A) → IsSound s → Finishes s d reply s' → obeys_rule s'.holds ≡ true → IsSound s'
+Finishes-sound {A} s s' d reply sound finishes obeys =
     let entry : Entry A = record { session = d.asked.session; command = d.asked.command; reply = reply } in
     record {
       database = subst IsDatabase (sym finishes.database) (changed_database s.database d.asked.place.page (worked d.asked).change sound.database leads.may);
       legal = legal_more s s' entry sound finishes.acts finishes.entries finishes.closes.opening;
-      within = let before = sound.within in let long = longer s.entries s'.entries entry finishes.entries in let limit = finishes.closes.limit_is in omega arith;
+      within = let before = sound.within in let long = longer s.entries s'.entries entry finishes.entries in let limit = finishes.closes.limit_is in let counted = finishes.closes.count in omega arith;
       obeys = obeys;
       tied = closed_ties s s' d.ticket sound finishes.closes (λ u differ q other. subst (λ (x : Database). IsTied x s.holds u q) (sym finishes.database)
           (tied_still s.database d.asked.place.page (worked d.asked).change s.holds u q leads.beside (λ some. held_apart s.database s.holds d.ticket u d.asked q sound.obeys differ (finishes.may.alone some) tie other) other));

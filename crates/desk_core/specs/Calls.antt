@@ -96,6 +96,7 @@ pub record Opens {A : Type 0} (s : DeskState A) (command : Command A) (j : Ticke
   pub opening : s'.opening ≡ s.opening
   pub entries : s'.entries ≡ s.entries
   pub limit_is : s'.limit ≡ s.limit
+  pub count : open_count s' ≡ open_count s + 1
 
 -- a reply is added to the trail, and nothing else changes
 pub record Counts {A : Type 0} (s : DeskState A) (session : ℕ) (reply : Reply A) (s' : DeskState A) : Type 0 where
@@ -120,6 +121,7 @@ pub record Closes {A : Type 0} (s : DeskState A) (t : ℕ) (s' : DeskState A) : 
   pub holds : s'.holds ≡ without (the_ticket t) s.holds
   pub opening : s'.opening ≡ s.opening
   pub limit_is : s'.limit ≡ s.limit
+  pub count : open_count s' + 1 ≡ open_count s
 
 -- an update hold is made exclusive, and nothing else changes
 pub record Converts {A : Type 0} (s : DeskState A) (t : ℕ) (s' : DeskState A) : Type 0 where

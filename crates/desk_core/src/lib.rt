@@ -122,7 +122,7 @@ pub(crate) struct Wanted {
 impl<A: Allocator + Copy> Desk<A> {
     ghost use Rattle.desk_core.specs.Calls.{StartsWith, MayAsk, IsWanted, IsAsked, Counts, Asks, Opens, IsAskFault, Converts, IsConvertFault, MayFinish, Finishes, IsFinishFault, Abandons};
 
-    /// A desk over a database, whose trail begins with its pairs and may have so many entries.
+    /// A desk over a database, whose trail begins with its pairs. The limit is the most entries and open tickets together.
     ///
     /// # Errors
     /// `AllocError` where no memory is left for the opening. The image comes back.

@@ -33,8 +33,8 @@ invariant_of-self-2 g c =
     let kept = c.self.invariant.1 in (
       Finishes-sound s _ d c.done.inside.reply c.self.invariant.0
           (finished s d c.self.invariant.0 may c.done.inside.reply c.done.inside.copy c.put_in.new.image c.push_reserved.new.self.items c.remove-own.new.self.slots c.remove-own.new.self.vacant_key c.release.new.self c.done.invariant.reply_is
-          c.done.invariant.copy_is installed c.push_reserved.ensures.items (record { here = u.updates.changed; others = u.updates.others }) u.key_is_next c.release.ensures.rest)
-          u.len c.release.ensures.rule,
+          c.done.invariant.copy_is installed c.push_reserved.ensures.items (record { here = u.updates.changed; others = u.updates.others }) u.key_is_next u.len c.release.ensures.rest)
+          c.release.ensures.rule,
       omega (arith, c.push_reserved.ensures.len, c.push_reserved.ensures.capacity),
     )
 
@@ -47,4 +47,4 @@ returns-clause-ok g c =
     let u = c.remove-own.ensures in
     rw (← c.self.view_is, ← c.done.view_is)
     (finished s d c.self.invariant.0 may c.done.inside.reply c.done.inside.copy c.put_in.new.image c.push_reserved.new.self.items c.remove-own.new.self.slots c.remove-own.new.self.vacant_key c.release.new.self c.done.invariant.reply_is
-    c.done.invariant.copy_is installed c.push_reserved.ensures.items (record { here = u.updates.changed; others = u.updates.others }) u.key_is_next c.release.ensures.rest)
+    c.done.invariant.copy_is installed c.push_reserved.ensures.items (record { here = u.updates.changed; others = u.updates.others }) u.key_is_next u.len c.release.ensures.rest)

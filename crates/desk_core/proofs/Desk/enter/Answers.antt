@@ -33,10 +33,10 @@ invariant_of-self-2 g c =
     let same = ap (λ (x : Slab (Open g.row.A.Denot)). x.slots) c.reserve-2.ensures.rest_kept in
     let next = c.vacant_key.ensures.value ∙ ap (λ (x : Slab (Open g.row.A.Denot)). x.vacant_key) c.reserve-2.ensures.rest_kept in
     let changes = changes_after c.self.inside.tickets c.reserve-2.new.self c.insert_reserved-key.new.self t c.insert_reserved-key.result c.args.own same (c.insert_reserved-key.ensures.key ∙ sym c.vacant_key.ensures.value) c.insert_reserved-key.ensures.updates in
-    let opens = opened s t c.args.own c.args.mode c.reserve.new.self.items c.insert_reserved-key.new.self.slots c.insert_reserved-key.new.self.vacant_key c.take_free.new.self c.requires.mode next fresh c.reserve.ensures.items changes c.in_ok-take_free.ensures.ok in
+    let more : count_by is_some c.insert_reserved-key.new.self.slots ≡ count_by is_some s.tickets + 1 = c.insert_reserved-key.ensures.len ∙ ap (λ (xs : List (Option (Open g.row.A.Denot))). count_by is_some xs + 1) same in
+    let opens = opened s t c.args.own c.args.mode c.reserve.new.self.items c.insert_reserved-key.new.self.slots c.insert_reserved-key.new.self.vacant_key c.take_free.new.self c.requires.mode next fresh c.reserve.ensures.items changes more c.in_ok-take_free.ensures.ok in
     let room : vec_len c.reserve.new.self + (slab_len c.self.inside.tickets + 1) ≤ vec_capacity c.reserve.new.self = search rules in
-    let more : slab_len c.insert_reserved-key.new.self ≡ slab_len c.self.inside.tickets + 1 = c.insert_reserved-key.ensures.len ∙ ap (λ (xs : List (Option (Open g.row.A.Denot))). count_by is_some xs + 1) same in
-    (Opens-sound s _ c.args.own.session c.args.own.command (record { ticket = t; asked = c.args.own }) c.self.invariant.0 may asked opens more c.take_free.ensures.rule, omega arith)
+    (Opens-sound s _ c.args.own.session c.args.own.command (record { ticket = t; asked = c.args.own }) c.self.invariant.0 may asked opens c.take_free.ensures.rule, omega arith)
 
 pub returns-clause-ok : goal.returns-clause-ok
 returns-clause-ok g c =
@@ -46,4 +46,5 @@ returns-clause-ok g c =
     let same = ap (λ (x : Slab (Open g.row.A.Denot)). x.slots) c.reserve-2.ensures.rest_kept in
     let next = c.vacant_key.ensures.value ∙ ap (λ (x : Slab (Open g.row.A.Denot)). x.vacant_key) c.reserve-2.ensures.rest_kept in
     let changes = changes_after c.self.inside.tickets c.reserve-2.new.self c.insert_reserved-key.new.self t c.insert_reserved-key.result c.args.own same (c.insert_reserved-key.ensures.key ∙ sym c.vacant_key.ensures.value) c.insert_reserved-key.ensures.updates in
-    rw (← c.self.view_is) (opened s t c.args.own c.args.mode c.reserve.new.self.items c.insert_reserved-key.new.self.slots c.insert_reserved-key.new.self.vacant_key c.take_free.new.self c.requires.mode next fresh c.reserve.ensures.items changes c.in_ok-take_free.ensures.ok)
+    let more : count_by is_some c.insert_reserved-key.new.self.slots ≡ count_by is_some s.tickets + 1 = c.insert_reserved-key.ensures.len ∙ ap (λ (xs : List (Option (Open g.row.A.Denot))). count_by is_some xs + 1) same in
+    rw (← c.self.view_is) (opened s t c.args.own c.args.mode c.reserve.new.self.items c.insert_reserved-key.new.self.slots c.insert_reserved-key.new.self.vacant_key c.take_free.new.self c.requires.mode next fresh c.reserve.ensures.items changes more c.in_ok-take_free.ensures.ok)

@@ -1,5 +1,8 @@
 ; Adds the argument's first number to the record's, unless the sum would be above the argument's
 ; second number. A number is 8 bytes, the lowest first.
+;
+; Code 1: it was added. Code 0: the sum would be above the bound, the record has fewer than 8 bytes,
+; or the argument has fewer than 16; the record stays as it is.
 
     jlt r2, 8, leave        ; R2 is the record's length
     jlt r4, 16, leave       ; R4 is the argument's length

@@ -1,5 +1,5 @@
 ; Counts: the record's first 8 bytes are a number, the lowest byte first, and get one more.
-; A record of fewer bytes stays as it is.
+; Code 1: it was counted. Code 0: the record has fewer bytes, and stays as it is.
 
     jlt r2, 8, leave        ; R2 is the record's length
     ldxdw r6, [r1+0]        ; R1 points to the record

@@ -5,10 +5,13 @@
 ; Argument, 16 bytes: how long a window lasts, and how many it lets through.
 ;
 ; Code 1: let through. The reply word is how many more the window lets through.
-; Code 0: not let through. The reply word is how long the window still lasts, or 0 where a length
-; is too short.
+; Code 0: not let through. The reply word is how long the window still lasts. Where no window lasts
+; and the argument lets none through, it is how long a window would last, and none begins; where a
+; length is too short, it is 0.
 ;
-; A window begins with the first that comes after the last one; also where the clock went back.
+; Who comes where no window lasts begins one at the time of the run. So it is once the time of the
+; last one is over, and also where that one began later than now: a caller whose clock is a little
+; behind begins a new window too, and the count starts at 0 again.
 
     jlt r2, 16, leave       ; R2 is the record's length
     jlt r4, 16, leave       ; R4 is the argument's length
@@ -18,8 +21,11 @@
     call 2                  ; the time
     mov r9, r0
     ldxdw r1, [r6]          ; when the window began
-    sub r0, r1              ; so long ago; where the clock went back, this is large
+    jlt r9, r1, begin       ; the clock went back
+    sub r0, r1              ; so long ago
     jlt r0, r7, count       ; the window lasts still
+
+begin:
     stxdw [r6], r9          ; a new one begins
     stdw [r6+8], 0
     mov r0, 0

@@ -2,11 +2,15 @@
 ;
 ; Record, 16 bytes: the number of who has the lease, and the time at which it ends. A number is
 ; 8 bytes, the lowest first. Zeros are a lease that has ended.
-; Argument, 16 bytes: the number of who asks, and for how long from now on; 0 gives it back.
+; Argument, 16 bytes: the number of who asks, and for how long from now on; 0 gives it back. Who
+; asks is what the argument claims; `call 4` would give the number of the session.
 ;
 ; Code 1: who asks has the lease, new or renewed, until the time in the reply word.
 ; Code 2: the lease was given back, or had ended, and its pair is deleted.
-; Code 0: another one has the lease until the time in the reply word, or a length is too short.
+; Code 0: another one has the lease until the time in the reply word; or a length is too short, and
+; the word is 0.
+;
+; A lease ends at 2^64 - 1 at the latest: at that time each has ended, and anyone may take it.
 
     jlt r2, 16, leave       ; R2 is the record's length
     jlt r4, 16, leave       ; R4 is the argument's length

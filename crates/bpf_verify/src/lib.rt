@@ -10,6 +10,7 @@ mod alu;
 mod branches;
 mod calls;
 mod fault;
+mod flat;
 mod flow;
 mod joining;
 mod loads;
@@ -22,5 +23,6 @@ mod verified;
 mod visits;
 
 pub use fault::VerifyFault;
+pub use flat::Flat;
 pub use verified::Verified;
 pub use visits::verify;

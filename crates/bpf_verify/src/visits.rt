@@ -11,6 +11,7 @@ ghost use Rattle.bpf_verify.specs.Verified.{Starts, IsVerified};
 ghost use Rattle.bpf_verify.specs.Visits.{AreStates, Follows, Adds, ConsistentAt};
 
 use crate::fault::VerifyFault;
+use crate::flat::flatten;
 use crate::flow::flow;
 use crate::joining::join_states;
 use crate::state::State;
@@ -123,8 +124,12 @@ pub fn verify<A: Allocator + Copy>(
     if let Err(fault) = structure(&code) {
         return Err((fault, code));
     }
-    match states_of(alloc, &code) {
-        Ok(states) => Ok(Verified::new(code, states)),
-        Err(fault) => Err((fault, code)),
+    let states = match states_of(alloc, &code) {
+        Ok(states) => states,
+        Err(fault) => return Err((fault, code)),
+    };
+    match flatten(alloc, &code, &states) {
+        Ok(flats) => Ok(Verified::new(code, states, flats)),
+        Err(AllocError) => Err((VerifyFault::NoMemory, code)),
     }
 }

@@ -1,0 +1,201 @@
+//! Calls of a desk, and what comes of them. What a call takes comes back where it is refused.
+
+use crate::bench::{Hands, InHand, put, take};
+use desk_core::{
+    AskFault, Asked, ConvertFault, Desk, Done, FinishFault, Job, NoTicket, Outcome, Ticket,
+};
+use std::alloc::Allocator;
+use store_cmd::{Command, Reply};
+
+/// A call of a desk.
+#[derive(Drop)]
+pub enum Call<A: Allocator> {
+    Step(u64, Command<A>),
+    /// The hand for the job, the session and the command.
+    Ask(usize, u64, Command<A>),
+    Work(usize),
+    Convert(Ticket),
+    Finish(usize),
+    Abandon(Ticket),
+}
+
+/// What comes of a call, and the call, where it was refused and may be made again.
+#[derive(Drop)]
+pub struct Came<A: Allocator> {
+    pub outcome: Outcome<A>,
+    pub refused: Option<Call<A>>,
+}
+
+impl<A: Allocator> Came<A> {
+    fn of(outcome: Outcome<A>) -> Self {
+        Came {
+            outcome,
+            refused: None,
+        }
+    }
+
+    fn refused(outcome: Outcome<A>, call: Call<A>) -> Self {
+        Came {
+            outcome,
+            refused: Some(call),
+        }
+    }
+}
+
+/// Whether there was no memory for a call.
+pub fn lacks_memory<A: Allocator>(outcome: &Outcome<A>) -> bool {
+    match outcome {
+        Outcome::AskRefused(fault) => *fault == AskFault::NoMemory,
+        Outcome::WorkRefused => true,
+        Outcome::FinishRefused(fault) => *fault == FinishFault::NoMemory,
+        _ => false,
+    }
+}
+
+// The desk's calls, each alone.
+fn step<A: Allocator + Copy>(
+    desk: &mut Desk<A>,
+    session: u64,
+    command: Command<A>,
+) -> Result<Reply<A>, (AskFault, Command<A>)> {
+    desk.step(session, command)
+}
+
+fn ask<A: Allocator + Copy>(
+    desk: &mut Desk<A>,
+    session: u64,
+    command: Command<A>,
+) -> Result<Asked<A>, (AskFault, Command<A>)> {
+    desk.ask(session, command)
+}
+
+fn work<A: Allocator + Copy>(job: Job<A>) -> Result<Done<A>, Job<A>> {
+    match job.work() {
+        Ok(done) => Ok(done),
+        Err((_error, job)) => Err(job),
+    }
+}
+
+fn convert<A: Allocator + Copy>(desk: &mut Desk<A>, ticket: Ticket) -> Result<(), ConvertFault> {
+    desk.convert(ticket)
+}
+
+fn finish<A: Allocator + Copy>(
+    desk: &mut Desk<A>,
+    done: Done<A>,
+) -> Result<Reply<A>, (FinishFault, Done<A>)> {
+    desk.finish(done)
+}
+
+fn abandon<A: Allocator + Copy>(desk: &mut Desk<A>, ticket: Ticket) -> Result<(), NoTicket> {
+    desk.abandon(ticket)
+}
+
+fn come_of_step<A: Allocator + Copy>(
+    desk: &mut Desk<A>,
+    session: u64,
+    command: Command<A>,
+) -> Came<A> {
+    match step(desk, session, command) {
+        Ok(reply) => Came::of(Outcome::Answered(reply)),
+        Err((fault, command)) => {
+            Came::refused(Outcome::AskRefused(fault), Call::Step(session, command))
+        }
+    }
+}
+
+fn come_of_ask<A: Allocator + Copy>(
+    desk: &mut Desk<A>,
+    hands: &mut Hands<A>,
+    hand: usize,
+    session: u64,
+    command: Command<A>,
+) -> Came<A> {
+    match ask(desk, session, command) {
+        Ok(Asked::Job(job)) => {
+            let ticket = job.ticket();
+            put(hands, hand, InHand::Job(job));
+            Came::of(Outcome::Asked(ticket))
+        }
+        Ok(Asked::Answered(reply)) => Came::of(Outcome::Answered(reply)),
+        Err((fault, command)) => {
+            Came::refused(
+                Outcome::AskRefused(fault),
+                Call::Ask(hand, session, command),
+            )
+        }
+    }
+}
+
+fn come_of_work<A: Allocator + Copy>(hands: &mut Hands<A>, hand: usize) -> Came<A> {
+    let job = match take(hands, hand) {
+        Some(InHand::Job(job)) => job,
+        Some(done) => {
+            put(hands, hand, done);
+            return Came::of(Outcome::NoHand);
+        }
+        None => return Came::of(Outcome::NoHand),
+    };
+    match work(job) {
+        Ok(done) => {
+            put(hands, hand, InHand::Done(done));
+            Came::of(Outcome::Worked)
+        }
+        Err(job) => {
+            put(hands, hand, InHand::Job(job));
+            Came::refused(Outcome::WorkRefused, Call::Work(hand))
+        }
+    }
+}
+
+fn come_of_finish<A: Allocator + Copy>(
+    desk: &mut Desk<A>,
+    hands: &mut Hands<A>,
+    hand: usize,
+) -> Came<A> {
+    let done = match take(hands, hand) {
+        Some(InHand::Done(done)) => done,
+        Some(job) => {
+            put(hands, hand, job);
+            return Came::of(Outcome::NoHand);
+        }
+        None => return Came::of(Outcome::NoHand),
+    };
+    match finish(desk, done) {
+        Ok(reply) => Came::of(Outcome::Finished(reply)),
+        Err((fault, done)) => {
+            put(hands, hand, InHand::Done(done));
+            Came::refused(Outcome::FinishRefused(fault), Call::Finish(hand))
+        }
+    }
+}
+
+fn come_of_convert<A: Allocator + Copy>(desk: &mut Desk<A>, ticket: Ticket) -> Came<A> {
+    match convert(desk, ticket) {
+        Ok(()) => Came::of(Outcome::Converted),
+        Err(fault) => Came::of(Outcome::ConvertRefused(fault)),
+    }
+}
+
+fn come_of_abandon<A: Allocator + Copy>(desk: &mut Desk<A>, ticket: Ticket) -> Came<A> {
+    match abandon(desk, ticket) {
+        Ok(()) => Came::of(Outcome::Abandoned),
+        Err(NoTicket) => Came::of(Outcome::AbandonRefused),
+    }
+}
+
+/// Makes a call.
+pub fn make_call<A: Allocator + Copy>(
+    desk: &mut Desk<A>,
+    hands: &mut Hands<A>,
+    call: Call<A>,
+) -> Came<A> {
+    match call {
+        Call::Step(session, command) => come_of_step(desk, session, command),
+        Call::Ask(hand, session, command) => come_of_ask(desk, hands, hand, session, command),
+        Call::Work(hand) => come_of_work(hands, hand),
+        Call::Convert(ticket) => come_of_convert(desk, ticket),
+        Call::Finish(hand) => come_of_finish(desk, hands, hand),
+        Call::Abandon(ticket) => come_of_abandon(desk, ticket),
+    }
+}

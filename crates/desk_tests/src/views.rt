@@ -1,0 +1,141 @@
+//! What desks and databases are, as text.
+
+use desk_core::{Desk, Done, Outcome};
+use sdbm_files::{Image, MemSink};
+use sdbm_page::Page;
+use std::alloc::{AllocError, Allocator, Global};
+use std::fmt::Write;
+use store_cmd::{Entry, Trail};
+use test_lines::{show_bytes, show_command, show_file, show_pairs, show_reply};
+
+/// Writes what comes of a call or of an event.
+pub fn show_outcome<A: Allocator>(
+    out: &mut String,
+    outcome: &Outcome<A>,
+) -> Result<(), AllocError> {
+    match outcome {
+        Outcome::Asked(ticket) => write!(out, "ticket {}", ticket.0),
+        Outcome::Answered(reply) | Outcome::Finished(reply) => show_reply(out, reply),
+        Outcome::AskRefused(fault) => write!(out, "refused {fault:?}"),
+        Outcome::Worked => out.push_str("worked"),
+        Outcome::WorkRefused => out.push_str("refused NoMemory"),
+        Outcome::Converted => out.push_str("converted"),
+        Outcome::ConvertRefused(fault) => write!(out, "refused {fault:?}"),
+        Outcome::FinishRefused(fault) => write!(out, "refused {fault:?}"),
+        Outcome::Abandoned => out.push_str("abandoned"),
+        Outcome::AbandonRefused => out.push_str("refused NoTicket"),
+        Outcome::NoHand => out.push_str("nothing in hand"),
+    }
+}
+
+/// Writes what was worked.
+pub fn show_done<A: Allocator>(out: &mut String, done: &Done<A>) -> Result<(), AllocError> {
+    write!(out, "ticket {} ", done.ticket().0)?;
+    show_reply(out, done.reply())?;
+    out.push_str(if done.changes() { ", changes" } else { "" })
+}
+
+fn show_entry<A: Allocator>(out: &mut String, entry: &Entry<A>) -> Result<(), AllocError> {
+    write!(out, " / {} ", entry.session)?;
+    show_command(out, &entry.command)?;
+    out.push_str(": ")?;
+    show_reply(out, &entry.reply)
+}
+
+/// Writes a trail.
+pub fn show_trail<A: Allocator>(out: &mut String, trail: &Trail<A>) -> Result<(), AllocError> {
+    out.push_str("opening")?;
+    show_pairs(out, trail.opening.as_slice())?;
+    for entry in trail.entries.iter() {
+        show_entry(out, entry)?;
+    }
+    Ok(())
+}
+
+/// Writes the pairs of a desk.
+pub fn show_desk_pairs<A: Allocator + Copy>(
+    out: &mut String,
+    desk: &Desk<A>,
+) -> Result<(), AllocError> {
+    out.push_str("pairs")?;
+    show_pairs(out, desk.pairs()?.as_slice())
+}
+
+/// A desk's pairs and trail.
+pub fn view<A: Allocator + Copy>(global: Global, desk: &Desk<A>) -> Result<String, AllocError> {
+    let mut out = String::new(global);
+    show_desk_pairs(&mut out, desk)?;
+    out.push_str(" ")?;
+    show_trail(&mut out, desk.trail())?;
+    Ok(out)
+}
+
+// Writes the pairs of a page, in their order.
+fn show_page<A: Allocator + Copy>(out: &mut String, page: &Page<A>) -> Result<(), AllocError> {
+    for i in 0..page.len() {
+        out.push_str(" ")?;
+        show_bytes(out, page.key(i))?;
+        out.push_str("=")?;
+        show_bytes(out, page.record(i))?;
+    }
+    Ok(())
+}
+
+/// Writes the pairs of the page with a number, in their order.
+pub fn show_page_of<A: Allocator + Copy>(
+    out: &mut String,
+    image: &Image<A>,
+    number: u32,
+) -> Result<(), AllocError> {
+    out.push_str("page")?;
+    match image.page(number) {
+        Some(shared) => show_page(out, shared.page()),
+        None => out.push_str(" without pairs"),
+    }
+}
+
+/// Writes the place of a key.
+pub fn show_place<A: Allocator + Copy>(
+    out: &mut String,
+    image: &Image<A>,
+    key: &[u8],
+) -> Result<(), AllocError> {
+    let place = image.place(key);
+    write!(
+        out,
+        "page {} depth {} bit {}",
+        place.page, place.depth, place.bit
+    )
+}
+
+/// Writes how many pairs a database has, how their keys hash, the size of its pages and the length of `.pag`.
+pub fn show_count<A: Allocator + Copy>(
+    out: &mut String,
+    image: &Image<A>,
+) -> Result<(), AllocError> {
+    let kind = image.key_bytes();
+    let size = image.page_size();
+    write!(
+        out,
+        "{} {kind:?} {size:?} {}",
+        image.count(),
+        image.pag_len()
+    )
+}
+
+/// Writes the bytes of both files of a database.
+pub fn show_files<A: Allocator + Copy>(
+    global: Global,
+    out: &mut String,
+    image: &Image<A>,
+) -> Result<(), AllocError> {
+    let mut dir = MemSink::new(global);
+    let mut pag = MemSink::new(global);
+    if image.write(&mut dir, &mut pag).is_err() {
+        return Err(AllocError);
+    }
+    out.push_str("dir ")?;
+    show_file(global, out, dir.bytes())?;
+    out.push_str(" pag ")?;
+    show_file(global, out, pag.bytes())
+}

@@ -1,0 +1,44 @@
+//! Whether desks are what the model says.
+
+use crate::asks::{Value, is_asked, key_of, said_by, value_of};
+use crate::model::Answered;
+use sdbm_addr::Bytes;
+use std::alloc::Global;
+use store_cmd::Entry;
+
+fn is_pair(pair: &(Bytes<Global>, Bytes<Global>), key: usize, value: Value) -> bool {
+    pair.0.as_slice() == key_of(key) && value_of(pair.1.as_slice()) == Some(value)
+}
+
+/// Whether pairs are those of the keys that have values, in the order of the keys.
+pub fn are_pairs(pairs: &[(Bytes<Global>, Bytes<Global>)], values: &[Option<Value>]) -> bool {
+    let mut rest = pairs.iter();
+    for (key, value) in values.iter().enumerate() {
+        if let Some(value) = value {
+            match rest.next() {
+                Some(pair) if is_pair(pair, key, *value) => (),
+                _ => return false,
+            }
+        }
+    }
+    rest.next().is_none()
+}
+
+fn is_entry(entry: &Entry<Global>, own: &Answered) -> bool {
+    entry.session == own.session
+        && is_asked(&entry.command, own.ask)
+        && said_by(&entry.reply) == own.told
+}
+
+/// Whether the entries of a trail are those of the model.
+pub fn are_entries(entries: &[Entry<Global>], own: &[Answered]) -> bool {
+    if entries.len() != own.len() {
+        return false;
+    }
+    for (entry, one) in entries.iter().zip(own) {
+        if !is_entry(entry, one) {
+            return false;
+        }
+    }
+    true
+}

@@ -1,0 +1,44 @@
+//! Plays random lists of events on desks, against a plain model, and prints whether they agree.
+//!
+//! Each line of standard input is `lists SEED COUNT LENGTH`, for so many lists of so many events, with five steps behind each
+//! list. The answer is `COUNT lists agree`, with what came among them, or the first difference. A list begins with the database
+//! that the one before it left, or with an empty one.
+#![tactic(auto)]
+
+mod asks;
+mod checks;
+mod comes;
+mod dice;
+mod lists;
+mod model;
+mod store;
+
+use lists::run_lists;
+use std::alloc::{AllocError, Global};
+use std::io;
+
+fn read_lists(line: &str) -> Option<(u64, usize, usize)> {
+    let (seed, rest) = line.strip_prefix("lists ")?.split_once(' ')?;
+    let (count, length) = rest.split_once(' ')?;
+    let seed = seed.parse::<u64>().ok()?;
+    Some((
+        seed,
+        count.parse::<usize>().ok()?,
+        length.parse::<usize>().ok()?,
+    ))
+}
+
+fn answer(alloc: Global, line: &str) -> Result<String, AllocError> {
+    match read_lists(line) {
+        Some((seed, count, length)) => run_lists(alloc, seed, count, length),
+        None => String::from_str(alloc, "a line that cannot be read"),
+    }
+}
+
+fn main(rt: HostRuntime) -> io::Result<()> {
+    for line in rt.lines(rt.alloc()) {
+        let answer = answer(rt.alloc(), line?.as_str())?;
+        println!(rt; "{answer}")?;
+    }
+    Ok(())
+}

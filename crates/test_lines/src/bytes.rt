@@ -1,0 +1,33 @@
+//! Bytes as words.
+
+use std::alloc::{AllocError, Allocator};
+use std::fmt::Write;
+
+/// How many equal bytes are written as one of them and their number.
+pub const LONG_RUN: usize = 8;
+
+/// Bytes: in hex, `.` for none, or `BYTE*COUNT` for one that comes so often.
+pub fn read_bytes<A: Allocator + Copy>(alloc: A, word: &str) -> Option<Vec<u8, A>> {
+    let Some((digits, count)) = word.split_once('*') else {
+        let digits = if word == "." { "" } else { word };
+        return hex::decode(alloc, digits).ok();
+    };
+    let bytes = hex::decode(alloc, digits).ok()?;
+    let byte = *bytes.first()?;
+    let count = count.parse::<usize>().ok()?;
+    vec![in alloc; byte; count].ok()
+}
+
+/// Writes bytes as such a word.
+pub fn show_bytes(out: &mut String, bytes: &[u8]) -> Result<(), AllocError> {
+    let Some(first) = bytes.first() else {
+        return out.push_str(".");
+    };
+    if bytes.len() >= LONG_RUN && bytes.iter().all(|byte| byte == first) {
+        return write!(out, "{first:02x}*{}", bytes.len());
+    }
+    for byte in bytes {
+        write!(out, "{byte:02x}")?;
+    }
+    Ok(())
+}

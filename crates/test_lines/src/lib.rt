@@ -1,0 +1,17 @@
+//! What the tests of the store share: bytes, commands and replies as their lines write them, whether trails are the same, and memory
+//! that is taken away.
+#![tactic(auto)]
+
+mod bytes;
+mod commands;
+mod memory;
+mod names;
+mod same;
+mod segments;
+
+pub use bytes::{read_bytes, show_bytes};
+pub use commands::{read_command, show_command, show_pairs, show_reply};
+pub use memory::fill;
+pub use names::{read_kind, read_size};
+pub use same::{same_entry, same_trail};
+pub use segments::{read_file, show_file};

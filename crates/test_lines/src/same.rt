@@ -1,0 +1,36 @@
+//! Whether entries and trails are the same.
+
+use sdbm_addr::Bytes;
+use std::alloc::Allocator;
+use store_cmd::{Entry, Trail};
+
+// Whether pairs are the same, in the same order.
+fn same_pairs<A: Allocator>(a: &[(Bytes<A>, Bytes<A>)], b: &[(Bytes<A>, Bytes<A>)]) -> bool {
+    if a.len() != b.len() {
+        return false;
+    }
+    for (one, other) in a.iter().zip(b) {
+        if one.0.as_slice() != other.0.as_slice() || one.1.as_slice() != other.1.as_slice() {
+            return false;
+        }
+    }
+    true
+}
+
+/// Whether two entries are the same, and so are their commands and replies.
+pub fn same_entry<A: Allocator>(a: &Entry<A>, b: &Entry<A>) -> bool {
+    a == b && a.command == b.command && a.reply == b.reply
+}
+
+/// Whether two trails are the same.
+pub fn same_trail<A: Allocator>(a: &Trail<A>, b: &Trail<A>) -> bool {
+    if a.entries.len() != b.entries.len() {
+        return false;
+    }
+    for (one, other) in a.entries.iter().zip(b.entries.iter()) {
+        if !same_entry(one, other) {
+            return false;
+        }
+    }
+    same_pairs(a.opening.as_slice(), b.opening.as_slice())
+}

@@ -1,0 +1,88 @@
+//! The bytes of files in segments: `LENGTH`, and a word `OFFSET:BYTES` for each. Bytes outside segments are zeros.
+
+use crate::bytes::{LONG_RUN, read_bytes};
+use std::alloc::{AllocError, Global};
+use std::fmt::Write;
+
+// Puts a segment at its offset, as far as there are bytes.
+fn put_segment(alloc: Global, bytes: &mut [u8], segment: &str) -> Option<()> {
+    let (offset, word) = segment.split_once(':')?;
+    let offset = offset.parse::<usize>().ok()?;
+    let part = read_bytes(alloc, word)?;
+    for (place, byte) in bytes.iter_mut().skip(offset).zip(part.as_slice()) {
+        *place = *byte;
+    }
+    Some(())
+}
+
+/// The bytes of a file.
+pub fn read_file(alloc: Global, text: &str) -> Option<Vec<u8>> {
+    let (length, segments) = text.split_once(' ').unwrap_or((text, ""));
+    let length = length.parse::<usize>().ok()?;
+    let mut bytes = vec![in alloc; 0u8; length].ok()?;
+    for segment in segments.split_ascii_whitespace() {
+        put_segment(alloc, bytes.as_mut_slice(), segment)?;
+    }
+    Some(bytes)
+}
+
+// Equal bytes, one behind another.
+#[derive(Clone, Copy)]
+struct Run {
+    start: usize,
+    byte: u8,
+    count: usize,
+}
+
+// Equal bytes of a file, from the first on.
+fn runs_of(alloc: Global, bytes: &[u8]) -> Result<Vec<Run>, AllocError> {
+    let mut runs = Vec::new(alloc);
+    let mut last: Option<Run> = None;
+    for (start, byte) in bytes.iter().enumerate() {
+        match &mut last {
+            Some(run) if run.byte == *byte => run.count = run.count.saturating_add(1),
+            _ => {
+                if let Some(run) = last {
+                    runs.push(run)?;
+                }
+                last = Some(Run {
+                    start,
+                    byte: *byte,
+                    count: 1,
+                });
+            }
+        }
+    }
+    if let Some(run) = last {
+        runs.push(run)?;
+    }
+    Ok(runs)
+}
+
+// Writes equal bytes, and tells whether the next ones go on behind them in the same segment.
+fn show_run(out: &mut String, run: Run, goes_on: bool) -> Result<bool, AllocError> {
+    let Run { start, byte, count } = run;
+    if count >= LONG_RUN {
+        if byte != 0 {
+            write!(out, " {start}:{byte:02x}*{count}")?;
+        }
+        return Ok(false);
+    }
+    if !goes_on {
+        write!(out, " {start}:")?;
+    }
+    for _ in 0..count {
+        write!(out, "{byte:02x}")?;
+    }
+    Ok(true)
+}
+
+/// Writes the bytes of a file: all but eight zeros or more, and eight equal bytes or more in a segment of their own.
+pub fn show_file(alloc: Global, out: &mut String, bytes: &[u8]) -> Result<(), AllocError> {
+    write!(out, "{}", bytes.len())?;
+    let mut goes_on = false;
+    for run in runs_of(alloc, bytes)?.iter() {
+        goes_on = show_run(out, *run, goes_on)?;
+    }
+    Ok(())
+}

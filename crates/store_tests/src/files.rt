@@ -1,12 +1,11 @@
-//! The files of databases, worked out by hand from the hashes of the keys.
+//! Databases whose files were worked out by hand from the hashes of the keys, and what is written of them. `desk_tests` has the
+//! files of what is stored.
 use crate::page_bytes::begins_and_ends;
-use sdbm_addr::{Bytes, KeyBytes, Mode, PageSize};
-use sdbm_files::{Image, MemSink, widen};
+use sdbm_addr::{KeyBytes, PageSize};
+use sdbm_files::{Image, MemSink, OpenFault, widen};
 use std::alloc::{AllocError, Allocator, Global};
 use std::process::Abort;
 use std::test::Fail;
-use store_cmd::{Command, Reply};
-use test_asks::{Ask, Told, answer, open};
 
 /// Both files of a database.
 #[derive(Drop)]
@@ -30,19 +29,77 @@ pub fn same_files(a: &Files, b: &Files) -> bool {
     a.dir.bytes() == b.dir.bytes() && a.pag.bytes() == b.pag.bytes()
 }
 
-/// A database of keys with 600 zeros each.
-pub fn database(
-    rt: &(impl Abort + AllocGlobal),
-    size: PageSize,
-    keys: &[&'static [u8]],
-) -> Result<Image<Global>, AllocError> {
-    let mut desk = open(rt.alloc(), size, keys.len())?;
-    for key in keys {
-        let told = answer(rt.alloc(), &mut desk, Ask::Insert(*key, 0, 600))?;
-        assert_eq!(rt; told, Told::Stored, "{key:?}");
+/// Both files of a database as bytes.
+#[derive(Drop)]
+pub struct Known {
+    pub dir: Vec<u8>,
+    pub pag: Vec<u8>,
+}
+
+fn put(bytes: &mut [u8], at: usize, part: &[u8]) {
+    for (i, byte) in part.iter().enumerate() {
+        if let Some(place) = bytes.get_mut(at.saturating_add(i)) {
+            *place = *byte;
+        }
     }
-    let (image, _trail) = desk.into_parts();
-    Ok(image)
+}
+
+/// So many bytes, zeros but for parts at their offsets.
+pub fn bytes_of(
+    alloc: Global,
+    length: usize,
+    parts: &[(usize, &[u8])],
+) -> Result<Vec<u8>, AllocError> {
+    let mut bytes = vec![in alloc; 0u8; length]?;
+    for (at, part) in parts {
+        put(bytes.as_mut_slice(), *at, part);
+    }
+    Ok(bytes)
+}
+
+/// The files of `a` and `b`, which one split parts, with 600 zeros each.
+pub fn one_split(alloc: Global) -> Result<Known, AllocError> {
+    let head: &[u8] = &[2, 0, 0xff, 3, 0xa7, 1];
+    let parts = [
+        (0, head),
+        (1023, b"b".as_slice()),
+        (1024, head),
+        (2047, b"a".as_slice()),
+    ];
+    Ok(Known {
+        dir: bytes_of(alloc, 4096, &[(0, &[1])])?,
+        pag: bytes_of(alloc, 2048, &parts)?,
+    })
+}
+
+/// The files of `0000` and `0808`, which ten splits part, with 600 zeros each. The bits are 0, 1, 3, 7, 15, 31, 63, 127, 255
+/// and 511.
+pub fn ten_splits(alloc: Global) -> Result<Known, AllocError> {
+    let head: &[u8] = &[2, 0, 0xfe, 3, 0xa6, 1];
+    let bits: [(usize, &[u8]); 6] = [
+        (0, &[0x8b, 0x80]),
+        (3, &[0x80]),
+        (7, &[0x80]),
+        (15, &[0x80]),
+        (31, &[0x80]),
+        (63, &[0x80]),
+    ];
+    let parts = [
+        (0, head),
+        (524_288, head),
+        (525_310, b"\x08\x08".as_slice()),
+    ];
+    Ok(Known {
+        dir: bytes_of(alloc, 4096, &bits)?,
+        pag: bytes_of(alloc, 525_312, &parts)?,
+    })
+}
+
+/// The database of files.
+pub fn open_known<A: Allocator + Copy>(alloc: A, files: &Known) -> Result<Image<A>, OpenFault> {
+    let dir = files.dir.as_slice();
+    let pag = files.pag.as_slice();
+    Image::open(alloc, dir, pag, KeyBytes::Signed, PageSize::Small)
 }
 
 // The bytes from a place on, none where there are fewer.
@@ -53,92 +110,19 @@ fn part(bytes: &[u8], start: usize, count: usize) -> &[u8] {
     &bytes[start..start + count]
 }
 
-// Whether there are so many bytes, all zeros.
-fn are_zeros(bytes: &[u8], count: usize) -> bool {
-    bytes.len() == count && bytes.iter().all(|byte| *byte == 0)
-}
-
-// Whether a directory is one block that begins as told.
-fn is_block(dir: &[u8], head: &[u8]) -> bool {
-    dir.len() == 4096 && begins_and_ends(dir, head, b"")
-}
-
 #[test]
-fn no_pairs(rt: HostRuntime) {
-    let image = Image::empty(rt.alloc(), KeyBytes::Signed, PageSize::Small);
-    let files = files_of(&rt, &image);
-    assert!(rt; files.dir.bytes().is_empty() && files.pag.bytes().is_empty());
-}
-
-#[test]
-fn one_pair(rt: HostRuntime) -> Result<(), Fail> {
-    let mut desk = open(rt.alloc(), PageSize::Small, 1)?;
-    let command = Command::Store {
-        key: Bytes::from_slice(rt.alloc(), b"ab")?,
-        value: Bytes::from_slice(rt.alloc(), b"xyz")?,
-        mode: Mode::Insert,
-    };
-    assert!(rt; matches!(desk.step(7, command), Ok(Reply::Stored)));
-    let (image, _trail) = desk.into_parts();
-    let files = files_of(&rt, &image);
-    assert!(rt; files.dir.bytes().is_empty());
-    let pag = files.pag.bytes();
-    assert_eq!(rt; (pag.len(), image.pag_len()), (1024, 1024));
-    assert!(rt; begins_and_ends(pag, &[2, 0, 0xfe, 3, 0xfb, 3], b"xyzab"));
-    Ok(())
-}
-
-#[test]
-fn one_bit(rt: HostRuntime) -> Result<(), Fail> {
-    let image = database(&rt, PageSize::Small, &[b"a", b"b"])?;
-    let files = files_of(&rt, &image);
-    assert!(rt; is_block(files.dir.bytes(), &[1]));
-    let pag = files.pag.bytes();
-    assert_eq!(rt; pag.len(), 2048);
-    let head = [2, 0, 0xff, 3, 0xa7, 1];
-    assert!(rt; begins_and_ends(part(pag, 0, 1024), &head, b"b"));
-    assert!(rt; begins_and_ends(part(pag, 1024, 1024), &head, b"a"));
-    Ok(())
-}
-
-#[test]
-fn two_bits(rt: HostRuntime) -> Result<(), Fail> {
-    let image = database(&rt, PageSize::Small, &[b"a", b"c"])?;
-    let files = files_of(&rt, &image);
-    assert!(rt; is_block(files.dir.bytes(), &[5]));
-    let pag = files.pag.bytes();
-    assert_eq!(rt; pag.len(), 4096);
-    let head = [2, 0, 0xff, 3, 0xa7, 1];
-    assert!(rt; are_zeros(part(pag, 0, 1024), 1024));
-    assert!(rt; begins_and_ends(part(pag, 1024, 1024), &head, b"a"));
-    assert!(rt; are_zeros(part(pag, 2048, 1024), 1024));
-    assert!(rt; begins_and_ends(part(pag, 3072, 1024), &head, b"c"));
-    Ok(())
-}
-
-// The bits 0, 1, 3, 7, 15, 31, 63, 127, 255 and 511.
-#[test]
-fn ten_bits(rt: HostRuntime) -> Result<(), Fail> {
-    let image = database(&rt, PageSize::Small, &[b"\x00\x00", b"\x08\x08"])?;
-    let files = files_of(&rt, &image);
-    let mut bits = [0u8; 64];
-    bits[0] = 0x8b;
-    for byte in [1, 3, 7, 15, 31, 63] {
-        bits[byte] = 0x80;
+fn what_was_read_is_written(rt: HostRuntime) -> Result<(), Fail> {
+    for known in [one_split(rt.alloc())?, ten_splits(rt.alloc())?] {
+        let files = files_of(&rt, &open_known(rt.alloc(), &known)?);
+        assert!(rt; files.dir.bytes() == known.dir.as_slice());
+        assert!(rt; files.pag.bytes() == known.pag.as_slice());
     }
-    assert!(rt; is_block(files.dir.bytes(), &bits));
-    let pag = files.pag.bytes();
-    assert_eq!(rt; pag.len(), 525_312);
-    let head = [2, 0, 0xfe, 3, 0xa6, 1];
-    assert!(rt; begins_and_ends(part(pag, 0, 1024), &head, b"\x00\x00"));
-    assert!(rt; are_zeros(part(pag, 1024, 511 * 1024), 511 * 1024));
-    assert!(rt; begins_and_ends(part(pag, 512 * 1024, 1024), &head, b"\x08\x08"));
     Ok(())
 }
 
 #[test]
 fn widened(rt: HostRuntime) -> Result<(), Fail> {
-    let image = database(&rt, PageSize::Small, &[b"a", b"b"])?;
+    let image = open_known(rt.alloc(), &one_split(rt.alloc())?)?;
     let small = files_of(&rt, &image);
     let wide = widen(image).map_err(|refused| refused.0)?;
     assert_eq!(rt; wide.page_size(), PageSize::Wide);

@@ -1,32 +1,20 @@
 //! Memory that runs out while files are read, written and widened.
-use crate::files::{Files, database, files_of, same_files};
+use crate::files::{files_of, one_split, open_known, same_files};
 use linked_list_allocator::LocalHeap;
 use sdbm_addr::{KeyBytes, PageSize};
 use sdbm_files::{Image, MemSink, OpenFault, Sink, SinkFault, WriteFault, widen};
 use std::process::Abort;
 use std::test::Fail;
-use test_asks::fill;
-
-// The database of files in a heap.
-fn open_in<'a>(heap: &'a LocalHeap, files: &Files) -> Result<Image<&'a LocalHeap>, OpenFault> {
-    let dir = files.dir.bytes();
-    let pag = files.pag.bytes();
-    Image::open(heap, dir, pag, KeyBytes::Signed, PageSize::Small)
-}
-
-// The files of a database of two pages.
-fn two_pages(rt: &(impl Abort + AllocGlobal)) -> Result<Files, Fail> {
-    let image = database(rt, PageSize::Small, &[b"a", b"b"])?;
-    Ok(files_of(rt, &image))
-}
+use test_lines::fill;
 
 // Smaller heaps have to refuse the database, and to be empty again afterwards.
 #[test]
 fn opened_in_each_heap(rt: HostRuntime) -> Result<(), Fail> {
-    let files = two_pages(&rt)?;
+    let known = one_split(rt.alloc())?;
+    let files = files_of(&rt, &open_known(rt.alloc(), &known)?);
     for blocks in 8..800 {
         let heap = LocalHeap::new(rt.alloc(), 16 * blocks)?;
-        match open_in(&heap, &files) {
+        match open_known(&heap, &known) {
             Ok(image) => {
                 assert!(rt; same_files(&files_of(&rt, &image), &files));
                 assert!(rt; blocks > 300, "{blocks}");
@@ -67,8 +55,8 @@ fn holes_in_a_small_heap(rt: HostRuntime) -> Result<(), Fail> {
 // Sinks in a heap too small have whole puts from the first on, and tell that one is missing.
 #[test]
 fn written_in_each_heap(rt: HostRuntime) -> Result<(), Fail> {
-    let files = two_pages(&rt)?;
-    let image = database(&rt, PageSize::Small, &[b"a", b"b"])?;
+    let image = open_known(rt.alloc(), &one_split(rt.alloc())?)?;
+    let files = files_of(&rt, &image);
     for blocks in 8..800 {
         let heap = LocalHeap::new(rt.alloc(), 16 * blocks)?;
         let mut dir = MemSink::new(&heap);
@@ -110,8 +98,8 @@ fn widen_with_more<'a>(
 ) -> Result<(Image<&'a LocalHeap>, usize), Fail> {
     let files = files_of(rt, &image);
     let mut image = image;
-    for refusals in 0..400 {
-        let blocks = fill(rt.alloc(), heap, refusals)?;
+    for refusals in 0..2000 {
+        let blocks = fill(rt.alloc(), heap, 16 * refusals)?;
         match widen(image) {
             Ok(wide) => return Ok((wide, refusals)),
             Err((_error, refused)) => {
@@ -127,9 +115,8 @@ fn widen_with_more<'a>(
 
 #[test]
 fn widened_with_more(rt: HostRuntime) -> Result<(), Fail> {
-    let files = two_pages(&rt)?;
     let heap = LocalHeap::new(rt.alloc(), 65536)?;
-    let image = open_in(&heap, &files)?;
+    let image = open_known(&heap, &one_split(rt.alloc())?)?;
     let (wide, refusals) = widen_with_more(&rt, &heap, image)?;
     assert!(rt; refusals > 3, "{refusals}");
     assert_eq!(rt; (wide.page_size(), wide.count()), (PageSize::Wide, 2));

@@ -6,6 +6,7 @@ use sdbm_addr::PageSize;
 use sdbm_page::{Page, PageFault};
 use std::alloc::{AllocError, Allocator, Global};
 use std::test::Fail;
+use test_lines::fill;
 
 /// Whether bytes begin and end as told, with zeros between.
 pub fn begins_and_ends(bytes: &[u8], head: &[u8], tail: &[u8]) -> bool {
@@ -74,25 +75,11 @@ fn largest_pairs(rt: HostRuntime) -> Result<(), Fail> {
     Ok(())
 }
 
-// Takes all memory of a heap.
-fn fill<'a>(alloc: Global, heap: &'a LocalHeap) -> Result<Vec<Vec<u8, &'a LocalHeap>>, AllocError> {
-    let mut blocks = Vec::new(alloc);
-    for size in [4096, 512, 64, 16] {
-        for _ in 0..100 {
-            let Ok(block) = Vec::with_capacity(heap, size) else {
-                break;
-            };
-            blocks.push(block)?;
-        }
-    }
-    Ok(blocks)
-}
-
 #[test]
 fn no_memory_is_taken(rt: HostRuntime) -> Result<(), Fail> {
     let heap = LocalHeap::new(rt.alloc(), 16384)?;
     let mut page = Page::empty(&heap, PageSize::Small)?;
-    let blocks = fill(rt.alloc(), &heap)?;
+    let blocks = fill(rt.alloc(), &heap, 0)?;
     assert!(rt; page.try_clone().is_err());
     assert!(rt; Page::empty(&heap, PageSize::Small).is_err());
     assert!(rt; steps_by_hand(&mut page)?);

@@ -1,6 +1,5 @@
 //! Sinks that stop, after many numbers of bytes.
-use crate::files::{Files, database, files_of};
-use sdbm_addr::PageSize;
+use crate::files::{Files, files_of, one_split, open_known};
 use sdbm_files::{Image, Sink, SinkFault, WriteFault};
 use std::alloc::Global;
 use std::process::Abort;
@@ -90,7 +89,7 @@ fn write_short(
 
 #[test]
 fn sinks_that_stop(rt: HostRuntime) -> Result<(), Fail> {
-    let image = database(&rt, PageSize::Small, &[b"a", b"b"])?;
+    let image = open_known(rt.alloc(), &one_split(rt.alloc())?)?;
     let files = files_of(&rt, &image);
     for stop in [Stop::Fails, Stop::TakesNone] {
         for step in 0..24 {

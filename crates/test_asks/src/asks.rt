@@ -1,5 +1,4 @@
 //! Commands and what is answered to them, as the tables of the tests write them: they own no memory.
-use crate::same::same_command;
 use desk_core::{AskFault, Desk};
 use sdbm_addr::{Bytes, KeyBytes, Mode, PageSize};
 use sdbm_files::Image;
@@ -48,8 +47,8 @@ impl Ask {
     }
 }
 
-/// A store of a byte, so many times.
-pub fn store<A: Allocator + Copy>(
+// A store of a byte, so many times.
+fn store<A: Allocator + Copy>(
     alloc: A,
     key: &[u8],
     byte: u8,
@@ -98,7 +97,7 @@ pub fn answer<A: Allocator + Copy>(
     match desk.step(7, asked.try_clone(alloc)?) {
         Ok(reply) => Ok(said_by(&reply)),
         Err((fault, refused)) => {
-            if same_command(&refused, &asked) {
+            if refused == asked {
                 Ok(Told::Refused(fault))
             } else {
                 Ok(Told::Wrong)

@@ -1,5 +1,6 @@
 mod AnswerFacts
 mod Running
+pub mod OneEnd
 mod ArithmeticExamples
 mod Examples
 mod HelperExamples

@@ -2,9 +2,16 @@
 //! does to the directory, and which histories are legal.
 #![tactic(auto)]
 
-ghost use Rattle.std.specs.Prelude.{◌≡◌, ◌↔◌, IfOk, IfErr, IsOk};
-ghost use Rattle.store_cmd.specs.Command.{IsSmall};
+ghost use Rattle.std.specs.Prelude.{◌≡◌, ◌↔◌, ◌≤◌, ◌+◌, IsTrue, IfOk, IfErr, IsOk};
+ghost use Rattle.std.specs.Prelude.{length};
+ghost use Rattle.sdbm_addr.specs.Pairs.{pair_limit};
+ghost use Rattle.bpf_helpers.specs.Runs.{argument_limit};
+ghost use Rattle.store_cmd.specs.declared.SizeFault.TheVariants as SizeFault;
+ghost use Rattle.store_cmd.specs.Command.{IsSmall, IsSizeFault, FitsBlank, IsRunFault};
 
+mod program;
+
+pub use program::Program;
 use sdbm_addr::{Bytes, Mode, PageSize, clone_pairs};
 use std::alloc::{AllocError, Allocator};
 
@@ -26,9 +33,21 @@ pub enum Command<A: Allocator> {
     Delete {
         key: Bytes<A>,
     },
+    /// That a program be run on a key's record in place, or on a blank of so many zeros where the key isn't there.
+    Run {
+        key: Bytes<A>,
+        prog: Program<A>,
+        arg: Bytes<A>,
+        blank: Option<usize>,
+        /// The time that the program is told.
+        now: u64,
+    },
     /// The number of pairs.
     Count,
 }
+
+/// The most bytes of the argument of a run.
+pub const ARGUMENT_LIMIT: usize = 1024;
 
 /// What the store answers.
 #[derive(Drop)]
@@ -36,16 +55,21 @@ pub enum Command<A: Allocator> {
 pub enum Reply<A: Allocator> {
     /// To a fetch: the key's value.
     Found(Bytes<A>),
-    /// To a fetch or a delete: the key isn't there.
+    /// To a fetch, a delete or a run without a blank: the key isn't there.
     Missing,
     /// To a store: the key has the value now.
     Stored,
     /// To a store that inserts: the key was there.
     Exists,
-    /// To a store: there is no room, and all is as it was.
+    /// To a store, or a run whose blank is to be stored: there is no room, and all is as it was.
     Crowded,
     /// To a delete: the key was there and is gone.
     Deleted,
+    /// To a run: the number with which the program ended, and the reply word that it set.
+    Ran {
+        code: u64,
+        word: u64,
+    },
     /// To a count: the number of pairs.
     Count(usize),
 }
@@ -53,8 +77,10 @@ pub enum Reply<A: Allocator> {
 /// Why a command is refused for its size.
 #[derive(Clone, Copy, Debug, PartialEq, Eq)]
 pub enum SizeFault {
-    /// The key and the value to be stored have more bytes together than a pair may have.
+    /// The key and the value to be stored, or the blank, have more bytes together than a pair may have.
     PairTooLarge,
+    /// The argument of a run has more bytes than one may have.
+    ArgTooLong,
 }
 
 /// Why a call of a session is refused.
@@ -88,23 +114,55 @@ pub struct Trail<A: Allocator> {
     pub entries: Vec<Entry<A>, A>,
 }
 
-/// Tests a command's size, for a database of pages of this size.
+/// Tests a command's size, for a database of pages of this size: `PairTooLarge` where the key has more bytes together with the
+/// value to be stored, or with the blank of a run, than a pair may have, and then `ArgTooLong` where the argument of a run has
+/// more than 1,024. No memory is taken.
 pub fn check<A: Allocator>(command: &Command<A>, size: PageSize) -> Result<(), SizeFault>
-    ensures { IsOk result ↔ IsSmall size command.now }
+    ensures ok { IsOk result ↔ IsSmall size command.now }
+    ensures err { IfErr result (IsSizeFault size command.now) }
 {
     match command {
         Command::Fetch { .. } => Ok(()),
         Command::Store { key, value, .. } => {
-            let key_len = key.as_slice().len();
-            let limit = size.pair_limit();
-            if key_len > limit || value.as_slice().len() > limit - key_len {
-                return Err(SizeFault::PairTooLarge);
-            }
-            Ok(())
+            check_pair(key.as_slice(), value.as_slice().len(), size)
         }
         Command::Delete { .. } => Ok(()),
+        Command::Run {
+            key, arg, blank, ..
+        } => check_run(key.as_slice(), arg.as_slice(), *blank, size),
         Command::Count => Ok(()),
     }
+}
+
+// Tests the size of a pair, the value by its length.
+fn check_pair(key: &[u8], value_len: usize, size: PageSize) -> Result<(), SizeFault>
+    ensures ok { IsOk result ↔ (length key.now + value_len ≤ pair_limit size) }
+    ensures err { IfErr result (λ fault. fault ≡ SizeFault.PairTooLarge) }
+{
+    let limit = size.pair_limit();
+    if key.len() > limit || value_len > limit - key.len() {
+        return Err(SizeFault::PairTooLarge);
+    }
+    Ok(())
+}
+
+// Tests the sizes of a run.
+fn check_run(
+    key: &[u8],
+    arg: &[u8],
+    blank: Option<usize>,
+    size: PageSize,
+) -> Result<(), SizeFault>
+    ensures ok { IsOk result ↔ (FitsBlank size key.now blank × (length arg.now ≤ argument_limit)) }
+    ensures err { IfErr result (IsRunFault size key.now arg.now blank) }
+{
+    if let Some(len) = blank {
+        check_pair(key, len, size)?;
+    }
+    if arg.len() > ARGUMENT_LIMIT {
+        return Err(SizeFault::ArgTooLong);
+    }
+    Ok(())
 }
 
 impl<A: Allocator + Copy> Command<A> {
@@ -124,6 +182,19 @@ impl<A: Allocator + Copy> Command<A> {
             Command::Delete { key } => Ok(Command::Delete {
                 key: key.try_clone(alloc)?,
             }),
+            Command::Run {
+                key,
+                prog,
+                arg,
+                blank,
+                now,
+            } => Ok(Command::Run {
+                key: key.try_clone(alloc)?,
+                prog: prog.try_clone()?,
+                arg: arg.try_clone(alloc)?,
+                blank: *blank,
+                now: *now,
+            }),
             Command::Count => Ok(Command::Count),
         }
     }
@@ -141,6 +212,10 @@ impl<A: Allocator + Copy> Reply<A> {
             Reply::Exists => Ok(Reply::Exists),
             Reply::Crowded => Ok(Reply::Crowded),
             Reply::Deleted => Ok(Reply::Deleted),
+            Reply::Ran { code, word } => Ok(Reply::Ran {
+                code: *code,
+                word: *word,
+            }),
             Reply::Count(count) => Ok(Reply::Count(*count)),
         }
     }

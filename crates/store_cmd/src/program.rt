@@ -1,0 +1,69 @@
+//! Programs that commands hand over.
+ghost use Rattle.std.specs.Prelude.{◌≡◌, IfOk};
+ghost use Rattle.std.specs.Arc.{arc_value};
+ghost use Rattle.bpf_helpers.specs.Runs.{Safe};
+
+use bpf_verify::Verified;
+use std::alloc::{AllocError, Allocator};
+use std::marker::Model;
+use std::sync::Arc;
+
+/// An accepted program that commands share, seen as the list of its instructions. It is only read, and goes with its last owner.
+#[derive(Drop)]
+pub struct Program<A: Allocator> {
+    owned: Arc<Verified<A>, A>,
+}
+
+impl<A: Allocator> Model for Program<A> {
+    ghost use Rattle.std.specs.Prelude.{List};
+    ghost use Rattle.std.specs.Arc.{arc_value};
+    ghost use Rattle.bpf_insn.specs.declared.insn.Insn.{Insn};
+
+    ghost Value = { List Insn };
+
+    ghost view = { λ a. (arc_value a.owned).code };
+}
+
+impl<A: Allocator> Program<A> {
+    /// The program that an owner has. It takes no memory.
+    pub fn new(owned: Arc<Verified<A>, A>) -> Self
+        ensures { result ≡ (arc_value owned).code }
+    {
+        Program { owned }
+    }
+
+    /// The program, to be run.
+    pub fn verified(&self) -> &Verified<A>
+        ensures { result.now.code ≡ self.now }
+    {
+        &*self.owned
+    }
+
+    /// One owner more, or the error where there are as many as can be counted. It takes no memory.
+    pub fn try_clone(&self) -> Result<Self, AllocError>
+        ensures { IfOk result (λ copy. copy ≡ self.now) }
+    {
+        let owned = Arc::try_clone(&self.owned)?;
+        Ok(Program { owned })
+    }
+}
+
+impl<A: Allocator> PartialEq for Program<A> {
+    ghost use Rattle.std.specs.Prelude.{◌≡◌, ◌↔◌, IsTrue};
+    ghost use Rattle.std.specs.Str.{bytes_eq};
+    ghost use Rattle.std.specs.Cmp.{on_per, partial_equiv_from_equiv};
+    ghost use Rattle.std.specs.Cmp.Lexicographic.{nat_list_eq_equiv};
+    ghost use Rattle.bpf_insn.specs.Code.{image_of};
+
+    ghost eq = { λ c d. bytes_eq (image_of c) (image_of d) };
+
+    ghost laws = { on_per image_of (partial_equiv_from_equiv nat_list_eq_equiv) };
+
+    /// Whether the programs have the same instructions. No memory is taken.
+    fn eq(&self, other: &Self) -> bool
+        ensures exact { IsTrue result ↔ (self.now ≡ other.now) }
+        ensures value { result ≡ bytes_eq (image_of self.now) (image_of other.now) }
+    {
+        *self.owned == *other.owned
+    }
+}

@@ -1,6 +1,7 @@
 mod AnswerFacts
 mod Running
 pub mod OneEnd
+pub mod Lengths
 mod ArithmeticExamples
 mod Examples
 mod HelperExamples

@@ -8,13 +8,13 @@ use Rattle.sdbm_addr.proofs.DirectoryLemmas.{IsDepth-unique}
 use Rattle.sdbm_dir.specs.declared.Place.{Place}
 use Rattle.sdbm_split.specs.Planned.{PageChange}
 use Rattle.store_cmd.specs.declared.Command.{Command}
-use Rattle.store_cmd.specs.declared.Command.TheVariants.{Fetch, Store, Delete, Count}
+use Rattle.store_cmd.specs.declared.Command.TheVariants.{Fetch, Store, Delete, Run, Count}
 use Rattle.store_cmd.specs.declared.Entry.{Entry}
 use Rattle.store_cmd.specs.declared.Reply.{Reply}
 use Rattle.store_cmd.specs.declared.Reply.TheVariants as reply
 use Rattle.store_cmd.specs.Command.{IsSmall}
 use Rattle.store_cmd.specs.Moves.{Moves}
-use Rattle.desk_core.specs.Works.{PageResult, works, key_of, HasKey}
+use Rattle.desk_core.specs.Works.{PageResult, works, key_of, HasKey, HasEnd}
 use Rattle.desk_core.specs.Leads.{IsPlaceOf, LeadsTo, changed_by, state_of}
 use Rattle.desk_core.specs.Acts.{Acts, IsExactFor, IsOnPage}
 use Rattle.desk_core.proofs.Lifting.{works_lead}
@@ -23,14 +23,16 @@ keyed_exact : {A : Type 0} (db : Database) (command : Command A) (e : Entry A) (
 keyed_exact db (Fetch key) e db' keyed on = on
 keyed_exact db (Store key value mode) e db' keyed on = on
 keyed_exact db (Delete key) e db' keyed on = on
+keyed_exact db (Run key program argument blank now) e db' keyed on = on
 keyed_exact db Count e db' keyed on = absurd keyed
 
 -- a command that was worked on the page of its place, and put in
 pub Acts-on_page : {A : Type 0} (db db' : Database) → IsDatabase db → (place : Place) (session : ℕ) (command : Command A) (answer : Reply A) → HasKey command → IsSmall db.size command → IsPlaceOf db (key_of command) place
+    → HasEnd (pairs_at db place.page) session command
     → answer ≡ (works place db.kind db.size (pairs_at db place.page) session command).reply
     → db' ≡ changed_by db place.page (works place db.kind db.size (pairs_at db place.page) session command).change
     → Acts db (record { session = session; command = command; reply = answer }) db'
-Acts-on_page {A} db db' ok place session command answer keyed small leads is installed =
+Acts-on_page {A} db db' ok place session command answer keyed small leads ends is installed =
     let result : PageResult A = works place db.kind db.size (pairs_at db place.page) session command in
     let lead : LeadsTo db session command place.page result = works_lead db ok place session command keyed small leads in
     let entry : Reply A → Entry A = λ r. record { session = session; command = command; reply = r } in
@@ -38,7 +40,7 @@ Acts-on_page {A} db db' ok place session command answer keyed small leads is ins
       small = small;
       exact = keyed_exact db command (entry answer) db' keyed (record { place = place; leads = leads; answer_is = is; database = installed });
       move = subst (λ (d : Database). Moves (state_of db) (entry answer) (state_of d)) (sym installed)
-          (subst (λ (r : Reply A). Moves (state_of db) (entry r) (state_of (changed_by db place.page result.change))) (sym is) lead.move);
+          (subst (λ (r : Reply A). Moves (state_of db) (entry r) (state_of (changed_by db place.page result.change))) (sym is) (lead.move ends));
     }
 
 -- a count
@@ -82,6 +84,7 @@ exact_once : {A : Type 0} (command : Command A) (db : Database) (e f : Entry A) 
 exact_once (Fetch key) db e f a b sessions commands x y = IsOnPage-unique db e f a b sessions commands x y
 exact_once (Store key value mode) db e f a b sessions commands x y = IsOnPage-unique db e f a b sessions commands x y
 exact_once (Delete key) db e f a b sessions commands x y = IsOnPage-unique db e f a b sessions commands x y
+exact_once (Run key program argument blank now) db e f a b sessions commands x y = IsOnPage-unique db e f a b sessions commands x y
 exact_once Count db e f a b sessions commands x y = (x.0 ∙ sym y.0, x.1 ∙ sym y.1)
 
 pub Acts-unique : {A : Type 0} (db : Database) (e f : Entry A) (a b : Database) → e.session ≡ f.session → e.command ≡ f.command → Acts db e a → Acts db f b → (e.reply ≡ f.reply) × (a ≡ b)

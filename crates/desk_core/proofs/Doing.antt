@@ -1,9 +1,9 @@
 -- What a call has done, from what was done to the parts of a desk.
-use Rattle.std.proofs.Common.{◌≡◌, ◌+◌, ℕ, Bool, true, false, cond, ◌&&◌, List, [], ◌∷◌, ◌++◌, refl, sym, ap, subst, ◌∙◌, Option, Some, None, is_some, inr}
+use Rattle.std.proofs.Common.{◌≡◌, ◌+◌, ℕ, Bool, true, false, cond, ◌&&◌, List, [], ◌∷◌, ◌++◌, refl, sym, ap, subst, ◌∙◌, Option, Some, None, is_some, inl, inr, ◌⊎◌}
 use Rattle.std.specs.Prelude.{IsSome, slice_index_or, count_by}
 use Rattle.slab.specs.Slab.{Slab, Updates}
 use Rattle.std.specs.List.{list_any}
-use Rattle.sdbm_addr.specs.Database.{Database}
+use Rattle.sdbm_addr.specs.Database.{Database, pairs_at}
 use Rattle.hold_modes.specs.declared.modes.Hold.{Hold}
 use Rattle.hold_modes.specs.declared.modes.Hold.TheVariants.{Exclusive}
 use Rattle.hold_modes.specs.declared.modes.Held.{Held}
@@ -14,11 +14,12 @@ use Rattle.store_cmd.specs.declared.Entry.{Entry}
 use Rattle.store_cmd.specs.declared.Reply.{Reply}
 use Rattle.desk_core.specs.declared.job.Open.{Open}
 use Rattle.desk_core.specs.declared.AskFault.TheVariants.{Busy, NoMemory}
-use Rattle.desk_core.specs.Works.{PageResult, key_of, HasKey}
+use Rattle.desk_core.specs.Works.{PageResult, key_of, HasKey, HasEnd}
+use Rattle.desk_core.specs.Worked.{is_change}
 use Rattle.desk_core.specs.Jobs.{Ticketed, worked}
-use Rattle.desk_core.specs.Leads.{IsPlaceOf, LeadsTo, MayChange, changed_by, does_change}
+use Rattle.desk_core.specs.Leads.{IsPlaceOf, LeadsTo, MayChange, changed_by, does_change, is_there}
 use Rattle.desk_core.specs.Desk.{DeskState, IsSound, IsTied, Ties, first_hold, the_ticket, ticket_of, open_count}
-use Rattle.desk_core.specs.Calls.{MayAsk, IsAsked, Opens, Changes, MayFinish, Finishes, Abandons, Steps, IsStepFault, WouldChange, works_there, is_held, is_barred_in, page_led}
+use Rattle.desk_core.specs.Calls.{MayAsk, IsAsked, Opens, Changes, MayFinish, Finishes, Abandons, Steps, IsStepFault, WouldChange, IsRun, works_there, is_held, is_barred_in, page_led}
 use Rattle.desk_core.proofs.Acting.{Acts-on_page, IsPlaceOf-unique}
 use Rattle.desk_core.proofs.Lifting.{works_lead}
 use Rattle.desk_core.proofs.Ties.{led_there, tied_leads, tied_acts, unchanged_by}
@@ -38,15 +39,15 @@ module _ {A : Type 0} (s : DeskState A) (d : Ticketed A) (sound : IsSound s) (ma
   may_finish_in = (tied_leads s.database sound.database s.holds d.ticket d.asked tie).may
 
   -- it was put in, its entry added, and the ticket closed
-  pub finished : (reply copy : Reply A) (db : Database) (entries : List (Entry A)) (tickets : List (Option (Open A))) (next : ℕ) (holds : List Held) → reply ≡ (worked d.asked).reply → copy ≡ (worked d.asked).reply
+  pub finished : HasEnd d.asked.page.pairs d.asked.session d.asked.command → (reply copy : Reply A) (db : Database) (entries : List (Entry A)) (tickets : List (Option (Open A))) (next : ℕ) (holds : List Held) → reply ≡ (worked d.asked).reply → copy ≡ (worked d.asked).reply
       → db ≡ changed_by s.database d.asked.place.page (worked d.asked).change → entries ≡ s.entries ++ record { session = d.asked.session; command = d.asked.command; reply = copy } ∷ []
       → Changes s.tickets tickets d.ticket None → next ≡ d.ticket → count_by is_some tickets + 1 ≡ open_count s → holds ≡ without (the_ticket d.ticket) s.holds
       → Finishes s d reply (record s { database = db; entries = entries; tickets = tickets; next = next; holds = holds })
-  finished reply copy db entries tickets next holds reply_is copy_is installed more changes is_next counted released = record {
+  finished ends reply copy db entries tickets next holds reply_is copy_is installed more changes is_next counted released = record {
     may = may;
     reply_is = reply_is;
     database = installed;
-    acts = tied_acts s.database db sound.database s.holds d.ticket d.asked tie reply reply_is installed;
+    acts = tied_acts s.database db sound.database s.holds d.ticket d.asked tie ends reply reply_is installed;
     entries = more ∙ ap (λ (r : Reply A). s.entries ++ record { session = d.asked.session; command = d.asked.command; reply = r } ∷ []) (copy_is ∙ sym reply_is);
     closes = record { tickets = changes; next = is_next; holds = released; opening = refl; limit_is = refl; count = counted };
   }
@@ -84,7 +85,7 @@ module _ {A : Type 0} (s : DeskState A) (session : ℕ) (command : Command A) (p
   step_refused changes is true e =
       let both = both_so changes taken e in
       inr (may, (held_so ∙ both.1, record { place = place; leads = leads; change = sym is ∙ both.0 }))
-  step_refused changes is false e = (may, λ held would. no_change would (sym held_so ∙ held))
+  step_refused changes is false e = (may, inr (λ held would. no_change would (sym held_so ∙ held)))
     where
       no_change : WouldChange s session command → taken ≡ true → ⊥
       no_change would there =
@@ -93,17 +94,23 @@ module _ {A : Type 0} (s : DeskState A) (session : ℕ) (command : Command A) (p
           let clash : true ≡ false = sym there ∙ not_both changes taken e so in
           cc
 
+  -- why it is refused where memory is wanted to work it
+  pub memory_refused : (IsRun command × (is_change command ≡ false)) ⊎ (is_change command ≡ is_some result.change) → (b : Bool) → (is_change command && taken) ≡ b → IsStepFault s session command (cond b Busy NoMemory)
+  memory_refused (inr is) b e = step_refused (is_change command) is b e
+  memory_refused (inl run) true e = let clash : true ≡ false = sym (both_so (is_change command) taken e).0 ∙ run.1 in absurd cc
+  memory_refused (inl run) false e = (may, inl run.0)
+
   -- it was put in, and its entry added
-  pub stepped : (reply copy : Reply A) (db : Database) (mid entries : List (Entry A)) → reply ≡ result.reply → copy ≡ reply → (is_some result.change && taken) ≡ false
+  pub stepped : HasEnd (pairs_at s.database place.page) session command → (reply copy : Reply A) (db : Database) (mid entries : List (Entry A)) → reply ≡ result.reply → copy ≡ reply → (is_some result.change && taken) ≡ false
       → db ≡ changed_by s.database place.page result.change → mid ≡ s.entries → entries ≡ mid ++ record { session = session; command = command; reply = copy } ∷ []
       → Steps s session command reply (record s { database = db; entries = entries })
-  stepped reply copy db mid entries reply_is copy_is free installed same more =
-      let changes : does_change reply ≡ is_some result.change = ap (λ (r : Reply A). does_change r) reply_is ∙ lead.changes in
+  stepped ends reply copy db mid entries reply_is copy_is free installed same more =
+      let changes : does_change (is_there s.database command) reply ≡ is_some result.change = ap (λ (r : Reply A). does_change (is_there s.database command) r) reply_is ∙ lead.changes in
       record {
         may = may;
         alone = λ d. held_so ∙ not_both (is_some result.change) taken free (sym changes ∙ d);
         quiet = λ d. installed ∙ unchanged_by s.database place.page result.change (sym changes ∙ d);
-        acts = Acts-on_page s.database db sound.database place session command reply keyed may.small leads reply_is installed;
+        acts = Acts-on_page s.database db sound.database place session command reply keyed may.small leads ends reply_is installed;
         entries = more ∙ ap (λ (es : List (Entry A)). es ++ record { session = session; command = command; reply = copy } ∷ []) same
             ∙ ap (λ (r : Reply A). s.entries ++ record { session = session; command = command; reply = r } ∷ []) copy_is;
         opening = refl;

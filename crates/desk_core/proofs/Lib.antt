@@ -1,4 +1,6 @@
 pub mod WorkLemmas
+pub mod InPlace
+pub mod RunLemmas
 pub mod Lifting
 pub mod Acting
 pub mod Ties

@@ -15,7 +15,7 @@ use Rattle.hold_modes.specs.Held.{held_by, obeys_rule, made_exclusive, update_in
 use Rattle.hold_modes.proofs.HeldLemmas.{held_by-without_self, held_by-without_other, held_by-made_self, held_by-made_other, eq_comm}
 use Rattle.sdbm_split.specs.Planned.{PageChange}
 use Rattle.store_cmd.specs.declared.Command.{Command}
-use Rattle.store_cmd.specs.declared.Command.TheVariants.{Fetch, Store, Delete, Count}
+use Rattle.store_cmd.specs.declared.Command.TheVariants.{Fetch, Store, Delete, Run, Count}
 use Rattle.store_cmd.specs.declared.Reply.{Reply}
 use Rattle.store_cmd.specs.declared.Entry.{Entry}
 use Rattle.store_cmd.specs.Command.{IsSmall}
@@ -26,7 +26,7 @@ use Rattle.store_cmd.proofs.MovesLemmas.{Replies-from_Moves}
 use Rattle.desk_core.specs.declared.job.Open.{Open}
 use Rattle.desk_core.specs.Works.{PageResult, works, HasKey, key_of}
 use Rattle.desk_core.specs.Jobs.{Ticketed, worked}
-use Rattle.desk_core.specs.Leads.{state_of, changed_by, MayChange, LeadsTo, IsPlaceOf, does_change}
+use Rattle.desk_core.specs.Leads.{state_of, changed_by, MayChange, LeadsTo, IsPlaceOf, does_change, is_there}
 use Rattle.desk_core.specs.Desk.{DeskState, IsSound, IsTied, Ties, MayHold, the_ticket, ticket_of, open_count}
 use Rattle.desk_core.specs.Acts.{Acts, IsOnPage}
 use Rattle.desk_core.specs.Calls.{StartsWith, MayAsk, IsAsked, Opens, Counts, Closes, Converts, Finishes, Abandons, Steps}
@@ -245,7 +245,7 @@ on_page_sound {A} s s' session command reply keyed sound steps on =
     free : is_some result.change ≡ true → list_any (bars on.place.page Exclusive) s.holds ≡ false
     free some =
         ap (λ (n : ℕ). list_any (bars n Exclusive) s.holds) (led_there s command on.place sound.database on.leads)
-        ∙ steps.alone (ap (λ (r : Reply A). does_change r) on.answer_is ∙ leads.changes ∙ some)
+        ∙ steps.alone (ap (λ (r : Reply A). does_change (is_there s.database command) r) on.answer_is ∙ leads.changes ∙ some)
 
 pub Counts-sound : {A : Type 0} (s s' : DeskState A) (session : ℕ) (reply : Reply A) → IsSound s → MayAsk s Count → Counts s session reply s' → IsSound s'
 Counts-sound {A} s s' session reply sound may counts =
@@ -256,6 +256,7 @@ pub Steps-sound : {A : Type 0} (s s' : DeskState A) (session : ℕ) (command : C
 Steps-sound s s' session (Fetch key) reply sound steps = on_page_sound s s' session (Fetch key) reply tt sound steps steps.acts.exact
 Steps-sound s s' session (Store key value mode) reply sound steps = on_page_sound s s' session (Store key value mode) reply tt sound steps steps.acts.exact
 Steps-sound s s' session (Delete key) reply sound steps = on_page_sound s s' session (Delete key) reply tt sound steps steps.acts.exact
+Steps-sound s s' session (Run key program argument blank now) reply sound steps = on_page_sound s s' session (Run key program argument blank now) reply tt sound steps steps.acts.exact
 Steps-sound s s' session Count reply sound steps =
     more_sound s s' (record { session = session; command = Count; reply = reply }) sound steps.may steps.acts steps.entries steps.opening steps.tickets steps.holds steps.limit_is
     (subst IsDatabase (sym steps.acts.exact.1) sound.database)

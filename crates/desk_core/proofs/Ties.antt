@@ -20,11 +20,11 @@ use Rattle.sdbm_dir.specs.declared.Place.{Place}
 use Rattle.sdbm_files.proofs.PutLemmas.{IsPage-pairs_at}
 use Rattle.sdbm_split.specs.Planned.{PageChange}
 use Rattle.store_cmd.specs.declared.Command.{Command}
-use Rattle.store_cmd.specs.declared.Command.TheVariants.{Fetch, Store, Delete, Count}
+use Rattle.store_cmd.specs.declared.Command.TheVariants.{Fetch, Store, Delete, Run, Count}
 use Rattle.store_cmd.specs.declared.Reply.{Reply}
 use Rattle.store_cmd.specs.Command.{IsSmall}
 use Rattle.desk_core.specs.declared.job.Open.{Open}
-use Rattle.desk_core.specs.Works.{PageResult, works, HasKey, key_of, IsWorkable}
+use Rattle.desk_core.specs.Works.{PageResult, works, HasKey, key_of, HasEnd, IsWorkable}
 use Rattle.desk_core.specs.Jobs.{worked}
 use Rattle.desk_core.specs.Leads.{changed_by, LeadsTo, IsPlaceOf, IsSameBeside}
 use Rattle.desk_core.specs.Desk.{DeskState, IsSound, IsTied, Ties, MayHold, first_hold, the_ticket, ticket_of}
@@ -77,18 +77,21 @@ pub may_first : {A : Type 0} (c : Command A) (mode : Hold) → first_hold c ≡ 
 may_first (Fetch key) mode e = cc
 may_first (Store key value how) mode e = λ r. let clash : Update ≡ Read = cc in cc
 may_first (Delete key) mode e = λ r. let clash : Update ≡ Read = cc in cc
+may_first (Run key program argument blank now) mode e = λ r. let clash : Update ≡ Read = cc in cc
 may_first Count mode e = absurd (cc)
 
 pub keyed_may : {A : Type 0} (c : Command A) (mode : Hold) → MayHold c mode → HasKey c
 keyed_may (Fetch key) mode m = tt
 keyed_may (Store key value how) mode m = tt
 keyed_may (Delete key) mode m = tt
+keyed_may (Run key program argument blank now) mode m = tt
 keyed_may Count mode m = m
 
 pub may_exclusive : {A : Type 0} (c : Command A) → MayHold c Update → MayHold c Exclusive
 may_exclusive (Fetch key) h = absurd cc
 may_exclusive (Store key value how) h = λ e. absurd cc
 may_exclusive (Delete key) h = λ e. absurd cc
+may_exclusive (Run key program argument blank now) h = λ e. absurd cc
 may_exclusive Count h = h
 
 pub update_is : (h : Option (ℕ × Hold)) (p : ℕ) (m : Hold) → h ≡ Some (p, m) → update_in h ≡ true → m ≡ Update
@@ -147,11 +150,12 @@ tied_leads {A} db ok hs t o tie =
     (works_lead db ok o.place o.session o.command (keyed_may o.command tie.mode tie.may) tie.small tie.place)
 
 -- and is what its command does
-pub tied_acts : {A : Type 0} (db db' : Database) → IsDatabase db → (hs : List Held) (t : ℕ) (o : Open A) → IsTied db hs t o → (r : Reply A) → r ≡ (worked o).reply
+pub tied_acts : {A : Type 0} (db db' : Database) → IsDatabase db → (hs : List Held) (t : ℕ) (o : Open A) → IsTied db hs t o → HasEnd o.page.pairs o.session o.command → (r : Reply A) → r ≡ (worked o).reply
     → db' ≡ changed_by db o.place.page (worked o).change → Acts db (record { session = o.session; command = o.command; reply = r }) db'
-tied_acts {A} db db' ok hs t o tie r is installed =
+tied_acts {A} db db' ok hs t o tie ends r is installed =
     let same : worked o ≡ works o.place db.kind db.size (pairs_at db o.place.page) o.session o.command = tied_works db hs t o tie in
     Acts-on_page db db' ok o.place o.session o.command r (keyed_may o.command tie.mode tie.may) tie.small tie.place
+    (subst (λ (ps : List Pair). HasEnd ps o.session o.command) tie.pairs ends)
     (is ∙ ap (λ (x : PageResult A). x.reply) same)
     (installed ∙ ap (λ (x : PageResult A). changed_by db o.place.page x.change) same)
 

@@ -4,7 +4,7 @@ use Rattle.std.specs.FinMap as map
 use Rattle.sdbm_addr.specs.Database.{Database, pairs_at, map_of}
 use Rattle.sdbm_dir.specs.declared.Place.{Place}
 use Rattle.store_cmd.specs.declared.Command.{Command}
-use Rattle.store_cmd.specs.declared.Command.TheVariants.{Fetch, Store, Delete, Count}
+use Rattle.store_cmd.specs.declared.Command.TheVariants.{Fetch, Store, Delete, Run, Count}
 use Rattle.store_cmd.specs.declared.Entry.{Entry}
 use Rattle.store_cmd.specs.declared.Reply.TheVariants as reply
 use Rattle.store_cmd.specs.Command.{IsSmall}
@@ -24,6 +24,7 @@ abbrev pub IsExactFor : {A : Type 0} → Command A → Database → Entry A → 
 IsExactFor (Fetch key) db e db' = IsOnPage db e db'
 IsExactFor (Store key value mode) db e db' = IsOnPage db e db'
 IsExactFor (Delete key) db e db' = IsOnPage db e db'
+IsExactFor (Run key program argument blank now) db e db' = IsOnPage db e db'
 IsExactFor Count db e db' = (e.reply ≡ reply.Count (map.len (map_of db))) × (db' ≡ db)
 
 -- One entry, whose command is taken: exactly these pages and bits are put in, which is one move.

@@ -10,10 +10,12 @@ use Rattle.hold_modes.specs.declared.modes.Hold.{Hold}
 use Rattle.hold_modes.specs.declared.modes.Hold.TheVariants.{Exclusive}
 use Rattle.hold_modes.specs.Held.{bars, held_by, without, made_exclusive, exclusive_in, is_updating, is_shared}
 use Rattle.store_cmd.specs.declared.Command.{Command}
-use Rattle.store_cmd.specs.declared.Command.TheVariants.{Count}
+use Rattle.store_cmd.specs.declared.Command.TheVariants.{Fetch, Store, Delete, Run, Count}
 use Rattle.store_cmd.specs.declared.Reply.{Reply}
 use Rattle.store_cmd.specs.declared.Reply.TheVariants as replies
-use Rattle.store_cmd.specs.Command.{IsSmall}
+use Rattle.store_cmd.specs.declared.SizeFault.{SizeFault}
+use Rattle.store_cmd.specs.declared.SizeFault.TheVariants.{PairTooLarge, ArgTooLong}
+use Rattle.store_cmd.specs.Command.{FitsPair, FitsArgument, IsSmall}
 use Rattle.desk_core.specs.declared.job.Open.{Open}
 use Rattle.desk_core.specs.declared.Wanted.{Wanted}
 use Rattle.desk_core.specs.declared.Asked.{Asked}
@@ -27,7 +29,7 @@ use Rattle.desk_core.specs.declared.FinishFault.TheVariants as ff
 use Rattle.desk_core.specs.Works.{PageResult, works, key_of}
 use Rattle.desk_core.specs.Jobs.{Ticketed, worked}
 use Rattle.desk_core.specs.Acts.{Acts}
-use Rattle.desk_core.specs.Leads.{changed_by, does_change, IsPlaceOf}
+use Rattle.desk_core.specs.Leads.{changed_by, does_change, is_there, IsPlaceOf}
 use Rattle.desk_core.specs.Desk.{DeskState, open_count, ticket_of, the_ticket, first_hold}
 
 -- a desk that was just opened
@@ -58,9 +60,15 @@ pub record MayAsk {A : Type 0} (s : DeskState A) (command : Command A) : Type 0 
   pub room : length s.entries + open_count s < s.limit
   pub free : is_barred s command ≡ false
 
+-- a refusal for size
+abbrev pub refusal_of : SizeFault → AskFault
+refusal_of PairTooLarge = af.PairTooLarge
+refusal_of ArgTooLong = af.ArgTooLong
+
 -- when each refusal comes
 abbrev pub IsAskFault : {A : Type 0} → DeskState A → Command A → AskFault → Type 0
-IsAskFault s command af.PairTooLarge = ¬ (IsSmall s.database.size command)
+IsAskFault s command af.PairTooLarge = ¬ (FitsPair s.database.size command)
+IsAskFault s command af.ArgTooLong = FitsPair s.database.size command × ¬ (FitsArgument command)
 IsAskFault s command af.TrailFull = IsSmall s.database.size command × (s.limit ≤ length s.entries + open_count s)
 IsAskFault s command af.Busy = IsSmall s.database.size command × ((length s.entries + open_count s < s.limit) × (is_barred s command ≡ true))
 IsAskFault s command af.NoMemory = MayAsk s command
@@ -183,8 +191,8 @@ pub record WouldChange {A : Type 0} (s : DeskState A) (session : ℕ) (command :
 -- the command is done on the database, and one entry more; tickets and holds stay, and only a page that nobody holds changes
 pub record Steps {A : Type 0} (s : DeskState A) (session : ℕ) (command : Command A) (reply : Reply A) (s' : DeskState A) : Type 0 where
   pub may : MayAsk s command
-  pub alone : does_change reply ≡ true → is_held s command ≡ false
-  pub quiet : does_change reply ≡ false → s'.database ≡ s.database
+  pub alone : does_change (is_there s.database command) reply ≡ true → is_held s command ≡ false
+  pub quiet : does_change (is_there s.database command) reply ≡ false → s'.database ≡ s.database
   pub acts : Acts s.database (record { session = session; command = command; reply = reply }) s'.database
   pub entries : s'.entries ≡ s.entries ++ record { session = session; command = command; reply = reply } ∷ []
   pub opening : s'.opening ≡ s.opening
@@ -193,10 +201,20 @@ pub record Steps {A : Type 0} (s : DeskState A) (session : ℕ) (command : Comma
   pub holds : s'.holds ≡ s.holds
   pub limit_is : s'.limit ≡ s.limit
 
+-- a command that is a run
+abbrev pub IsRun : {A : Type 0} → Command A → Type 0
+IsRun (Fetch key) = ⊥
+IsRun (Store key value mode) = ⊥
+IsRun (Delete key) = ⊥
+IsRun (Run key program argument blank now) = Unit {0}
+IsRun Count = ⊥
+
 -- When each refusal of a step comes: as of an ask, and Busy also where other tickets hold a page that would change. Memory is
--- wanted only where neither is so.
+-- wanted only where neither is so; but a program has to run before it is known whether it changes its page, and the page on which
+-- it runs takes memory.
 abbrev pub IsStepFault : {A : Type 0} → DeskState A → ℕ → Command A → AskFault → Type 0
 IsStepFault s session command af.PairTooLarge = IsAskFault s command af.PairTooLarge
+IsStepFault s session command af.ArgTooLong = IsAskFault s command af.ArgTooLong
 IsStepFault s session command af.TrailFull = IsAskFault s command af.TrailFull
 IsStepFault s session command af.Busy = IsAskFault s command af.Busy ⊎ (MayAsk s command × ((is_held s command ≡ true) × WouldChange s session command))
-IsStepFault s session command af.NoMemory = MayAsk s command × (is_held s command ≡ true → WouldChange s session command → ⊥)
+IsStepFault s session command af.NoMemory = MayAsk s command × (IsRun command ⊎ (is_held s command ≡ true → WouldChange s session command → ⊥))

@@ -6,7 +6,7 @@ ghost use Rattle.store_cmd.specs.Command.{IsSmall};
 ghost use Rattle.desk_core.specs.Acts.{Acts};
 ghost use Rattle.desk_core.specs.Leads.{IsPlaceOf, MayChange, changed_by};
 ghost use Rattle.desk_core.specs.Worked.{IsWorked, takes_memory};
-ghost use Rattle.desk_core.specs.Works.{works, HasKey, key_of, change_of, pairs_lent};
+ghost use Rattle.desk_core.specs.Works.{works, HasKey, HasEnd, key_of, change_of, pairs_lent};
 
 use crate::work::{Worked, work_on};
 use sdbm_dir::Place;
@@ -89,6 +89,7 @@ pub(crate) fn key_in<A: Allocator>(command: &Command<A>) -> &[u8]
         Command::Fetch { key } => key.as_slice(),
         Command::Store { key, .. } => key.as_slice(),
         Command::Delete { key } => key.as_slice(),
+        Command::Run { key, .. } => key.as_slice(),
         Command::Count => &[],
     }
 }
@@ -96,7 +97,8 @@ pub(crate) fn key_in<A: Allocator>(command: &Command<A>) -> &[u8]
 /// What a session's command comes to on its page as it stands.
 ///
 /// # Errors
-/// `AllocError` where no memory is left for the value that was found, or for the pages that the command would change.
+/// `AllocError` where no memory is left for the value that was found, for the pages that the command would change, or for the page
+/// on which a program runs.
 pub(crate) fn work_at<A: Allocator + Copy>(
     alloc: A,
     image: &Image<A>,
@@ -109,6 +111,7 @@ pub(crate) fn work_at<A: Allocator + Copy>(
     requires small { IsSmall image.now.size command.now }
     requires database { IsDatabase image.now }
     ensures worked { IfOk result (IsWorked (works place image.now.kind image.now.size (pairs_at image.now place.page) session command.now)) }
+    ensures ends { OnOk result (HasEnd (pairs_at image.now place.page) session command.now) }
     ensures err { OnErr result (takes_memory (works place image.now.kind image.now.size (pairs_at image.now place.page) session command.now).reply ≡ true) }
 {
     let kind = image.key_bytes();

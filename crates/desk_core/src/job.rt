@@ -1,6 +1,7 @@
 //! What is open: commands that were asked and not yet answered.
-ghost use Rattle.std.specs.Prelude.{◌≡◌, ◌↔◌, IsTrue, IfOk, IfErr, is_some};
-ghost use Rattle.desk_core.specs.Jobs.{worked, IsJob};
+ghost use Rattle.std.specs.Prelude.{◌≡◌, ◌↔◌, IsTrue, IfOk, IfErr, OnOk, is_some};
+ghost use Rattle.desk_core.specs.Jobs.{worked, was_there, IsJob};
+ghost use Rattle.desk_core.specs.Works.{HasEnd};
 ghost use Rattle.desk_core.specs.Leads.{does_change};
 ghost use Rattle.desk_core.specs.Worked.{IsWorked};
 
@@ -39,7 +40,7 @@ impl<A: Allocator> Open<A> {
         if self.kind != other.kind {
             return false;
         }
-        if self.command != other.command {
+        if !self.command.equals(&other.command) {
             return false;
         }
         self.page.equals(&other.page)
@@ -130,7 +131,8 @@ impl<A: Allocator> Job<A> {
 // What a command that was asked comes to.
 fn work_asked<A: Allocator + Copy>(alloc: A, asked: &Open<A>) -> Result<Worked<A>, AllocError>
     requires { IsJob asked.now }
-    ensures { IfOk result (IsWorked (worked asked.now)) }
+    ensures worked { IfOk result (IsWorked (worked asked.now)) }
+    ensures ends { OnOk result (HasEnd asked.now.page.pairs asked.now.session asked.now.command) }
 {
     work_on(
         alloc,
@@ -158,10 +160,11 @@ impl<A: Allocator> Done<A> {
         &self.asked
     }
 
-    /// Whether it changes its page, as exactly a store that stores and a delete that deletes do.
+    /// Whether it changes its page, as exactly a store that stores, a delete that deletes, and a run that saves its record, or that
+    /// deletes the pair of a key that was there.
     pub fn changes(&self) -> bool
         ensures change { result ≡ is_some (worked self.now.asked).change }
-        ensures reply { result ≡ does_change (worked self.now.asked).reply }
+        ensures reply { result ≡ does_change (was_there self.now.asked) (worked self.now.asked).reply }
     {
         self.change.is_some()
     }

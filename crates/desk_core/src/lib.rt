@@ -9,11 +9,13 @@ ghost use Rattle.store_cmd.specs.declared.Command.TheVariants.{Count};
 ghost use Rattle.desk_core.specs.Works.{key_of};
 ghost use Rattle.desk_core.specs.Leads.{IsPlaceOf};
 ghost use Rattle.desk_core.specs.Desk.{IsSound, first_hold, ticket_of};
+ghost use Rattle.desk_core.specs.Calls.{refusal_of};
 
 mod action;
 mod events;
 mod job;
 mod page_copy;
+mod runs;
 mod step;
 mod work;
 
@@ -31,7 +33,7 @@ use sdbm_files::Image;
 use slab::Slab;
 use std::alloc::{AllocError, Allocator};
 use std::marker::Model;
-use store_cmd::{Command, Entry, Reply, Trail, check};
+use store_cmd::{Command, Entry, Reply, SizeFault, Trail, check};
 
 /// The core of a store, seen as its database, the opening and the entries of its trail, what is open under each ticket, the ticket
 /// that is opened next, the holds, and the most entries and open tickets that there may be.
@@ -65,8 +67,10 @@ impl<A: Allocator> Model for Desk<A> {
 /// Why a command is refused. They are tested in this order.
 #[derive(Clone, Copy, Debug, PartialEq, Eq)]
 pub enum AskFault {
-    /// The key and the value to be stored have more bytes together than a pair may have.
+    /// The key and the value to be stored, or the blank, have more bytes together than a pair may have.
     PairTooLarge,
+    /// The argument of a run has more bytes than one may have.
+    ArgTooLong,
     /// Entries and open tickets are as many as there may be.
     TrailFull,
     /// Another ticket holds the page so that it cannot be held.
@@ -175,8 +179,8 @@ impl<A: Allocator + Copy> Desk<A> {
         ensures refused { IfErr result (λ fault. IsAskFault self.now command.now fault) }
         ensures told { IfErr result (λ fault. fault ≢ AskFault.NoMemory) }
     {
-        if check(command, self.image.page_size()).is_err() {
-            return Err(AskFault::PairTooLarge);
+        if let Err(fault) = check(command, self.image.page_size()) {
+            return Err(ask_fault(fault));
         }
         if self.limit <= self.trail.entries.len() + self.tickets.len() {
             return Err(AskFault::TrailFull);
@@ -467,6 +471,17 @@ fn hold_for<A: Allocator>(command: &Command<A>) -> Option<Hold>
         Command::Fetch { .. } => Some(Hold::Read),
         Command::Store { .. } => Some(Hold::Update),
         Command::Delete { .. } => Some(Hold::Update),
+        Command::Run { .. } => Some(Hold::Update),
         Command::Count => None,
+    }
+}
+
+// The refusal of a command for its size.
+fn ask_fault(fault: SizeFault) -> AskFault
+    ensures { result ≡ refusal_of fault }
+{
+    match fault {
+        SizeFault::PairTooLarge => AskFault::PairTooLarge,
+        SizeFault::ArgTooLong => AskFault::ArgTooLong,
     }
 }

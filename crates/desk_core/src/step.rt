@@ -1,12 +1,13 @@
 //! Commands on a desk in one call, without a ticket.
-ghost use Rattle.std.specs.Prelude.{◌≡◌, cond, false, true, Some, IfOk, IfErr, OnErr, is_some, ◌&&◌};
+ghost use Rattle.std.specs.Prelude.{◌≡◌, cond, false, true, Some, IfOk, IfErr, OnOk, OnErr, is_some, ◌&&◌};
 ghost use Rattle.std.specs.List.{list_any};
 ghost use Rattle.hold_modes.specs.declared.modes.Hold.TheVariants.{Exclusive};
-ghost use Rattle.hold_modes.specs.Held as held;
 ghost use Rattle.hold_modes.specs.Held.{bars};
 ghost use Rattle.store_cmd.specs.declared.Command.TheVariants.{Count};
 ghost use Rattle.store_cmd.specs.Command.{IsSmall};
-ghost use Rattle.desk_core.specs.Works.{HasKey, key_of};
+ghost use Rattle.sdbm_addr.specs.Database.{pairs_at};
+ghost use Rattle.desk_core.specs.Works.{HasKey, HasEnd, key_of};
+ghost use Rattle.desk_core.specs.Worked as worked;
 ghost use Rattle.desk_core.specs.Worked.{IsWorked, takes_memory};
 ghost use Rattle.desk_core.specs.Leads.{IsPlaceOf};
 ghost use Rattle.desk_core.specs.Desk.{IsSound, first_hold};
@@ -25,7 +26,8 @@ impl<A: Allocator + Copy> Desk<A> {
     ///
     /// # Errors
     /// Those of `ask`, and `Busy` also where the command comes to a change of a page that another ticket holds; `NoMemory` only
-    /// where it does not. The desk is then as it was, and the command comes back.
+    /// where it does not, or where it is a run, which takes memory before it is known whether it does. The desk is then as it was,
+    /// and the command comes back.
     pub fn step(
         &mut self,
         session: u64,
@@ -74,10 +76,9 @@ impl<A: Allocator + Copy> Desk<A> {
         ensures returned { IfErr result (λ refused. refused.1 ≡ command) }
         ensures err { OnErr result (self.new ≡ self.old) }
     {
-        let Wanted { place, mode } = wanted;
+        let Wanted { place, .. } = wanted;
         let Ok(worked) = self.work_there(session, &command, place) else {
-            // All but a fetch take memory for a change alone.
-            return Err((self.refusal(place.page, is_update(mode)), command));
+            return Err((self.refusal(place.page, is_change(&command)), command));
         };
         if self.is_in_the_way(place.page, worked.change.is_some()) {
             return Err((AskFault::Busy, command));
@@ -99,6 +100,7 @@ impl<A: Allocator + Copy> Desk<A> {
         requires small { IsSmall self.now.database.size command.now }
         requires place { IsPlaceOf self.now.database (key_of command.now) place }
         ensures worked { IfOk result (IsWorked (works_there self.now session command.now place)) }
+        ensures ends { OnOk result (HasEnd (pairs_at self.now.database place.page) session command.now) }
         ensures err { OnErr result (takes_memory (works_there self.now session command.now place).reply ≡ true) }
         ensures sound { IsSound self.now }
     {
@@ -117,6 +119,7 @@ impl<A: Allocator + Copy> Desk<A> {
         requires keyed { HasKey command }
         requires place { IsPlaceOf self.old.database (key_of command) place }
         requires worked { IsWorked (works_there self.old session command place) worked }
+        requires ends { HasEnd (pairs_at self.old.database place.page) session command }
         requires free { (is_some worked.change && list_any (bars place.page Exclusive) self.old.holds) ≡ false }
         ensures ok { IfOk result (λ reply. Steps self.old session command reply self.new) }
         ensures returned { IfErr result (λ refused. refused.1 ≡ command) }
@@ -161,12 +164,13 @@ impl<A: Allocator + Copy> Desk<A> {
     }
 }
 
-// Whether a hold is one for update.
-fn is_update(mode: Hold) -> bool
-    ensures { result ≡ held.is_update mode }
+// Whether a command takes memory only where it changes its page. A program runs before it is known whether it does.
+fn is_change<A: Allocator>(command: &Command<A>) -> bool
+    ensures { result ≡ worked.is_change command.now }
 {
-    match mode {
-        Hold::Update => true,
+    match command {
+        Command::Store { .. } => true,
+        Command::Delete { .. } => true,
         _ => false,
     }
 }

@@ -1,10 +1,11 @@
 //! What a command comes to, from the page of its key alone: its reply, and what becomes of the page. Nothing is changed here.
-ghost use Rattle.std.specs.Prelude.{◌≡◌, ◌+◌, ◌≤◌, ◌<◌, length, remove, [], true, IfOk, IfSome, OnErr, Some, None};
+ghost use Rattle.std.specs.Prelude.{◌≡◌, ◌+◌, ◌≤◌, ◌<◌, length, remove, [], true, IfOk, IfSome, OnOk, OnErr, Some, None};
 ghost use Rattle.std.specs.Option.{option_map};
 ghost use Rattle.sdbm_addr.specs.Pairs.{HasDistinctKeys, pair_limit, value_of};
-ghost use Rattle.desk_core.specs.Works.{works, fetched, deleted, stored_unless, stored_first, is_kept, change_of, IsWorkable, IsPageOfKey, pairs_lent};
+ghost use Rattle.desk_core.specs.Works.{works, fetched, deleted, stored_unless, stored_first, HasEnd, is_kept, change_of, IsWorkable, IsPageOfKey, pairs_lent};
 ghost use Rattle.desk_core.specs.Worked.{IsWorked, takes_memory};
 
+use crate::runs::{run_on_none, run_on_page};
 use sdbm_addr::{Bytes, KeyBytes, Mode, PageSize};
 use sdbm_dir::Place;
 use sdbm_page::{Page, SharedPage};
@@ -22,7 +23,8 @@ pub struct Worked<A: Allocator> {
 /// Works a session's command out on the page of its place, or on none where that has no pairs.
 ///
 /// # Errors
-/// `AllocError` where no memory is left for the value that was found, or for the pages that the command would change.
+/// `AllocError` where no memory is left for the value that was found, for the pages that the command would change, or for the page
+/// on which a program runs.
 pub fn work_on<A: Allocator + Copy>(
     alloc: A,
     page: Option<&Page<A>>,
@@ -35,6 +37,7 @@ pub fn work_on<A: Allocator + Copy>(
     requires size { IfSome page (λ p. p.now.size ≡ size) }
     requires may { IsWorkable place kind size (pairs_lent page) command.now }
     ensures worked { IfOk result (IsWorked (works place kind size (pairs_lent page.entry) session command.now)) }
+    ensures ends { OnOk result (HasEnd (pairs_lent page.entry) session command.now) }
     ensures err { OnErr result (takes_memory (works place kind size (pairs_lent page.entry) session command.now).reply ≡ true) }
 {
     let Some(page) = page else {
@@ -48,6 +51,20 @@ pub fn work_on<A: Allocator + Copy>(
             store(alloc, page, place, kind, key, value, *mode)
         }
         Command::Delete { key } => delete(alloc, page, key.as_slice()),
+        Command::Run {
+            key,
+            prog,
+            arg,
+            blank,
+            now,
+        } => {
+            let told = (*now, session);
+            let key = key.as_slice();
+            let arg = arg.as_slice();
+            let blank = *blank;
+            let program = prog.verified();
+            run_on_page(alloc, page, place, kind, key, program, told, arg, blank)
+        }
         Command::Count => unreachable!(),
     }
 }
@@ -63,11 +80,34 @@ fn work_on_none<A: Allocator + Copy>(
 ) -> Result<Worked<A>, AllocError>
     requires may { IsWorkable place kind size [] command.now }
     ensures worked { IfOk result (IsWorked (works place kind size [] session command.now)) }
+    ensures ends { OnOk result (HasEnd [] session command.now) }
     ensures err { OnErr result (takes_memory (works place kind size [] session command.now).reply ≡ true) }
 {
     match command {
         Command::Store { key, value, .. } => {
             store_first(alloc, size, key.as_slice(), value.as_slice())
+        }
+        Command::Run {
+            key,
+            prog,
+            arg,
+            blank,
+            now,
+        } => {
+            let told = (*now, session);
+            let key = key.as_slice();
+            let arg = arg.as_slice();
+            run_on_none(
+                alloc,
+                place,
+                kind,
+                size,
+                key,
+                prog.verified(),
+                told,
+                arg,
+                *blank,
+            )
         }
         _ => Ok(unchanged(Reply::Missing)),
     }
@@ -121,7 +161,7 @@ fn without_pair<A: Allocator + Copy>(
 }
 
 // The reply to a store, and the plan for it.
-fn store<A: Allocator + Copy>(
+pub(crate) fn store<A: Allocator + Copy>(
     alloc: A,
     page: &Page<A>,
     place: Place,
@@ -149,7 +189,7 @@ fn store<A: Allocator + Copy>(
 }
 
 // The reply to a store of the first pair of a page, which has room for any.
-fn store_first<A: Allocator + Copy>(
+pub(crate) fn store_first<A: Allocator + Copy>(
     alloc: A,
     size: PageSize,
     key: &[u8],
@@ -165,7 +205,7 @@ fn store_first<A: Allocator + Copy>(
 }
 
 // A reply that leaves the page as it is.
-fn unchanged<A: Allocator>(reply: Reply<A>) -> Worked<A>
+pub(crate) fn unchanged<A: Allocator>(reply: Reply<A>) -> Worked<A>
     ensures reply { result.reply ≡ reply }
     ensures change { result.change ≡ None }
 {
@@ -176,7 +216,11 @@ fn unchanged<A: Allocator>(reply: Reply<A>) -> Worked<A>
 }
 
 // A reply after which the page is another, without a split.
-fn changed<A: Allocator + Copy>(alloc: A, reply: Reply<A>, leaf: SharedPage<A>) -> Worked<A>
+pub(crate) fn changed<A: Allocator + Copy>(
+    alloc: A,
+    reply: Reply<A>,
+    leaf: SharedPage<A>,
+) -> Worked<A>
     ensures reply { result.reply ≡ reply }
     ensures change { option_map change_of result.change ≡ Some (record { leaf = leaf; twins = []; bits = [] }) }
 {

@@ -108,7 +108,7 @@ below_all-from : (x : List ℕ) (es : List Pair) → ((j : ℕ) → j < length e
 below_all-from x [] h = tt
 below_all-from x (e ∷ es) h = both _ _ (h 0 (omega arith)) (below_all-from x es (λ j lt. h (suc j) (omega arith)))
 
-apart_at : (es : List Pair) (k : List ℕ) (j : ℕ) → value_of es k ≡ None → j < length es → same_key k (get_or es j ([], [])).0 ≡ false
+pub apart_at : (es : List Pair) (k : List ℕ) (j : ℕ) → value_of es k ≡ None → j < length es → same_key k (get_or es j ([], [])).0 ≡ false
 apart_at [] k j h lt = absurd (omega arith)
 apart_at (e ∷ es) k zero h lt = (absent_parts e es k h).0
 apart_at (e ∷ es) k (suc j) h lt = apart_at es k j (absent_parts e es k h).1 (omega arith)

@@ -9,6 +9,7 @@ ghost use Rattle.bpf_helpers.specs.Runs.{argument_limit};
 ghost use Rattle.store_cmd.specs.declared.SizeFault.TheVariants as SizeFault;
 ghost use Rattle.store_cmd.specs.Command.{IsSmall, IsSizeFault, FitsBlank, IsRunFault};
 
+mod equality;
 mod program;
 
 pub use program::Program;
@@ -66,10 +67,7 @@ pub enum Reply<A: Allocator> {
     /// To a delete: the key was there and is gone.
     Deleted,
     /// To a run: the number with which the program ended, and the reply word that it set.
-    Ran {
-        code: u64,
-        word: u64,
-    },
+    Ran { code: u64, word: u64 },
     /// To a count: the number of pairs.
     Count(usize),
 }
@@ -128,7 +126,10 @@ pub fn check<A: Allocator>(command: &Command<A>, size: PageSize) -> Result<(), S
         }
         Command::Delete { .. } => Ok(()),
         Command::Run {
-            key, arg, blank, ..
+            key,
+            arg,
+            blank,
+            ..
         } => check_run(key.as_slice(), arg.as_slice(), *blank, size),
         Command::Count => Ok(()),
     }
@@ -147,12 +148,7 @@ fn check_pair(key: &[u8], value_len: usize, size: PageSize) -> Result<(), SizeFa
 }
 
 // Tests the sizes of a run.
-fn check_run(
-    key: &[u8],
-    arg: &[u8],
-    blank: Option<usize>,
-    size: PageSize,
-) -> Result<(), SizeFault>
+fn check_run(key: &[u8], arg: &[u8], blank: Option<usize>, size: PageSize) -> Result<(), SizeFault>
     ensures ok { IsOk result ↔ (FitsBlank size key.now blank × (length arg.now ≤ argument_limit)) }
     ensures err { IfErr result (IsRunFault size key.now arg.now blank) }
 {

@@ -1,7 +1,6 @@
 //! Programs that commands hand over.
-ghost use Rattle.std.specs.Prelude.{◌≡◌, IfOk};
+ghost use Rattle.std.specs.Prelude.{◌≡◌, ◌↔◌, IsTrue, IfOk};
 ghost use Rattle.std.specs.Arc.{arc_value};
-ghost use Rattle.bpf_helpers.specs.Runs.{Safe};
 
 use bpf_verify::Verified;
 use std::alloc::{AllocError, Allocator};
@@ -37,6 +36,13 @@ impl<A: Allocator> Program<A> {
         ensures { result.now.code ≡ self.now }
     {
         &*self.owned
+    }
+
+    /// Whether the programs have the same instructions. It takes no memory.
+    pub fn equals(&self, other: &Self) -> bool
+        ensures { IsTrue result ↔ (self.now ≡ other.now) }
+    {
+        *self.owned == *other.owned
     }
 
     /// One owner more, or the error where there are as many as can be counted. It takes no memory.

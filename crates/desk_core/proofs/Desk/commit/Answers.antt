@@ -32,7 +32,7 @@ invariant_of-self-2 g c =
     let u = c.remove-own.ensures in
     let kept = c.self.invariant.1 in (
       Finishes-sound s _ d c.done.inside.reply c.self.invariant.0
-          (finished s d c.self.invariant.0 may c.done.inside.reply c.done.inside.copy c.put_in.new.image c.push_reserved.new.self.items c.remove-own.new.self.slots c.remove-own.new.self.vacant_key c.release.new.self c.done.invariant.reply_is
+          (finished s d c.self.invariant.0 may c.done.invariant.ends c.done.inside.reply c.done.inside.copy c.put_in.new.image c.push_reserved.new.self.items c.remove-own.new.self.slots c.remove-own.new.self.vacant_key c.release.new.self c.done.invariant.reply_is
           c.done.invariant.copy_is installed c.push_reserved.ensures.items (record { here = u.updates.changed; others = u.updates.others }) u.key_is_next u.len c.release.ensures.rest)
           c.release.ensures.rule,
       omega (arith, c.push_reserved.ensures.len, c.push_reserved.ensures.capacity),
@@ -46,5 +46,5 @@ returns-clause-ok g c =
     let installed = c.in_default.ensures.ok ∙ ap (changed_by s.database d.asked.place.page) c.done.invariant.change_is in
     let u = c.remove-own.ensures in
     rw (← c.self.view_is, ← c.done.view_is)
-    (finished s d c.self.invariant.0 may c.done.inside.reply c.done.inside.copy c.put_in.new.image c.push_reserved.new.self.items c.remove-own.new.self.slots c.remove-own.new.self.vacant_key c.release.new.self c.done.invariant.reply_is
+    (finished s d c.self.invariant.0 may c.done.invariant.ends c.done.inside.reply c.done.inside.copy c.put_in.new.image c.push_reserved.new.self.items c.remove-own.new.self.slots c.remove-own.new.self.vacant_key c.release.new.self c.done.invariant.reply_is
     c.done.invariant.copy_is installed c.push_reserved.ensures.items (record { here = u.updates.changed; others = u.updates.others }) u.key_is_next u.len c.release.ensures.rest)

@@ -1,8 +1,9 @@
-use Rattle.std.proofs.Common.{◌≡◌, true, false, None, refl, rules}
+use Rattle.std.proofs.Common.{◌≡◌, true, false, None, refl, sym, ap, ◌∙◌, rules}
 use Rattle.std.specs.Prelude.{slice_index_or, IsSome}
 use Rattle.hold_modes.specs.Held.{is_updating, is_shared, made_exclusive}
-use Rattle.desk_core.specs.Desk.{DeskState}
+use Rattle.desk_core.specs.Desk.{DeskState, ticket_of}
 use Rattle.desk_core.proofs.Sound.{Converts-sound}
+use Rattle.desk_core.proofs.RunLemmas.{not_some}
 use Rattle.desk_core.proofs.Desk.convert.Goals as goal
 
 pub returns-then-not-is_updating-clause-refused : goal.returns-then-not-is_updating-clause-refused
@@ -40,3 +41,6 @@ returns-clause-ok g c =
     let alone : is_shared c.args.ticket c.self.inside.holds ≡ false = search rules in
     let held : c.convert.new.self ≡ made_exclusive c.args.ticket c.self.inside.holds = search rules in
     rw (← c.self.view_is) (record { there = there; updating = upd; alone = alone; is = rw held refl })
+
+pub returns-then-not-contains-clause-refused : goal.returns-then-not-contains-clause-refused
+returns-then-not-contains-clause-refused g c = sym (ap (λ (x : DeskState g.row.A.Denot). ticket_of x c.args.ticket.0) c.self.view_is) ∙ not_some (slice_index_or c.self.inside.tickets.slots c.args.ticket.0 None) c.if-not-contains.ensures.1

@@ -2,10 +2,11 @@ use Rattle.std.proofs.Common.{◌+◌, ◌≤◌, ◌&&◌, Bool, Option, is_som
 use Rattle.std.specs.Prelude.{vec_len, vec_capacity}
 use Rattle.std.specs.List.{list_any}
 use Rattle.slab.specs.Slab.{slab_len}
+use Rattle.sdbm_addr.specs.Database.{pairs_at}
 use Rattle.hold_modes.specs.declared.modes.Hold.TheVariants.{Exclusive}
 use Rattle.hold_modes.specs.Held.{bars}
 use Rattle.sdbm_split.specs.Planned.{PageChange}
-use Rattle.desk_core.specs.Works.{change_of, key_of}
+use Rattle.desk_core.specs.Works.{change_of, key_of, HasEnd}
 use Rattle.desk_core.specs.Worked.{IsWorked}
 use Rattle.desk_core.specs.Leads.{IsPlaceOf, MayChange, changed_by}
 use Rattle.desk_core.specs.Desk.{DeskState}
@@ -29,9 +30,10 @@ invariant_of-self-2 g c =
     let may = subst (λ (x : DeskState g.row.A.Denot). MayAsk x c.args.command) (sym c.self.view_is) c.requires.may in
     let leads = subst (λ (x : DeskState g.row.A.Denot). IsPlaceOf x.database (key_of c.args.command) c.args.place) (sym c.self.view_is) c.requires.place in
     let worked = subst (λ (x : DeskState g.row.A.Denot). IsWorked (works_there x c.args.session c.args.command c.args.place) c.args.worked) (sym c.self.view_is) c.requires.worked in
+    let ends = subst (λ (x : DeskState g.row.A.Denot). HasEnd (pairs_at x.database c.args.place.page) c.args.session c.args.command) (sym c.self.view_is) c.requires.ends in
     let free = ap (λ (b : Bool). b && list_any (bars c.args.place.page Exclusive) s.holds) (ap (λ (x : Option PageChange). is_some x) (sym worked.change) ∙ some_mapped change_of c.args.worked.change)
     ∙ ap (λ (x : DeskState g.row.A.Denot). is_some c.args.worked.change && list_any (bars c.args.place.page Exclusive) x.holds) c.self.view_is ∙ c.requires.free in
-    let steps = stepped s c.args.session c.args.command c.args.place c.self.invariant.0 may c.requires.keyed leads c.args.worked.reply c.in-Ok.copy c.put_in.new.image c.reserve.new.self.items c.push_reserved.new.self.items worked.reply c.in-Ok.ensures free
+    let steps = stepped s c.args.session c.args.command c.args.place c.self.invariant.0 may c.requires.keyed leads ends c.args.worked.reply c.in-Ok.copy c.put_in.new.image c.reserve.new.self.items c.push_reserved.new.self.items worked.reply c.in-Ok.ensures free
     (c.in-Ok-put_in.ensures.ok ∙ ap (changed_by s.database c.args.place.page) worked.change) c.reserve.ensures.items c.push_reserved.ensures.items in
     let room : vec_len c.reserve.new.self + (slab_len c.self.inside.tickets + 1) ≤ vec_capacity c.reserve.new.self = search rules in
     (Steps-sound s _ c.args.session c.args.command c.args.worked.reply c.self.invariant.0 steps, omega (arith, c.push_reserved.ensures.len, c.push_reserved.ensures.capacity))
@@ -42,8 +44,9 @@ returns-clause-ok g c =
     let may = subst (λ (x : DeskState g.row.A.Denot). MayAsk x c.args.command) (sym c.self.view_is) c.requires.may in
     let leads = subst (λ (x : DeskState g.row.A.Denot). IsPlaceOf x.database (key_of c.args.command) c.args.place) (sym c.self.view_is) c.requires.place in
     let worked = subst (λ (x : DeskState g.row.A.Denot). IsWorked (works_there x c.args.session c.args.command c.args.place) c.args.worked) (sym c.self.view_is) c.requires.worked in
+    let ends = subst (λ (x : DeskState g.row.A.Denot). HasEnd (pairs_at x.database c.args.place.page) c.args.session c.args.command) (sym c.self.view_is) c.requires.ends in
     let free = ap (λ (b : Bool). b && list_any (bars c.args.place.page Exclusive) s.holds) (ap (λ (x : Option PageChange). is_some x) (sym worked.change) ∙ some_mapped change_of c.args.worked.change)
     ∙ ap (λ (x : DeskState g.row.A.Denot). is_some c.args.worked.change && list_any (bars c.args.place.page Exclusive) x.holds) c.self.view_is ∙ c.requires.free in
-    let steps = stepped s c.args.session c.args.command c.args.place c.self.invariant.0 may c.requires.keyed leads c.args.worked.reply c.in-Ok.copy c.put_in.new.image c.reserve.new.self.items c.push_reserved.new.self.items worked.reply c.in-Ok.ensures free
+    let steps = stepped s c.args.session c.args.command c.args.place c.self.invariant.0 may c.requires.keyed leads ends c.args.worked.reply c.in-Ok.copy c.put_in.new.image c.reserve.new.self.items c.push_reserved.new.self.items worked.reply c.in-Ok.ensures free
     (c.in-Ok-put_in.ensures.ok ∙ ap (changed_by s.database c.args.place.page) worked.change) c.reserve.ensures.items c.push_reserved.ensures.items in
     rw (← c.self.view_is) steps

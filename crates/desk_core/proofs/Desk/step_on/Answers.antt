@@ -1,15 +1,17 @@
-use Rattle.std.proofs.Common.{◌&&◌, true, false, is_some, Option, ap, sym, ◌∙◌, subst, refl}
+use Rattle.std.proofs.Common.{◌&&◌, Bool, cond, true, false, is_some, Option, ap, sym, ◌∙◌, subst, refl}
 use Rattle.std.specs.List.{list_any}
 use Rattle.sdbm_addr.specs.Database.{pairs_at}
 use Rattle.sdbm_split.specs.Planned.{PageChange}
 use Rattle.hold_modes.specs.declared.modes.Hold.TheVariants.{Exclusive}
 use Rattle.hold_modes.specs.Held.{bars}
 use Rattle.desk_core.specs.declared.AskFault.{AskFault}
+use Rattle.desk_core.specs.declared.AskFault.TheVariants.{Busy, NoMemory}
+use Rattle.desk_core.specs.Worked.{is_change}
 use Rattle.desk_core.specs.Works.{change_of}
 use Rattle.desk_core.specs.Calls.{IsStepFault}
 use Rattle.desk_core.proofs.Ties.{keyed_may, may_first, some_mapped}
 use Rattle.desk_core.proofs.WorkLemmas.{works_change}
-use Rattle.desk_core.proofs.Doing.{step_refused}
+use Rattle.desk_core.proofs.Doing.{step_refused, memory_refused}
 use Rattle.desk_core.proofs.Desk.step_on.Goals as goal
 
 pub returns-in_default-clause-refused : goal.returns-in_default-clause-refused
@@ -17,9 +19,10 @@ returns-in_default-clause-refused g c =
     let s = c.args.self.now in
     let place = c.args.wanted.place in
     let keyed = keyed_may c.args.command c.args.wanted.mode (may_first c.args.command c.args.wanted.mode c.requires.mode) in
-    let update = c.is_update.ensures ∙ works_change place s.database.kind s.database.size (pairs_at s.database place.page) c.args.session c.args.command c.args.wanted.mode c.requires.mode c.in_default.ensures.err in
-    subst (λ (fault : AskFault). IsStepFault s c.args.session c.args.command fault) (sym c.refusal.ensures)
-    (step_refused s c.args.session c.args.command place c.work_there.ensures.sound c.requires.may keyed c.requires.place c.is_update.result update (c.is_update.result && list_any (bars place.page Exclusive) s.holds) refl)
+    let change = works_change place s.database.kind s.database.size (pairs_at s.database place.page) c.args.session c.args.command c.in_default.ensures.err in
+    let fault = c.refusal.ensures ∙ ap (λ (b : Bool). cond (b && list_any (bars place.page Exclusive) s.holds) Busy NoMemory) c.is_change.ensures in
+    subst (λ (fault : AskFault). IsStepFault s c.args.session c.args.command fault) (sym fault)
+    (memory_refused s c.args.session c.args.command place c.work_there.ensures.sound c.requires.may keyed c.requires.place change (is_change c.args.command && list_any (bars place.page Exclusive) s.holds) refl)
 
 pub returns-then-is_in_the_way-clause-refused : goal.returns-then-is_in_the_way-clause-refused
 returns-then-is_in_the_way-clause-refused g c =

@@ -23,5 +23,5 @@ returns-in-Ok-clause-ok g c =
     let p = c.place-place.ensures in
     let first_place : IsPlaceOf db c.key_in.result.now place = record { depth = p.depth; shallow = p.shallow; low_bits = p.low_bits; bit = p.bit } in
     let placed : IsPlaceOf db (key_of c.args.command.now) place = subst (λ (k : List ℕ). IsPlaceOf db k place) c.key_in.ensures first_place in
-    Acts-on_page db c.put_in.new.image p.database place c.args.session c.args.command.now c.in_ok-reply.field-0.reply c.requires.keyed c.requires.small placed
+    Acts-on_page db c.put_in.new.image p.database place c.args.session c.args.command.now c.in_ok-reply.field-0.reply c.requires.keyed c.requires.small placed c.in_ok-reply.ensures.ends
     c.in_ok-reply.ensures.worked.reply (c.in-Ok.ensures.ok ∙ ap (changed_by db place.page) c.in_ok-reply.ensures.worked.change)

@@ -1,0 +1,131 @@
+//! Whether commands and entries are the same.
+ghost use Rattle.std.specs.Prelude.{◌≡◌, ◌↔◌, IsTrue};
+ghost use Rattle.store_cmd.specs.declared.Command.TheVariants.{Fetch, Store, Delete, Run, Count};
+
+use crate::program::Program;
+use crate::{Command, Entry};
+use sdbm_addr::{Bytes, Mode};
+use std::alloc::Allocator;
+
+impl<A: Allocator> Command<A> {
+    /// Whether two commands are the same. No memory is taken.
+    pub fn equals(&self, other: &Self) -> bool
+        ensures { IsTrue result ↔ (self.now ≡ other.now) }
+    {
+        match other {
+            Command::Fetch { key } => self.is_fetch(key),
+            Command::Store { key, value, mode } => self.is_store(key, value, *mode),
+            Command::Delete { key } => self.is_delete(key),
+            Command::Run {
+                key,
+                prog,
+                arg,
+                blank,
+                now,
+            } => self.is_run(key, prog, arg, *blank, *now),
+            Command::Count => self.is_count(),
+        }
+    }
+
+    // Whether it is the fetch of a key.
+    fn is_fetch(&self, key: &Bytes<A>) -> bool
+        ensures { IsTrue result ↔ (self.now ≡ Fetch key.now) }
+    {
+        match self {
+            Command::Fetch { key: own } => own == key,
+            _ => false,
+        }
+    }
+
+    // Whether it is this store.
+    fn is_store(&self, key: &Bytes<A>, value: &Bytes<A>, mode: Mode) -> bool
+        ensures { IsTrue result ↔ (self.now ≡ Store key.now value.now mode) }
+    {
+        let Command::Store {
+            key: own,
+            value: its,
+            mode: how,
+        } = self
+        else {
+            return false;
+        };
+        if own != key {
+            return false;
+        }
+        if its != value {
+            return false;
+        }
+        *how == mode
+    }
+
+    // Whether it is the delete of a key.
+    fn is_delete(&self, key: &Bytes<A>) -> bool
+        ensures { IsTrue result ↔ (self.now ≡ Delete key.now) }
+    {
+        match self {
+            Command::Delete { key: own } => own == key,
+            _ => false,
+        }
+    }
+
+    // Whether it is this run.
+    fn is_run(
+        &self,
+        key: &Bytes<A>,
+        prog: &Program<A>,
+        arg: &Bytes<A>,
+        blank: Option<usize>,
+        time: u64,
+    ) -> bool
+        ensures { IsTrue result ↔ (self.now ≡ Run key.now prog.now arg.now blank time) }
+    {
+        let Command::Run {
+            key: own,
+            prog: program,
+            arg: argument,
+            blank: len,
+            now,
+        } = self
+        else {
+            return false;
+        };
+        if own != key {
+            return false;
+        }
+        if !program.equals(prog) {
+            return false;
+        }
+        if argument != arg {
+            return false;
+        }
+        if *len != blank {
+            return false;
+        }
+        *now == time
+    }
+
+    // Whether it is a count.
+    fn is_count(&self) -> bool
+        ensures { IsTrue result ↔ (self.now ≡ Count) }
+    {
+        match self {
+            Command::Count => true,
+            _ => false,
+        }
+    }
+}
+
+impl<A: Allocator> Entry<A> {
+    /// Whether session, command and reply are the same. No memory is taken.
+    pub fn equals(&self, other: &Self) -> bool
+        ensures { IsTrue result ↔ (self.now ≡ other.now) }
+    {
+        if self.session != other.session {
+            return false;
+        }
+        if !self.command.equals(&other.command) {
+            return false;
+        }
+        self.reply == other.reply
+    }
+}

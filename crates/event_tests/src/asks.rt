@@ -114,6 +114,7 @@ pub fn said_by(reply: &Reply<Global>) -> Told {
         Reply::Exists => Told::Exists,
         Reply::Crowded => Told::Crowded,
         Reply::Deleted => Told::Deleted,
+        Reply::Ran { .. } => Told::Wrong,
         Reply::Count(count) => Told::Count(*count),
     }
 }

@@ -133,14 +133,7 @@ fn is_at<A: Allocator>(made: &[Entry<A>], at: usize, entry: &Entry<A>) -> bool
     let Some(other) = made.get(at) else {
         return false;
     };
-    is_same(other, entry)
-}
-
-// Whether two entries are the same.
-fn is_same<A: Allocator>(one: &Entry<A>, other: &Entry<A>) -> bool
-    ensures { IsTrue result ↔ (one.now ≡ other.now) }
-{
-    one == other
+    other.equals(entry)
 }
 
 // Whether a desk began with these pairs, and has such keys and pages.

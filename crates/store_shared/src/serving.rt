@@ -61,6 +61,7 @@ fn ask<R: Wait, A: Allocator + Copy, G: Gate>(
             Err((AskFault::TrailFull, _)) => return Err(Refusal::TrailFull),
             Err((AskFault::NoMemory, _)) => return Err(Refusal::NoMemory),
             Err((AskFault::PairTooLarge, _)) => return Err(Refusal::Strayed),
+            Err((AskFault::ArgTooLong, _)) => return Err(Refusal::Strayed),
         }
         core.waited_for = true;
         core = store.changed.wait(rt, core);

@@ -83,6 +83,7 @@ pub fn said_by<A: Allocator>(reply: &Reply<A>) -> Told {
         Reply::Exists => Told::Exists,
         Reply::Crowded => Told::Crowded,
         Reply::Deleted => Told::Deleted,
+        Reply::Ran { .. } => Told::Wrong,
         Reply::Count(count) => Told::Count(*count),
     }
 }

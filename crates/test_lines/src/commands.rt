@@ -59,6 +59,10 @@ pub fn show_command<A: Allocator>(
             out.push_str("delete ")?;
             show_bytes(out, key.as_slice())
         }
+        Command::Run { key, .. } => {
+            out.push_str("run ")?;
+            show_bytes(out, key.as_slice())
+        }
         Command::Count => out.push_str("count"),
     }
 }
@@ -75,6 +79,7 @@ pub fn show_reply<A: Allocator>(out: &mut String, reply: &Reply<A>) -> Result<()
         Reply::Exists => out.push_str("exists"),
         Reply::Crowded => out.push_str("crowded"),
         Reply::Deleted => out.push_str("deleted"),
+        Reply::Ran { code, word } => write!(out, "ran {code} {word}"),
         Reply::Count(count) => write!(out, "count {count}"),
     }
 }

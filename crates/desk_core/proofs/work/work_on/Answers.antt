@@ -1,5 +1,6 @@
 use Rattle.std.proofs.Common.{Option, sym, ap, ◌∙◌, ◌≡◌, subst, List}
-use Rattle.std.specs.Prelude.{IfOk, IfSome, Bor}
+use Rattle.std.specs.Prelude.{IfOk, IfSome}
+use Rattle.std.specs.Borrow.{Bor}
 use Rattle.sdbm_addr.specs.Pairs.{Pair, Content}
 use Rattle.desk_core.specs.Works.{PageResult, works, pairs_lent}
 use Rattle.desk_core.specs.Worked.{IsWorked}

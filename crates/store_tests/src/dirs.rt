@@ -1,7 +1,10 @@
 //! Places in directories of known bits, and the bytes of these.
+
+use crate::bench::Bench;
 use sdbm_dir::{Dir, DirFault, Place};
-use std::alloc::{AllocError, Allocator};
-use std::test::Fail;
+use std::alloc::{AllocError, Allocator, Global};
+use std::fmt::Write;
+use test_lines::{read_file, show_file};
 
 // Splits the place to which a hash leads, and tells its bit.
 fn split<A: Allocator>(dir: &mut Dir<A>, hash: u32) -> Result<Option<u32>, AllocError> {
@@ -14,137 +17,91 @@ fn split<A: Allocator>(dir: &mut Dir<A>, hash: u32) -> Result<Option<u32>, Alloc
     Ok(Some(place.bit))
 }
 
-#[test]
-fn places_of_two_splits(rt: HostRuntime) -> Result<(), Fail> {
-    let mut dir = Dir::empty(rt.alloc());
-    assert_eq!(rt;
-        dir.place(97),
-        Place {
-            page: 0,
-            depth: 0,
-            bit: 0
-        }
-    );
-    assert_eq!(rt; split(&mut dir, 97)?, Some(0));
-    assert_eq!(rt; split(&mut dir, 99)?, Some(2));
-    assert!(rt; dir.is_split(0) && !dir.is_split(1) && dir.is_split(2));
-    assert_eq!(rt;
-        dir.place(96),
-        Place {
-            page: 0,
-            depth: 1,
-            bit: 1
-        }
-    );
-    assert_eq!(rt;
-        dir.place(97),
-        Place {
-            page: 1,
-            depth: 2,
-            bit: 5
-        }
-    );
-    assert_eq!(rt;
-        dir.place(99),
-        Place {
-            page: 3,
-            depth: 2,
-            bit: 6
-        }
-    );
-    Ok(())
+fn place_of<A: Allocator>(dir: &Dir<A>, hash: u32) -> Place {
+    dir.place(hash)
 }
 
-#[test]
-fn places_of_ten_splits(rt: HostRuntime) -> Result<(), Fail> {
-    let mut dir = Dir::empty(rt.alloc());
-    for bit in [0, 1, 3, 7, 15, 31, 63, 127, 255, 511] {
-        assert_eq!(rt; split(&mut dir, 0)?, Some(bit));
+fn dir_of<A: Allocator + Copy>(alloc: A, bytes: &[u8]) -> Result<Dir<A>, DirFault> {
+    Dir::from_bytes(alloc, bytes)
+}
+
+fn split_text<A: Allocator>(global: Global, dir: &mut Dir<A>, hash: &str) -> Option<String> {
+    match split(dir, hash.parse::<u32>().ok()?).ok()? {
+        Some(bit) => format!(in global; "{bit}").ok(),
+        None => String::from_str(global, "deep").ok(),
     }
-    assert_eq!(rt;
-        dir.place(0),
-        Place {
-            page: 0,
-            depth: 10,
-            bit: 1023
-        }
-    );
-    assert_eq!(rt;
-        dir.place(524800),
-        Place {
-            page: 512,
-            depth: 10,
-            bit: 1024
-        }
-    );
-    assert_eq!(rt;
-        dir.place(1049600),
-        Place {
-            page: 0,
-            depth: 10,
-            bit: 1023
-        }
-    );
-    assert_eq!(rt;
-        dir.place(1),
-        Place {
-            page: 1,
-            depth: 1,
-            bit: 2
-        }
-    );
-    Ok(())
 }
 
-#[test]
-fn directories_of_few_bytes(rt: HostRuntime) -> Result<(), Fail> {
-    let none = Dir::from_bytes(rt.alloc(), &[]).expect(&rt, "no bytes");
-    assert!(rt; !none.is_split(0) && none.bytes().is_empty());
-    let root = Dir::from_bytes(rt.alloc(), &[1, 0, 0]).expect(&rt, "one bit");
-    assert!(rt; root.is_split(0) && !root.is_split(1) && !root.is_split(2));
-    assert_eq!(rt;
-        (root.bytes().len(), root.bytes().first()),
-        (4096, Some(&1))
-    );
-    let two = Dir::from_bytes(rt.alloc(), &[5]).expect(&rt, "two bits");
-    assert!(rt; two.is_split(0) && !two.is_split(1) && two.is_split(2));
-    assert_eq!(rt; (two.bytes().len(), two.bytes().first()), (4096, Some(&5)));
-    Ok(())
+fn place_text<A: Allocator>(global: Global, dir: &Dir<A>, hash: &str) -> Option<String> {
+    let place = place_of(dir, hash.parse::<u32>().ok()?);
+    format!(in global;
+        "page {} depth {} bit {}",
+        place.page, place.depth, place.bit
+    )
+    .ok()
 }
 
-#[test]
-fn bits_without_their_parents(rt: HostRuntime) -> Result<(), Fail> {
-    for byte in [2, 4, 8, 9, 128, 254] {
-        assert_eq!(rt;
-            Dir::from_bytes(rt.alloc(), &[byte]).err(),
-            Some(DirFault::DirOrphan)
-        );
+fn marked_text<A: Allocator>(global: Global, dir: &Dir<A>, bits: &str) -> Option<String> {
+    let mut out = String::from_str(global, "marked").ok()?;
+    for word in bits.split(' ') {
+        let bit = word.parse::<u32>().ok()?;
+        if dir.is_split(bit) {
+            write!(out, " {bit}").ok()?;
+        }
     }
-    assert_eq!(rt;
-        Dir::from_bytes(rt.alloc(), &[1, 0, 0, 64]).err(),
-        Some(DirFault::DirOrphan)
-    );
-    Ok(())
+    Some(out)
 }
 
-#[test]
-fn bytes_of_two_blocks(rt: HostRuntime) -> Result<(), Fail> {
-    let mut dir = Dir::empty(rt.alloc());
-    dir.grow_for(100_000)?;
-    assert!(rt; dir.bytes().is_empty());
-    for bit in [
-        0, 1, 3, 7, 15, 31, 63, 127, 255, 511, 1023, 2047, 4095, 8191, 16383,
-    ] {
-        assert_eq!(rt; split(&mut dir, 0)?, Some(bit));
+fn grow_text<A: Allocator>(global: Global, dir: &mut Dir<A>, bit: &str) -> Option<String> {
+    dir.grow_for(bit.parse::<u32>().ok()?).ok()?;
+    String::from_str(global, "grown").ok()
+}
+
+fn bits_text<A: Allocator>(global: Global, dir: &Dir<A>) -> Option<String> {
+    let mut out = String::new(global);
+    show_file(global, &mut out, dir.bytes()).ok()?;
+    Some(out)
+}
+
+fn read_dir<A: Allocator + Copy>(bench: &mut Bench<A>, file: &str) -> Option<String> {
+    let bytes = read_file(bench.global, file)?;
+    match dir_of(bench.alloc, bytes.as_slice()) {
+        Ok(dir) => {
+            bench.dir = dir;
+            String::from_str(bench.global, "dir").ok()
+        }
+        Err(fault) => format!(in bench.global; "fault {fault:?}").ok(),
     }
-    assert!(rt; dir.bytes().len() == 4096 && dir.bytes().starts_with(&[139, 128, 0, 128]));
-    assert_eq!(rt; split(&mut dir, 16384)?, Some(32768));
-    assert_eq!(rt;
-        (dir.bytes().len(), dir.bytes().get(4096)),
-        (8192, Some(&1))
-    );
-    let again = Dir::from_bytes(rt.alloc(), dir.bytes()).expect(&rt, "own bytes");
-    assert!(rt; again.bytes() == dir.bytes());
-    assert_eq!(rt; again.place(16384), dir.place(16384));
-    Ok(())
+}
+
+fn empty_dir<A: Allocator + Copy>(bench: &mut Bench<A>) -> Option<String> {
+    bench.dir = Dir::empty(bench.alloc);
+    String::from_str(bench.global, "dir").ok()
+}
+
+fn again<A: Allocator + Copy>(bench: &mut Bench<A>) -> Option<String> {
+    let dir = dir_of(bench.alloc, bench.dir.bytes()).ok()?;
+    let same = dir.bytes() == bench.dir.bytes();
+    bench.dir = dir;
+    let text = if same { "again" } else { "other bytes" };
+    String::from_str(bench.global, text).ok()
+}
+
+/// The answer to a line, where it is one of these.
+pub fn dir_line<A: Allocator + Copy>(
+    bench: &mut Bench<A>,
+    word: &str,
+    rest: &str,
+) -> Option<String> {
+    match word {
+        "dir" if rest.is_empty() => empty_dir(bench),
+        "dir" => read_dir(bench, rest),
+        "again" => again(bench),
+        "split" => split_text(bench.global, &mut bench.dir, rest),
+        "place" => place_text(bench.global, &bench.dir, rest),
+        "marked" => marked_text(bench.global, &bench.dir, rest),
+        "grow" => grow_text(bench.global, &mut bench.dir, rest),
+        "bits" => bits_text(bench.global, &bench.dir),
+        _ => None,
+    }
 }

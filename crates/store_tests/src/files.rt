@@ -1,11 +1,11 @@
-//! Databases whose files were worked out by hand from the hashes of the keys, and what is written of them. `desk_tests` has the
-//! files of what is stored.
-use crate::page_bytes::begins_and_ends;
+//! Databases of files, and what is written of them.
+
+use crate::bench::{Bench, Known};
+use crate::parse::cut;
 use sdbm_addr::{KeyBytes, PageSize};
-use sdbm_files::{Image, MemSink, OpenFault, widen};
+use sdbm_files::{Image, MemSink, OpenFault, WriteFault};
 use std::alloc::{AllocError, Allocator, Global};
-use std::process::Abort;
-use std::test::Fail;
+use test_lines::{read_file, read_kind, read_size, show_file};
 
 /// Both files of a database.
 #[derive(Drop)]
@@ -14,128 +14,122 @@ pub struct Files {
     pub pag: MemSink<Global>,
 }
 
-/// The files of a database.
-pub fn files_of<A: Allocator + Copy>(rt: &(impl Abort + AllocGlobal), image: &Image<A>) -> Files {
-    let mut dir = MemSink::new(rt.alloc());
-    let mut pag = MemSink::new(rt.alloc());
-    assert_eq!(rt; image.write(&mut dir, &mut pag), Ok(()));
-    assert!(rt; !dir.has_failed() && !pag.has_failed());
-    assert_eq!(rt; pag.bytes().len() as u64, image.pag_len());
-    Files { dir, pag }
-}
-
 /// Whether files have the same bytes.
 pub fn same_files(a: &Files, b: &Files) -> bool {
     a.dir.bytes() == b.dir.bytes() && a.pag.bytes() == b.pag.bytes()
 }
 
-/// Both files of a database as bytes.
-#[derive(Drop)]
-pub struct Known {
-    pub dir: Vec<u8>,
-    pub pag: Vec<u8>,
+/// Writes a database.
+pub fn write_both<A: Allocator + Copy, B: Allocator>(
+    image: &Image<A>,
+    dir: &mut MemSink<B>,
+    pag: &mut MemSink<B>,
+) -> Result<(), WriteFault> {
+    image.write(dir, pag)
 }
 
-fn put(bytes: &mut [u8], at: usize, part: &[u8]) {
-    for (i, byte) in part.iter().enumerate() {
-        if let Some(place) = bytes.get_mut(at.saturating_add(i)) {
-            *place = *byte;
-        }
+/// The files of a database, whose `.pag` has to have the length that is told before.
+pub fn files_of<A: Allocator + Copy>(global: Global, image: &Image<A>) -> Option<Files> {
+    let mut dir = MemSink::new(global);
+    let mut pag = MemSink::new(global);
+    write_both(image, &mut dir, &mut pag).ok()?;
+    if dir.has_failed() || pag.has_failed() {
+        return None;
     }
-}
-
-/// So many bytes, zeros but for parts at their offsets.
-pub fn bytes_of(
-    alloc: Global,
-    length: usize,
-    parts: &[(usize, &[u8])],
-) -> Result<Vec<u8>, AllocError> {
-    let mut bytes = vec![in alloc; 0u8; length]?;
-    for (at, part) in parts {
-        put(bytes.as_mut_slice(), *at, part);
+    if pag.bytes().len() as u64 != image.pag_len() {
+        return None;
     }
-    Ok(bytes)
-}
-
-/// The files of `a` and `b`, which one split parts, with 600 zeros each.
-pub fn one_split(alloc: Global) -> Result<Known, AllocError> {
-    let head: &[u8] = &[2, 0, 0xff, 3, 0xa7, 1];
-    let parts = [
-        (0, head),
-        (1023, b"b".as_slice()),
-        (1024, head),
-        (2047, b"a".as_slice()),
-    ];
-    Ok(Known {
-        dir: bytes_of(alloc, 4096, &[(0, &[1])])?,
-        pag: bytes_of(alloc, 2048, &parts)?,
-    })
-}
-
-/// The files of `0000` and `0808`, which ten splits part, with 600 zeros each. The bits are 0, 1, 3, 7, 15, 31, 63, 127, 255
-/// and 511.
-pub fn ten_splits(alloc: Global) -> Result<Known, AllocError> {
-    let head: &[u8] = &[2, 0, 0xfe, 3, 0xa6, 1];
-    let bits: [(usize, &[u8]); 6] = [
-        (0, &[0x8b, 0x80]),
-        (3, &[0x80]),
-        (7, &[0x80]),
-        (15, &[0x80]),
-        (31, &[0x80]),
-        (63, &[0x80]),
-    ];
-    let parts = [
-        (0, head),
-        (524_288, head),
-        (525_310, b"\x08\x08".as_slice()),
-    ];
-    Ok(Known {
-        dir: bytes_of(alloc, 4096, &bits)?,
-        pag: bytes_of(alloc, 525_312, &parts)?,
-    })
+    Some(Files { dir, pag })
 }
 
 /// The database of files.
-pub fn open_known<A: Allocator + Copy>(alloc: A, files: &Known) -> Result<Image<A>, OpenFault> {
-    let dir = files.dir.as_slice();
-    let pag = files.pag.as_slice();
-    Image::open(alloc, dir, pag, KeyBytes::Signed, PageSize::Small)
+pub fn open_files<A: Allocator + Copy>(
+    alloc: A,
+    dir: &[u8],
+    pag: &[u8],
+    kind: KeyBytes,
+    size: PageSize,
+) -> Result<Image<A>, OpenFault> {
+    Image::open(alloc, dir, pag, kind, size)
 }
 
-// The bytes from a place on, none where there are fewer.
-fn part(bytes: &[u8], start: usize, count: usize) -> &[u8] {
-    if start > bytes.len() || count > bytes.len() - start {
-        return b"";
+/// The database of files that are known.
+pub fn open_known<A: Allocator + Copy>(alloc: A, known: &Known) -> Result<Image<A>, OpenFault> {
+    let dir = known.dir.as_slice();
+    let pag = known.pag.as_slice();
+    open_files(alloc, dir, pag, known.kind, known.size)
+}
+
+fn file_of(global: Global, text: &str) -> Vec<u8> {
+    match read_file(global, text) {
+        Some(bytes) => bytes,
+        None => Vec::new(global),
     }
-    &bytes[start..start + count]
 }
 
-#[test]
-fn what_was_read_is_written(rt: HostRuntime) -> Result<(), Fail> {
-    for known in [one_split(rt.alloc())?, ten_splits(rt.alloc())?] {
-        let files = files_of(&rt, &open_known(rt.alloc(), &known)?);
-        assert!(rt; files.dir.bytes() == known.dir.as_slice());
-        assert!(rt; files.pag.bytes() == known.pag.as_slice());
+fn read_known(global: Global, rest: &str) -> Option<Known> {
+    let (kind, rest) = cut(rest);
+    let (size, rest) = cut(rest);
+    let (dir, pag) = rest.strip_prefix("dir ")?.split_once(" pag ")?;
+    let kind = read_kind(kind)?;
+    let size = read_size(size)?;
+    Some(Known {
+        kind,
+        size,
+        dir: file_of(global, dir),
+        pag: file_of(global, pag),
+    })
+}
+
+/// How many pairs a database has, or the fault of its files.
+pub fn opened_text<A: Allocator + Copy>(
+    global: Global,
+    opened: &Result<Image<A>, OpenFault>,
+) -> Option<String> {
+    match opened {
+        Ok(image) => format!(in global; "count {}", image.count()).ok(),
+        Err(fault) => format!(in global; "fault {fault:?}").ok(),
     }
-    Ok(())
 }
 
-#[test]
-fn widened(rt: HostRuntime) -> Result<(), Fail> {
-    let image = open_known(rt.alloc(), &one_split(rt.alloc())?)?;
-    let small = files_of(&rt, &image);
-    let wide = widen(image).map_err(|refused| refused.0)?;
-    assert_eq!(rt; wide.page_size(), PageSize::Wide);
-    assert_eq!(rt; wide.count(), 2);
-    let files = files_of(&rt, &wide);
-    assert!(rt; files.dir.bytes() == small.dir.bytes());
-    let pag = files.pag.bytes();
-    assert_eq!(rt; pag.len(), 16_384);
-    let head = [2, 0, 0xff, 0x1f, 0xa7, 0x1d];
-    assert!(rt; begins_and_ends(part(pag, 0, 8192), &head, b"b"));
-    assert!(rt; begins_and_ends(part(pag, 8192, 8192), &head, b"a"));
-    let again = widen(wide).map_err(|refused| refused.0)?;
-    assert_eq!(rt; again.page_size(), PageSize::Wide);
-    assert!(rt; same_files(&files_of(&rt, &again), &files));
-    Ok(())
+fn open<A: Allocator + Copy>(bench: &mut Bench<A>, rest: &str) -> Option<String> {
+    let known = read_known(bench.global, rest)?;
+    let opened = open_known(bench.alloc, &known);
+    let text = opened_text(bench.global, &opened)?;
+    bench.known = Some(known);
+    bench.image = opened.ok();
+    Some(text)
+}
+
+/// How many pairs a database has, the size of its pages and the length of `.pag`.
+pub fn count_text<A: Allocator + Copy>(global: Global, image: &Image<A>) -> Option<String> {
+    let size = image.page_size();
+    format!(in global; "{} {size:?} {}", image.count(), image.pag_len()).ok()
+}
+
+fn show_files(global: Global, dir: &[u8], pag: &[u8]) -> Result<String, AllocError> {
+    let mut out = String::from_str(global, "dir ")?;
+    show_file(global, &mut out, dir)?;
+    out.push_str(" pag ")?;
+    show_file(global, &mut out, pag)?;
+    Ok(out)
+}
+
+fn write_text<A: Allocator + Copy>(global: Global, image: &Image<A>) -> Option<String> {
+    let files = files_of(global, image)?;
+    show_files(global, files.dir.bytes(), files.pag.bytes()).ok()
+}
+
+/// The answer to a line, where it is one of these.
+pub fn file_line<A: Allocator + Copy>(
+    bench: &mut Bench<A>,
+    word: &str,
+    rest: &str,
+) -> Option<String> {
+    match word {
+        "open" => open(bench, rest),
+        "count" => count_text(bench.global, bench.image.as_ref()?),
+        "write" => write_text(bench.global, bench.image.as_ref()?),
+        _ => None,
+    }
 }

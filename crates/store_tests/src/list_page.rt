@@ -1,7 +1,7 @@
 //! A page as the list of its pairs, written after the rules alone: what the page that is kept as bytes has to agree with.
 use sdbm_addr::{Bytes, PageSize};
 use sdbm_page::Page;
-use std::alloc::{AllocError, Global};
+use std::alloc::{AllocError, Allocator, Global};
 
 /// A page's pairs in their order.
 #[derive(Drop)]
@@ -74,7 +74,7 @@ impl ListPage {
     }
 
     /// Whether a page has the same pairs in the same places, and the same bytes.
-    pub fn is(&self, page: &Page<Global>) -> Result<bool, AllocError> {
+    pub fn is<A: Allocator>(&self, page: &Page<A>) -> Result<bool, AllocError> {
         if page.page_size() != self.size || page.len() != self.pairs.len() {
             return Ok(false);
         }

@@ -1,9 +1,10 @@
-//! Sinks that stop, after many numbers of bytes.
-use crate::files::{Files, files_of, one_split, open_known};
+//! Sinks that stop after so many bytes.
+
+use crate::files::{Files, files_of};
+use crate::parse::{cut, number};
 use sdbm_files::{Image, Sink, SinkFault, WriteFault};
-use std::alloc::Global;
-use std::process::Abort;
-use std::test::Fail;
+use std::alloc::{AllocError, Allocator, Global};
+use std::fmt::Write;
 
 // How a sink stops.
 #[derive(Clone, Copy, Debug, PartialEq, Eq)]
@@ -62,56 +63,71 @@ impl Sink for ShortSink {
     }
 }
 
-// Writes a database into sinks with so much room. They have to have the first bytes of its files.
-fn write_short(
-    rt: &(impl Abort + AllocGlobal),
-    image: &Image<Global>,
-    files: &Files,
-    stop: Stop,
-    (dir_room, pag_room): (usize, usize),
+fn write_short<A: Allocator + Copy>(
+    image: &Image<A>,
+    dir: &mut ShortSink,
+    pag: &mut ShortSink,
 ) -> Result<(), WriteFault> {
-    let mut dir = ShortSink::new(rt.alloc(), dir_room, stop);
-    let mut pag = ShortSink::new(rt.alloc(), pag_room, stop);
-    let result = image.write(&mut dir, &mut pag);
-    assert_eq!(rt; pag.bytes.len(), pag_room.min(files.pag.bytes().len()));
-    assert!(rt; files.pag.bytes().starts_with(pag.bytes.as_slice()));
-    assert_eq!(rt; pag.stopped, result == Err(WriteFault::Pag));
-    let dir_length = if pag.stopped {
-        0
-    } else {
-        dir_room.min(files.dir.bytes().len())
-    };
-    assert_eq!(rt; dir.bytes.len(), dir_length);
-    assert!(rt; files.dir.bytes().starts_with(dir.bytes.as_slice()));
-    assert_eq!(rt; dir.stopped, result == Err(WriteFault::Dir));
-    result
+    image.write(dir, pag)
 }
 
-#[test]
-fn sinks_that_stop(rt: HostRuntime) -> Result<(), Fail> {
-    let image = open_known(rt.alloc(), &one_split(rt.alloc())?)?;
-    let files = files_of(&rt, &image);
-    for stop in [Stop::Fails, Stop::TakesNone] {
-        for step in 0..24 {
-            let room = step * 89;
-            let got = write_short(&rt, &image, &files, stop, (9999, room));
-            let want = if room < 2048 {
-                Err(WriteFault::Pag)
-            } else {
-                Ok(())
-            };
-            assert_eq!(rt; got, want, "{stop:?} {room}");
-        }
-        for step in 0..24 {
-            let room = step * 195;
-            let got = write_short(&rt, &image, &files, stop, (room, 2048));
-            let want = if room < 4096 {
-                Err(WriteFault::Dir)
-            } else {
-                Ok(())
-            };
-            assert_eq!(rt; got, want, "{stop:?} {room}");
-        }
+// Writes how many bytes a sink has, whether it stopped, and whether they are other ones than the first of a file.
+fn show_sink(out: &mut String, sink: &ShortSink, file: &[u8]) -> Result<(), AllocError> {
+    write!(out, "{}", sink.bytes.len())?;
+    if sink.stopped {
+        out.push_str(" stopped")?;
+    }
+    if !file.starts_with(sink.bytes.as_slice()) {
+        out.push_str(" with other bytes")?;
     }
     Ok(())
+}
+
+fn show_short(
+    global: Global,
+    ended: Result<(), WriteFault>,
+    (dir, pag): (&ShortSink, &ShortSink),
+    files: &Files,
+) -> Result<String, AllocError> {
+    let mut out = match ended {
+        Ok(()) => String::from_str(global, "written dir ")?,
+        Err(fault) => format!(in global; "refused {fault:?} dir ")?,
+    };
+    show_sink(&mut out, dir, files.dir.bytes())?;
+    out.push_str(" pag ")?;
+    show_sink(&mut out, pag, files.pag.bytes())?;
+    Ok(out)
+}
+
+fn read_stop(word: &str) -> Option<Stop> {
+    match word {
+        "fails" => Some(Stop::Fails),
+        "none" => Some(Stop::TakesNone),
+        _ => None,
+    }
+}
+
+// Writes a database into sinks with so much room.
+fn short<A: Allocator + Copy>(
+    global: Global,
+    image: &Image<A>,
+    stop: Stop,
+    (dir, pag): (usize, usize),
+) -> Option<String> {
+    let files = files_of(global, image)?;
+    let mut dir = ShortSink::new(global, dir, stop);
+    let mut pag = ShortSink::new(global, pag, stop);
+    let ended = write_short(image, &mut dir, &mut pag);
+    show_short(global, ended, (&dir, &pag), &files).ok()
+}
+
+/// What comes of a write where sinks stop.
+pub fn short_text<A: Allocator + Copy>(
+    global: Global,
+    image: &Image<A>,
+    rest: &str,
+) -> Option<String> {
+    let (stop, rest) = cut(rest);
+    let (dir, pag) = cut(rest);
+    short(global, image, read_stop(stop)?, (number(dir), number(pag)))
 }

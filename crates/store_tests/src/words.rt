@@ -1,91 +1,129 @@
-//! Hashes, directory numbers, sizes and byte strings, against values worked out by hand from the sum and from the original's
-//! header.
-use sdbm_addr::{Bytes, KeyBytes, Mode, PageSize, child, clone_pairs, hash, mask};
-use std::test::Fail;
+//! Hashes, directory numbers, sizes and byte strings.
+
+use crate::parse::{bytes_of, cut};
+use sdbm_addr::{Bytes, KeyBytes, PageSize, child, clone_pairs, hash, mask};
+use std::alloc::{AllocError, Global};
 use store_cmd::{Command, SizeFault, check};
+use test_lines::{read_command, read_kind, read_size, show_bytes, show_pairs};
 
-#[test]
-fn hashes(rt: HostRuntime) {
-    let table: [(&[u8], u32, u32); 10] = [
-        (b"", 0, 0),
-        (b"a", 97, 97),
-        (b"ab", 6363201, 6363201),
-        (b"abc", 807794786, 807794786),
-        (b"\x00\x3f", 63, 63),
-        (b"\x3f", 63, 63),
-        (b"\x01\x00", 65599, 65599),
-        (b"\x08\x08", 524800, 524800),
-        (b"\x10\x10", 1049600, 1049600),
-        (b"\xff", 4294967295, 255),
-    ];
-    for (key, signed, unsigned) in table {
-        assert_eq!(rt; hash(key, KeyBytes::Signed), signed, "{key:?}");
-        assert_eq!(rt; hash(key, KeyBytes::Unsigned), unsigned, "{key:?}");
+fn show_number(global: Global, number: u32) -> Option<String> {
+    format!(in global; "{number}").ok()
+}
+
+fn hash_of(key: &[u8], kind: KeyBytes) -> u32 {
+    hash(key, kind)
+}
+
+fn hash_text(global: Global, rest: &str) -> Option<String> {
+    let (kind, key) = cut(rest);
+    let kind = read_kind(kind)?;
+    show_number(global, hash_of(bytes_of(global, key).as_slice(), kind))
+}
+
+fn mask_text(global: Global, depth: &str) -> Option<String> {
+    let depth = depth.parse::<u8>().ok()?;
+    if depth > 31 {
+        return None;
+    }
+    show_number(global, mask(depth))
+}
+
+fn child_text(global: Global, rest: &str) -> Option<String> {
+    let (bit, side) = rest.split_once(' ')?;
+    let bit = bit.parse::<u32>().ok()?;
+    if bit >= 2147483647 {
+        return None;
+    }
+    show_number(global, child(bit, side == "1"))
+}
+
+fn size_text(global: Global, name: &str) -> Option<String> {
+    let size = read_size(name)?;
+    let bytes = size.bytes();
+    let pair = size.pair_limit();
+    let offsets = size.offset_limit();
+    format!(in global; "{bytes} {pair} {offsets}").ok()
+}
+
+// A byte string and a copy of it, and then the first byte is changed.
+fn changed(
+    global: Global,
+    bytes: &[u8],
+    first: u8,
+) -> Result<(Bytes<Global>, Bytes<Global>), AllocError> {
+    let mut bytes = Bytes::from_slice(global, bytes)?;
+    let copy = bytes.try_clone(global)?;
+    if let Some(place) = bytes.as_mut_slice().first_mut() {
+        *place = first;
+    }
+    Ok((bytes, copy))
+}
+
+fn show_two(global: Global, one: &[u8], other: &[u8]) -> Result<String, AllocError> {
+    let mut out = String::new(global);
+    show_bytes(&mut out, one)?;
+    out.push_str(" ")?;
+    show_bytes(&mut out, other)?;
+    Ok(out)
+}
+
+fn changed_text(global: Global, bytes: &[u8], first: u8) -> Result<String, AllocError> {
+    let (bytes, copy) = changed(global, bytes, first)?;
+    show_two(global, bytes.as_slice(), copy.as_slice())
+}
+
+fn bytes_text(global: Global, rest: &str) -> Result<String, AllocError> {
+    let (bytes, first) = cut(rest);
+    let first = bytes_of(global, first).first().copied().unwrap_or(0);
+    changed_text(global, bytes_of(global, bytes).as_slice(), first)
+}
+
+fn read_pair(global: Global, pair: &str) -> (Bytes<Global>, Bytes<Global>) {
+    let (key, value) = pair.split_once('=').unwrap_or((pair, ""));
+    let key = Bytes::new(bytes_of(global, key));
+    (key, Bytes::new(bytes_of(global, value)))
+}
+
+fn read_pairs(global: Global, rest: &str) -> Option<Vec<(Bytes<Global>, Bytes<Global>)>> {
+    let mut pairs = Vec::new(global);
+    for pair in rest.split(' ') {
+        pairs.push(read_pair(global, pair)).ok()?;
+    }
+    Some(pairs)
+}
+
+fn copies_text(global: Global, rest: &str) -> Option<String> {
+    let pairs = read_pairs(global, rest)?;
+    let copies = clone_pairs(global, pairs.as_slice()).ok()?;
+    let mut out = String::from_str(global, "copies").ok()?;
+    show_pairs(&mut out, copies.as_slice()).ok()?;
+    Some(out)
+}
+
+fn check_of(command: &Command<Global>, size: PageSize) -> Result<(), SizeFault> {
+    check(command, size)
+}
+
+fn check_text(global: Global, rest: &str) -> Option<String> {
+    let (size, command) = cut(rest);
+    let size = read_size(size)?;
+    let command = read_command(global, command)?;
+    match check_of(&command, size) {
+        Ok(()) => String::from_str(global, "fits").ok(),
+        Err(fault) => format!(in global; "refused {fault:?}").ok(),
     }
 }
 
-#[test]
-fn numbers(rt: HostRuntime) {
-    assert_eq!(rt; (mask(0), mask(1), mask(10)), (0, 1, 1023));
-    assert_eq!(rt; mask(31), 2147483647);
-    assert_eq!(rt; (child(0, false), child(0, true)), (1, 2));
-    assert_eq!(rt; (child(511, false), child(511, true)), (1023, 1024));
-    assert_eq!(rt; child(2147483646, true), 4294967294);
-    for (size, bytes, pair, offsets) in [
-        (PageSize::Small, 1024, 1008, 510),
-        (PageSize::Wide, 8192, 8008, 4094),
-    ] {
-        assert_eq!(rt; size.bytes(), bytes);
-        assert_eq!(rt; size.pair_limit(), pair);
-        assert_eq!(rt; size.offset_limit(), offsets);
+/// The answer to a line, where it is one of these.
+pub fn word_line(global: Global, word: &str, rest: &str) -> Option<String> {
+    match word {
+        "hash" => hash_text(global, rest),
+        "mask" => mask_text(global, rest),
+        "child" => child_text(global, rest),
+        "size" => size_text(global, rest),
+        "bytes" => bytes_text(global, rest).ok(),
+        "copies" => copies_text(global, rest),
+        "check" => check_text(global, rest),
+        _ => None,
     }
-}
-
-#[test]
-fn byte_strings(rt: HostRuntime) -> Result<(), Fail> {
-    let alloc = rt.alloc();
-    let mut bytes = Bytes::from_slice(alloc, b"key")?;
-    let copy = bytes.try_clone(alloc)?;
-    if let Some(first) = bytes.as_mut_slice().first_mut() {
-        *first = b'h';
-    }
-    assert_eq!(rt; bytes.as_slice(), b"hey".as_slice());
-    assert_eq!(rt; copy.as_slice(), b"key".as_slice());
-    let pairs = vec![in alloc;
-        (bytes, copy),
-        (Bytes::new(Vec::new(alloc)), Bytes::new(vec![in alloc; 7]?)),
-    ]?;
-    let again = clone_pairs(alloc, pairs.as_slice())?;
-    assert_eq!(rt; again.len(), 2);
-    assert_eq!(rt; again[0].0.as_slice(), b"hey".as_slice());
-    assert_eq!(rt; again[0].1.as_slice(), b"key".as_slice());
-    assert_eq!(rt; again[1].0.as_slice(), [].as_slice());
-    assert_eq!(rt; again[1].1.as_slice(), [7].as_slice());
-    Ok(())
-}
-
-#[test]
-fn sizes_of_commands(rt: HostRuntime) -> Result<(), Fail> {
-    let alloc = rt.alloc();
-    for (size, key_len, value_len, fault) in [
-        (PageSize::Small, 1, 1007, None),
-        (PageSize::Small, 1, 1008, Some(SizeFault::PairTooLarge)),
-        (PageSize::Small, 1008, 0, None),
-        (PageSize::Small, 1009, 0, Some(SizeFault::PairTooLarge)),
-        (PageSize::Wide, 1, 1008, None),
-        (PageSize::Wide, 1, 8007, None),
-        (PageSize::Wide, 1, 8008, Some(SizeFault::PairTooLarge)),
-    ] {
-        let command = Command::Store {
-            key: Bytes::new(vec![in alloc; 0u8; key_len]?),
-            value: Bytes::new(vec![in alloc; 0u8; value_len]?),
-            mode: Mode::Insert,
-        };
-        assert_eq!(rt; check(&command, size).err(), fault, "{key_len} {value_len}");
-    }
-    let long = Command::Fetch {
-        key: Bytes::new(vec![in alloc; 0u8; 9000]?),
-    };
-    assert!(rt; check(&long, PageSize::Small).is_ok());
-    Ok(())
 }

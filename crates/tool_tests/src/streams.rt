@@ -1,0 +1,99 @@
+//! Readers and writers of every kind, and scripts from one to the other.
+
+use dbm_script::{ScriptFault, run_script};
+use sdbm_addr::{KeyBytes, PageSize};
+use sdbm_files::Image;
+use std::alloc::Global;
+use std::io;
+use std::io::{ErrorKind, Read, Write};
+
+/// Gives a text, so many bytes a call, and fails once, where so many are left.
+#[derive(Drop)]
+pub struct Given<'a> {
+    pub text: &'a [u8],
+    pub step: usize,
+    pub fails: Option<(usize, ErrorKind)>,
+}
+
+impl Read for Given<'_> {
+    fn read(&mut self, buf: &mut [u8]) -> io::Result<usize> {
+        if let Some((left, kind)) = self.fails
+            && left == self.text.len()
+        {
+            self.fails = None;
+            return Err(io::Error::from(kind));
+        }
+        let count = self.text.len().min(self.step).min(buf.len());
+        let (first, others) = self.text.split_at(count);
+        buf[..count].copy_from_slice(first);
+        self.text = others;
+        Ok(count)
+    }
+}
+
+/// Gives so many empty lines, which it does not hold.
+#[derive(Drop)]
+pub struct EmptyLines {
+    pub left: usize,
+}
+
+impl Read for EmptyLines {
+    fn read(&mut self, buf: &mut [u8]) -> io::Result<usize> {
+        let count = self.left.min(buf.len());
+        for byte in &mut buf[..count] {
+            *byte = b'\n';
+        }
+        self.left -= count;
+        Ok(count)
+    }
+}
+
+/// Takes so many bytes a call, and fails once, when it has taken so many.
+#[derive(Drop)]
+pub struct Taken {
+    pub text: Vec<u8>,
+    pub step: usize,
+    pub fails: Option<(usize, ErrorKind)>,
+}
+
+impl Taken {
+    /// A writer that has taken nothing.
+    pub fn new(global: Global, step: usize, fails: Option<(usize, ErrorKind)>) -> Self {
+        Taken {
+            text: Vec::new(global),
+            step,
+            fails,
+        }
+    }
+}
+
+impl Write for Taken {
+    fn write(&mut self, buf: &[u8]) -> io::Result<usize> {
+        if let Some((most, kind)) = self.fails
+            && most <= self.text.len()
+        {
+            self.fails = None;
+            return Err(io::Error::from(kind));
+        }
+        let count = buf.len().min(self.step);
+        self.text.extend_from_slice(&buf[..count])?;
+        Ok(count)
+    }
+
+    fn flush(&mut self) -> io::Result<()> {
+        Ok(())
+    }
+}
+
+/// Runs a script on an empty database, and gives the number of pairs after it.
+pub fn run<R: Read>(
+    global: Global,
+    reader: &mut R,
+    writer: &mut Taken,
+) -> Result<usize, ScriptFault> {
+    let image = Image::empty(global, KeyBytes::Signed, PageSize::Small);
+    match run_script(global, reader, writer, image) {
+        Ok(after) => Ok(after.count()),
+        Err(fault) => Err(fault),
+    }
+}

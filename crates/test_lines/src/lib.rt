@@ -13,5 +13,5 @@ pub use bytes::{read_bytes, show_bytes};
 pub use commands::{read_command, show_command, show_pairs, show_reply};
 pub use memory::fill;
 pub use names::{read_kind, read_size};
-pub use same::{same_entry, same_trail};
+pub use same::same_trail;
 pub use segments::{read_file, show_file};

@@ -17,8 +17,8 @@ fn same_pairs<A: Allocator>(a: &[(Bytes<A>, Bytes<A>)], b: &[(Bytes<A>, Bytes<A>
     true
 }
 
-/// Whether two entries are the same, and so are their commands and replies.
-pub fn same_entry<A: Allocator>(a: &Entry<A>, b: &Entry<A>) -> bool {
+// Whether two entries are the same, and so are their commands and replies.
+fn same_entry<A: Allocator>(a: &Entry<A>, b: &Entry<A>) -> bool {
     a == b && a.command == b.command && a.reply == b.reply
 }
 

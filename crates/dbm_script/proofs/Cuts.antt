@@ -5,7 +5,7 @@ use Rattle.std.proofs.lemmas.List.{drop_more, take_all, get_or-take, get_or_defa
 use Rattle.std.proofs.lemmas.List.Splits.{slice_split_none, slice_split_at, length-slice_split}
 use Rattle.std.specs.List.{All}
 use Rattle.dbm_script.specs.Pieces.{pieces_of}
-use Rattle.dbm_script.specs.Commands.{command_of}
+use Rattle.dbm_script.specs.Lines.{ask_of}
 
 -- no such byte before place k
 abbrev pub NoneBefore : ℕ → List ℕ → ℕ → Type 0
@@ -26,10 +26,10 @@ pieces-first byte text k h none hit =
     ∙ slice_split_at (λ b. eqb b byte) (take k text) (get_or text k 0) (drop (k + 1) text) (none_passes byte text k (omega arith) none) hit
     ∙ ap (λ xs. take k text ∷ pieces_of byte xs) (sym (take_all (length text - (k + 1)) (drop (k + 1) text) (let l : length (drop (k + 1) text) ≡ length text - (k + 1) = length-drop (k + 1) text in omega arith)))
 
--- four words and more are no command
-pub too_many_words : {A : Type 0} (a b c rest : List ℕ) → None ≡ command_of {A = A} (a ∷ b ∷ c ∷ pieces_of 32 rest)
+-- four words and more ask nothing
+pub too_many_words : {A : Type 0} (a b c rest : List ℕ) → None ≡ ask_of {A = A} (a ∷ b ∷ c ∷ pieces_of 32 rest)
 too_many_words {A = A} a b c rest = none (pieces_of 32 rest) (let long = length-slice_split (λ x. eqb x 32) rest in omega arith)
   where
-    none : (words : List (List ℕ)) → 0 < length words → None ≡ command_of {A = A} (a ∷ b ∷ c ∷ words)
+    none : (words : List (List ℕ)) → 0 < length words → None ≡ ask_of {A = A} (a ∷ b ∷ c ∷ words)
     none [] h = absurd (search (rules, h))
     none (word ∷ words) h = refl

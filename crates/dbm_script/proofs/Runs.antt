@@ -1,5 +1,6 @@
 -- Lines that run one after another, and texts that are written in parts.
-use Rattle.std.proofs.Common.{◌≡◌, List, [], ◌∷◌, ◌++◌, ℕ, Option, Some, None, IfSome, length, eqb, false, refl, ap, ◌∙◌, sym, subst, append_assoc}
+use Rattle.std.proofs.Common.{◌≡◌, List, [], ◌∷◌, ◌++◌, ℕ, Option, Some, None, IfSome, length, eqb, false, refl, ap, ◌∙◌, sym, subst, append_assoc, codes, decimal}
+use Rattle.std.specs.Prelude.{Ok, Err}
 use Rattle.std.specs.Io.KnownBytes.{Appends}
 use Rattle.std.proofs.lemmas.Bool.{false≢true}
 use Rattle.dbm_script.specs.Pieces.{pieces_of}
@@ -7,11 +8,15 @@ use Rattle.sdbm_addr.specs.Database.{Database}
 use Rattle.store_cmd.specs.declared.Command.{Command}
 use Rattle.store_cmd.specs.declared.Entry.{Entry}
 use Rattle.desk_core.proofs.Acting.{Acts-unique}
-use Rattle.dbm_script.specs.Commands.{command_of}
+use Rattle.dbm_script.specs.Lines.{ask_of}
+use Rattle.dbm_script.specs.Images.{Verdict}
 use Rattle.dbm_script.specs.Answers.{IsAnswerTo, answer_text}
 use Rattle.dbm_script.specs.declared.answers.Answer.{Answer}
 use Rattle.dbm_script.specs.declared.answers.Answer.TheVariants.{Replied, PairTooLarge}
-use Rattle.dbm_script.specs.Script.{RunsLines, RunsScript, IsScriptRun, AnswersLine, Adds}
+use Rattle.dbm_script.specs.declared.lines.Ask.{Ask}
+use Rattle.dbm_script.specs.declared.lines.Ask.TheVariants.{Plain, Program}
+use Rattle.dbm_script.specs.Script.{RunsLines, RunsScript, IsScriptRun, AnswersLine, Adds, Stage, stage}
+use Rattle.dbm_script.proofs.Numbered.{Numbers-unique}
 
 pub Appends-Appends : (a b c : Option (List ℕ)) (x y z : List ℕ) → Appends a b x → Appends b c y → z ≡ x ++ y → Appends a c z
 Appends-Appends None b c x y z p q e = tt
@@ -25,22 +30,25 @@ known_read None read P h p = tt
 known_read (Some x) read P h p = subst P h p
 
 -- more lines
-pub RunsLines-append : (A : Type 0) (s mid s' : Database) (lines more : List (List ℕ)) (text added : List ℕ) → RunsLines A s lines text mid → RunsLines A mid more added s'
-    → RunsLines A s (lines ++ more) (text ++ added) s'
-RunsLines-append A s mid s' [] more text added r q =
-    subst (λ (x : List ℕ). RunsLines A s more (x ++ added) s') (sym r.0) (subst (λ (m : Database). RunsLines A m more added s') r.1 q)
-RunsLines-append A s mid s' ([] ∷ lines) more text added r q = RunsLines-append A s mid s' lines more text added r q
-RunsLines-append A s mid s' ((c ∷ cs) ∷ lines) more text added r q =
-    (r.0, (r.1.0 ++ added, (r.1.1.0, (r.1.1.1.0, (RunsLines-append A r.1.1.0 mid s' lines more r.1.0 added r.1.1.1.1.0 q, ap (λ xs. xs ++ added) r.1.1.1.1.1 ∙ append_assoc r.0 (10 ∷ r.1.0) added)))))
+pub RunsLines-append : (A : Type 0) (s mid s' : Stage) (lines more : List (List ℕ)) (told later : List (Option Verdict)) (text added : List ℕ)
+    → RunsLines A s lines told text mid → RunsLines A mid more later added s' → RunsLines A s (lines ++ more) (told ++ later) (text ++ added) s'
+RunsLines-append A s mid s' [] more [] later text added r q =
+    subst (λ (x : List ℕ). RunsLines A s more later (x ++ added) s') (sym r.0) (subst (λ (m : Stage). RunsLines A m more later added s') r.1 q)
+RunsLines-append A s mid s' [] more (v ∷ told) later text added r q = absurd r
+RunsLines-append A s mid s' ([] ∷ lines) more told later text added r q = RunsLines-append A s mid s' lines more told later text added r q
+RunsLines-append A s mid s' ((c ∷ cs) ∷ lines) more [] later text added r q = absurd r
+RunsLines-append A s mid s' ((c ∷ cs) ∷ lines) more (v ∷ told) later text added r q =
+    (r.0, (r.1.0 ++ added, (r.1.1.0, (r.1.1.1.0, (RunsLines-append A r.1.1.0 mid s' lines more told later r.1.0 added r.1.1.1.1.0 q, ap (λ xs. xs ++ added) r.1.1.1.1.1 ∙ append_assoc r.0 (10 ∷ r.1.0) added)))))
 
 -- one line that is not empty
-pub line_runs : (A : Type 0) (s s' : Database) (line : List ℕ) (old mid new : List ℕ) → eqb (length line) 0 ≡ false
-    → Adds old mid (λ added. AnswersLine A s (command_of (pieces_of 32 line)) added s') → new ≡ mid ++ 10 ∷ [] → Adds old new (λ added. RunsLines A s (line ∷ []) added s')
+pub line_runs : (A : Type 0) (s s' : Stage) (line : List ℕ) (old mid new : List ℕ) → eqb (length line) 0 ≡ false
+    → Adds old mid (λ added. (told : Option Verdict) × AnswersLine A s (ask_of (pieces_of 32 line)) told added s') → new ≡ mid ++ 10 ∷ []
+    → Adds old new (λ added. (told : List (Option Verdict)) × RunsLines A s (line ∷ []) told added s')
 line_runs A s s' [] old mid new some adds more = absurd (false≢true (sym some))
 line_runs A s s' (c ∷ cs) old mid new some adds more = record {
   added = adds.added ++ 10 ∷ [];
   is = more ∙ ap (λ xs. xs ++ 10 ∷ []) adds.is ∙ append_assoc old adds.added (10 ∷ []);
-  holds = (adds.added, ([], (s', (adds.holds, ((refl, refl), refl)))));
+  holds = (adds.holds.0 ∷ [], (adds.added, ([], (s', (adds.holds.1, ((refl, refl), refl))))));
 }
 
 -- ---- one text and one state
@@ -58,24 +66,41 @@ IsAnswerTo-unique A s command (Replied x) PairTooLarge a b p q = absurd (q.0 p.0
 IsAnswerTo-unique A s command PairTooLarge (Replied y) a b p q = absurd (p.0 q.0)
 IsAnswerTo-unique A s command PairTooLarge PairTooLarge a b p q = (refl, p.1 ∙ sym q.1)
 
--- what a line does, and the text of its answer, are determined
-AnswersLine-unique : (A : Type 0) (s : Database) (command : Option (Command A)) (t u : List ℕ) (a b : Database) → AnswersLine A s command t a → AnswersLine A s command u b → (t ≡ u) × (a ≡ b)
-AnswersLine-unique A s None t u a b x y = (x.0 ∙ sym y.0, x.1 ∙ sym y.1)
-AnswersLine-unique A s (Some command) t u a b x y =
-    let same = IsAnswerTo-unique A s command x.0 y.0 a b x.1.0 y.1.0 in
-    (x.1.1 ∙ ap (λ (answer : Answer A). answer_text answer) same.0 ∙ sym y.1.1, same.1)
+same_stage : (x y : Stage) → x.db ≡ y.db → x.programs ≡ y.programs → x ≡ y
+same_stage x y d p = λ i. record { db = d i; programs = p i }
 
-pub RunsLines-unique : (A : Type 0) (s : Database) (lines : List (List ℕ)) (t u : List ℕ) (a b : Database) → RunsLines A s lines t a → RunsLines A s lines u b → (t ≡ u) × (a ≡ b)
-RunsLines-unique A s [] t u a b x y = (x.0 ∙ sym y.0, x.1 ∙ sym y.1)
-RunsLines-unique A s ([] ∷ lines) t u a b x y = RunsLines-unique A s lines t u a b x y
-RunsLines-unique A s ((c ∷ cs) ∷ lines) t u a b x y =
-    let first = AnswersLine-unique A s (command_of (pieces_of 32 (c ∷ cs))) x.0 y.0 x.1.1.0 y.1.1.0 x.1.1.1.0 y.1.1.1.0 in
-    let there : RunsLines A x.1.1.0 lines y.1.0 b = subst (λ (m : Database). RunsLines A m lines y.1.0 b) (sym first.1) y.1.1.1.1.0 in
-    let rest = RunsLines-unique A x.1.1.0 lines x.1.0 y.1.0 a b x.1.1.1.1.0 there in
+-- what a line does, and the text of its answer, are determined by what is told of its image
+AnswersLine-unique : (A : Type 0) (s : Stage) (ask : Option (Ask A)) (told : Option Verdict) (t u : List ℕ) (a b : Stage)
+    → AnswersLine A s ask told t a → AnswersLine A s ask told u b → (t ≡ u) × (a ≡ b)
+AnswersLine-unique A s None told t u a b x y = (x.1.0 ∙ sym y.1.0, x.1.1 ∙ sym y.1.1)
+AnswersLine-unique A s (Some (Plain command)) told t u a b x y =
+    let same = IsAnswerTo-unique A s.db command x.1.0 y.1.0 a.db b.db x.1.1.0 y.1.1.0 in
+    (x.1.1.1.1 ∙ ap (λ (answer : Answer A). answer_text answer) same.0 ∙ sym y.1.1.1.1, same_stage a b same.1 (x.1.1.1.0 ∙ sym y.1.1.1.0))
+AnswersLine-unique A s (Some (Program image)) None t u a b x y = absurd x
+AnswersLine-unique A s (Some (Program image)) (Some (Ok p)) t u a b x y =
+    let same = Numbers-unique s.programs image p x.1.0 y.1.0 a.programs b.programs x.1.1.0 y.1.1.0 in
+    (x.1.1.1 ∙ ap (λ (id : ℕ). codes "program " ++ decimal id) same.0 ∙ sym y.1.1.1, same_stage a b (x.0 ∙ sym y.0) same.1)
+AnswersLine-unique A s (Some (Program image)) (Some (Err fault)) t u a b x y =
+    (x.1.1.1.1 ∙ sym y.1.1.1.1, same_stage a b (x.0 ∙ sym y.0) (x.1.1.1.0 ∙ sym y.1.1.1.0))
+
+pub RunsLines-unique : (A : Type 0) (s : Stage) (lines : List (List ℕ)) (told : List (Option Verdict)) (t u : List ℕ) (a b : Stage)
+    → RunsLines A s lines told t a → RunsLines A s lines told u b → (t ≡ u) × (a ≡ b)
+RunsLines-unique A s [] [] t u a b x y = (x.0 ∙ sym y.0, x.1 ∙ sym y.1)
+RunsLines-unique A s [] (v ∷ told) t u a b x y = absurd x
+RunsLines-unique A s ([] ∷ lines) told t u a b x y = RunsLines-unique A s lines told t u a b x y
+RunsLines-unique A s ((c ∷ cs) ∷ lines) [] t u a b x y = absurd x
+RunsLines-unique A s ((c ∷ cs) ∷ lines) (v ∷ told) t u a b x y =
+    let first = AnswersLine-unique A s (ask_of (pieces_of 32 (c ∷ cs))) v x.0 y.0 x.1.1.0 y.1.1.0 x.1.1.1.0 y.1.1.1.0 in
+    let there : RunsLines A x.1.1.0 lines told y.1.0 b = subst (λ (m : Stage). RunsLines A m lines told y.1.0 b) (sym first.1) y.1.1.1.1.0 in
+    let rest = RunsLines-unique A x.1.1.0 lines told x.1.0 y.1.0 a b x.1.1.1.1.0 there in
     (x.1.1.1.1.1 ∙ ap (λ xs. xs ++ 10 ∷ x.1.0) first.0 ∙ ap (λ xs. y.0 ++ 10 ∷ xs) rest.0 ∙ sym y.1.1.1.1.1, rest.1)
 
-pub IsScriptRun-from : (A : Type 0) (db : Database) (input text : List ℕ) (s' : Database) → RunsScript A db input text s' → IsScriptRun A db input text s'
-IsScriptRun-from A db input text s' runs = record {
+pub IsScriptRun-from : (A : Type 0) (db : Database) (input : List ℕ) (told : List (Option Verdict)) (text : List ℕ) (s' : Database)
+    → RunsScript A db input told text s' → IsScriptRun A db input text s'
+IsScriptRun-from A db input told text s' runs = record {
+  told = told;
   runs = runs;
-  only = λ other s also. RunsLines-unique A db (pieces_of 10 input) other text s s' also runs;
+  only = λ other d also.
+      let same = RunsLines-unique A (stage db []) (pieces_of 10 input) told other text (stage d also.0) (stage s' runs.0) also.1 runs.1 in
+      (same.0, ap (λ (s : Stage). s.db) same.1);
 }

@@ -1,4 +1,6 @@
 pub mod Pieces
 pub mod Commands
+pub mod Lines
 pub mod Answers
+pub mod Images
 pub mod Script

@@ -1,36 +1,57 @@
 -- Scripts: what the lines of a text do, and the text of the answers.
-use Rattle.std.specs.Prelude.{◌≡◌, ℕ, ◌+◌, ◌<◌, ◌≤◌, List, [], ◌∷◌, ◌++◌, codes, length, take, Option, Some, None}
+use Rattle.std.specs.Prelude.{◌≡◌, ℕ, ◌<◌, List, [], ◌∷◌, ◌++◌, codes, length, take, Option, Some, None}
+use Rattle.bpf_verify.specs.Verified.{Accepted}
 use Rattle.std.specs.Io.KnownBytes.{Appends}
 use Rattle.sdbm_addr.specs.Database.{Database}
-use Rattle.store_cmd.specs.declared.Command.{Command}
 use Rattle.dbm_script.specs.Pieces.{pieces_of}
-use Rattle.dbm_script.specs.Commands.{command_of}
+use Rattle.dbm_script.specs.Lines.{ask_of}
+use Rattle.dbm_script.specs.Images.{Verdict, AnswersImage}
 use Rattle.dbm_script.specs.Answers.{IsAnswerTo, answer_text}
 use Rattle.dbm_script.specs.declared.answers.Answer.{Answer}
+use Rattle.dbm_script.specs.declared.lines.Ask.{Ask}
+use Rattle.dbm_script.specs.declared.lines.Ask.TheVariants.{Plain, Program}
 use Rattle.dbm_script.specs.declared.fault.ScriptFault.{ScriptFault}
 use Rattle.dbm_script.specs.declared.fault.ScriptFault.TheVariants.{Read, TooLong, Write, NoMemory}
 
--- What one line does, by the command that it asks, and the text of its answer. A line that asks none does nothing.
-abbrev pub AnswersLine : (A : Type 0) → Database → Option (Command A) → List ℕ → Database → Type 0
-AnswersLine A db None text db' = (text ≡ codes "bad line") × (db' ≡ db)
-AnswersLine A db (Some command) text db' =
-    (answer : Answer A) × (IsAnswerTo A db command answer db' × (text ≡ answer_text answer))
+-- What a script works on: a database, and the accepted programs by number.
+pub record Stage : Type 0 where
+  pub db : Database
+  pub programs : List Accepted
 
--- What lines do in order, and the text of their answers: an empty line has none, and each other line has one, with its end.
-abbrev pub RunsLines : (A : Type 0) → Database → List (List ℕ) → List ℕ → Database → Type 0
-RunsLines A db [] text db' = (text ≡ []) × (db' ≡ db)
-RunsLines A db ([] ∷ lines) text db' = RunsLines A db lines text db'
-RunsLines A db ((c ∷ cs) ∷ lines) text db' =
-    (first : List ℕ) × ((rest : List ℕ) × ((mid : Database) × (AnswersLine A db (command_of (pieces_of 32 (c ∷ cs))) first mid × (RunsLines A mid lines rest db' × (text ≡ first ++ 10 ∷ rest)))))
+abbrev pub stage : Database → List Accepted → Stage
+stage db programs = record { db = db; programs = programs }
 
--- a script on a database: its lines end with LF, the last one may lack it
-abbrev pub RunsScript : (A : Type 0) → Database → List ℕ → List ℕ → Database → Type 0
-RunsScript A db input text db' = RunsLines A db (pieces_of 10 input) text db'
+-- What one line does, by what it asks and what is told of the image that it submits, and the text of its answer. A line that asks
+-- nothing does nothing.
+abbrev pub AnswersLine : (A : Type 0) → Stage → Option (Ask A) → Option Verdict → List ℕ → Stage → Type 0
+AnswersLine A s None told text s' = (told ≡ None) × ((text ≡ codes "bad line") × (s' ≡ s))
+AnswersLine A s (Some (Plain command)) told text s' =
+    (told ≡ None) × ((answer : Answer A) × (IsAnswerTo A s.db command answer s'.db × ((s'.programs ≡ s.programs) × (text ≡ answer_text answer))))
+AnswersLine A s (Some (Program image)) None text s' = ⊥
+AnswersLine A s (Some (Program image)) (Some verdict) text s' =
+    (s'.db ≡ s.db) × AnswersImage s.programs image verdict text s'.programs
 
--- a script writes this text and leads to this database, page by page, and to no other ones
+-- What lines do in order, and the text of their answers, by what is told at each line that is not empty: an empty line has no answer,
+-- and each other line has one, with its end.
+abbrev pub RunsLines : (A : Type 0) → Stage → List (List ℕ) → List (Option Verdict) → List ℕ → Stage → Type 0
+RunsLines A s [] [] text s' = (text ≡ []) × (s' ≡ s)
+RunsLines A s [] (verdict ∷ told) text s' = ⊥
+RunsLines A s ([] ∷ lines) told text s' = RunsLines A s lines told text s'
+RunsLines A s ((c ∷ cs) ∷ lines) [] text s' = ⊥
+RunsLines A s ((c ∷ cs) ∷ lines) (verdict ∷ told) text s' =
+    (first : List ℕ) × ((rest : List ℕ) × ((mid : Stage) × (AnswersLine A s (ask_of (pieces_of 32 (c ∷ cs))) verdict first mid × (RunsLines A mid lines told rest s' × (text ≡ first ++ 10 ∷ rest)))))
+
+-- a script on a database and no programs: its lines end with LF, the last one may lack it
+abbrev pub RunsScript : (A : Type 0) → Database → List ℕ → List (Option Verdict) → List ℕ → Database → Type 0
+RunsScript A db input told text db' =
+    (programs : List Accepted) × RunsLines A (stage db []) (pieces_of 10 input) told text (stage db' programs)
+
+-- A script writes this text and leads to this database, page by page. By what is told of the images that its lines submit, it writes
+-- no other text and leads to no other database.
 pub record IsScriptRun (A : Type 0) (db : Database) (input text : List ℕ) (db' : Database) : Type 0 where
-  pub runs : RunsScript A db input text db'
-  pub only : (other : List ℕ) (d : Database) → RunsScript A db input other d → (other ≡ text) × (d ≡ db')
+  pub told : List (Option Verdict)
+  pub runs : RunsScript A db input told text db'
+  pub only : (other : List ℕ) (d : Database) → RunsScript A db input told other d → (other ≡ text) × (d ≡ db')
 
 -- new is old and then some bytes, of which P holds
 pub record Adds (old new : List ℕ) (P : List ℕ → Type 0) : Type 0 where

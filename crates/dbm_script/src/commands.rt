@@ -1,38 +1,11 @@
 //! The commands that words ask: the words of a line, or those of a command line.
 ghost use Rattle.std.specs.Prelude.{◌≡◌, ◌∷◌, map, IfOk};
-ghost use Rattle.dbm_script.specs.Pieces.{pieces_of};
 ghost use Rattle.dbm_script.specs.Commands.{bytes_of, fetch_of, delete_of, store_of, command_of};
 
-use crate::pieces::first_piece;
 use hex::FromHexError;
 use sdbm_addr::{Bytes, Mode};
 use std::alloc::{AllocError, Allocator};
 use store_cmd::Command;
-
-/// The command of a line, where it is one. A space parts two words, and no more words are looked at than decide what is asked.
-///
-/// # Errors
-/// `AllocError` where there is no memory for the command.
-pub fn read_line<A: Allocator + Copy>(
-    alloc: A,
-    line: &[u8],
-) -> Result<Option<Command<A>>, AllocError>
-    ensures { IfOk result (λ command. command ≡ command_of (pieces_of 32 line.now)) }
-{
-    let (name, rest) = first_piece(b' ', line);
-    let Some(rest) = rest else {
-        return read_command(alloc, name, &[]);
-    };
-    let (key, rest) = first_piece(b' ', rest);
-    let Some(rest) = rest else {
-        return read_command(alloc, name, &[key]);
-    };
-    let (value, rest) = first_piece(b' ', rest);
-    match rest {
-        None => read_command(alloc, name, &[key, value]),
-        Some(_) => Ok(None),
-    }
-}
 
 /// The command that words ask, where they ask one: by its name and the words that it takes, bytes in hex.
 ///

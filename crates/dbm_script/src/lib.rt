@@ -4,13 +4,17 @@
 mod answers;
 mod commands;
 mod fault;
+mod images;
+mod lines;
 mod pieces;
 mod script;
 mod streams;
 
 pub use answers::{Answer, show_answer, show_bytes};
-pub use commands::{read_bytes, read_command, read_line};
+pub use commands::{read_bytes, read_command};
 pub use fault::ScriptFault;
+pub use images::{answer_image, show_refusal};
+pub use lines::{Ask, read_line};
 pub use pieces::first_piece;
 pub use script::{answer_command, run_lines, run_script};
 pub use streams::{SCRIPT_LIMIT, read_all, write_all};

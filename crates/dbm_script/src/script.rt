@@ -1,18 +1,21 @@
 //! Scripts: all that is read, run as one session, and the text of the answers.
-ghost use Rattle.std.specs.Prelude.{◌≡◌, ◌<◌, ◌≤◌, List, ℕ, IfOk, OnOk, OnErr, IfErr, IfSome, IsErrOf, ◌∷◌, [], length};
+ghost use Rattle.std.specs.Prelude.{◌≡◌, ◌<◌, ◌≤◌, List, ℕ, Option, IfOk, OnOk, OnErr, IfErr, IfSome, IsErrOf, ◌∷◌, [], length};
 ghost use Rattle.std.specs.Io.KnownBytes.{Appends, Keeps};
 ghost use Rattle.sdbm_addr.specs.Database.{Database};
 ghost use Rattle.dbm_script.specs.Pieces.{pieces_of};
-ghost use Rattle.dbm_script.specs.Commands.{command_of};
+ghost use Rattle.dbm_script.specs.Lines.{ask_of};
 ghost use Rattle.dbm_script.specs.Answers.{IsAnswerTo};
-ghost use Rattle.dbm_script.specs.Script.{IsScriptRun, RunsLines, AnswersLine, Adds, WritesPart};
+ghost use Rattle.dbm_script.specs.Images.{Verdict};
+ghost use Rattle.dbm_script.specs.Script.{IsScriptRun, RunsLines, AnswersLine, Adds, WritesPart, stage};
 
 use crate::answers::{Answer, show_answer};
-use crate::commands::read_line;
 use crate::fault::ScriptFault;
+use crate::images::answer_image;
+use crate::lines::{Ask, read_line};
 use crate::pieces::first_piece;
 use crate::streams::{read_all, write_all};
 use desk_core::act;
+use prog_registry::Registry;
 use sdbm_files::Image;
 use std::alloc::{AllocError, Allocator};
 use std::io::{Read, Write};
@@ -49,7 +52,8 @@ pub fn run_script<A: Allocator + Copy, R: Read, W: Write>(
     Ok(after)
 }
 
-/// Runs the lines of a script on an image as session 0: the image after them, and the text of their answers.
+/// Runs the lines of a script on an image as session 0: the image after them, and the text of their answers. Programs that lines
+/// submit are kept from line to line, and no longer.
 ///
 /// # Errors
 /// `AllocError` where there is no memory left. The image is gone then.
@@ -62,11 +66,12 @@ pub fn run_lines<A: Allocator + Copy>(
     ensures kept { IfOk result (λ r. (r.0.kind ≡ image.kind) × (r.0.size ≡ image.size)) }
 {
     let mut image = image;
+    let mut registry = Registry::new(alloc)?;
     let mut text = Vec::new(alloc);
     let mut rest = Some(input);
     while let Some(left) = rest {
         let (line, after) = first_piece(b'\n', left);
-        answer_line(alloc, &mut image, line, &mut text)?;
+        answer_line(alloc, &mut image, &mut registry, line, &mut text)?;
         rest = after;
     }
     Ok((image, text))
@@ -76,37 +81,40 @@ pub fn run_lines<A: Allocator + Copy>(
 fn answer_line<A: Allocator + Copy>(
     alloc: A,
     image: &mut Image<A>,
+    registry: &mut Registry<A>,
     line: &[u8],
     text: &mut Vec<u8, A>,
 ) -> Result<(), AllocError>
-    ensures answer { OnOk result (Adds text.old.items text.new.items (λ added.
-        RunsLines A image.old (line.now ∷ []) added image.new)) }
+    ensures answer { OnOk result (Adds text.old.items text.new.items (λ added. (told : List (Option Verdict)) ×
+        RunsLines A (stage image.old registry.old.programs) (line.now ∷ []) told added (stage image.new registry.new.programs))) }
     ensures kept { OnOk result ((image.new.kind ≡ image.old.kind) × (image.new.size ≡ image.old.size)) }
 {
     if line.is_empty() {
         return Ok(());
     }
-    answer_words(alloc, image, line, text)?;
+    answer_words(alloc, image, registry, line, text)?;
     Ok(text.push(b'\n')?)
 }
 
-// Answers the words of a line: a command by its answer, and anything else by the words for a bad line.
+// Answers the words of a line: what they ask by its answer, and anything else by the words for a bad line.
 fn answer_words<A: Allocator + Copy>(
     alloc: A,
     image: &mut Image<A>,
+    registry: &mut Registry<A>,
     line: &[u8],
     text: &mut Vec<u8, A>,
 ) -> Result<(), AllocError>
-    ensures answer { OnOk result (Adds text.old.items text.new.items (λ added.
-        AnswersLine A image.old (command_of (pieces_of 32 line.now)) added image.new)) }
+    ensures answer { OnOk result (Adds text.old.items text.new.items (λ added. (told : Option Verdict) ×
+        AnswersLine A (stage image.old registry.old.programs) (ask_of (pieces_of 32 line.now)) told added (stage image.new registry.new.programs))) }
     ensures kept { OnOk result ((image.new.kind ≡ image.old.kind) × (image.new.size ≡ image.old.size)) }
 {
     match read_line(alloc, line)? {
         None => text.extend_from_slice(b"bad line"),
-        Some(command) => {
+        Some(Ask::Plain(command)) => {
             let answer = answer_command(alloc, image, command)?;
             show_answer(alloc, &answer, text)
         }
+        Some(Ask::Program(bytes)) => answer_image(alloc, registry, bytes.as_slice(), text),
     }
 }
 

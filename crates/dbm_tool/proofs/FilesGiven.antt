@@ -1,5 +1,5 @@
 -- Wishes after which files are written.
-use Rattle.std.proofs.Common.{◌≡◌, ℕ, List, Option, Some, None, is_some, refl, ap}
+use Rattle.std.proofs.Common.{◌≡◌, ℕ, List, Option, Some, None, is_some, inl, inr, refl, ap}
 use Rattle.sdbm_addr.specs.Database.{Database}
 use Rattle.dbm_words.specs.Wishes.{writes_files}
 use Rattle.dbm_words.specs.declared.wish.Wish.{Wish}
@@ -8,7 +8,13 @@ use Rattle.dbm_tool.specs.declared.databases.Files.{Files}
 use Rattle.dbm_tool.specs.declared.subcommands.Report.{Report}
 use Rattle.dbm_tool.specs.declared.serve.Given.{Given}
 use Rattle.dbm_tool.specs.Databases.{AreFilesToWrite}
+use Rattle.dbm_tool.specs.Reports.{Judges}
 use Rattle.dbm_tool.specs.Subcommands.{subcommand_for}
+
+-- what is said of an image changes no file
+judged_alone : (image : List ℕ) (report : Report) → Judges image report → report.database ≡ None
+judged_alone image report (inl h) = h.1.written
+judged_alone image report (inr h) = h.1.1.written
 
 -- a subcommand reports a database exactly where its files are written
 pub database_given : (wish : Wish) (given : Given) (input : Option (List ℕ)) (report : Report)
@@ -23,6 +29,7 @@ database_given (wish.Script (Some base) form) given input report comes = ap (λ 
 database_given (wish.Widen base unsigned) given input report comes = ap (λ (db : Option Database). is_some db) comes.1.1.written
 database_given (wish.Asm file) given input report comes = ap (λ (db : Option Database). is_some db) comes.1.written
 database_given (wish.Disasm file) given input report comes = ap (λ (db : Option Database). is_some db) comes.1.written
+database_given (wish.Verify file image) given input report comes = ap (λ (db : Option Database). is_some db) (judged_alone comes.0 report comes.1.1)
 
 pub files_given : (database : Option Database) (files : Option Files) → AreFilesToWrite database files → is_some files ≡ is_some database
 files_given None None are = refl

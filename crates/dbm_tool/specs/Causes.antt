@@ -1,5 +1,5 @@
 -- Why nothing comes of a wish: the causes of each fault before a line is written.
-use Rattle.std.specs.Prelude.{◌≡◌, ◌≢◌, ℕ, ◌<◌, List, Option, None, IfSome, length, ⊤}
+use Rattle.std.specs.Prelude.{◌≡◌, ◌≢◌, ℕ, ◌<◌, Bool, true, false, List, Option, None, IfSome, length, ⊤}
 use Rattle.std.specs.declared.alloc.Global.{Global}
 use Rattle.std.specs.Str.{IsUtf8}
 use Rattle.sdbm_files.specs.declared.opening.OpenFault.{OpenFault}
@@ -90,6 +90,11 @@ text_causes file = record no_causes {
   no_text = IsUtf8 file → ⊥;
   assembling = λ fault. IsUtf8 file × (DenotesNone file × IsLineOf fault.kind fault.line);
 }
+
+-- a program's file, which may be any bytes where it is an image
+abbrev pub file_causes : Bool → List ℕ → Causes
+file_causes true file = no_causes
+file_causes false file = text_causes file
 
 -- the file of a program's image
 abbrev pub image_causes : List ℕ → Causes

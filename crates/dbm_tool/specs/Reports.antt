@@ -1,5 +1,5 @@
 -- What comes of each subcommand: the text that it prints, its status, and the database that is to be written.
-use Rattle.std.specs.Prelude.{◌≡◌, ℕ, ◌++◌, Bool, false, cond, List, [], ◌∷◌, codes, decimal, Option, Some, None, IfSome}
+use Rattle.std.specs.Prelude.{◌≡◌, ℕ, ◌/◌, ◌++◌, ◌⊎◌, Bool, true, false, cond, List, [], ◌∷◌, codes, decimal, length, Option, Some, None, IfSome}
 use Rattle.std.specs.FinMap as map
 use Rattle.std.specs.List.{flat_map}
 use Rattle.std.specs.Borrow.{Bor}
@@ -15,10 +15,14 @@ use Rattle.bpf_insn.specs.declared.insn.Insn.{Insn}
 use Rattle.bpf_insn.specs.Code.{IsImage}
 use Rattle.bpf_asm.specs.Denotes.{Denotes, IsOnlyCode}
 use Rattle.bpf_asm.specs.Printed.{text_of}
+use Rattle.prog_registry.specs.FaultText.{fault_text}
+use Rattle.prog_registry.specs.Registry.{IsAccepted}
+use Rattle.prog_registry.specs.declared.fault.RegFault.{RegFault}
 use Rattle.dbm_script.specs.declared.answers.Answer.{Answer}
 use Rattle.dbm_script.specs.declared.answers.Answer.TheVariants.{Replied, PairTooLarge}
 use Rattle.dbm_script.specs.Answers.{IsAnswerTo, answer_text, shown}
 use Rattle.dbm_script.specs.Commands.{command_of}
+use Rattle.dbm_script.specs.Images.{Denies}
 use Rattle.dbm_script.specs.Script.{IsScriptRun}
 use Rattle.dbm_words.specs.declared.wish.Form.{Form}
 use Rattle.dbm_tool.specs.declared.subcommands.Report.{Report}
@@ -155,6 +159,37 @@ pub record IsDisassembled (image text : List ℕ) : Type 0 where
   pub is_image : IsImage code image
   pub denotes : Denotes text code
   pub is : text ≡ text_of code
+
+-- an image of the one code that a text denotes
+pub record IsTextImage (text image : List ℕ) : Type 0 where
+  pub code : List Insn
+  pub denotes : Denotes text code
+  pub only : IsOnlyCode text code
+  pub is_image : IsImage code image
+
+-- the image of a program's file, which is the file itself, or that of the text in it
+abbrev pub IsFileImage : Bool → List ℕ → List ℕ → Type 0
+IsFileImage true file image = image ≡ file
+IsFileImage false file image = IsTextImage file image
+
+-- how many units an accepted program has, in a line
+abbrev pub accepted_line : ℕ → List ℕ
+accepted_line units = codes "accepted " ++ (decimal units ++ 10 ∷ [])
+
+-- why an image gets no number, in a line, with the status 1
+pub record Refuses (fault : RegFault) (report : Report) : Type 0 where
+  pub text_is : report.text.items ≡ (codes "refused " ++ fault_text fault) ++ 10 ∷ []
+  pub status_is : report.status ≡ 1
+  pub written : report.database ≡ None
+
+-- An image is that of an accepted program, or it gets no number in a registry without programs, for this.
+abbrev pub Judges : List ℕ → Report → Type 0
+Judges image report =
+    (IsAccepted image × Prints (accepted_line (length image / 8)) report) ⊎ ((fault : RegFault) × (Denies [] image fault × Refuses fault report))
+
+-- what is said of the image of a program's file
+abbrev pub Verifies : Bool → List ℕ → Report → Type 0
+Verifies is_image file report = (image : List ℕ) × (IsFileImage is_image file image × Judges image report)
 
 -- a text is printed that goes so with the file, and that is all
 abbrev pub PrintsOf : (List ℕ → List ℕ → Type 0) → List ℕ → Report → Type 0

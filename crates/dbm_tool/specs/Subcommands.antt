@@ -4,8 +4,8 @@ use Rattle.dbm_words.specs.declared.wish.Wish.{Wish}
 use Rattle.dbm_words.specs.declared.wish.Wish.TheVariants as wish
 use Rattle.dbm_tool.specs.declared.subcommands.Report.{Report}
 use Rattle.dbm_tool.specs.declared.serve.Given.{Given}
-use Rattle.dbm_tool.specs.Reports.{OnCommand, OnDatabase, Looks, Changes, Lists, Counts, PlaysAlone, PlaysOn, Widens, PrintsOf, IsAssembled, IsDisassembled, fetch_words, store_words, delete_words, small_form}
-use Rattle.dbm_tool.specs.Causes.{Causes, command_causes, opening_causes, input_causes, script_causes, text_causes, image_causes}
+use Rattle.dbm_tool.specs.Reports.{OnCommand, OnDatabase, Looks, Changes, Lists, Counts, PlaysAlone, PlaysOn, Widens, PrintsOf, IsAssembled, IsDisassembled, Verifies, fetch_words, store_words, delete_words, small_form}
+use Rattle.dbm_tool.specs.Causes.{Causes, command_causes, opening_causes, input_causes, script_causes, text_causes, image_causes, file_causes}
 
 pub record Subcommand : Type 1 where
   -- what comes of it
@@ -54,6 +54,10 @@ subcommand_for (wish.Asm file) given input = record {
 subcommand_for (wish.Disasm file) given input = record {
   reports = PrintsOf IsDisassembled given.file.items;
   causes = image_causes given.file.items;
+}
+subcommand_for (wish.Verify file image) given input = record {
+  reports = Verifies image given.file.items;
+  causes = file_causes image given.file.items;
 }
 
 -- only a script reads

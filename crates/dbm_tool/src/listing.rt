@@ -1,6 +1,6 @@
-//! The lines that list pairs, and the line that counts them.
+//! The lines that list pairs, and those that count pairs and units.
 ghost use Rattle.std.specs.Prelude.{◌≡◌, ◌++◌, IfOk, OnOk};
-ghost use Rattle.dbm_tool.specs.Reports.{listed, ok_line, pair_line};
+ghost use Rattle.dbm_tool.specs.Reports.{accepted_line, listed, ok_line, pair_line};
 
 use dbm_script::show_bytes;
 use itoa::Buffer;
@@ -50,6 +50,21 @@ pub fn show_ok<A: Allocator + Copy>(alloc: A, count: usize) -> Result<Vec<u8, A>
     text.extend_from_slice(b"ok ")?;
     let mut digits = Buffer::new();
     text.extend_from_slice(digits.format(count).as_bytes())?;
+    text.push(b'\n')?;
+    Ok(text)
+}
+
+/// The line `accepted UNITS`.
+///
+/// # Errors
+/// `AllocError` where no memory is left for the text.
+pub fn show_accepted<A: Allocator + Copy>(alloc: A, units: usize) -> Result<Vec<u8, A>, AllocError>
+    ensures { IfOk result (λ text. text.items ≡ accepted_line units) }
+{
+    let mut text = Vec::new(alloc);
+    text.extend_from_slice(b"accepted ")?;
+    let mut digits = Buffer::new();
+    text.extend_from_slice(digits.format(units).as_bytes())?;
     text.push(b'\n')?;
     Ok(text)
 }

@@ -1,13 +1,17 @@
 //! Programs as text and as images, from and to files.
-ghost use Rattle.std.specs.Prelude.{IfOk, IfErr};
-ghost use Rattle.dbm_tool.specs.Reports.{IsAssembled, IsDisassembled, PrintsOf};
-ghost use Rattle.dbm_tool.specs.Causes.{IsCaused, text_causes, image_causes};
+ghost use Rattle.std.specs.Prelude.{◌≢◌, IfOk, IfErr};
+ghost use Rattle.prog_registry.specs.declared.fault.RegFault.TheVariants.{NoMemory};
+ghost use Rattle.dbm_tool.specs.Reports.{IsAssembled, IsDisassembled, IsTextImage, IsFileImage, Judges, PrintsOf, Refuses, Verifies};
+ghost use Rattle.dbm_tool.specs.Causes.{IsCaused, text_causes, image_causes, file_causes};
 
 use crate::fault::ServeFault;
+use crate::listing::show_accepted;
 use crate::subcommands::{Report, printed};
 use bpf_asm::{FaultKind, assemble, disassemble};
 use bpf_insn::{DecodeFault, decode, encode};
-use std::alloc::Global;
+use dbm_script::show_refusal;
+use prog_registry::{RegFault, Registry};
+use std::alloc::{AllocError, Global};
 
 /// The image of a program's text, in hex, in a line.
 ///
@@ -18,6 +22,17 @@ pub fn assemble_file(alloc: Global, file: &[u8]) -> Result<Report, ServeFault>
     ensures ok { IfOk result (PrintsOf IsAssembled file.now) }
     ensures fault { IfErr result (IsCaused (text_causes file.now)) }
 {
+    let image = text_image(alloc, file)?;
+    let mut line = hex::encode(alloc, image.as_slice())?.into_bytes();
+    line.push(b'\n')?;
+    Ok(printed(line))
+}
+
+// The image of the program of which a file is the text.
+fn text_image(alloc: Global, file: &[u8]) -> Result<Vec<u8>, ServeFault>
+    ensures ok { IfOk result (λ image. IsTextImage file.now image.items) }
+    ensures fault { IfErr result (IsCaused (text_causes file.now)) }
+{
     let Ok(text) = str::from_utf8(file) else {
         return Err(ServeFault::NotText);
     };
@@ -26,10 +41,59 @@ pub fn assemble_file(alloc: Global, file: &[u8]) -> Result<Report, ServeFault>
         Err(fault) if fault.kind == FaultKind::NoMemory => return Err(ServeFault::NoMemory),
         Err(fault) => return Err(ServeFault::Assemble(fault)),
     };
-    let image = encode(alloc, &code)?;
-    let mut line = hex::encode(alloc, image.as_slice())?.into_bytes();
-    line.push(b'\n')?;
-    Ok(printed(line))
+    Ok(encode(alloc, &code)?)
+}
+
+/// The image of a program's file: the file itself, where it is an image, or that of the text in it.
+///
+/// # Errors
+/// None where the file is an image; else those of `assemble_file`.
+pub fn file_image(alloc: Global, file: Vec<u8>, is_image: bool) -> Result<Vec<u8>, ServeFault>
+    ensures ok { IfOk result (λ image. IsFileImage is_image file.items image.items) }
+    ensures fault { IfErr result (IsCaused (file_causes is_image file.items)) }
+{
+    if is_image {
+        return Ok(file);
+    }
+    text_image(alloc, file.as_slice())
+}
+
+/// Whether the program of a file is accepted, or why not, as a line of a script would say it that submits its image first.
+///
+/// # Errors
+/// Those of `file_image`, and `NoMemory`.
+pub fn verify_file(alloc: Global, file: Vec<u8>, is_image: bool) -> Result<Report, ServeFault>
+    ensures ok { IfOk result (Verifies is_image file.items) }
+    ensures fault { IfErr result (IsCaused (file_causes is_image file.items)) }
+{
+    let image = file_image(alloc, file, is_image)?;
+    Ok(judge_image(alloc, image.as_slice())?)
+}
+
+// Whether an image is that of an accepted program.
+fn judge_image(alloc: Global, image: &[u8]) -> Result<Report, AllocError>
+    ensures { IfOk result (Judges image.now) }
+{
+    let mut registry = Registry::new(alloc)?;
+    match registry.submit(image) {
+        Ok(_) => Ok(printed(show_accepted(alloc, image.len() / 8)?)),
+        Err(fault) => refused(alloc, fault),
+    }
+}
+
+// The line that says why an image gets no number. Want of memory is no such line.
+fn refused(alloc: Global, fault: RegFault) -> Result<Report, AllocError>
+    ensures line { IfOk result (Refuses fault) }
+    ensures told { IfOk result (λ report. fault ≢ NoMemory) }
+{
+    let mut text = Vec::new(alloc);
+    show_refusal(alloc, fault, &mut text)?;
+    text.push(b'\n')?;
+    Ok(Report {
+        text,
+        status: 1,
+        database: None,
+    })
 }
 
 /// The text of a program's image, an instruction a line.

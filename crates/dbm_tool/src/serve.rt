@@ -11,7 +11,7 @@ ghost use Rattle.dbm_tool.specs.Subcommands.{subcommand_for, reads_input};
 
 use crate::databases::{Files, files_to_write, key_bytes_of, open, page_size_of};
 use crate::fault::ServeFault;
-use crate::programs::{assemble_file, disassemble_file};
+use crate::programs::{assemble_file, disassemble_file, verify_file};
 use crate::subcommands::{Report, change, check, list, look, play, printed, widen_pages};
 use dbm_script::{read_all, read_command, write_all};
 use dbm_words::{Form, Wish};
@@ -133,6 +133,7 @@ fn report_on<R: Read>(
         Wish::Widen { unsigned, .. } => report_widen(alloc, given, unsigned),
         Wish::Asm { .. } => assemble_file(alloc, given.file.as_slice()),
         Wish::Disasm { .. } => disassemble_file(alloc, given.file.as_slice()),
+        Wish::Verify { image, .. } => verify_file(alloc, given.file, image),
     }
 }
 

@@ -52,6 +52,9 @@ asm = subcommand (codes "asm") (required_word (codes "FILE") ∷ [])
 abbrev pub disasm : Shape
 disasm = subcommand (codes "disasm") (required_word (codes "FILE") ∷ [])
 
+abbrev pub verify : Shape
+verify = subcommand (codes "verify") (required_word (codes "FILE") ∷ flag (codes "image") ∷ [])
+
 -- the program's name, with a version
 abbrev pub titled : Shape
 titled = record (new_shape (codes "dbm")) { has_version = true }
@@ -68,7 +71,7 @@ bare = record titled {
 abbrev pub tool : App
 tool = record {
   top = record bare { is_leaf = false };
-  subs = fetch ∷ store ∷ delete ∷ list ∷ check ∷ script ∷ widen ∷ asm ∷ disasm ∷ [];
+  subs = fetch ∷ store ∷ delete ∷ list ∷ check ∷ script ∷ widen ∷ asm ∷ disasm ∷ verify ∷ [];
 }
 
 -- a command with these rules, none of whose arguments holds for its subcommands too

@@ -38,11 +38,13 @@ base_of (wish.Script base form) = option_map (λ text. text.now) base
 base_of (wish.Widen base unsigned) = Some base.now
 base_of (wish.Asm file) = None
 base_of (wish.Disasm file) = None
+base_of (wish.Verify file image) = None
 
 -- the program's file that a wish is about
 abbrev pub file_of : Wish → Option Text
 file_of (wish.Asm file) = Some file.now
 file_of (wish.Disasm file) = Some file.now
+file_of (wish.Verify file image) = Some file.now
 file_of _ = None
 
 -- the files of its database are written once it was served, also where nothing has changed
@@ -56,6 +58,7 @@ writes_files (wish.Script base form) = is_some base
 writes_files (wish.Widen base unsigned) = true
 writes_files (wish.Asm file) = false
 writes_files (wish.Disasm file) = false
+writes_files (wish.Verify file image) = false
 
 -- The wish is what the subcommand of this name asks, by the words and options that were given to it.
 abbrev pub SubcommandAsks : Text → List Row → Wish → Type 0
@@ -77,6 +80,8 @@ SubcommandAsks name rows (wish.Asm file) =
     (name ≡ codes "asm") × IsWord (codes "FILE") rows file
 SubcommandAsks name rows (wish.Disasm file) =
     (name ≡ codes "disasm") × IsWord (codes "FILE") rows file
+SubcommandAsks name rows (wish.Verify file image) =
+    (name ≡ codes "verify") × (IsWord (codes "FILE") rows file × (image ≡ is_given (codes "image") rows))
 
 -- the matches name a subcommand, and the wish is what it asks
 abbrev pub IsAsked : Option (Text × List Row) → Wish → Type 0

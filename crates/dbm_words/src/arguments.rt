@@ -75,3 +75,15 @@ pub fn wide<'a>(alloc: Global) -> Arg<'a>
 {
     flag(alloc, "wide", "The pages have 8,192 bytes, not 1,024")
 }
+
+/// The option for a program's file that is an image.
+pub fn image<'a>(alloc: Global) -> Arg<'a>
+    ensures rule { rule_of result ≡ spec.flag (codes "image") }
+    ensures local { result.global ≡ false }
+{
+    flag(
+        alloc,
+        "image",
+        "FILE has the bytes of the program's image, not its text",
+    )
+}

@@ -23,6 +23,7 @@ pub fn asked<'a>(name: &str, matches: &ArgMatches<'a>) -> Option<Wish<'a>>
         "widen" => widen(matches),
         "asm" => asm(matches),
         "disasm" => disasm(matches),
+        "verify" => verify(matches),
         _ => None,
     }
 }
@@ -143,5 +144,15 @@ fn disasm<'a>(matches: &ArgMatches<'a>) -> Option<Wish<'a>>
 {
     Some(Wish::Disasm {
         file: word(matches, "FILE")?,
+    })
+}
+
+fn verify<'a>(matches: &ArgMatches<'a>) -> Option<Wish<'a>>
+    ensures some { IfSome result (SubcommandAsks (codes "verify") (rows_of (found_of matches.now))) }
+    ensures none { IsNone result → has_words spec.verify.rules (rows_of (found_of matches.now)) ≡ false }
+{
+    Some(Wish::Verify {
+        file: word(matches, "FILE")?,
+        image: has_flag(matches, "image"),
     })
 }

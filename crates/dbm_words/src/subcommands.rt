@@ -5,7 +5,9 @@ ghost use Rattle.clap.specs.Words.{rule_of};
 ghost use Rattle.dbm_words.specs.CommandLine.{IsCommand, IsSubcommand, tool};
 ghost use Rattle.dbm_words.specs.CommandLine as spec;
 
-use crate::arguments::{base, file, flag, key, required_word, unsigned, valued_option, wide};
+use crate::arguments::{
+    base, file, flag, image, key, required_word, unsigned, valued_option, wide,
+};
 use clap::{Arg, Command};
 use std::alloc::{AllocError, Global};
 
@@ -22,7 +24,8 @@ pub fn tool_command<'a>(alloc: Global) -> Result<Command<'a>, AllocError>
         .subcommand(script_command(alloc)?)?
         .subcommand(widen_command(alloc)?)?
         .subcommand(asm_command(alloc)?)?
-        .subcommand(disasm_command(alloc)?)
+        .subcommand(disasm_command(alloc)?)?
+        .subcommand(verify_command(alloc)?)
 }
 
 // The program's name, version and help.
@@ -35,7 +38,7 @@ fn titled_command<'a>(alloc: Global) -> Command<'a>
         .after_help(
             "Bytes are written in hex, two digits a byte, or as . for none.\n\
              The status is 0, or 1 where the answer of fetch, store or delete is that nothing was found or\n\
-             changed, or 2 for a fault, which standard error names.\n\n\
+             changed, or that of verify is refused, or 2 for a fault, which standard error names.\n\n\
              Example: dbm store users 6162 78797a\n\
              stores the value xyz of the key ab in users.dir and users.pag.",
         )
@@ -145,9 +148,9 @@ fn script_command<'a>(alloc: Global) -> Result<Command<'a>, AllocError>
     ]?;
     let about = "Run the commands on standard input, a line each";
     let notes =
-        "The lines are fetch KEY, insert KEY VALUE, replace KEY VALUE, delete KEY and count. Prints a line\n\
-         of answer to each, bad line to any other that is not empty. All lines together have at most\n\
-         16 MiB.\n\n\
+        "The lines are fetch KEY, insert KEY VALUE, replace KEY VALUE, delete KEY, count and program IMAGE.\n\
+         Prints a line of answer to each, bad line to any other that is not empty. All lines together have\n\
+         at most 16 MiB.\n\n\
          Example: dbm script --base users < first.script";
     subcommand(alloc, "script", about, notes, args)
 }
@@ -181,4 +184,18 @@ fn disasm_command<'a>(alloc: Global) -> Result<Command<'a>, AllocError>
          dbm asm counter.s | xxd -r -p > counter.image\n\n\
          Example: dbm disasm counter.image";
     subcommand(alloc, "disasm", about, notes, args)
+}
+
+fn verify_command<'a>(alloc: Global) -> Result<Command<'a>, AllocError>
+    ensures { IfOk result (IsSubcommand spec.verify) }
+{
+    let args = vec![in alloc;
+        file(alloc, "The program as text, one instruction a line"),
+        image(alloc),
+    ]?;
+    let about = "Say whether a program is accepted, or why it is refused";
+    let notes =
+        "Prints accepted UNITS, its length in units of 8 bytes, or refused FAULT with status 1.\n\n\
+         Example: dbm verify counter.s";
+    subcommand(alloc, "verify", about, notes, args)
 }

@@ -63,6 +63,11 @@ pub enum Wish<'a> {
     Disasm {
         file: &'a str,
     },
+    /// Whether a program is accepted: that of a text, or with `image` that of an image.
+    Verify {
+        file: &'a str,
+        image: bool,
+    },
 }
 
 impl<'a> Wish<'a> {
@@ -78,7 +83,7 @@ impl<'a> Wish<'a> {
             | Wish::Check { base, .. }
             | Wish::Widen { base, .. } => Some(base),
             Wish::Script { base, .. } => base,
-            Wish::Asm { .. } | Wish::Disasm { .. } => None,
+            Wish::Asm { .. } | Wish::Disasm { .. } | Wish::Verify { .. } => None,
         }
     }
 
@@ -87,7 +92,7 @@ impl<'a> Wish<'a> {
         ensures { option_map (λ text. text.now) result ≡ file_of self.now }
     {
         match *self {
-            Wish::Asm { file } | Wish::Disasm { file } => Some(file),
+            Wish::Asm { file } | Wish::Disasm { file } | Wish::Verify { file, .. } => Some(file),
             _ => None,
         }
     }
@@ -104,7 +109,8 @@ impl<'a> Wish<'a> {
             | Wish::List { .. }
             | Wish::Check { .. }
             | Wish::Asm { .. }
-            | Wish::Disasm { .. } => false,
+            | Wish::Disasm { .. }
+            | Wish::Verify { .. } => false,
         }
     }
 }

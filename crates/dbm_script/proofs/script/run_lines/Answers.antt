@@ -1,9 +1,19 @@
-use Rattle.std.proofs.Common.{◌≡◌, ◌≤◌, ◌+◌, ◌∷◌, ◌++◌, [], List, ℕ, length, arith, ap, sym, subst, ◌∙◌, append_assoc, refl, rules}
-use Rattle.sdbm_addr.specs.Database.{Database}
+use Rattle.std.proofs.Common.{◌≡◌, ◌∷◌, ◌++◌, [], List, ℕ, ap, sym, subst, ◌∙◌, append_assoc, refl, rules}
+use Rattle.prog_registry.specs.Registry.{Registered}
 use Rattle.dbm_script.specs.Pieces.{pieces_of, pieces_left}
-use Rattle.dbm_script.specs.Script.{RunsLines, RunsScript}
+use Rattle.dbm_script.specs.Script.{RunsLines, RunsScript, stage}
 use Rattle.dbm_script.proofs.Runs.{RunsLines-append, IsScriptRun-from}
 use Rattle.dbm_script.proofs.script.run_lines.Goals as goal
+
+pub loop-rest-init : goal.loop-rest-init
+loop-rest-init g c = record {
+  done = [];
+  lines = refl;
+  told = [];
+  ran = (c.new-text.ensures.items, ap (λ (r : Registered). stage c.args.image r.programs) c.in_ok-registry.ensures);
+  kind = refl;
+  size = refl;
+}
 
 pub loop-rest-preserved : goal.loop-rest-preserved
 loop-rest-preserved g c =
@@ -13,18 +23,22 @@ loop-rest-preserved g c =
     let left : pieces_left 10 c.loop-rest.rest ≡ line ∷ pieces_left 10 after = ap (pieces_left 10) c.in-Some.is ∙ c.first_piece.ensures in
     let kept = c.in_ok-answer_line.ensures.kept in
     let adds = c.in_ok-answer_line.ensures.answer in
-    let now = c.loop-rest.image in
-    let next = c.answer_line.new.image in
+    let first = stage c.args.image [] in
+    let now = stage c.loop-rest.image c.loop-rest.registry.programs in
+    let next = stage c.answer_line.new.image c.answer_line.new.registry.programs in
     record {
       done = before.done ++ line ∷ [];
       lines = append_assoc before.done (line ∷ []) (pieces_left 10 after) ∙ ap (λ (ls : List (List ℕ)). before.done ++ ls) (sym left) ∙ before.lines;
-      ran = subst (λ (text : List ℕ). RunsLines g.row.A.Denot c.args.image (before.done ++ line ∷ []) text next) (sym adds.is)
-          (RunsLines-append g.row.A.Denot c.args.image now next before.done (line ∷ []) c.loop-rest.text.items adds.added before.ran adds.holds);
+      told = before.told ++ adds.holds.0;
+      ran = subst (λ (text : List ℕ). RunsLines g.row.A.Denot first (before.done ++ line ∷ []) (before.told ++ adds.holds.0) text next) (sym adds.is)
+          (RunsLines-append g.row.A.Denot first now next before.done (line ∷ []) before.told adds.holds.0 c.loop-rest.text.items adds.added before.ran adds.holds.1);
       kind = kept.0 ∙ before.kind;
       size = kept.1 ∙ before.size;
     }
 
 pub returns-clause-runs : goal.returns-clause-runs
 returns-clause-runs g c =
-    let runs : RunsScript g.row.A.Denot c.args.image c.args.input.now c.loop-rest.text.items c.loop-rest.image = search rules in
-    IsScriptRun-from g.row.A.Denot c.args.image c.args.input.now c.loop-rest.text.items c.loop-rest.image runs
+    let before = c.loop-rest.invariant in
+    let all : RunsLines g.row.A.Denot (stage c.args.image []) (pieces_of 10 c.args.input.now) before.told c.loop-rest.text.items (stage c.loop-rest.image c.loop-rest.registry.programs) = search rules in
+    let runs : RunsScript g.row.A.Denot c.args.image c.args.input.now before.told c.loop-rest.text.items c.loop-rest.image = (c.loop-rest.registry.programs, all) in
+    IsScriptRun-from g.row.A.Denot c.args.image c.args.input.now before.told c.loop-rest.text.items c.loop-rest.image runs

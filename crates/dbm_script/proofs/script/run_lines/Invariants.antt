@@ -1,6 +1,7 @@
-use Rattle.std.proofs.Common.{◌≡◌, ◌++◌, List, ℕ, length}
+use Rattle.std.proofs.Common.{◌≡◌, ◌++◌, List, [], ℕ, length, Option}
 use Rattle.dbm_script.specs.Pieces.{pieces_of, pieces_left}
-use Rattle.dbm_script.specs.Script.{RunsLines}
+use Rattle.dbm_script.specs.Images.{Verdict}
+use Rattle.dbm_script.specs.Script.{RunsLines, stage}
 use Rattle.dbm_script.proofs.script.run_lines.Given as goal
 
 -- some lines are done, and the others are left
@@ -8,7 +9,8 @@ abbrev pub invariant-loop-rest : goal.invariant-loop-rest
 invariant-loop-rest g l = record {
   done : List (List ℕ);
   lines : done ++ pieces_left 10 l.rest ≡ pieces_of 10 l.input;
-  ran : RunsLines g.row.A.Denot l.fn.image done l.text.items l.image;
+  told : List (Option Verdict);
+  ran : RunsLines g.row.A.Denot (stage l.fn.image []) done told l.text.items (stage l.image l.registry.programs);
   kind : l.image.kind ≡ l.fn.image.kind;
   size : l.image.size ≡ l.fn.image.size;
 }

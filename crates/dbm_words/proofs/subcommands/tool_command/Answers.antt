@@ -1,5 +1,5 @@
 use Rattle.std.proofs.lemmas.Result.{IfOk-weaker}
-use Rattle.dbm_words.specs.CommandLine.{fetch, store, delete, list, check, script, widen, asm, disasm}
+use Rattle.dbm_words.specs.CommandLine.{fetch, store, delete, list, check, script, widen, asm, disasm, verify}
 use Rattle.dbm_words.proofs.Commands.{joins}
 use Rattle.dbm_words.proofs.subcommands.tool_command.Goals as goal
 
@@ -13,4 +13,5 @@ returns c =
     let scripted = joins _ _ _ _ script c.in_ok-subcommand-6.ensures checked c.in_ok-script_command.ensures in
     let widened = joins _ _ _ _ widen c.in_ok-subcommand-7.ensures scripted c.in_ok-widen_command.ensures in
     let assembled = joins _ _ _ _ asm c.in_ok-subcommand-8.ensures widened c.in_ok-asm_command.ensures in
-    IfOk-weaker c.subcommand-9.result _ _ (λ r h. joins _ _ r _ disasm h assembled c.in_ok-disasm_command.ensures) c.subcommand-9.ensures
+    let disassembled = joins _ _ _ _ disasm c.in_ok-subcommand-9.ensures assembled c.in_ok-disasm_command.ensures in
+    IfOk-weaker c.subcommand-10.result _ _ (λ r h. joins _ _ r _ verify h disassembled c.in_ok-verify_command.ensures) c.subcommand-10.ensures

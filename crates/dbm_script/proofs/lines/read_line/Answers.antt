@@ -1,8 +1,8 @@
 use Rattle.std.proofs.Common.{◌≡◌, ◌∙◌, ◌∷◌, List, ℕ, sym, ap}
 use Rattle.dbm_script.specs.Pieces.{pieces_left, pieces_of}
-use Rattle.dbm_script.specs.Commands.{command_of}
+use Rattle.dbm_script.specs.Lines.{ask_of}
 use Rattle.dbm_script.proofs.Cuts.{too_many_words}
-use Rattle.dbm_script.proofs.commands.read_line.Goals as goal
+use Rattle.dbm_script.proofs.lines.read_line.Goals as goal
 
 pub returns-in-Some-rest-2 : goal.returns-in-Some-rest-2
 returns-in-Some-rest-2 g c =
@@ -10,4 +10,4 @@ returns-in-Some-rest-2 g c =
     let second : pieces_of 32 c.in-Some.rest.now ≡ _ = c.first_piece-2.ensures ∙ ap (λ (left : List (List ℕ)). c.first_piece-2.result.0.now ∷ left) (ap (pieces_left 32) c.in-Some-rest.is ∙ third) in
     let first : pieces_of 32 c.args.line.now ≡ _ = c.first_piece.ensures ∙ ap (λ (left : List (List ℕ)). c.first_piece.result.0.now ∷ left) (ap (pieces_left 32) c.in-Some.is ∙ second) in
     too_many_words c.first_piece.result.0.now c.first_piece-2.result.0.now c.first_piece-3.result.0.now c.in-Some-rest-2.field-0.now
-    ∙ ap command_of (sym first)
+    ∙ ap ask_of (sym first)

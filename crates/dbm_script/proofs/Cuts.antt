@@ -26,10 +26,10 @@ pieces-first byte text k h none hit =
     ∙ slice_split_at (λ b. eqb b byte) (take k text) (get_or text k 0) (drop (k + 1) text) (none_passes byte text k (omega arith) none) hit
     ∙ ap (λ xs. take k text ∷ pieces_of byte xs) (sym (take_all (length text - (k + 1)) (drop (k + 1) text) (let l : length (drop (k + 1) text) ≡ length text - (k + 1) = length-drop (k + 1) text in omega arith)))
 
--- four words and more ask nothing
-pub too_many_words : {A : Type 0} (a b c rest : List ℕ) → None ≡ ask_of {A = A} (a ∷ b ∷ c ∷ pieces_of 32 rest)
-too_many_words {A = A} a b c rest = none (pieces_of 32 rest) (let long = length-slice_split (λ x. eqb x 32) rest in omega arith)
+-- seven words and more ask nothing
+pub too_many_words : {A : Type 0} (a b c d e f rest : List ℕ) → None ≡ ask_of {A = A} (a ∷ b ∷ c ∷ d ∷ e ∷ f ∷ pieces_of 32 rest)
+too_many_words {A = A} a b c d e f rest = none (pieces_of 32 rest) (let long = length-slice_split (λ x. eqb x 32) rest in omega arith)
   where
-    none : (words : List (List ℕ)) → 0 < length words → None ≡ ask_of {A = A} (a ∷ b ∷ c ∷ words)
+    none : (words : List (List ℕ)) → 0 < length words → None ≡ ask_of {A = A} (a ∷ b ∷ c ∷ d ∷ e ∷ f ∷ words)
     none [] h = absurd (search (rules, h))
     none (word ∷ words) h = refl

@@ -5,17 +5,23 @@ use Rattle.std.specs.Io.KnownBytes.{Appends}
 use Rattle.std.proofs.lemmas.Bool.{false≢true}
 use Rattle.dbm_script.specs.Pieces.{pieces_of}
 use Rattle.sdbm_addr.specs.Database.{Database}
+use Rattle.sdbm_addr.specs.declared.PageSize.{PageSize}
 use Rattle.store_cmd.specs.declared.Command.{Command}
+use Rattle.store_cmd.specs.declared.Command.TheVariants.{Fetch, Store, Delete, Count}
+use Rattle.store_cmd.specs.declared.Command.TheVariants as commands
+use Rattle.store_cmd.specs.declared.SizeFault.{SizeFault}
+use Rattle.store_cmd.specs.declared.SizeFault.TheVariants.{PairTooLarge, ArgTooLong}
+use Rattle.store_cmd.specs.Command.{IsSmall, IsSizeFault}
 use Rattle.store_cmd.specs.declared.Entry.{Entry}
 use Rattle.desk_core.proofs.Acting.{Acts-unique}
 use Rattle.dbm_script.specs.Lines.{ask_of}
 use Rattle.dbm_script.specs.Images.{Verdict}
 use Rattle.dbm_script.specs.Answers.{IsAnswerTo, answer_text}
 use Rattle.dbm_script.specs.declared.answers.Answer.{Answer}
-use Rattle.dbm_script.specs.declared.answers.Answer.TheVariants.{Replied, PairTooLarge}
+use Rattle.dbm_script.specs.declared.answers.Answer.TheVariants.{Replied, Refused}
 use Rattle.dbm_script.specs.declared.lines.Ask.{Ask}
-use Rattle.dbm_script.specs.declared.lines.Ask.TheVariants.{Plain, Program}
-use Rattle.dbm_script.specs.Script.{RunsLines, RunsScript, IsScriptRun, AnswersLine, Adds, Stage, stage}
+use Rattle.dbm_script.specs.declared.lines.Ask.TheVariants.{Plain, Program, Run}
+use Rattle.dbm_script.specs.Script.{RunsLines, RunsScript, IsScriptRun, AnswersCommand, AnswersRun, AnswersLine, run_command, Adds, Stage, stage}
 use Rattle.dbm_script.proofs.Numbered.{Numbers-unique}
 
 pub Appends-Appends : (a b c : Option (List ℕ)) (x y z : List ℕ) → Appends a b x → Appends b c y → z ≡ x ++ y → Appends a c z
@@ -56,15 +62,44 @@ line_runs A s s' (c ∷ cs) old mid new some adds more = record {
 same_entry : {A : Type 0} (x y : Entry A) → x.session ≡ y.session → x.command ≡ y.command → x.reply ≡ y.reply → x ≡ y
 same_entry x y s c r = λ i. record { session = s i; command = c i; reply = r i }
 
+-- a command that is small enough is refused for no size
+small_or_not : {A : Type 0} (size : PageSize) (command : Command A) (fault : SizeFault) → IsSmall size command → IsSizeFault size command fault → ⊥
+small_or_not size (Fetch key) PairTooLarge small bad = bad tt
+small_or_not size (Fetch key) ArgTooLong small bad = bad.1 tt
+small_or_not size (Store key value mode) PairTooLarge small bad = bad small
+small_or_not size (Store key value mode) ArgTooLong small bad = bad.1 tt
+small_or_not size (Delete key) PairTooLarge small bad = bad tt
+small_or_not size (Delete key) ArgTooLong small bad = bad.1 tt
+small_or_not size (commands.Run key program argument blank now) PairTooLarge small bad = bad small.0
+small_or_not size (commands.Run key program argument blank now) ArgTooLong small bad = bad.1 small.1
+small_or_not size Count PairTooLarge small bad = bad tt
+small_or_not size Count ArgTooLong small bad = bad.1 tt
+
+-- a command has one fault of its size
+one_fault : {A : Type 0} (size : PageSize) (command : Command A) (x y : SizeFault) → IsSizeFault size command x → IsSizeFault size command y → x ≡ y
+one_fault size command PairTooLarge PairTooLarge p q = refl
+one_fault size command PairTooLarge ArgTooLong p q = absurd (p q.0)
+one_fault size command ArgTooLong PairTooLarge p q = absurd (q p.0)
+one_fault size command ArgTooLong ArgTooLong p q = refl
+
 -- the answer to a command, and the database after it, are determined
 IsAnswerTo-unique : (A : Type 0) (s : Database) (command : Command A) (x y : Answer A) (a b : Database)
     → IsAnswerTo A s command x a → IsAnswerTo A s command y b → (x ≡ y) × (a ≡ b)
 IsAnswerTo-unique A s command (Replied x) (Replied y) a b p q =
     let same = Acts-unique s x y a b (p.1.0 ∙ sym q.1.0) (p.1.1.0 ∙ sym q.1.1.0) p.1.1.1 q.1.1.1 in
     (ap Replied (same_entry x y (p.1.0 ∙ sym q.1.0) (p.1.1.0 ∙ sym q.1.1.0) same.0), same.1)
-IsAnswerTo-unique A s command (Replied x) PairTooLarge a b p q = absurd (q.0 p.0)
-IsAnswerTo-unique A s command PairTooLarge (Replied y) a b p q = absurd (p.0 q.0)
-IsAnswerTo-unique A s command PairTooLarge PairTooLarge a b p q = (refl, p.1 ∙ sym q.1)
+IsAnswerTo-unique A s command (Replied x) (Refused fault) a b p q = absurd (small_or_not s.size command fault p.0 q.0)
+IsAnswerTo-unique A s command (Refused fault) (Replied y) a b p q = absurd (small_or_not s.size command fault q.0 p.0)
+IsAnswerTo-unique A s command (Refused x) (Refused y) a b p q = (ap Refused (one_fault s.size command x y p.0 q.0), p.1 ∙ sym q.1)
+
+AnswersCommand-unique : (A : Type 0) (db : Database) (command : Command A) (t u : List ℕ) (a b : Database) → AnswersCommand A db command t a → AnswersCommand A db command u b → (t ≡ u) × (a ≡ b)
+AnswersCommand-unique A db command t u a b x y =
+    let same = IsAnswerTo-unique A db command x.0 y.0 a b x.1.0 y.1.0 in
+    (x.1.1 ∙ ap (λ (answer : Answer A). answer_text answer) same.0 ∙ sym y.1.1, same.1)
+
+AnswersRun-unique : (A : Type 0) (db : Database) (command : Option (Command A)) (t u : List ℕ) (a b : Database) → AnswersRun A db command t a → AnswersRun A db command u b → (t ≡ u) × (a ≡ b)
+AnswersRun-unique A db None t u a b x y = (x.0 ∙ sym y.0, x.1 ∙ sym y.1)
+AnswersRun-unique A db (Some command) t u a b x y = AnswersCommand-unique A db command t u a b x y
 
 same_stage : (x y : Stage) → x.db ≡ y.db → x.programs ≡ y.programs → x ≡ y
 same_stage x y d p = λ i. record { db = d i; programs = p i }
@@ -74,8 +109,11 @@ AnswersLine-unique : (A : Type 0) (s : Stage) (ask : Option (Ask A)) (told : Opt
     → AnswersLine A s ask told t a → AnswersLine A s ask told u b → (t ≡ u) × (a ≡ b)
 AnswersLine-unique A s None told t u a b x y = (x.1.0 ∙ sym y.1.0, x.1.1 ∙ sym y.1.1)
 AnswersLine-unique A s (Some (Plain command)) told t u a b x y =
-    let same = IsAnswerTo-unique A s.db command x.1.0 y.1.0 a.db b.db x.1.1.0 y.1.1.0 in
-    (x.1.1.1.1 ∙ ap (λ (answer : Answer A). answer_text answer) same.0 ∙ sym y.1.1.1.1, same_stage a b same.1 (x.1.1.1.0 ∙ sym y.1.1.1.0))
+    let same = AnswersCommand-unique A s.db command t u a.db b.db x.1.1 y.1.1 in
+    (same.0, same_stage a b same.1 (x.1.0 ∙ sym y.1.0))
+AnswersLine-unique A s (Some (Run run)) told t u a b x y =
+    let same = AnswersRun-unique A s.db (run_command s.programs run.key run.prog run.arg run.blank run.now) t u a.db b.db x.1.1 y.1.1 in
+    (same.0, same_stage a b same.1 (x.1.0 ∙ sym y.1.0))
 AnswersLine-unique A s (Some (Program image)) None t u a b x y = absurd x
 AnswersLine-unique A s (Some (Program image)) (Some (Ok p)) t u a b x y =
     let same = Numbers-unique s.programs image p x.1.0 y.1.0 a.programs b.programs x.1.1.0 y.1.1.0 in

@@ -4,16 +4,18 @@ use Rattle.hex.specs.Hex.{encode_lower}
 use Rattle.sdbm_addr.specs.Database.{Database}
 use Rattle.store_cmd.specs.declared.Command.{Command}
 use Rattle.store_cmd.specs.declared.Reply.{Reply}
-use Rattle.store_cmd.specs.declared.Reply.TheVariants.{Found, Missing, Stored, Exists, Crowded, Deleted, Count}
-use Rattle.store_cmd.specs.Command.{IsSmall}
+use Rattle.store_cmd.specs.declared.Reply.TheVariants.{Found, Missing, Stored, Exists, Crowded, Deleted, Ran, Count}
+use Rattle.store_cmd.specs.declared.SizeFault.{SizeFault}
+use Rattle.store_cmd.specs.declared.SizeFault.TheVariants.{PairTooLarge, ArgTooLong}
+use Rattle.store_cmd.specs.Command.{IsSmall, IsSizeFault}
 use Rattle.desk_core.specs.Acts.{Acts}
 use Rattle.dbm_script.specs.declared.answers.Answer.{Answer}
-use Rattle.dbm_script.specs.declared.answers.Answer.TheVariants.{Replied, PairTooLarge}
+use Rattle.dbm_script.specs.declared.answers.Answer.TheVariants.{Replied, Refused}
 
 -- A command of session 0 that is small enough is done, and its answer is the reply; a larger one is refused, and changes nothing.
 abbrev pub IsAnswerTo : (A : Type 0) → Database → Command A → Answer A → Database → Type 0
 IsAnswerTo A db command (Replied entry) db' = IsSmall db.size command × ((entry.session ≡ 0) × ((entry.command ≡ command) × Acts db entry db'))
-IsAnswerTo A db command PairTooLarge db' = (¬ (IsSmall db.size command)) × (db' ≡ db)
+IsAnswerTo A db command (Refused fault) db' = IsSizeFault db.size command fault × (db' ≡ db)
 
 -- bytes in lower-case hex, or a dot for none
 abbrev pub shown : List ℕ → List ℕ
@@ -27,8 +29,10 @@ reply_text Stored = codes "stored"
 reply_text Exists = codes "exists"
 reply_text Crowded = codes "crowded"
 reply_text Deleted = codes "deleted"
+reply_text (Ran code word) = codes "ran " ++ (decimal code ++ (32 ∷ decimal word))
 reply_text (Count n) = codes "count " ++ decimal n
 
 abbrev pub answer_text : {A : Type 0} → Answer A → List ℕ
 answer_text (Replied entry) = reply_text entry.reply
-answer_text PairTooLarge = codes "refused PairTooLarge"
+answer_text (Refused PairTooLarge) = codes "refused PairTooLarge"
+answer_text (Refused ArgTooLong) = codes "refused ArgTooLong"

@@ -1,5 +1,6 @@
 pub mod Pieces
 pub mod Commands
+pub mod Numbers
 pub mod Lines
 pub mod Answers
 pub mod Images

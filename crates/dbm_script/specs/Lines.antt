@@ -1,10 +1,11 @@
--- What lines ask: a command on the database, or the number of a program.
+-- What lines ask: a command on the database, the number of a program, or a run.
 use Rattle.std.specs.Prelude.{ℕ, List, [], ◌∷◌, cond, codes, Option, Some, None}
 use Rattle.std.specs.Str.{bytes_eq}
 use Rattle.store_cmd.specs.declared.Command.{Command}
 use Rattle.dbm_script.specs.Commands.{bytes_of, command_of}
+use Rattle.dbm_script.specs.Numbers.{number_of, blank_of}
 use Rattle.dbm_script.specs.declared.lines.Ask.{Ask}
-use Rattle.dbm_script.specs.declared.lines.Ask.TheVariants.{Plain, Program}
+use Rattle.dbm_script.specs.declared.lines.Ask.TheVariants.{Plain, Program, Run}
 
 abbrev pub plain : {A : Type 0} → Option (Command A) → Option (Ask A)
 plain None = None
@@ -14,6 +15,16 @@ abbrev pub program_of : {A : Type 0} → Option (List ℕ) → Option (Ask A)
 program_of None = None
 program_of (Some image) = Some (Program image)
 
+-- a run of a program by its number
+abbrev pub run_of : {A : Type 0} → Option (List ℕ) → Option ℕ → Option (List ℕ) → Option (Option ℕ) → Option ℕ → Option (Ask A)
+run_of None prog arg blank now = None
+run_of (Some key) None arg blank now = None
+run_of (Some key) (Some prog) None blank now = None
+run_of (Some key) (Some prog) (Some arg) None now = None
+run_of (Some key) (Some prog) (Some arg) (Some blank) None = None
+run_of (Some key) (Some prog) (Some arg) (Some blank) (Some now) =
+    Some (Run (record { key = key; prog = prog; arg = arg; blank = blank; now = now }))
+
 -- what the words of a line ask
 abbrev pub ask_of : {A : Type 0} → List (List ℕ) → Option (Ask A)
 ask_of [] = None
@@ -21,4 +32,8 @@ ask_of (word ∷ []) = plain (command_of (word ∷ []))
 ask_of (word ∷ first ∷ []) =
     cond (bytes_eq word (codes "program")) (program_of (bytes_of first)) (plain (command_of (word ∷ first ∷ [])))
 ask_of (word ∷ first ∷ second ∷ []) = plain (command_of (word ∷ first ∷ second ∷ []))
-ask_of (word ∷ first ∷ second ∷ third ∷ others) = None
+ask_of (word ∷ key ∷ prog ∷ arg ∷ []) = None
+ask_of (word ∷ key ∷ prog ∷ arg ∷ blank ∷ []) = None
+ask_of (word ∷ key ∷ prog ∷ arg ∷ blank ∷ now ∷ []) = cond (bytes_eq word (codes "run"))
+    (run_of (bytes_of key) (number_of 4294967295 prog) (bytes_of arg) (blank_of blank) (number_of 18446744073709551615 now)) None
+ask_of (word ∷ key ∷ prog ∷ arg ∷ blank ∷ now ∷ other ∷ others) = None

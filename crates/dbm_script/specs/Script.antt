@@ -1,15 +1,17 @@
 -- Scripts: what the lines of a text do, and the text of the answers.
-use Rattle.std.specs.Prelude.{◌≡◌, ℕ, ◌<◌, List, [], ◌∷◌, ◌++◌, codes, length, take, Option, Some, None}
+use Rattle.std.specs.Prelude.{◌≡◌, ℕ, ◌<◌, List, [], ◌∷◌, ◌++◌, codes, length, take, slice_get, option_map, Option, Some, None}
 use Rattle.bpf_verify.specs.Verified.{Accepted}
 use Rattle.std.specs.Io.KnownBytes.{Appends}
 use Rattle.sdbm_addr.specs.Database.{Database}
+use Rattle.store_cmd.specs.declared.Command.{Command}
+use Rattle.store_cmd.specs.declared.Command.TheVariants as commands
 use Rattle.dbm_script.specs.Pieces.{pieces_of}
 use Rattle.dbm_script.specs.Lines.{ask_of}
 use Rattle.dbm_script.specs.Images.{Verdict, AnswersImage}
 use Rattle.dbm_script.specs.Answers.{IsAnswerTo, answer_text}
 use Rattle.dbm_script.specs.declared.answers.Answer.{Answer}
 use Rattle.dbm_script.specs.declared.lines.Ask.{Ask}
-use Rattle.dbm_script.specs.declared.lines.Ask.TheVariants.{Plain, Program}
+use Rattle.dbm_script.specs.declared.lines.Ask.TheVariants.{Plain, Program, Run}
 use Rattle.dbm_script.specs.declared.fault.ScriptFault.{ScriptFault}
 use Rattle.dbm_script.specs.declared.fault.ScriptFault.TheVariants.{Read, TooLong, Write, NoMemory}
 
@@ -21,12 +23,27 @@ pub record Stage : Type 0 where
 abbrev pub stage : Database → List Accepted → Stage
 stage db programs = record { db = db; programs = programs }
 
+-- what a command does, and the text of its answer
+abbrev pub AnswersCommand : (A : Type 0) → Database → Command A → List ℕ → Database → Type 0
+AnswersCommand A db command text db' = (answer : Answer A) × (IsAnswerTo A db command answer db' × (text ≡ answer_text answer))
+
+-- a run of the program with a number, where there is one
+abbrev pub run_command : {A : Type 0} → List Accepted → List ℕ → ℕ → List ℕ → Option ℕ → ℕ → Option (Command A)
+run_command programs key prog arg blank now = option_map (λ p. commands.Run key p.code arg blank now) (slice_get programs prog)
+
+-- what a run does, and the text of its answer; without its program it does nothing
+abbrev pub AnswersRun : (A : Type 0) → Database → Option (Command A) → List ℕ → Database → Type 0
+AnswersRun A db None text db' = (text ≡ codes "refused NoProgram") × (db' ≡ db)
+AnswersRun A db (Some command) text db' = AnswersCommand A db command text db'
+
 -- What one line does, by what it asks and what is told of the image that it submits, and the text of its answer. A line that asks
 -- nothing does nothing.
 abbrev pub AnswersLine : (A : Type 0) → Stage → Option (Ask A) → Option Verdict → List ℕ → Stage → Type 0
 AnswersLine A s None told text s' = (told ≡ None) × ((text ≡ codes "bad line") × (s' ≡ s))
 AnswersLine A s (Some (Plain command)) told text s' =
-    (told ≡ None) × ((answer : Answer A) × (IsAnswerTo A s.db command answer s'.db × ((s'.programs ≡ s.programs) × (text ≡ answer_text answer))))
+    (told ≡ None) × ((s'.programs ≡ s.programs) × AnswersCommand A s.db command text s'.db)
+AnswersLine A s (Some (Run run)) told text s' =
+    (told ≡ None) × ((s'.programs ≡ s.programs) × AnswersRun A s.db (run_command s.programs run.key run.prog run.arg run.blank run.now) text s'.db)
 AnswersLine A s (Some (Program image)) None text s' = ⊥
 AnswersLine A s (Some (Program image)) (Some verdict) text s' =
     (s'.db ≡ s.db) × AnswersImage s.programs image verdict text s'.programs

@@ -4,15 +4,15 @@ ghost use Rattle.dbm_script.specs.Answers.{shown, reply_text, answer_text};
 
 use itoa::Buffer;
 use std::alloc::{AllocError, Allocator};
-use store_cmd::{Entry, Reply};
+use store_cmd::{Entry, Reply, SizeFault};
 
 /// The answer to a command.
 #[derive(Drop)]
 pub enum Answer<A: Allocator> {
     /// Its session, the command and the reply.
     Replied(Entry<A>),
-    /// It is refused: the key and the value to be stored have more bytes together than a pair may have.
-    PairTooLarge,
+    /// It is refused for its size.
+    Refused(SizeFault),
 }
 
 /// Writes the text of an answer after a text.
@@ -28,7 +28,8 @@ pub fn show_answer<A: Allocator + Copy>(
 {
     match answer {
         Answer::Replied(entry) => show_reply(alloc, &entry.reply, text),
-        Answer::PairTooLarge => text.extend_from_slice(b"refused PairTooLarge"),
+        Answer::Refused(SizeFault::PairTooLarge) => text.extend_from_slice(b"refused PairTooLarge"),
+        Answer::Refused(SizeFault::ArgTooLong) => text.extend_from_slice(b"refused ArgTooLong"),
     }
 }
 
@@ -50,6 +51,13 @@ fn show_reply<A: Allocator + Copy>(
         Reply::Exists => text.extend_from_slice(b"exists"),
         Reply::Crowded => text.extend_from_slice(b"crowded"),
         Reply::Deleted => text.extend_from_slice(b"deleted"),
+        Reply::Ran { code, word } => {
+            text.extend_from_slice(b"ran ")?;
+            let mut digits = Buffer::new();
+            text.extend_from_slice(digits.format(*code).as_bytes())?;
+            text.push(b' ')?;
+            text.extend_from_slice(digits.format(*word).as_bytes())
+        }
         Reply::Count(count) => {
             text.extend_from_slice(b"count ")?;
             let mut digits = Buffer::new();

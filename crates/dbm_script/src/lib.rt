@@ -6,7 +6,9 @@ mod commands;
 mod fault;
 mod images;
 mod lines;
+mod numbers;
 mod pieces;
+mod running;
 mod script;
 mod streams;
 
@@ -15,6 +17,8 @@ pub use commands::{read_bytes, read_command};
 pub use fault::ScriptFault;
 pub use images::{answer_image, show_refusal};
 pub use lines::{Ask, read_line};
+pub use numbers::{read_blank, read_number};
 pub use pieces::first_piece;
+pub use running::{RunAsk, answer_run};
 pub use script::{answer_command, run_lines, run_script};
 pub use streams::{SCRIPT_LIMIT, read_all, write_all};

@@ -2,10 +2,13 @@
 ghost use Rattle.std.specs.Prelude.{◌≡◌, ◌∷◌, [], map, IfOk};
 ghost use Rattle.dbm_script.specs.Pieces.{pieces_of};
 ghost use Rattle.dbm_script.specs.Commands.{bytes_of, command_of};
-ghost use Rattle.dbm_script.specs.Lines.{plain, program_of, ask_of};
+ghost use Rattle.dbm_script.specs.Numbers.{number_of, blank_of};
+ghost use Rattle.dbm_script.specs.Lines.{plain, program_of, run_of, ask_of};
 
 use crate::commands::{read_bytes, read_command};
+use crate::numbers::{read_blank, read_number};
 use crate::pieces::first_piece;
+use crate::running::RunAsk;
 use sdbm_addr::Bytes;
 use std::alloc::{AllocError, Allocator};
 use store_cmd::Command;
@@ -17,6 +20,8 @@ pub enum Ask<A: Allocator> {
     Plain(Command<A>),
     /// The number of an image's program.
     Program(Bytes<A>),
+    /// That the program with a number be run on a key's record, or on a blank where the key is not there.
+    Run(RunAsk<A>),
 }
 
 /// What a line asks, where it asks anything. A space parts two words, and no more words are looked at than decide what is asked.
@@ -35,9 +40,96 @@ pub fn read_line<A: Allocator + Copy>(alloc: A, line: &[u8]) -> Result<Option<As
         return read_two(alloc, name, first);
     };
     let (second, rest) = first_piece(b' ', rest);
+    let Some(rest) = rest else {
+        return read_plain(alloc, name, &[first, second]);
+    };
+    read_long(alloc, name, first, second, rest)
+}
+
+// What a name and two words ask with those behind them.
+fn read_long<A: Allocator + Copy>(
+    alloc: A,
+    name: &[u8],
+    key: &[u8],
+    prog: &[u8],
+    rest: &[u8],
+) -> Result<Option<Ask<A>>, AllocError>
+    ensures { IfOk result (λ ask. ask ≡ ask_of (name.now ∷ (key.now ∷ (prog.now ∷ pieces_of 32 rest.now)))) }
+{
+    let (arg, rest) = first_piece(b' ', rest);
+    let Some(rest) = rest else {
+        return Ok(None);
+    };
+    let (blank, rest) = first_piece(b' ', rest);
+    let Some(rest) = rest else {
+        return Ok(None);
+    };
+    let (now, rest) = first_piece(b' ', rest);
     match rest {
-        None => read_plain(alloc, name, &[first, second]),
+        None => read_six(alloc, name, key, prog, arg, blank, now),
         Some(_) => Ok(None),
+    }
+}
+
+// What a name and five words ask.
+fn read_six<A: Allocator + Copy>(
+    alloc: A,
+    name: &[u8],
+    key: &[u8],
+    prog: &[u8],
+    arg: &[u8],
+    blank: &[u8],
+    now: &[u8],
+) -> Result<Option<Ask<A>>, AllocError>
+    ensures { IfOk result (λ ask. ask ≡ ask_of (name.now ∷ (key.now ∷ (prog.now ∷ (arg.now ∷ (blank.now ∷ (now.now ∷ []))))))) }
+{
+    if name == b"run".as_slice() {
+        return read_run(alloc, key, prog, arg, blank, now);
+    }
+    Ok(None)
+}
+
+fn read_run<A: Allocator + Copy>(
+    alloc: A,
+    key: &[u8],
+    prog: &[u8],
+    arg: &[u8],
+    blank: &[u8],
+    now: &[u8],
+) -> Result<Option<Ask<A>>, AllocError>
+    ensures { IfOk result (λ ask. ask ≡ run_of (bytes_of key.now) (number_of 4294967295 prog.now) (bytes_of arg.now) (blank_of blank.now) (number_of 18446744073709551615 now.now)) }
+{
+    let Some(key) = read_bytes(alloc, key)? else {
+        return Ok(None);
+    };
+    let Some(prog) = read_prog(prog) else {
+        return Ok(None);
+    };
+    let Some(arg) = read_bytes(alloc, arg)? else {
+        return Ok(None);
+    };
+    let Some(blank) = read_blank(blank) else {
+        return Ok(None);
+    };
+    let Some(now) = read_number(now, u64::MAX) else {
+        return Ok(None);
+    };
+    Ok(Some(Ask::Run(RunAsk {
+        key,
+        prog,
+        arg,
+        blank,
+        now,
+    })))
+}
+
+// The number of a program.
+fn read_prog(text: &[u8]) -> Option<u32>
+    ensures { result ≡ number_of 4294967295 text.now }
+{
+    match read_number(text, 4_294_967_295) {
+        Some(number) => Some(number as u32),
+        None => None,
     }
 }
 

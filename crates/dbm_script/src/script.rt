@@ -1,18 +1,19 @@
 //! Scripts: all that is read, run as one session, and the text of the answers.
-ghost use Rattle.std.specs.Prelude.{◌≡◌, ◌<◌, ◌≤◌, List, ℕ, Option, IfOk, OnOk, OnErr, IfErr, IfSome, IsErrOf, ◌∷◌, [], length};
+ghost use Rattle.std.specs.Prelude.{◌≡◌, ◌<◌, ◌≤◌, List, ℕ, Option, Some, IfOk, OnOk, OnErr, IfErr, IfSome, IsErrOf, ◌∷◌, [], length};
 ghost use Rattle.std.specs.Io.KnownBytes.{Appends, Keeps};
 ghost use Rattle.sdbm_addr.specs.Database.{Database};
 ghost use Rattle.dbm_script.specs.Pieces.{pieces_of};
 ghost use Rattle.dbm_script.specs.Lines.{ask_of};
 ghost use Rattle.dbm_script.specs.Answers.{IsAnswerTo};
 ghost use Rattle.dbm_script.specs.Images.{Verdict};
-ghost use Rattle.dbm_script.specs.Script.{IsScriptRun, RunsLines, AnswersLine, Adds, WritesPart, stage};
+ghost use Rattle.dbm_script.specs.Script.{IsScriptRun, RunsLines, AnswersCommand, AnswersLine, Adds, WritesPart, stage};
 
 use crate::answers::{Answer, show_answer};
 use crate::fault::ScriptFault;
 use crate::images::answer_image;
 use crate::lines::{Ask, read_line};
 use crate::pieces::first_piece;
+use crate::running::answer_run;
 use crate::streams::{read_all, write_all};
 use desk_core::act;
 use prog_registry::Registry;
@@ -110,12 +111,41 @@ fn answer_words<A: Allocator + Copy>(
 {
     match read_line(alloc, line)? {
         None => text.extend_from_slice(b"bad line"),
-        Some(Ask::Plain(command)) => {
-            let answer = answer_command(alloc, image, command)?;
-            show_answer(alloc, &answer, text)
-        }
-        Some(Ask::Program(bytes)) => answer_image(alloc, registry, bytes.as_slice(), text),
+        Some(ask) => answer_ask(alloc, image, registry, ask, text),
     }
+}
+
+// Answers what a line asks.
+fn answer_ask<A: Allocator + Copy>(
+    alloc: A,
+    image: &mut Image<A>,
+    registry: &mut Registry<A>,
+    ask: Ask<A>,
+    text: &mut Vec<u8, A>,
+) -> Result<(), AllocError>
+    ensures answer { OnOk result (Adds text.old.items text.new.items (λ added. (told : Option Verdict) ×
+        AnswersLine A (stage image.old registry.old.programs) (Some ask) told added (stage image.new registry.new.programs))) }
+    ensures kept { OnOk result ((image.new.kind ≡ image.old.kind) × (image.new.size ≡ image.old.size)) }
+{
+    match ask {
+        Ask::Plain(command) => answer_one(alloc, image, command, text),
+        Ask::Program(bytes) => answer_image(alloc, registry, bytes.as_slice(), text),
+        Ask::Run(run) => answer_run(alloc, image, registry, run, text),
+    }
+}
+
+// Answers a command, and writes the answer after a text.
+pub(crate) fn answer_one<A: Allocator + Copy>(
+    alloc: A,
+    image: &mut Image<A>,
+    command: Command<A>,
+    text: &mut Vec<u8, A>,
+) -> Result<(), AllocError>
+    ensures answer { OnOk result (Adds text.old.items text.new.items (λ added. AnswersCommand A image.old command added image.new)) }
+    ensures kept { OnOk result ((image.new.kind ≡ image.old.kind) × (image.new.size ≡ image.old.size)) }
+{
+    let answer = answer_command(alloc, image, command)?;
+    show_answer(alloc, &answer, text)
 }
 
 /// Answers a command on a database as session 0. No trail is kept.
@@ -131,8 +161,8 @@ pub fn answer_command<A: Allocator + Copy>(
     ensures kept { OnOk result ((image.new.kind ≡ image.old.kind) × (image.new.size ≡ image.old.size)) }
     ensures err { OnErr result (image.new ≡ image.old) }
 {
-    if check(&command, image.page_size()).is_err() {
-        return Ok(Answer::PairTooLarge);
+    if let Err(fault) = check(&command, image.page_size()) {
+        return Ok(Answer::Refused(fault));
     }
     match act(alloc, image, SCRIPT_SESSION, command) {
         Ok(entry) => Ok(Answer::Replied(entry)),

@@ -10,7 +10,7 @@ use Rattle.sdbm_addr.specs.Database.{Database, empty_database, map_of}
 use Rattle.sdbm_files.specs.Widened.{widened}
 use Rattle.store_cmd.specs.declared.Command.{Command}
 use Rattle.store_cmd.specs.declared.Reply.{Reply}
-use Rattle.store_cmd.specs.declared.Reply.TheVariants.{Found, Missing, Stored, Exists, Crowded, Deleted, Count}
+use Rattle.store_cmd.specs.declared.Reply.TheVariants.{Found, Missing, Stored, Exists, Crowded, Deleted, Ran, Count}
 use Rattle.bpf_insn.specs.declared.insn.Insn.{Insn}
 use Rattle.bpf_insn.specs.Code.{IsImage}
 use Rattle.bpf_asm.specs.Denotes.{Denotes, IsOnlyCode}
@@ -19,7 +19,7 @@ use Rattle.prog_registry.specs.FaultText.{fault_text}
 use Rattle.prog_registry.specs.Registry.{IsAccepted}
 use Rattle.prog_registry.specs.declared.fault.RegFault.{RegFault}
 use Rattle.dbm_script.specs.declared.answers.Answer.{Answer}
-use Rattle.dbm_script.specs.declared.answers.Answer.TheVariants.{Replied, PairTooLarge}
+use Rattle.dbm_script.specs.declared.answers.Answer.TheVariants.{Replied, Refused}
 use Rattle.dbm_script.specs.Answers.{IsAnswerTo, answer_text, shown}
 use Rattle.dbm_script.specs.Commands.{command_of}
 use Rattle.dbm_script.specs.Images.{Denies}
@@ -45,11 +45,12 @@ reply_status Stored = 0
 reply_status Exists = 1
 reply_status Crowded = 1
 reply_status Deleted = 0
+reply_status (Ran code word) = 0
 reply_status (Count n) = 0
 
 abbrev pub status_of : {A : Type 0} → Answer A → ℕ
 status_of (Replied entry) = reply_status entry.reply
-status_of PairTooLarge = 1
+status_of (Refused fault) = 1
 
 -- a command is answered, by its answer in a line and the status that goes with it
 pub record IsCommandReport (before : Database) (command : Command Global) (after : Database) (report : Report) : Type 0 where

@@ -83,7 +83,7 @@ fn status_of(answer: &Answer<Global>) -> u8
             Reply::Missing | Reply::Exists | Reply::Crowded => 1,
             _ => 0,
         },
-        Answer::PairTooLarge => 1,
+        Answer::Refused(_) => 1,
     }
 }
 

@@ -1,0 +1,75 @@
+//! Lines that run programs.
+ghost use Rattle.std.specs.Prelude.{◌≡◌, IfOk, OnOk, option_map, slice_get};
+ghost use Rattle.dbm_script.specs.Script.{Adds, AnswersRun, run_command};
+
+use crate::script::answer_one;
+use prog_registry::{ProgId, Registry};
+use sdbm_addr::Bytes;
+use sdbm_files::Image;
+use std::alloc::{AllocError, Allocator};
+use std::sync::Arc;
+use store_cmd::{Command, Program};
+
+/// A run as a line asks it: of the program with a number, on a key's record or on a blank where the key is not there.
+#[derive(Drop)]
+pub struct RunAsk<A: Allocator> {
+    pub key: Bytes<A>,
+    pub prog: u32,
+    pub arg: Bytes<A>,
+    pub blank: Option<usize>,
+    /// The time that the program is told.
+    pub now: u64,
+}
+
+/// Runs a program of a registry on a database as session 0, and writes the answer after a text.
+///
+/// # Errors
+/// `AllocError` where there is no memory for it. The text is of no use then.
+pub fn answer_run<A: Allocator + Copy>(
+    alloc: A,
+    image: &mut Image<A>,
+    registry: &Registry<A>,
+    run: RunAsk<A>,
+    text: &mut Vec<u8, A>,
+) -> Result<(), AllocError>
+    ensures answer { OnOk result (Adds text.old.items text.new.items (λ added.
+        AnswersRun A image.old (run_command registry.now.programs run.key run.prog run.arg run.blank run.now) added image.new)) }
+    ensures kept { OnOk result ((image.new.kind ≡ image.old.kind) × (image.new.size ≡ image.old.size)) }
+{
+    match command_of_run(registry, run)? {
+        None => text.extend_from_slice(b"refused NoProgram"),
+        Some(command) => answer_one(alloc, image, command, text),
+    }
+}
+
+// The command of a run, where its program is there.
+fn command_of_run<A: Allocator>(
+    registry: &Registry<A>,
+    run: RunAsk<A>,
+) -> Result<Option<Command<A>>, AllocError>
+    ensures { IfOk result (λ command. command ≡ run_command registry.now.programs run.key run.prog run.arg run.blank run.now) }
+{
+    let Some(prog) = shared_program(registry, run.prog)? else {
+        return Ok(None);
+    };
+    Ok(Some(Command::Run {
+        key: run.key,
+        prog,
+        arg: run.arg,
+        blank: run.blank,
+        now: run.now,
+    }))
+}
+
+// The program with a number, shared with its registry.
+fn shared_program<A: Allocator>(
+    registry: &Registry<A>,
+    prog: u32,
+) -> Result<Option<Program<A>>, AllocError>
+    ensures { IfOk result (λ program. program ≡ option_map (λ p. p.code) (slice_get registry.now.programs prog)) }
+{
+    let Some(owned) = registry.get(ProgId(prog)) else {
+        return Ok(None);
+    };
+    Ok(Some(Program::new(Arc::try_clone(owned)?)))
+}

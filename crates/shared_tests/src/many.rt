@@ -196,6 +196,8 @@ impl Plain {
                 self.give(key.as_slice(), None);
                 Told::Deleted
             }
+            // No thread here asks one.
+            Command::Run { .. } => Told::Wrong,
             Command::Count => Told::Count(self.count()),
         }
     }

@@ -12,7 +12,7 @@ use Rattle.store_cmd.specs.declared.Reply.TheVariants as replies
 use Rattle.store_cmd.specs.declared.Entry.{Entry}
 use Rattle.store_cmd.specs.declared.Refusal.{Refusal}
 use Rattle.store_cmd.specs.declared.Refusal.TheVariants.{PairTooLarge, ArgTooLong, TrailFull, NoMemory, Strayed}
-use Rattle.store_cmd.specs.Command.{IsSmall}
+use Rattle.store_cmd.specs.Command.{IsSmall, FitsPair, FitsArgument}
 use Rattle.desk_core.specs.declared.Asked.{Asked}
 use Rattle.desk_core.specs.declared.Asked.TheVariants as asked
 use Rattle.desk_core.specs.declared.job.Open.{Open}
@@ -77,10 +77,10 @@ IsNotForSize TrailFull = Unit {0}
 IsNotForSize NoMemory = Unit {0}
 IsNotForSize Strayed = Unit {0}
 
--- Why a call is refused: for its size exactly where that is too large.
+-- Why a call is refused: for a size exactly where that is too large, and for that of the pair before that of the argument.
 abbrev pub IsRefusal : {A : Type 0} → PageSize → Command A → Refusal → Type 0
-IsRefusal size command PairTooLarge = ¬ (IsSmall size command)
-IsRefusal size command ArgTooLong = ⊥
+IsRefusal size command PairTooLarge = ¬ (FitsPair size command)
+IsRefusal size command ArgTooLong = FitsPair size command × ¬ (FitsArgument command)
 IsRefusal size command TrailFull = IsSmall size command
 IsRefusal size command NoMemory = IsSmall size command
 IsRefusal size command Strayed = IsSmall size command

@@ -1,6 +1,8 @@
 //! Sessions: those who share a store.
-ghost use Rattle.std.specs.Prelude.{◌≡◌, ◌+◌, ◌≤◌, ◌↔◌, IsTrue, IfOk, IfErr, OnOk, OnErr, [], length};
+ghost use Rattle.std.specs.Prelude.{◌≡◌, ◌+◌, ◌≤◌, ◌↔◌, IsTrue, IfOk, IfErr, IsOk, OnOk, OnErr, [], length};
 ghost use Rattle.sdbm_addr.specs.Pairs.{pair_limit};
+ghost use Rattle.bpf_helpers.specs.Runs.{argument_limit};
+ghost use Rattle.store_cmd.specs.Command.{IsSmall, FitsBlank, IsRunFault};
 ghost use Rattle.store_cmd.specs.declared.Command.{Command};
 ghost use Rattle.store_cmd.specs.declared.Command.TheVariants as commands;
 ghost use Rattle.store_shared.specs.Shared.{calls_left, with_call, IsReplyTo, IsNotForSize, IsRefusal};
@@ -11,7 +13,7 @@ use sdbm_addr::{Bytes, Mode, PageSize};
 use std::alloc::Allocator;
 use std::marker::Model;
 use std::sync::Wait;
-use store_cmd::{Command, Entry, Refusal, Reply};
+use store_cmd::{ARGUMENT_LIMIT, Command, Entry, Program, Refusal, Reply, SizeFault};
 
 /// One of those who share a store, seen as its number, the page size of the store, and its calls that were answered, in order. Its
 /// calls have to be handed in when the store is closed: where one that was answered is let go, the store never closes.
@@ -70,7 +72,7 @@ impl<A: Allocator> Calls<A> {
 /// Of every call: `TrailFull` where the trail has as many entries and open tickets as it may have. `NoMemory` where memory is
 /// refused for copies of what is lent, for the ticket, the reply or the new pages, or for the session's own entry, which is taken
 /// before the desk commits. `Strayed` where the desk does not know the session's ticket as its own: no call here brings that about,
-/// and a test says so. Of `store` alone: `PairTooLarge`, and it is told first.
+/// and a test says so. Of `store` and `run` alone: `PairTooLarge`, and of `run` alone `ArgTooLong`; they are told first.
 impl<'a, A: Allocator + Copy, G: Gate> Session<'a, A, G> {
     // A session that has made no calls.
     pub(crate) fn new(store: &'a Store<A, G>, alloc: A, size: PageSize, number: u64) -> Self
@@ -150,6 +152,56 @@ impl<'a, A: Allocator + Copy, G: Gate> Session<'a, A, G> {
         self.call(rt, Command::Delete { key })
     }
 
+    /// Runs a program on the record of a key, with an argument, told this time: `Ran` with the program's number and reply word,
+    /// `Missing` where the key is not there and no blank is given, or `Crowded` where a blank is to be stored and no number of splits
+    /// makes room. A blank is the number of zeros on which the program runs where the key is not there. The program is not copied:
+    /// the call is one owner more. It waits as `store` does.
+    ///
+    /// # Errors
+    /// `PairTooLarge` exactly where key and blank have more bytes together than a pair of the store may have, 1,008 or 8,008, and
+    /// then `ArgTooLong` exactly where the argument has more than 1,024. `NoMemory` also where a program has as many owners as can be
+    /// counted.
+    pub fn run<R: Wait>(
+        &mut self,
+        rt: &R,
+        key: &[u8],
+        prog: &Program<A>,
+        arg: &[u8],
+        blank: Option<usize>,
+        now: u64,
+    ) -> Result<Reply<A>, Refusal>
+        ensures ok { IfOk result (λ reply. self.new ≡ with_call self.old (commands.Run key.now prog.now arg.now blank now) reply) }
+        ensures reply { IfOk result (λ reply. IsReplyTo self.old.number (commands.Run key.now prog.now arg.now blank now) reply) }
+        ensures small { let command : Command A = commands.Run key.now prog.now arg.now blank now in OnOk result (IsSmall self.old.size command) }
+        ensures refused { let command : Command A = commands.Run key.now prog.now arg.now blank now in IfErr result (IsRefusal self.old.size command) }
+        ensures err { OnErr result (self.new ≡ self.old) }
+    {
+        match check_run(self.size, key, arg, blank) {
+            Ok(()) => {}
+            Err(SizeFault::PairTooLarge) => return Err(Refusal::PairTooLarge),
+            Err(SizeFault::ArgTooLong) => return Err(Refusal::ArgTooLong),
+        }
+        let Ok(key) = Bytes::from_slice(self.alloc, key) else {
+            return Err(Refusal::NoMemory);
+        };
+        let Ok(prog) = prog.try_clone() else {
+            return Err(Refusal::NoMemory);
+        };
+        let Ok(arg) = Bytes::from_slice(self.alloc, arg) else {
+            return Err(Refusal::NoMemory);
+        };
+        self.call(
+            rt,
+            Command::Run {
+                key,
+                prog,
+                arg,
+                blank,
+                now,
+            },
+        )
+    }
+
     /// The number of pairs: `Count`. It waits for the lock alone.
     pub fn count<R: Wait>(&mut self, rt: &R) -> Result<Reply<A>, Refusal>
         ensures ok { IfOk result (λ reply. self.new ≡ with_call self.old commands.Count reply) }
@@ -190,4 +242,21 @@ fn is_small(size: PageSize, key: &[u8], value: &[u8]) -> bool
 {
     let limit = size.pair_limit();
     key.len() <= limit && value.len() <= limit - key.len()
+}
+
+// Tests the sizes of a run.
+fn check_run(size: PageSize, key: &[u8], arg: &[u8], blank: Option<usize>) -> Result<(), SizeFault>
+    ensures ok { IsOk result ↔ (FitsBlank size key.now blank × (length arg.now ≤ argument_limit)) }
+    ensures err { IfErr result (IsRunFault size key.now arg.now blank) }
+{
+    let limit = size.pair_limit();
+    if let Some(len) = blank {
+        if key.len() > limit || len > limit - key.len() {
+            return Err(SizeFault::PairTooLarge);
+        }
+    }
+    if arg.len() > ARGUMENT_LIMIT {
+        return Err(SizeFault::ArgTooLong);
+    }
+    Ok(())
 }

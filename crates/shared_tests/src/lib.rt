@@ -1,4 +1,4 @@
-//! Tests of the store that threads share: what closes it, commands on two pages at once, and many threads.
+//! Tests of the store that threads share: what closes it, commands on two pages at once, many threads, and runs of programs.
 #![tactic(auto)]
 
 #[cfg(test)]
@@ -7,3 +7,5 @@ mod closing;
 mod many;
 #[cfg(test)]
 mod meeting;
+#[cfg(test)]
+mod runs;

@@ -15,22 +15,23 @@ const MOST_TIMES: usize = 4000;
 const MORE: &str = " with more memory";
 
 fn show_asked<A: Allocator>(
+    global: Global,
     out: &mut String,
     session: u64,
     command: &Command<A>,
 ) -> Result<(), AllocError> {
     write!(out, "{session} ")?;
-    show_command(out, command)
+    show_command(global, out, command)
 }
 
 // A call as text.
 fn call_text<A: Allocator>(global: Global, call: &Call<A>) -> Result<String, AllocError> {
     let mut out = String::new(global);
     match call {
-        Call::Step(session, command) => show_asked(&mut out, *session, command)?,
+        Call::Step(session, command) => show_asked(global, &mut out, *session, command)?,
         Call::Ask(hand, session, command) => {
             write!(out, "{hand} ")?;
-            show_asked(&mut out, *session, command)?;
+            show_asked(global, &mut out, *session, command)?;
         }
         Call::Work(hand) | Call::Finish(hand) => write!(out, "{hand}")?,
         Call::Convert(ticket) | Call::Abandon(ticket) => write!(out, "{}", ticket.0)?,

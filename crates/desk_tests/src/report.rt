@@ -105,7 +105,7 @@ fn trail<A: Allocator + Copy>(bench: &Bench<A>) -> Option<String> {
         None => bench.trail.as_ref()?,
     };
     let mut out = String::new(bench.global);
-    show_trail(&mut out, trail).ok()?;
+    show_trail(bench.global, &mut out, trail).ok()?;
     if !same_trail(&trail.try_clone(bench.alloc).ok()?, trail) {
         out.push_str(", and a copy that differs").ok()?;
     }

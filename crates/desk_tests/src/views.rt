@@ -35,19 +35,27 @@ pub fn show_done<A: Allocator>(out: &mut String, done: &Done<A>) -> Result<(), A
     out.push_str(if done.changes() { ", changes" } else { "" })
 }
 
-fn show_entry<A: Allocator>(out: &mut String, entry: &Entry<A>) -> Result<(), AllocError> {
+fn show_entry<A: Allocator>(
+    global: Global,
+    out: &mut String,
+    entry: &Entry<A>,
+) -> Result<(), AllocError> {
     write!(out, " / {} ", entry.session)?;
-    show_command(out, &entry.command)?;
+    show_command(global, out, &entry.command)?;
     out.push_str(": ")?;
     show_reply(out, &entry.reply)
 }
 
 /// Writes a trail.
-pub fn show_trail<A: Allocator>(out: &mut String, trail: &Trail<A>) -> Result<(), AllocError> {
+pub fn show_trail<A: Allocator>(
+    global: Global,
+    out: &mut String,
+    trail: &Trail<A>,
+) -> Result<(), AllocError> {
     out.push_str("opening")?;
     show_pairs(out, trail.opening.as_slice())?;
     for entry in trail.entries.iter() {
-        show_entry(out, entry)?;
+        show_entry(global, out, entry)?;
     }
     Ok(())
 }
@@ -66,7 +74,7 @@ pub fn view<A: Allocator + Copy>(global: Global, desk: &Desk<A>) -> Result<Strin
     let mut out = String::new(global);
     show_desk_pairs(&mut out, desk)?;
     out.push_str(" ")?;
-    show_trail(&mut out, desk.trail())?;
+    show_trail(global, &mut out, desk.trail())?;
     Ok(out)
 }
 

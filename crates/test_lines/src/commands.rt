@@ -1,10 +1,13 @@
 //! Commands and replies in words.
 
 use crate::bytes::{read_bytes, show_bytes};
+use bpf_insn::{decode, encode};
+use bpf_verify::verify;
 use sdbm_addr::{Bytes, Mode};
-use std::alloc::{AllocError, Allocator};
+use std::alloc::{AllocError, Allocator, Global};
 use std::fmt::Write;
-use store_cmd::{Command, Reply};
+use std::sync::Arc;
+use store_cmd::{Command, Program, Reply};
 
 fn read_key<A: Allocator + Copy>(alloc: A, word: &str) -> Option<Bytes<A>> {
     Some(Bytes::new(read_bytes(alloc, word)?))
@@ -19,7 +22,38 @@ fn read_store<A: Allocator + Copy>(alloc: A, words: &str, mode: Mode) -> Option<
     })
 }
 
-/// A command: `fetch KEY`, `insert KEY VALUE`, `replace KEY VALUE`, `delete KEY` or `count`.
+// The accepted program of an image in hex.
+fn read_program<A: Allocator + Copy>(alloc: A, word: &str) -> Option<Program<A>> {
+    let image = read_bytes(alloc, word)?;
+    let code = decode(alloc, image.as_slice()).ok()?;
+    let accepted = verify(alloc, code).ok()?;
+    Some(Program::new(Arc::new(alloc, accepted).ok()?))
+}
+
+// The length of a blank, `.` for none.
+fn read_blank(word: &str) -> Option<Option<usize>> {
+    if word == "." {
+        return Some(None);
+    }
+    Some(Some(word.parse::<usize>().ok()?))
+}
+
+fn read_run<A: Allocator + Copy>(alloc: A, words: &str) -> Option<Command<A>> {
+    let (key, rest) = words.split_once(' ')?;
+    let (image, rest) = rest.split_once(' ')?;
+    let (arg, rest) = rest.split_once(' ')?;
+    let (blank, now) = rest.split_once(' ')?;
+    Some(Command::Run {
+        key: read_key(alloc, key)?,
+        prog: read_program(alloc, image)?,
+        arg: read_key(alloc, arg)?,
+        blank: read_blank(blank)?,
+        now: now.parse::<u64>().ok()?,
+    })
+}
+
+/// A command: `fetch KEY`, `insert KEY VALUE`, `replace KEY VALUE`, `delete KEY`, `run KEY IMAGE ARG BLANK NOW` or `count`. The
+/// image of a program has to be accepted; `.` as the blank is none.
 pub fn read_command<A: Allocator + Copy>(alloc: A, words: &str) -> Option<Command<A>> {
     let (name, rest) = words.split_once(' ').unwrap_or((words, ""));
     match name {
@@ -31,13 +65,32 @@ pub fn read_command<A: Allocator + Copy>(alloc: A, words: &str) -> Option<Comman
         "delete" => Some(Command::Delete {
             key: read_key(alloc, rest)?,
         }),
+        "run" => read_run(alloc, rest),
         "count" => Some(Command::Count),
         _ => None,
     }
 }
 
+// Writes the image of a program.
+fn show_program<A: Allocator>(
+    global: Global,
+    out: &mut String,
+    prog: &Program<A>,
+) -> Result<(), AllocError> {
+    let image = encode(global, prog.verified().code())?;
+    show_bytes(out, image.as_slice())
+}
+
+fn show_blank(out: &mut String, blank: Option<usize>) -> Result<(), AllocError> {
+    match blank {
+        Some(len) => write!(out, "{len}"),
+        None => out.push_str("."),
+    }
+}
+
 /// Writes a command in the same words.
 pub fn show_command<A: Allocator>(
+    global: Global,
     out: &mut String,
     command: &Command<A>,
 ) -> Result<(), AllocError> {
@@ -59,9 +112,22 @@ pub fn show_command<A: Allocator>(
             out.push_str("delete ")?;
             show_bytes(out, key.as_slice())
         }
-        Command::Run { key, .. } => {
+        Command::Run {
+            key,
+            prog,
+            arg,
+            blank,
+            now,
+        } => {
             out.push_str("run ")?;
-            show_bytes(out, key.as_slice())
+            show_bytes(out, key.as_slice())?;
+            out.push_str(" ")?;
+            show_program(global, out, prog)?;
+            out.push_str(" ")?;
+            show_bytes(out, arg.as_slice())?;
+            out.push_str(" ")?;
+            show_blank(out, *blank)?;
+            write!(out, " {now}")
         }
         Command::Count => out.push_str("count"),
     }

@@ -13,8 +13,11 @@ use Rattle.std.specs.Bool.{Decides}
 use Rattle.std.specs.Str.{bytes_eq}
 use Rattle.sdbm_addr.specs.Pairs.{Pair}
 use Rattle.store_cmd.specs.declared.Entry.{Entry}
-use Rattle.store_shared.specs.Shared.{CallsState}
-use Rattle.store_shared.specs.Closed.{calls_of, numbers_of, is_among, AreOwn}
+use Rattle.desk_core.specs.Desk.{DeskState}
+use Rattle.store_shared.specs.declared.close.CloseFault.{CloseFault}
+use Rattle.store_shared.specs.declared.close.CloseFault.TheVariants.{Stranger, Double, Missing, Torn, Opening}
+use Rattle.store_shared.specs.Shared.{Opened, CallsState}
+use Rattle.store_shared.specs.Closed.{calls_of, numbers_of, is_among, AreOwn, IsFirstStrange, IsCloseFault}
 
 among_numbers : {A : Type 0} (n : ℕ) (handed : List (CallsState A)) → list_any (nat_eq n) (numbers_of handed) ≡ is_among n handed
 among_numbers n [] = refl
@@ -84,3 +87,11 @@ same_pair a b =
     Decides-like (bytes_eq a.0 b.0 && bytes_eq a.1 b.1) whole (λ e. (ap (λ p. p.0) e, ap (λ p. p.1) e)) (Decides-and (bytes_eq a.0 b.0) (bytes_eq a.1 b.1) (bytes_eq-Decides a.0 b.0) (bytes_eq-Decides a.1 b.1))
 
 pub ruleset Called = (calls_skip, calls_more, calls_apart, calls_short, take_more)
+
+-- a number that is strange, or comes twice, is a fault of closing
+pub strange_fault : {A : Type 0} (s : DeskState A) (made : ℕ) (opened : Opened) (handed : List (CallsState A)) (fault : CloseFault) → IsFirstStrange made handed fault → IsCloseFault s made opened handed fault
+strange_fault s made opened handed (Stranger n) h = h
+strange_fault s made opened handed (Double n) h = h
+strange_fault s made opened handed (Missing n) h = absurd h.strange
+strange_fault s made opened handed (Torn n) h = absurd h.strange
+strange_fault s made opened handed Opening h = absurd h.strange

@@ -42,8 +42,11 @@ pub fn answer_run<A: Allocator + Copy>(
     }
 }
 
-// The command of a run, where its program is there.
-fn command_of_run<A: Allocator>(
+/// The command of a run, where its program is there.
+///
+/// # Errors
+/// `AllocError` where the program has as many owners as can be counted.
+pub fn command_of_run<A: Allocator>(
     registry: &Registry<A>,
     run: RunAsk<A>,
 ) -> Result<Option<Command<A>>, AllocError>

@@ -3,3 +3,4 @@ pub mod Faults
 pub mod Playing
 pub mod Examples
 pub mod FilesGiven
+pub mod RunFaults

@@ -1,5 +1,5 @@
 -- Why nothing comes of a wish: the causes of each fault before a line is written.
-use Rattle.std.specs.Prelude.{◌≡◌, ◌≢◌, ℕ, ◌<◌, Bool, true, false, List, Option, None, IfSome, length, ⊤}
+use Rattle.std.specs.Prelude.{◌≡◌, ◌≢◌, ◌⊎◌, ℕ, ◌<◌, Bool, true, false, List, Option, Some, None, IsSome, IfSome, length, ⊤}
 use Rattle.std.specs.declared.alloc.Global.{Global}
 use Rattle.std.specs.Str.{IsUtf8}
 use Rattle.sdbm_files.specs.declared.opening.OpenFault.{OpenFault}
@@ -9,19 +9,23 @@ use Rattle.bpf_insn.specs.declared.fault.DecodeFault.{DecodeFault}
 use Rattle.bpf_asm.specs.Denotes.{DenotesNone}
 use Rattle.bpf_asm.specs.Fault.{IsLineOf}
 use Rattle.bpf_asm.specs.declared.fault.AsmFault.{AsmFault}
-use Rattle.dbm_script.specs.Commands.{command_of}
+use Rattle.dbm_script.specs.Commands.{bytes_of, command_of}
+use Rattle.dbm_script.specs.Numbers.{blank_of, number_of}
 use Rattle.dbm_script.specs.declared.fault.ScriptFault.{ScriptFault}
 use Rattle.dbm_script.specs.declared.fault.ScriptFault.TheVariants as streams
 use Rattle.dbm_words.specs.declared.wish.Form.{Form}
 use Rattle.dbm_tool.specs.declared.serve.Given.{Given}
+use Rattle.dbm_tool.specs.declared.running.RunTexts.{RunTexts}
+use Rattle.dbm_tool.specs.declared.running.RunWords.{RunWords}
 use Rattle.dbm_tool.specs.declared.fault.ServeFault.{ServeFault}
-use Rattle.dbm_tool.specs.declared.fault.ServeFault.TheVariants.{ReadFile, FileTooLong, WriteFile, BadHex, Open, NotText, Assemble, Decode, Read, TooLong, Write, NoMemory}
+use Rattle.dbm_tool.specs.declared.fault.ServeFault.TheVariants.{ReadFile, FileTooLong, WriteFile, BadHex, BadNumber, Open, NotText, Assemble, Decode, Read, TooLong, Write, NoMemory}
 use Rattle.dbm_tool.specs.Databases.{IsShut, IsTooLong, Opens}
 
 -- the causes for which nothing comes of a wish
 pub record Causes : Type 1 where
-  -- a word is no bytes
+  -- a word is no bytes, or no number
   pub words : Type 0
+  pub numbers : Type 0
   -- the files are no database
   pub opening : OpenFault → Type 0
   -- the file is no text, is the text of no program, or its image is none
@@ -35,6 +39,7 @@ pub record Causes : Type 1 where
 abbrev pub no_causes : Causes
 no_causes = record {
   words = ⊥;
+  numbers = ⊥;
   opening = λ reason. ⊥;
   no_text = ⊥;
   assembling = λ fault. ⊥;
@@ -49,6 +54,7 @@ IsCaused causes ReadFile = ⊥
 IsCaused causes FileTooLong = ⊥
 IsCaused causes WriteFile = ⊥
 IsCaused causes BadHex = causes.words
+IsCaused causes BadNumber = causes.numbers
 IsCaused causes (Open reason) = causes.opening reason
 IsCaused causes NotText = causes.no_text
 IsCaused causes (Assemble fault) = causes.assembling fault
@@ -95,6 +101,44 @@ text_causes file = record no_causes {
 abbrev pub file_causes : Bool → List ℕ → Causes
 file_causes true file = no_causes
 file_causes false file = text_causes file
+
+-- the words of a run: bytes of a key and an argument, and then a blank and a time
+abbrev pub AreRunWords : RunTexts → RunWords → Type 0
+AreRunWords texts words =
+    (bytes_of texts.key.now ≡ Some words.key) × ((bytes_of texts.arg.now ≡ Some words.arg)
+    × ((blank_of texts.blank.now ≡ Some words.blank) × (number_of 18446744073709551615 texts.now.now ≡ Some words.now)))
+
+abbrev pub Means : RunTexts → Type 0
+Means texts = (words : RunWords) × AreRunWords texts words
+
+abbrev pub HasBadBytes : RunTexts → Type 0
+HasBadBytes texts = (bytes_of texts.key.now ≡ None) ⊎ (bytes_of texts.arg.now ≡ None)
+
+abbrev pub HasBadNumber : RunTexts → Type 0
+HasBadNumber texts =
+    IsSome (bytes_of texts.key.now) × (IsSome (bytes_of texts.arg.now)
+    × ((blank_of texts.blank.now ≡ None) ⊎ (number_of 18446744073709551615 texts.now.now ≡ None)))
+
+abbrev pub word_causes : RunTexts → Causes
+word_causes texts = record no_causes { words = HasBadBytes texts; numbers = HasBadNumber texts }
+
+-- the files of a database, and then a program's file
+abbrev pub program_causes : Form → Given → Bool → Causes
+program_causes form given is_image = record no_causes {
+  opening = IsShut form given;
+  no_text = Opens form given × (file_causes is_image given.file.items).no_text;
+  assembling = λ fault. Opens form given × (file_causes is_image given.file.items).assembling fault;
+}
+
+-- a run: its words come before the files
+abbrev pub run_causes : Form → Given → RunTexts → Bool → Causes
+run_causes form given texts is_image = record no_causes {
+  words = HasBadBytes texts;
+  numbers = HasBadNumber texts;
+  opening = λ reason. Means texts × IsShut form given reason;
+  no_text = Means texts × (program_causes form given is_image).no_text;
+  assembling = λ fault. Means texts × (program_causes form given is_image).assembling fault;
+}
 
 -- the file of a program's image
 abbrev pub image_causes : List ℕ → Causes

@@ -4,13 +4,14 @@ use Rattle.sdbm_files.specs.FaultText as files
 use Rattle.bpf_insn.specs.Decoding as decoding
 use Rattle.bpf_asm.specs.Fault as assembling
 use Rattle.dbm_tool.specs.declared.fault.ServeFault.{ServeFault}
-use Rattle.dbm_tool.specs.declared.fault.ServeFault.TheVariants.{ReadFile, FileTooLong, WriteFile, BadHex, Open, NotText, Assemble, Decode, Read, TooLong, Write, NoMemory}
+use Rattle.dbm_tool.specs.declared.fault.ServeFault.TheVariants.{ReadFile, FileTooLong, WriteFile, BadHex, BadNumber, Open, NotText, Assemble, Decode, Read, TooLong, Write, NoMemory}
 
 abbrev pub fault_text : ServeFault → List ℕ
 fault_text ReadFile = codes "ReadFile"
 fault_text FileTooLong = codes "FileTooLong"
 fault_text WriteFile = codes "WriteFile"
 fault_text BadHex = codes "BadHex"
+fault_text BadNumber = codes "BadNumber"
 fault_text (Open reason) = files.fault_text reason
 fault_text NotText = codes "NotText"
 fault_text (Assemble fault) = assembling.fault_text fault

@@ -28,20 +28,20 @@ shown_source source = record {
 }
 
 -- 256 MiB of directory and 1 GiB of pages at most
-abbrev pub database_files : List ℕ → List FileRead
-database_files base =
-    record { part = Dir; name = base ++ codes ".dir"; limit = 268435456; may_be_absent = true }
-    ∷ record { part = Pag; name = base ++ codes ".pag"; limit = 1073741824; may_be_absent = true }
-    ∷ []
+abbrev pub dir_file : List ℕ → FileRead
+dir_file base = record { part = Dir; name = base ++ codes ".dir"; limit = 268435456; may_be_absent = true }
+
+abbrev pub pag_file : List ℕ → FileRead
+pag_file base = record { part = Pag; name = base ++ codes ".pag"; limit = 1073741824; may_be_absent = true }
 
 -- 1 MiB of program at most
-abbrev pub program_files : List ℕ → List FileRead
-program_files name =
-    record { part = Program; name = name; limit = 1048576; may_be_absent = false } ∷ []
+abbrev pub program_file : List ℕ → FileRead
+program_file name = record { part = Program; name = name; limit = 1048576; may_be_absent = false }
 
 abbrev pub named_files : Option (List ℕ) → Option (List ℕ) → List FileRead
-named_files (Some base) file = database_files base
-named_files None (Some file) = program_files file
+named_files (Some base) (Some file) = dir_file base ∷ pag_file base ∷ program_file file ∷ []
+named_files (Some base) None = dir_file base ∷ pag_file base ∷ []
+named_files None (Some file) = program_file file ∷ []
 named_files None None = []
 
 -- the files that are read for a wish, in this order

@@ -9,6 +9,7 @@ use Rattle.sdbm_addr.specs.Pairs.{Pair}
 use Rattle.sdbm_addr.specs.Database.{Database, empty_database, map_of}
 use Rattle.sdbm_files.specs.Widened.{widened}
 use Rattle.store_cmd.specs.declared.Command.{Command}
+use Rattle.store_cmd.specs.declared.Command.TheVariants.{Run}
 use Rattle.store_cmd.specs.declared.Reply.{Reply}
 use Rattle.store_cmd.specs.declared.Reply.TheVariants.{Found, Missing, Stored, Exists, Crowded, Deleted, Ran, Count}
 use Rattle.bpf_insn.specs.declared.insn.Insn.{Insn}
@@ -16,6 +17,8 @@ use Rattle.bpf_insn.specs.Code.{IsImage}
 use Rattle.bpf_asm.specs.Denotes.{Denotes, IsOnlyCode}
 use Rattle.bpf_asm.specs.Printed.{text_of}
 use Rattle.prog_registry.specs.FaultText.{fault_text}
+use Rattle.bpf_verify.specs.Verified.{Accepted}
+use Rattle.prog_registry.specs.Judged.{IsProgramOf}
 use Rattle.prog_registry.specs.Registry.{IsAccepted}
 use Rattle.prog_registry.specs.declared.fault.RegFault.{RegFault}
 use Rattle.dbm_script.specs.declared.answers.Answer.{Answer}
@@ -27,6 +30,9 @@ use Rattle.dbm_script.specs.Script.{IsScriptRun}
 use Rattle.dbm_words.specs.declared.wish.Form.{Form}
 use Rattle.dbm_tool.specs.declared.subcommands.Report.{Report}
 use Rattle.dbm_tool.specs.declared.serve.Given.{Given}
+use Rattle.dbm_tool.specs.declared.running.RunTexts.{RunTexts}
+use Rattle.dbm_tool.specs.declared.running.RunWords.{RunWords}
+use Rattle.dbm_tool.specs.Causes.{AreRunWords}
 use Rattle.dbm_tool.specs.Databases.{IsOpened, key_bytes_of, page_size_of}
 
 -- a text is printed, and that is all
@@ -178,19 +184,36 @@ abbrev pub accepted_line : ℕ → List ℕ
 accepted_line units = codes "accepted " ++ (decimal units ++ 10 ∷ [])
 
 -- why an image gets no number, in a line, with the status 1
-pub record Refuses (fault : RegFault) (report : Report) : Type 0 where
+pub record Refuses (fault : RegFault) (database : Option Database) (report : Report) : Type 0 where
   pub text_is : report.text.items ≡ (codes "refused " ++ fault_text fault) ++ 10 ∷ []
   pub status_is : report.status ≡ 1
-  pub written : report.database ≡ None
+  pub written : report.database ≡ database
 
 -- An image is that of an accepted program, or it gets no number in a registry without programs, for this.
 abbrev pub Judges : List ℕ → Report → Type 0
 Judges image report =
-    (IsAccepted image × Prints (accepted_line (length image / 8)) report) ⊎ ((fault : RegFault) × (Denies [] image fault × Refuses fault report))
+    (IsAccepted image × Prints (accepted_line (length image / 8)) report) ⊎ ((fault : RegFault) × (Denies [] image fault × Refuses fault None report))
 
 -- what is said of the image of a program's file
 abbrev pub Verifies : Bool → List ℕ → Report → Type 0
 Verifies is_image file report = (image : List ℕ) × (IsFileImage is_image file image × Judges image report)
+
+-- The run of an image's accepted program answers a command, after which the files are written; or the image gets no number in a
+-- registry without programs, and the files are written as they are.
+abbrev pub RunsImage : Database → RunWords → List ℕ → Report → Type 0
+RunsImage before words image report =
+    ((p : Accepted) × (IsProgramOf image p × Changes before (Run words.key p.code words.arg words.blank words.now) report))
+    ⊎ ((fault : RegFault) × (Denies [] image fault × Refuses fault (Some before) report))
+
+-- what comes of a run by its words, on the database of the files, of the program of a file
+pub record OnRun (form : Form) (given : Given) (texts : RunTexts) (is_image : Bool) (report : Report) : Type 0 where
+  pub before : Database
+  pub opened : IsOpened form given before
+  pub words : RunWords
+  pub are : AreRunWords texts words
+  pub image : List ℕ
+  pub image_is : IsFileImage is_image given.file.items image
+  pub runs : RunsImage before words image report
 
 -- a text is printed that goes so with the file, and that is all
 abbrev pub PrintsOf : (List ℕ → List ℕ → Type 0) → List ℕ → Report → Type 0

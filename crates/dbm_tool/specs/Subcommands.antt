@@ -4,8 +4,8 @@ use Rattle.dbm_words.specs.declared.wish.Wish.{Wish}
 use Rattle.dbm_words.specs.declared.wish.Wish.TheVariants as wish
 use Rattle.dbm_tool.specs.declared.subcommands.Report.{Report}
 use Rattle.dbm_tool.specs.declared.serve.Given.{Given}
-use Rattle.dbm_tool.specs.Reports.{OnCommand, OnDatabase, Looks, Changes, Lists, Counts, PlaysAlone, PlaysOn, Widens, PrintsOf, IsAssembled, IsDisassembled, Verifies, fetch_words, store_words, delete_words, small_form}
-use Rattle.dbm_tool.specs.Causes.{Causes, command_causes, opening_causes, input_causes, script_causes, text_causes, image_causes, file_causes}
+use Rattle.dbm_tool.specs.Reports.{OnCommand, OnDatabase, Looks, Changes, Lists, Counts, PlaysAlone, PlaysOn, Widens, PrintsOf, IsAssembled, IsDisassembled, Verifies, OnRun, fetch_words, store_words, delete_words, small_form}
+use Rattle.dbm_tool.specs.Causes.{Causes, command_causes, opening_causes, input_causes, script_causes, text_causes, image_causes, file_causes, run_causes}
 
 pub record Subcommand : Type 1 where
   -- what comes of it
@@ -26,6 +26,10 @@ subcommand_for (wish.Store base form key value insert) given input = record {
 subcommand_for (wish.Delete base form key) given input = record {
   reports = λ report. OnCommand form given (delete_words key) (λ db command. Changes db command report);
   causes = command_causes form given (delete_words key);
+}
+subcommand_for (wish.Run base form key file arg blank now image) given input = record {
+  reports = OnRun form given (record { key = key; arg = arg; blank = blank; now = now }) image;
+  causes = run_causes form given (record { key = key; arg = arg; blank = blank; now = now }) image;
 }
 subcommand_for (wish.List base form) given input = record {
   reports = λ report. OnDatabase form given (Lists report);

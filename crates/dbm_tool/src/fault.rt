@@ -19,8 +19,10 @@ pub enum ServeFault {
     FileTooLong,
     /// A file could not be written.
     WriteFile,
-    /// A key or a value is no hex and no dot.
+    /// A key, a value or an argument is no hex and no dot.
     BadHex,
+    /// A blank is neither a dot nor a number below 65,536, or a time is no number below 2^64, without leading zeros.
+    BadNumber,
     /// The files are no database.
     Open(OpenFault),
     /// A word of the command line, or the file of a program's text, is not UTF-8.
@@ -51,6 +53,7 @@ impl fmt::Display for ServeFault {
             ServeFault::FileTooLong => write!(f, "FileTooLong"),
             ServeFault::WriteFile => write!(f, "WriteFile"),
             ServeFault::BadHex => write!(f, "BadHex"),
+            ServeFault::BadNumber => write!(f, "BadNumber"),
             ServeFault::Open(fault) => write!(f, "{fault}"),
             ServeFault::NotText => write!(f, "NotText"),
             ServeFault::Assemble(fault) => write!(f, "{fault}"),

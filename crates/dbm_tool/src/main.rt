@@ -11,6 +11,7 @@ mod listing;
 mod lock;
 mod names;
 mod programs;
+mod running;
 mod serve;
 mod subcommands;
 

@@ -61,48 +61,56 @@ pub struct LockFile {
     pub is_exclusive: bool,
 }
 
-/// The files that are read for a wish, in this order: BASE.dir and BASE.pag, each of which may be missing, or the program's file. The
+/// The files that are read for a wish, in this order: BASE.dir and BASE.pag, each of which may be missing, and the program's file. The
 /// error is `NoMemory`.
 pub fn sources(alloc: Global, wish: &Wish<'_>) -> Result<Vec<Source>, ServeFault>
     ensures { IfOk result (λ sources. map shown_source sources.items ≡ files_read wish.now) }
 {
-    if let Some(base) = wish.base() {
-        return database_sources(alloc, base);
+    match (wish.base(), wish.file()) {
+        (Some(base), Some(file)) => {
+            let dir = dir_source(alloc, base)?;
+            let pag = pag_source(alloc, base)?;
+            Ok(vec![in alloc; dir, pag, program_source(alloc, file)?]?)
+        }
+        (Some(base), None) => {
+            Ok(vec![in alloc; dir_source(alloc, base)?, pag_source(alloc, base)?]?)
+        }
+        (None, Some(file)) => Ok(vec![in alloc; program_source(alloc, file)?]?),
+        (None, None) => Ok(Vec::new(alloc)),
     }
-    if let Some(file) = wish.file() {
-        return program_sources(alloc, file);
-    }
-    Ok(Vec::new(alloc))
 }
 
-fn database_sources(alloc: Global, base: &str) -> Result<Vec<Source>, ServeFault>
-    ensures { IfOk result (λ sources. map shown_source sources.items ≡ spec.database_files base.now) }
+fn dir_source(alloc: Global, base: &str) -> Result<Source, ServeFault>
+    ensures { IfOk result (λ source. shown_source source ≡ spec.dir_file base.now) }
 {
-    let dir = Source {
+    Ok(Source {
         part: Part::Dir,
         name: joined(alloc, base, ".dir")?,
         limit: DIR_LIMIT,
         may_be_absent: true,
-    };
-    let pag = Source {
+    })
+}
+
+fn pag_source(alloc: Global, base: &str) -> Result<Source, ServeFault>
+    ensures { IfOk result (λ source. shown_source source ≡ spec.pag_file base.now) }
+{
+    Ok(Source {
         part: Part::Pag,
         name: joined(alloc, base, ".pag")?,
         limit: PAG_LIMIT,
         may_be_absent: true,
-    };
-    Ok(vec![in alloc; dir, pag]?)
+    })
 }
 
-fn program_sources(alloc: Global, file: &str) -> Result<Vec<Source>, ServeFault>
-    ensures { IfOk result (λ sources. map shown_source sources.items ≡ spec.program_files file.now) }
+fn program_source(alloc: Global, file: &str) -> Result<Source, ServeFault>
+    ensures { IfOk result (λ source. shown_source source ≡ spec.program_file file.now) }
 {
-    let program = Source {
+    Ok(Source {
         part: Part::Program,
         name: String::from_str(alloc, file)?,
         limit: PROGRAM_LIMIT,
         may_be_absent: false,
-    };
-    Ok(vec![in alloc; program]?)
+    })
 }
 
 /// Puts the bytes of a file where they belong; those of the others stay.

@@ -11,6 +11,7 @@ use bpf_asm::{FaultKind, assemble, disassemble};
 use bpf_insn::{DecodeFault, decode, encode};
 use dbm_script::show_refusal;
 use prog_registry::{RegFault, Registry};
+use sdbm_files::Image;
 use std::alloc::{AllocError, Global};
 
 /// The image of a program's text, in hex, in a line.
@@ -77,13 +78,20 @@ fn judge_image(alloc: Global, image: &[u8]) -> Result<Report, AllocError>
     let mut registry = Registry::new(alloc)?;
     match registry.submit(image) {
         Ok(_) => Ok(printed(show_accepted(alloc, image.len() / 8)?)),
-        Err(fault) => refused(alloc, fault),
+        Err(fault) => refused(alloc, fault, None),
     }
 }
 
-// The line that says why an image gets no number. Want of memory is no such line.
-fn refused(alloc: Global, fault: RegFault) -> Result<Report, AllocError>
-    ensures line { IfOk result (Refuses fault) }
+/// The line that says why an image gets no number, and the database that is to be written. Want of memory is no such line.
+///
+/// # Errors
+/// `AllocError` where no memory is left, or where that is the fault.
+pub fn refused(
+    alloc: Global,
+    fault: RegFault,
+    database: Option<Image<Global>>,
+) -> Result<Report, AllocError>
+    ensures line { IfOk result (Refuses fault database) }
     ensures told { IfOk result (λ report. fault ≢ NoMemory) }
 {
     let mut text = Vec::new(alloc);
@@ -92,7 +100,7 @@ fn refused(alloc: Global, fault: RegFault) -> Result<Report, AllocError>
     Ok(Report {
         text,
         status: 1,
-        database: None,
+        database,
     })
 }
 

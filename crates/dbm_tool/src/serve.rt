@@ -12,6 +12,7 @@ ghost use Rattle.dbm_tool.specs.Subcommands.{subcommand_for, reads_input};
 use crate::databases::{Files, files_to_write, key_bytes_of, open, page_size_of};
 use crate::fault::ServeFault;
 use crate::programs::{assemble_file, disassemble_file, verify_file};
+use crate::running::{RunTexts, report_run};
 use crate::subcommands::{Report, change, check, list, look, play, printed, widen_pages};
 use dbm_script::{read_all, read_command, write_all};
 use dbm_words::{Form, Wish};
@@ -51,7 +52,7 @@ struct Served {
 /// where there is a fault. Files are given exactly for a wish that writes (`Wish::writes`), and none where there is a fault.
 ///
 /// # Errors
-/// The first that is met, in this order: `BadHex` where a word is no bytes; `Open` where the files do not open; `NotText` and
+/// The first that is met, in this order: `BadHex` where a word is no bytes, `BadNumber` where one is no number; `Open` where the files do not open; `NotText` and
 /// `Assemble` where a program's file is no text of one, `Decode` where it is no image; of a script, `Read` where it could not be
 /// read and `TooLong` above 16,777,216 bytes; `Write` where lines could not be written; `FileTooLong` where `.pag` would be above
 /// `PAG_LIMIT`, after the lines were written. `NoMemory` may come at any step. Nothing is written at a fault before the lines, and
@@ -127,6 +128,23 @@ fn report_on<R: Read>(
             ..
         } => report_store(alloc, given, form, key, value, insert),
         Wish::Delete { form, key, .. } => report_delete(alloc, given, form, key),
+        Wish::Run {
+            form,
+            key,
+            arg,
+            blank,
+            now,
+            image,
+            ..
+        } => {
+            let texts = RunTexts {
+                key,
+                arg,
+                blank,
+                now,
+            };
+            report_run(alloc, given, form, texts, image)
+        }
         Wish::List { form, .. } => report_list(alloc, given, form),
         Wish::Check { form, .. } => report_check(alloc, given, form),
         Wish::Script { base, form } => report_script(alloc, given, base, form, reader),

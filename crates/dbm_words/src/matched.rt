@@ -24,6 +24,7 @@ pub fn asked<'a>(name: &str, matches: &ArgMatches<'a>) -> Option<Wish<'a>>
         "asm" => asm(matches),
         "disasm" => disasm(matches),
         "verify" => verify(matches),
+        "run" => run(matches),
         _ => None,
     }
 }
@@ -153,6 +154,22 @@ fn verify<'a>(matches: &ArgMatches<'a>) -> Option<Wish<'a>>
 {
     Some(Wish::Verify {
         file: word(matches, "FILE")?,
+        image: has_flag(matches, "image"),
+    })
+}
+
+fn run<'a>(matches: &ArgMatches<'a>) -> Option<Wish<'a>>
+    ensures some { IfSome result (SubcommandAsks (codes "run") (rows_of (found_of matches.now))) }
+    ensures none { IsNone result → has_words spec.run.rules (rows_of (found_of matches.now)) ≡ false }
+{
+    Some(Wish::Run {
+        base: word(matches, "BASE")?,
+        form: form(matches),
+        key: word(matches, "KEY")?,
+        file: word(matches, "FILE")?,
+        arg: word(matches, "ARG")?,
+        blank: word(matches, "BLANK")?,
+        now: word(matches, "NOW")?,
         image: has_flag(matches, "image"),
     })
 }

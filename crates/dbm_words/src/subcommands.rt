@@ -25,7 +25,8 @@ pub fn tool_command<'a>(alloc: Global) -> Result<Command<'a>, AllocError>
         .subcommand(widen_command(alloc)?)?
         .subcommand(asm_command(alloc)?)?
         .subcommand(disasm_command(alloc)?)?
-        .subcommand(verify_command(alloc)?)
+        .subcommand(verify_command(alloc)?)?
+        .subcommand(run_command(alloc)?)
 }
 
 // The program's name, version and help.
@@ -37,8 +38,8 @@ fn titled_command<'a>(alloc: Global) -> Command<'a>
         .about("A key-value store in the files of an sdbm database")
         .after_help(
             "Bytes are written in hex, two digits a byte, or as . for none.\n\
-             The status is 0, or 1 where the answer of fetch, store or delete is that nothing was found or\n\
-             changed, or that of verify is refused, or 2 for a fault, which standard error names.\n\n\
+             The status is 0, or 1 where the answer of fetch, store, delete or run is that nothing was found\n\
+             or changed, or is refused, as that of verify may be, or 2 for a fault, which standard error names.\n\n\
              Example: dbm store users 6162 78797a\n\
              stores the value xyz of the key ab in users.dir and users.pag.",
         )
@@ -148,9 +149,9 @@ fn script_command<'a>(alloc: Global) -> Result<Command<'a>, AllocError>
     ]?;
     let about = "Run the commands on standard input, a line each";
     let notes =
-        "The lines are fetch KEY, insert KEY VALUE, replace KEY VALUE, delete KEY, count and program IMAGE.\n\
-         Prints a line of answer to each, bad line to any other that is not empty. All lines together have\n\
-         at most 16 MiB.\n\n\
+        "The lines are fetch KEY, insert KEY VALUE, replace KEY VALUE, delete KEY, count, program IMAGE and\n\
+         run KEY PROG ARG BLANK NOW. Prints a line of answer to each, bad line to any other that is not\n\
+         empty. All lines together have at most 16 MiB.\n\n\
          Example: dbm script --base users < first.script";
     subcommand(alloc, "script", about, notes, args)
 }
@@ -198,4 +199,34 @@ fn verify_command<'a>(alloc: Global) -> Result<Command<'a>, AllocError>
         "Prints accepted UNITS, its length in units of 8 bytes, or refused FAULT with status 1.\n\n\
          Example: dbm verify counter.s";
     subcommand(alloc, "verify", about, notes, args)
+}
+
+fn run_command<'a>(alloc: Global) -> Result<Command<'a>, AllocError>
+    ensures { IfOk result (IsSubcommand spec.run) }
+{
+    let args = vec![in alloc;
+        base(alloc),
+        key(alloc),
+        file(alloc, "The program as text, one instruction a line"),
+        required_word(
+            alloc,
+            "ARG",
+            "What the program is given, in hex, or . for nothing"
+        ),
+        required_word(
+            alloc,
+            "BLANK",
+            "How many zeros it runs on where the key is not there, or . to answer missing then",
+        ),
+        required_word(alloc, "NOW", "The time that it is told, a number"),
+        image(alloc),
+        unsigned(alloc),
+        wide(alloc),
+    ]?;
+    let about = "Run a program on the record of a key";
+    let notes =
+        "Prints ran CODE WORD, or with status 1 missing, crowded (there is no room for a new record) or\n\
+         refused FAULT (the program is not accepted, or KEY and BLANK or ARG are too long).\n\n\
+         Example: dbm run users 6162 counter.s . 8 0";
+    subcommand(alloc, "run", about, notes, args)
 }

@@ -35,6 +35,17 @@ pub enum Wish<'a> {
         form: Form,
         key: &'a str,
     },
+    /// A program is to be run on the record of a key: that of a text, or with `image` that of an image.
+    Run {
+        base: &'a str,
+        form: Form,
+        key: &'a str,
+        file: &'a str,
+        arg: &'a str,
+        blank: &'a str,
+        now: &'a str,
+        image: bool,
+    },
     /// All pairs.
     List {
         base: &'a str,
@@ -79,6 +90,7 @@ impl<'a> Wish<'a> {
             Wish::Fetch { base, .. }
             | Wish::Store { base, .. }
             | Wish::Delete { base, .. }
+            | Wish::Run { base, .. }
             | Wish::List { base, .. }
             | Wish::Check { base, .. }
             | Wish::Widen { base, .. } => Some(base),
@@ -92,18 +104,22 @@ impl<'a> Wish<'a> {
         ensures { option_map (λ text. text.now) result ≡ file_of self.now }
     {
         match *self {
-            Wish::Asm { file } | Wish::Disasm { file } | Wish::Verify { file, .. } => Some(file),
+            Wish::Run { file, .. }
+            | Wish::Asm { file }
+            | Wish::Disasm { file }
+            | Wish::Verify { file, .. } => Some(file),
             _ => None,
         }
     }
 
-    /// Whether the files of its database are written once it was served: by `store`, `delete`, `widen`, and `script` with a base. A
-    /// `store` or `delete` that changed nothing writes them too.
+    /// Whether the files of its database are written once it was served: by `store`, `delete`, `run`, `widen`, and `script` with a
+    /// base. A `store`, `delete` or `run` that changed nothing writes them too.
     pub fn writes(&self) -> bool
         ensures { result ≡ writes_files self.now }
     {
         match *self {
-            Wish::Store { .. } | Wish::Delete { .. } | Wish::Widen { .. } => true,
+            Wish::Store { .. } | Wish::Delete { .. } | Wish::Run { .. } | Wish::Widen { .. } =>
+                true,
             Wish::Script { base, .. } => base.is_some(),
             Wish::Fetch { .. }
             | Wish::List { .. }

@@ -11,3 +11,6 @@ returns-in-Script-clause-ok g c = rw (c.in-Script.is, c.in-Script.base-is) c.rep
 
 pub returns-in-Widen-clause-ok : goal.returns-in-Widen-clause-ok
 returns-in-Widen-clause-ok g c = rw (c.in-Widen.is) c.report_widen.ensures.ok
+
+pub returns-in-Run-clause-fault : goal.returns-in-Run-clause-fault
+returns-in-Run-clause-fault g c = rw (c.in-Run.is) c.report_run.ensures.fault

@@ -226,9 +226,9 @@ fn all_calls<R: Threads + Wait + Sync>(
 
 // Whether each run replied the number of the runs up to it.
 fn counts_up(entries: &[Entry<Global>]) -> bool {
-    let mut count = 0;
+    let mut count = 0_u64;
     for entry in entries {
-        count += 1;
+        count = count.wrapping_add(1);
         if came_of(&entry.reply) != Came::Ran(1, count) {
             return false;
         }

@@ -1,12 +1,11 @@
 -- What one command does is one move, and one alone.
-use Rattle.std.proofs.Common.{◌≡◌, ℕ, ◌%◌, ◌^◌, List, Option, None, Some, refl, sym, ap, ◌∙◌, subst}
+use Rattle.std.proofs.Common.{◌≡◌, ℕ, ◌%◌, ◌^◌, List, refl, sym, ap, ◌∙◌, subst}
 use Rattle.std.specs.FinMap as map
 use Rattle.sdbm_addr.specs.Hash.{hash_of}
 use Rattle.sdbm_addr.specs.Directory.{hash_prefix, word_number}
 use Rattle.sdbm_addr.specs.Database.{Database, IsDatabase, pairs_at, map_of}
 use Rattle.sdbm_addr.proofs.DirectoryLemmas.{IsDepth-unique}
 use Rattle.sdbm_dir.specs.declared.Place.{Place}
-use Rattle.sdbm_split.specs.Planned.{PageChange}
 use Rattle.store_cmd.specs.declared.Command.{Command}
 use Rattle.store_cmd.specs.declared.Command.TheVariants.{Fetch, Store, Delete, Run, Count}
 use Rattle.store_cmd.specs.declared.Entry.{Entry}

@@ -11,7 +11,7 @@ use Rattle.std.specs.FinMap as map
 use Rattle.sdbm_addr.specs.declared.PageSize.{PageSize}
 use Rattle.sdbm_addr.specs.Hash.{hash_of}
 use Rattle.sdbm_addr.specs.Directory.{page_of, depth_of}
-use Rattle.sdbm_addr.specs.Pairs.{Pair, Content, same_key, value_of, key_at, HasDistinctKeys, footprint, page_bytes, pair_limit, AreSmall, IsPage}
+use Rattle.sdbm_addr.specs.Pairs.{Pair, same_key, value_of, key_at, HasDistinctKeys, footprint, page_bytes, pair_limit, AreSmall, IsPage}
 use Rattle.sdbm_addr.specs.Database.{Database, IsDatabase, pairs_at, map_of, with_page}
 use Rattle.sdbm_addr.proofs.DirectoryLemmas.{depth_of-IsDepth, depth_of-le}
 use Rattle.sdbm_addr.proofs.PairLemmas.{same_key-refl, same_key-sym, equal_keys, absent_parts}

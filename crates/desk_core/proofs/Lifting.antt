@@ -27,7 +27,7 @@ use Rattle.sdbm_files.specs.Stored.{IsStore}
 use Rattle.sdbm_files.proofs.PutLemmas.{IsPage-pairs_at, pairs-put_page, map_of-taken_out, IsInstallable-taken_out}
 use Rattle.sdbm_files.proofs.PlanLemmas.{IsInstallable-stored, splits-stored, map_of-stored, is_installed}
 use Rattle.bpf_insn.specs.declared.insn.Insn.{Insn}
-use Rattle.bpf_helpers.specs.Runs.{Outcome, Ends, run_outcome}
+use Rattle.bpf_helpers.specs.Runs.{Outcome, Ends}
 use Rattle.bpf_helpers.proofs.OneEnd.{outcome-ends}
 use Rattle.bpf_helpers.proofs.Lengths.{Ends-length}
 use Rattle.store_cmd.specs.declared.Command.{Command}
@@ -36,9 +36,9 @@ use Rattle.store_cmd.specs.declared.Reply.TheVariants as reply
 use Rattle.store_cmd.specs.Command.{IsSmall, FitsBlank}
 use Rattle.store_cmd.specs.Answers.{env_of, saves, removes, left_by}
 use Rattle.store_cmd.specs.Moves.{GoesIn, IsFull, Moves}
-use Rattle.desk_core.specs.Works.{PageResult, works, HasKey, key_of, fetched, deleted, placed, is_kept, stored_unless, left_on, ran_on, as_ran, stored_by, ran_anew, run_on, outcome_there, outcome_anew, in_place, leaf_alone, EndsOn}
+use Rattle.desk_core.specs.Works.{PageResult, works, HasKey, key_of, fetched, deleted, placed, is_kept, stored_unless, ran_on, as_ran, stored_by, ran_anew, run_on, outcome_there, outcome_anew, in_place, leaf_alone, EndsOn}
 use Rattle.desk_core.specs.Leads.{state_of, does_change, LeadsTo, IsPlaceOf, IsSameBeside}
-use Rattle.desk_core.proofs.InPlace.{written, map_of-written, IsInstallable-written}
+use Rattle.desk_core.proofs.InPlace.{map_of-written, IsInstallable-written}
 
 abbrev leads_to : Database → List ℕ → ℕ
 leads_to db key = page_of db.splits (hash_of db.kind key)

@@ -1,14 +1,14 @@
 -- What a run comes to on its page, case by case.
 use Rattle.std.proofs.Common.{◌≡◌, ℕ, zero, suc, ◌+◌, ◌<◌, ◌≤◌, List, [], ◌∷◌, length, take, replicate, remove, Bool, true, false, cond, Option, Some, None, is_some, refl, sym, ap, ◌∙◌, subst, arith}
-use Rattle.std.proofs.lemmas.Bool.{eqb-true, eq-eqb, false_from_ne_true, true≢false, false≢true}
+use Rattle.std.proofs.lemmas.Bool.{eqb-true, eq-eqb, false_from_ne_true, false≢true}
 use Rattle.std.proofs.lemmas.List.{length-replicate}
-use Rattle.std.specs.Prelude.{◌==◌, slice_set, slice_index_or, IsSome}
+use Rattle.std.specs.Prelude.{◌==◌, slice_set, IsSome}
 use Rattle.std.specs.Option.{option_map}
 use Rattle.sdbm_addr.specs.declared.KeyBytes.{KeyBytes}
 use Rattle.sdbm_addr.specs.declared.PageSize.{PageSize}
 use Rattle.sdbm_addr.specs.declared.PageSize.TheVariants.{Small, Wide}
 use Rattle.sdbm_addr.specs.declared.Mode.TheVariants.{Insert}
-use Rattle.sdbm_addr.specs.Pairs.{Pair, Content, value_of, value_at, key_at, without, HasDistinctKeys, AreSmall, IsPlace, pair_limit}
+use Rattle.sdbm_addr.specs.Pairs.{Pair, Content, value_of, value_at, key_at, HasDistinctKeys, AreSmall, IsPlace, pair_limit}
 use Rattle.sdbm_addr.specs.Splitting.{neighbors}
 use Rattle.sdbm_addr.proofs.SortedPairs.{remove-without}
 use Rattle.sdbm_split.specs.Planned.{PageChange, planned, least_splits}

@@ -109,6 +109,7 @@ impl<A: Allocator> Job<A> {
         A: Copy,
         ensures ok { IfOk result (λ done. done ≡ self) }
         ensures returned { IfErr result (λ refused. refused.1 ≡ self) }
+        ensures ends { OnOk result (HasEnd self.asked.page.pairs self.asked.session self.asked.command) }
     {
         let Ok(worked) = work_asked(self.alloc, &self.asked) else {
             return Err((AllocError, self));
@@ -169,9 +170,10 @@ impl<A: Allocator> Done<A> {
         self.change.is_some()
     }
 
-    /// The reply, which is what a `finish` answers.
+    /// The reply, which is what a `finish` answers. Where the command is a run, its program has ended.
     pub fn reply(&self) -> &Reply<A>
-        ensures { result.now ≡ (worked self.now.asked).reply }
+        ensures value { result.now ≡ (worked self.now.asked).reply }
+        ensures ends { HasEnd self.now.asked.page.pairs self.now.asked.session self.now.asked.command }
     {
         &self.reply
     }

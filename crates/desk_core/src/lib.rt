@@ -116,6 +116,13 @@ pub enum Asked<A: Allocator> {
     Answered(Reply<A>),
 }
 
+/// What a command leaves that was committed: its reply, and the command, which its ticket had.
+#[derive(Drop)]
+pub struct Settled<A: Allocator> {
+    pub reply: Reply<A>,
+    pub command: Command<A>,
+}
+
 /// What a command wants that is about a key: the page of its place, and how to hold it at first.
 #[derive(Clone, Copy)]
 pub(crate) struct Wanted {
@@ -369,6 +376,23 @@ impl<A: Allocator + Copy> Desk<A> {
         ensures returned { IfErr result (λ refused. refused.1 ≡ done) }
         ensures err { OnErr result (self.new ≡ self.old) }
     {
+        match self.settle(done) {
+            Ok(settled) => Ok(settled.reply),
+            Err(refused) => Err(refused),
+        }
+    }
+
+    /// The same, where who asked wants the command back, to keep it without a copy.
+    ///
+    /// # Errors
+    /// Those of `finish`.
+    pub fn settle(&mut self, done: Done<A>) -> Result<Settled<A>, (FinishFault, Done<A>)>
+        ensures ok { IfOk result (λ settled. Finishes self.old done settled.reply self.new) }
+        ensures command { IfOk result (λ settled. settled.command ≡ done.asked.command) }
+        ensures refused { IfErr result (λ refused. IsFinishFault self.old done refused.0) }
+        ensures returned { IfErr result (λ refused. refused.1 ≡ done) }
+        ensures err { OnErr result (self.new ≡ self.old) }
+    {
         let ticket = done.ticket();
         let Some(own) = self.tickets.get(ticket.0) else {
             return Err((FinishFault::NoTicket, done));
@@ -386,9 +410,10 @@ impl<A: Allocator + Copy> Desk<A> {
     }
 
     // Installs what was worked under an open ticket, adds its entry, and closes the ticket.
-    fn commit(&mut self, done: Done<A>) -> Result<Reply<A>, (FinishFault, Done<A>)>
+    fn commit(&mut self, done: Done<A>) -> Result<Settled<A>, (FinishFault, Done<A>)>
         requires { MayFinish self.old done }
-        ensures ok { IfOk result (λ reply. Finishes self.old done reply self.new) }
+        ensures ok { IfOk result (λ settled. Finishes self.old done settled.reply self.new) }
+        ensures command { IfOk result (λ settled. settled.command ≡ done.asked.command) }
         ensures refused { IfErr result (λ refused. IsFinishFault self.old done refused.0) }
         ensures returned { IfErr result (λ refused. refused.1 ≡ done) }
         ensures err { OnErr result (self.new ≡ self.old) }
@@ -415,14 +440,17 @@ impl<A: Allocator + Copy> Desk<A> {
             command,
             ..
         } = asked;
-        let _own = self.tickets.remove(ticket.0);
+        let own = self.tickets.remove(ticket.0);
         self.trail.entries.push_reserved(Entry {
             session,
             command,
             reply: copy,
         });
         self.holds.release(ticket);
-        Ok(reply)
+        Ok(Settled {
+            reply,
+            command: own.command,
+        })
     }
 
     /// The pairs of the map, sorted by the bytes of their keys.

@@ -1,4 +1,5 @@
-//! Tests of the store that threads share: what closes it, commands on two pages at once, many threads, and runs of programs.
+//! Tests of the store that threads share: what closes it, commands on two pages at once, many threads, a gate that refuses
+//! memory, and runs of programs.
 #![tactic(auto)]
 
 #[cfg(test)]
@@ -7,5 +8,7 @@ mod closing;
 mod many;
 #[cfg(test)]
 mod meeting;
+#[cfg(test)]
+mod refusing;
 #[cfg(test)]
 mod runs;

@@ -16,7 +16,7 @@ use Rattle.store_cmd.specs.Command.{IsSmall, FitsPair, FitsArgument}
 use Rattle.desk_core.specs.declared.Asked.{Asked}
 use Rattle.desk_core.specs.declared.Asked.TheVariants as asked
 use Rattle.desk_core.specs.declared.job.Open.{Open}
-use Rattle.desk_core.specs.Works.{HasKey}
+use Rattle.desk_core.specs.Works.{HasKey, HasEnd}
 use Rattle.desk_core.specs.Jobs.{worked}
 
 -- how the keys of a store hash, how large its pages are, and the pairs with which it was opened
@@ -42,17 +42,22 @@ pub record CallsState (A : Type 0) : Type 0 where
 abbrev pub calls_left : {A : Type 0} → SessionState A → CallsState A
 calls_left s = record { number = s.number; calls = s.calls }
 
+-- a session's call that was answered, as it stands in a trail
+abbrev pub entry_of : {A : Type 0} → ℕ → Command A → Reply A → Entry A
+entry_of session command reply = record { session = session; command = command; reply = reply }
+
 -- one call more
 abbrev pub with_call : {A : Type 0} → SessionState A → Command A → Reply A → SessionState A
-with_call s command reply = record { number = s.number; size = s.size; calls = s.calls ++ record { session = s.number; command = command; reply = reply } ∷ [] }
+with_call s command reply = record { number = s.number; size = s.size; calls = s.calls ++ entry_of s.number command reply ∷ [] }
 
--- the reply is what a session's command comes to on a page
+-- the reply is what a session's command comes to on a page, where a run ends
 pub record IsWorkedFor {A : Type 0} (session : ℕ) (command : Command A) (reply : Reply A) : Type 0 where
   pub keyed : HasKey command
   pub asked : Open A
   pub session_is : asked.session ≡ session
   pub command_is : asked.command ≡ command
   pub reply_is : reply ≡ (worked asked).reply
+  pub ends : HasEnd asked.page.pairs asked.session asked.command
 
 -- the command counts, and the reply is a number
 pub record IsCounted {A : Type 0} (command : Command A) (reply : Reply A) : Type 0 where

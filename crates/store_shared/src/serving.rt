@@ -1,43 +1,59 @@
 //! How the desk serves a call of a session. Each function that takes the lock makes one call of the desk while it has it.
-ghost use Rattle.std.specs.Prelude.{◌≡◌, ◌≢◌, IfOk, IfErr, ℕ};
+ghost use Rattle.std.specs.Prelude.{◌≡◌, ◌≢◌, IfOk, IfErr, OnOk, ℕ};
+ghost use Rattle.store_cmd.specs.declared.Command.TheVariants as commands;
 ghost use Rattle.store_cmd.specs.declared.Reply.TheVariants as replies;
 ghost use Rattle.desk_core.specs.declared.ConvertFault.TheVariants as faults;
 ghost use Rattle.desk_core.specs.Jobs.{worked};
-ghost use Rattle.store_shared.specs.Shared.{IsReplyTo, IsAskedFor, IsNotForSize};
+ghost use Rattle.desk_core.specs.Works.{HasEnd};
+ghost use Rattle.store_shared.specs.Shared.{entry_of, IsReplyTo, IsAskedFor, IsNotForSize};
 
 use crate::store::{Gate, Store};
-use desk_core::{AskFault, Asked, ConvertFault, Done, FinishFault, Job, Ticket};
+use desk_core::{AskFault, Asked, ConvertFault, Done, FinishFault, Job, Settled, Ticket};
 use std::alloc::Allocator;
 use std::mem;
 use std::sync::Wait;
-use store_cmd::{Command, Refusal, Reply};
+use store_cmd::{Command, Entry, Refusal, Reply};
 
-/// Asks a session's command, works it and commits it. The reply is given twice.
+/// A call that was answered: its reply, and its entry with a copy of that.
+#[derive(Drop)]
+pub(crate) struct Served<A: Allocator> {
+    pub(crate) reply: Reply<A>,
+    pub(crate) entry: Entry<A>,
+}
+
+/// Asks a session's command, works it and commits it.
 pub(crate) fn answer<R: Wait, A: Allocator + Copy, G: Gate>(
     rt: &R,
     store: &Store<A, G>,
     alloc: A,
     session: u64,
     command: Command<A>,
-) -> Result<(Reply<A>, Reply<A>), Refusal>
-    ensures reply { IfOk result (λ twice. IsReplyTo session command twice.0) }
-    ensures same { IfOk result (λ twice. twice.1 ≡ twice.0) }
+) -> Result<Served<A>, Refusal>
+    ensures reply { IfOk result (λ served. IsReplyTo session command served.reply) }
+    ensures entry { IfOk result (λ served. served.entry ≡ entry_of session command served.reply) }
     ensures refused { IfErr result IsNotForSize }
 {
     match ask(rt, store, session, command)? {
         Asked::Job(job) => serve(rt, store, alloc, session, job),
-        Asked::Answered(reply) => Ok(twice(reply)),
+        Asked::Answered(reply) => Ok(counted(session, reply)),
     }
 }
 
-// A count's reply, twice. It takes no memory.
-fn twice<A: Allocator>(reply: Reply<A>) -> (Reply<A>, Reply<A>)
+// A count that was answered. It takes no memory.
+fn counted<A: Allocator>(session: u64, reply: Reply<A>) -> Served<A>
     requires { (n : ℕ) × (reply ≡ replies.Count n) }
-    ensures value { result.0 ≡ reply }
-    ensures same { result.1 ≡ result.0 }
+    ensures reply { result.reply ≡ reply }
+    ensures entry { result.entry ≡ entry_of session commands.Count reply }
 {
     match reply {
-        Reply::Count(count) => (Reply::Count(count), Reply::Count(count)),
+        Reply::Count(count) => Served {
+            reply: Reply::Count(count),
+            entry: Entry {
+                session,
+                command: Command::Count,
+                reply: Reply::Count(count),
+            },
+        },
         _ => unreachable!(),
     }
 }
@@ -76,9 +92,10 @@ fn serve<R: Wait, A: Allocator + Copy, G: Gate>(
     alloc: A,
     session: u64,
     job: Job<A>,
-) -> Result<(Reply<A>, Reply<A>), Refusal>
-    ensures reply { IfOk result (λ twice. twice.0 ≡ (worked job.asked).reply) }
-    ensures same { IfOk result (λ twice. twice.1 ≡ twice.0) }
+) -> Result<Served<A>, Refusal>
+    ensures reply { IfOk result (λ served. served.reply ≡ (worked job.asked).reply) }
+    ensures entry { IfOk result (λ served. served.entry ≡ entry_of session job.asked.command served.reply) }
+    ensures ends { OnOk result (HasEnd job.asked.page.pairs job.asked.session job.asked.command) }
     ensures refused { IfErr result IsNotForSize }
 {
     let ticket = job.ticket();
@@ -91,9 +108,14 @@ fn serve<R: Wait, A: Allocator + Copy, G: Gate>(
     if done.changes() {
         convert(rt, store, ticket)?;
     }
-    let reply = finish(rt, store, done)?;
+    let Settled { reply, command } = finish(rt, store, done)?;
     store.gate.after(session);
-    Ok((reply, copy))
+    let entry = Entry {
+        session,
+        command,
+        reply: copy,
+    };
+    Ok(Served { reply, entry })
 }
 
 // Makes a ticket's hold exclusive, and waits as long as others read the page.
@@ -137,17 +159,18 @@ fn finish<R: Wait, A: Allocator + Copy, G: Gate>(
     rt: &R,
     store: &Store<A, G>,
     done: Done<A>,
-) -> Result<Reply<A>, Refusal>
-    ensures ok { IfOk result (λ reply. reply ≡ (worked done.asked).reply) }
+) -> Result<Settled<A>, Refusal>
+    ensures ok { IfOk result (λ settled. settled.reply ≡ (worked done.asked).reply) }
+    ensures command { IfOk result (λ settled. settled.command ≡ done.asked.command) }
     ensures refused { IfErr result IsNotForSize }
 {
     let mut core = store.core.lock(rt);
-    let finished = core.desk.finish(done);
+    let finished = core.desk.settle(done);
     let waited_for = mem::replace(&mut core.waited_for, false);
     drop(core);
     wake(store, waited_for);
     match finished {
-        Ok(reply) => Ok(reply),
+        Ok(settled) => Ok(settled),
         Err((FinishFault::NoMemory, done)) => {
             Err(give_up(rt, store, done.ticket(), Refusal::NoMemory))
         }

@@ -7,7 +7,7 @@ ghost use Rattle.store_cmd.specs.declared.Command.{Command};
 ghost use Rattle.store_cmd.specs.declared.Command.TheVariants as commands;
 ghost use Rattle.store_shared.specs.Shared.{calls_left, with_call, IsReplyTo, IsNotForSize, IsRefusal};
 
-use crate::serving::answer;
+use crate::serving::{Served, answer};
 use crate::store::{Gate, Store};
 use sdbm_addr::{Bytes, Mode, PageSize};
 use std::alloc::Allocator;
@@ -222,16 +222,8 @@ impl<'a, A: Allocator + Copy, G: Gate> Session<'a, A, G> {
         let Ok(()) = self.calls.reserve(1) else {
             return Err(Refusal::NoMemory);
         };
-        let Ok(kept) = command.try_clone(self.alloc) else {
-            return Err(Refusal::NoMemory);
-        };
-        let session = self.number;
-        let (reply, copy) = answer(rt, self.store, self.alloc, session, command)?;
-        self.calls.push_reserved(Entry {
-            session,
-            command: kept,
-            reply: copy,
-        });
+        let Served { reply, entry } = answer(rt, self.store, self.alloc, self.number, command)?;
+        self.calls.push_reserved(entry);
         Ok(reply)
     }
 }

@@ -1,0 +1,30 @@
+//! How many calls a second a desk and the sessions of a store answer.
+//!
+//! Each line of standard input is a measurement: who calls, what, and how often in all.
+//!
+//! | Line | Who calls |
+//! |---|---|
+//! | `desk CALL COUNT` | nobody else: each call is a `step` of a desk |
+//! | `one CALL COUNT` | one session |
+//! | `apart CALL COUNT` | four sessions in four threads, each on a page of its own |
+//! | `together CALL COUNT` | four sessions in four threads on one key |
+//!
+//! A call is `fetch`, `store`, `run`, which adds 1 to a record of 8 bytes, or `long`, which runs a program of 4,000 instructions. The
+//! answer has the number of entries that the trail has in the end. With `time` before it, a line's answer also has the calls a
+//! second and the nanoseconds of a call; so standard input without that word gives the same answers each time.
+#![tactic(auto)]
+
+mod calls;
+mod measuring;
+mod programs;
+
+use measuring::show_line;
+use std::io;
+
+fn main(rt: HostRuntime) -> io::Result<()> {
+    for line in rt.lines(rt.alloc()) {
+        let answer = show_line(&rt, rt.alloc(), line?.as_str())?;
+        println!(rt; "{answer}")?;
+    }
+    Ok(())
+}

@@ -2,8 +2,7 @@
 //! does to the directory, and which histories are legal.
 #![tactic(auto)]
 
-ghost use Rattle.std.specs.Prelude.{◌≡◌, ◌↔◌, ◌≤◌, ◌+◌, IsTrue, IfOk, IfErr, IsOk};
-ghost use Rattle.std.specs.Prelude.{length};
+ghost use Rattle.std.specs.Prelude.{◌≡◌, ◌↔◌, ◌≤◌, ◌+◌, IfOk, IfErr, IsOk, length};
 ghost use Rattle.sdbm_addr.specs.Pairs.{pair_limit};
 ghost use Rattle.bpf_helpers.specs.Runs.{argument_limit};
 ghost use Rattle.store_cmd.specs.declared.SizeFault.TheVariants as SizeFault;
@@ -135,8 +134,9 @@ pub fn check<A: Allocator>(command: &Command<A>, size: PageSize) -> Result<(), S
     }
 }
 
-// Tests the size of a pair, the value by its length.
-fn check_pair(key: &[u8], value_len: usize, size: PageSize) -> Result<(), SizeFault>
+/// Tests the size of a pair, the value by its length: `PairTooLarge` where key and value have more bytes together than a pair may
+/// have.
+pub fn check_pair(key: &[u8], value_len: usize, size: PageSize) -> Result<(), SizeFault>
     ensures ok { IsOk result ↔ (length key.now + value_len ≤ pair_limit size) }
     ensures err { IfErr result (λ fault. fault ≡ SizeFault.PairTooLarge) }
 {
@@ -147,8 +147,14 @@ fn check_pair(key: &[u8], value_len: usize, size: PageSize) -> Result<(), SizeFa
     Ok(())
 }
 
-// Tests the sizes of a run.
-fn check_run(key: &[u8], arg: &[u8], blank: Option<usize>, size: PageSize) -> Result<(), SizeFault>
+/// Tests the sizes of a run: `PairTooLarge` where key and blank have more bytes together than a pair may have, and then `ArgTooLong`
+/// where the argument has more than 1,024.
+pub fn check_run(
+    key: &[u8],
+    arg: &[u8],
+    blank: Option<usize>,
+    size: PageSize,
+) -> Result<(), SizeFault>
     ensures ok { IsOk result ↔ (FitsBlank size key.now blank × (length arg.now ≤ argument_limit)) }
     ensures err { IfErr result (IsRunFault size key.now arg.now blank) }
 {

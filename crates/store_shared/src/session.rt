@@ -1,8 +1,7 @@
 //! Sessions: those who share a store.
-ghost use Rattle.std.specs.Prelude.{◌≡◌, ◌+◌, ◌≤◌, ◌↔◌, IsTrue, IfOk, IfErr, IsOk, OnOk, OnErr, [], length};
+ghost use Rattle.std.specs.Prelude.{◌≡◌, ◌+◌, ◌≤◌, IfOk, IfErr, OnOk, OnErr, [], length};
 ghost use Rattle.sdbm_addr.specs.Pairs.{pair_limit};
-ghost use Rattle.bpf_helpers.specs.Runs.{argument_limit};
-ghost use Rattle.store_cmd.specs.Command.{IsSmall, FitsBlank, IsRunFault};
+ghost use Rattle.store_cmd.specs.Command.{IsSmall};
 ghost use Rattle.store_cmd.specs.declared.Command.{Command};
 ghost use Rattle.store_cmd.specs.declared.Command.TheVariants as commands;
 ghost use Rattle.store_shared.specs.Shared.{calls_left, with_call, IsReplyTo, IsNotForSize, IsRefusal};
@@ -13,7 +12,7 @@ use sdbm_addr::{Bytes, Mode, PageSize};
 use std::alloc::Allocator;
 use std::marker::Model;
 use std::sync::Wait;
-use store_cmd::{ARGUMENT_LIMIT, Command, Entry, Program, Refusal, Reply, SizeFault};
+use store_cmd::{Command, Entry, Program, Refusal, Reply, SizeFault, check_pair, check_run};
 
 /// One of those who share a store, seen as its number, the page size of the store, and its calls that were answered, in order. Its
 /// calls have to be handed in when the store is closed: where one that was answered is let go, the store never closes.
@@ -127,7 +126,7 @@ impl<'a, A: Allocator + Copy, G: Gate> Session<'a, A, G> {
         ensures refused { let command : Command A = commands.Store key.now value.now mode in IfErr result (IsRefusal self.old.size command) }
         ensures err { OnErr result (self.new ≡ self.old) }
     {
-        if !is_small(self.size, key, value) {
+        if check_pair(key, value.len(), self.size).is_err() {
             return Err(Refusal::PairTooLarge);
         }
         let Ok(key) = Bytes::from_slice(self.alloc, key) else {
@@ -176,7 +175,7 @@ impl<'a, A: Allocator + Copy, G: Gate> Session<'a, A, G> {
         ensures refused { let command : Command A = commands.Run key.now prog.now arg.now blank now in IfErr result (IsRefusal self.old.size command) }
         ensures err { OnErr result (self.new ≡ self.old) }
     {
-        match check_run(self.size, key, arg, blank) {
+        match check_run(key, arg, blank, self.size) {
             Ok(()) => {}
             Err(SizeFault::PairTooLarge) => return Err(Refusal::PairTooLarge),
             Err(SizeFault::ArgTooLong) => return Err(Refusal::ArgTooLong),
@@ -226,29 +225,4 @@ impl<'a, A: Allocator + Copy, G: Gate> Session<'a, A, G> {
         self.calls.push_reserved(entry);
         Ok(reply)
     }
-}
-
-// Whether a pair may be stored.
-fn is_small(size: PageSize, key: &[u8], value: &[u8]) -> bool
-    ensures { IsTrue result ↔ (length key.now + length value.now ≤ pair_limit size) }
-{
-    let limit = size.pair_limit();
-    key.len() <= limit && value.len() <= limit - key.len()
-}
-
-// Tests the sizes of a run.
-fn check_run(size: PageSize, key: &[u8], arg: &[u8], blank: Option<usize>) -> Result<(), SizeFault>
-    ensures ok { IsOk result ↔ (FitsBlank size key.now blank × (length arg.now ≤ argument_limit)) }
-    ensures err { IfErr result (IsRunFault size key.now arg.now blank) }
-{
-    let limit = size.pair_limit();
-    if let Some(len) = blank {
-        if key.len() > limit || len > limit - key.len() {
-            return Err(SizeFault::PairTooLarge);
-        }
-    }
-    if arg.len() > ARGUMENT_LIMIT {
-        return Err(SizeFault::ArgTooLong);
-    }
-    Ok(())
 }

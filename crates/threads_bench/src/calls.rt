@@ -19,6 +19,9 @@ pub enum Call {
     Run(Program<Global>),
 }
 
+// The most threads at once.
+const THREADS: usize = 4;
+
 const VALUE: [u8; 8] = [7, 0, 0, 0, 0, 0, 0, 0];
 
 fn command(alloc: Global, call: &Call, key: &[u8]) -> Result<Command<Global>, AllocError> {
@@ -54,18 +57,28 @@ pub fn by_desk(alloc: Global, image: Image<Global>, call: &Call, count: usize) -
     Some(desk.trail().entries.len())
 }
 
-// A session and its key.
+// Who calls: a session, its key, and its call.
 #[derive(Drop)]
 struct Caller<'a> {
     session: Session<'a, Global, NoGate>,
     key: &'static [u8],
+    call: Call,
+}
+
+// The same call once more.
+fn another(call: &Call) -> Option<Call> {
+    match call {
+        Call::Fetch => Some(Call::Fetch),
+        Call::Store => Some(Call::Store),
+        Call::Run(prog) => Some(Call::Run(prog.try_clone().ok()?)),
+    }
 }
 
 // Makes so many calls.
-fn make<R: Wait>(rt: &R, caller: &mut Caller<'_>, call: &Call, count: usize) {
+fn make<R: Wait>(rt: &R, caller: &mut Caller<'_>, count: usize) {
     let key = caller.key;
     for _ in 0..count {
-        let answer = match call {
+        let answer = match &caller.call {
             Call::Fetch => caller.session.fetch(rt, key),
             Call::Store => caller.session.store(rt, key, &VALUE, Mode::Replace),
             Call::Run(prog) => caller.session.run(rt, key, prog, &[], None, 0),
@@ -76,8 +89,26 @@ fn make<R: Wait>(rt: &R, caller: &mut Caller<'_>, call: &Call, count: usize) {
     }
 }
 
-// What is left of all callers.
-fn handed(alloc: Global, callers: Vec<Caller<'_>>) -> Option<Vec<Calls<Global>>> {
+// The calls that sessions have made, each in a thread of its own and on its key.
+fn all_calls<R: Threads + Wait + Sync>(
+    rt: &R,
+    alloc: Global,
+    store: &Store<Global, NoGate>,
+    keys: &[&'static [u8]],
+    call: &Call,
+    each: usize,
+) -> Option<Vec<Calls<Global>>> {
+    let mut callers = Vec::new(alloc);
+    for key in keys {
+        let caller = Caller {
+            session: store.session(rt).ok()?,
+            key: *key,
+            call: another(call)?,
+        };
+        callers.push(caller).ok()?;
+    }
+    let share = move |_at: usize, caller: &mut Caller<'_>| make(rt, caller, each);
+    thread::for_each_mut(rt, callers.as_mut_slice(), THREADS, &share);
     let mut handed = Vec::new(alloc);
     for caller in callers {
         let Caller { session, .. } = caller;
@@ -86,7 +117,7 @@ fn handed(alloc: Global, callers: Vec<Caller<'_>>) -> Option<Vec<Calls<Global>>>
     Some(handed)
 }
 
-/// The entries after so many calls in all of sessions, each in a thread of its own and on its key.
+/// The entries after so many calls in all of sessions, one for each of these keys.
 pub fn by_sessions<R: Threads + Wait + Sync>(
     rt: &R,
     alloc: Global,
@@ -98,15 +129,8 @@ pub fn by_sessions<R: Threads + Wait + Sync>(
     let Ok(store) = Store::open(alloc, image, count, NoGate) else {
         return None;
     };
-    let mut callers = Vec::new(alloc);
-    for key in keys {
-        let session = store.session(rt).ok()?;
-        callers.push(Caller { session, key: *key }).ok()?;
-    }
     let each = count.checked_div(keys.len())?;
-    let share = move |_: usize, caller: &mut Caller<'_>| make(rt, caller, call, each);
-    thread::for_each_mut(rt, callers.as_mut_slice(), keys.len(), &share);
-    let handed = handed(alloc, callers)?;
+    let handed = all_calls(rt, alloc, &store, keys, call, each)?;
     match store.close(handed) {
         Ok(closed) => Some(closed.trail.entries.len()),
         Err(_) => None,

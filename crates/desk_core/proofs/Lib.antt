@@ -7,3 +7,4 @@ pub mod Ties
 pub mod Sound
 pub mod Doing
 pub mod Playing
+pub mod Examples

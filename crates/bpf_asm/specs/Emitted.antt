@@ -1,11 +1,11 @@
 -- What the steps of the assembler do.
 use Rattle.std.specs.Prelude.{ℕ, ◌≡◌, ◌+◌, ◌<◌, ◌≤◌, List, ◌++◌, MatchOption, IfSome, Option, Some, None, false, ⊤, slice_get, unwrap_or}
 use Rattle.std.specs.Borrow.{Bor}
-use Rattle.std.specs.HashMap.{HashMap, get_by}
+use Rattle.std.specs.BTreeMap.{BTreeMap, get_by}
+use Rattle.std.specs.Cmp.Lexicographic.{slice_cmp}
+use Rattle.std.specs.Ordering.{nat_cmp}
 use Rattle.std.specs.List.{sum_by}
 use Rattle.std.specs.Str.{bytes_eq}
-use Rattle.std.specs.declared.hash.FoldHasher.{FoldHasher}
-use Rattle.std.specs.declared.hash.BuildHasherDefault.{BuildHasherDefault}
 use Rattle.bpf_insn.specs.declared.insn.Insn.{Insn}
 use Rattle.bpf_insn.specs.Code.{unit_count, unit_limit}
 use Rattle.bpf_asm.specs.declared.labels.Definition.{Definition}
@@ -13,11 +13,11 @@ use Rattle.bpf_asm.specs.Lines.{Meaning, Blank, Mark, Plain, Aimed}
 use Rattle.bpf_asm.specs.Denotes.{units, units_above, MarksAt, Once, Yields}
 
 abbrev pub Labels : Type 0
-Labels = HashMap (Bor (List ℕ)) Definition (BuildHasherDefault FoldHasher)
+Labels = BTreeMap (Bor (List ℕ)) Definition
 
 -- where the labels have a name
 abbrev pub definition_of : Labels → List ℕ → Option Definition
-definition_of labels name = get_by (λ k. bytes_eq name k.now) labels
+definition_of labels name = get_by (λ k. slice_cmp nat_cmp name k.now) labels
 
 -- The labels of the lines before a place: one of the lines that define each name, and its number.
 abbrev pub IsTableBelow : List (Option Meaning) → ℕ → Labels → Type 0

@@ -62,10 +62,10 @@ fn distance(own: usize, target: usize) -> i16
 }
 
 /// The instruction of a line that begins at the unit `own`, if it has one.
-fn resolved<A: Allocator>(
-    labels: &Labels<'_, A>,
+fn resolved<'a, A: Allocator>(
+    labels: &Labels<'a, A>,
     own: usize,
-    line: &Line<'_>,
+    line: &Line<'a>,
 ) -> Result<Option<Insn>, FaultKind>
     requires { HasSpellingIn (view_line line.now) }
     ensures ok { IfOk result (λ o. (ms : List (Option Meaning)) → IsTableOf ms labels.now → sum_by units ms ≤ unit_limit → Yields ms own (view_line line.now) (option_to_list o)) }
@@ -88,7 +88,7 @@ fn resolved<A: Allocator>(
 }
 
 /// Whether a line, where it is a label, is the one that the table has.
-fn is_definition<A: Allocator>(labels: &Labels<'_, A>, at: usize, line: &Line<'_>) -> bool
+fn is_definition<'a, A: Allocator>(labels: &Labels<'a, A>, at: usize, line: &Line<'a>) -> bool
     ensures { MatchBool result (IsDefinition labels.now at (view_line line.now)) (IsSecond labels.now at (view_line line.now)) }
 {
     match line {
@@ -101,11 +101,11 @@ fn is_definition<A: Allocator>(labels: &Labels<'_, A>, at: usize, line: &Line<'_
 }
 
 /// Adds the instruction of the line at a place, if it has one.
-fn emit_line<A: Allocator, B: Allocator>(
+fn emit_line<'a, A: Allocator, B: Allocator>(
     code: &mut Code<A>,
-    labels: &Labels<'_, B>,
+    labels: &Labels<'a, B>,
     at: usize,
-    line: &Line<'_>,
+    line: &Line<'a>,
 ) -> Result<(), FaultKind>
     requires { HasSpellingIn (view_line line.now) }
     ensures ok { OnOk result (Emits labels.now at (view_line line.now) code.old code.new) }
@@ -128,10 +128,10 @@ fn emit_line<A: Allocator, B: Allocator>(
 }
 
 /// The code of the lines.
-fn emit<A: Allocator, B: Allocator>(
+fn emit<'a, A: Allocator, B: Allocator>(
     alloc: A,
-    lines: &[Line<'_>],
-    labels: &Labels<'_, B>,
+    lines: &[Line<'a>],
+    labels: &Labels<'a, B>,
 ) -> Result<Code<A>, AsmFault>
     requires table { IsTableOf (map view_line lines.now) labels.now }
     requires spelled { All (λ l. HasSpellingIn (view_line l)) lines.now }
@@ -170,7 +170,8 @@ fn read_lines<A: Allocator>(alloc: A, text: &[u8]) -> Result<Vec<Line<'_>, A>, A
 ///
 /// It fails with `NoMemory` where memory runs out, and else only where the text denotes no code. The
 /// fault is then that of the lowest line at fault, counted from 1, and on one line the first of these:
-/// `Mnemonic`, `Operand`, `Number`, `Label`, `Backward` and `TooLong`. Labels are looked up in a map.
+/// `Mnemonic`, `Operand`, `Number`, `Label`, `Backward` and `TooLong`. Labels are
+/// looked up in a map that is sorted by their names, so no choice of labels makes a text slow.
 pub fn assemble<A: Allocator + Copy>(alloc: A, text: &str) -> Result<Code<A>, AsmFault>
     ensures ok { IfOk result (Denotes text.now) }
     ensures only { IfOk result (IsOnlyCode text.now) }

@@ -7,8 +7,7 @@ ghost use Rattle.bpf_asm.specs.Views.{view_line};
 
 use crate::line::Line;
 use std::alloc::{AllocError, Allocator};
-use std::collections::HashMap;
-use std::hash::{BuildHasherDefault, FoldHasher};
+use std::collections::BTreeMap;
 
 /// Where a label is defined: the place of its line, from 0, and the number of the next unit.
 #[derive(Clone, Copy, Debug, PartialEq, Eq)]
@@ -17,11 +16,12 @@ pub struct Definition {
     pub unit: usize,
 }
 
-/// The labels of a text.
-pub type Labels<'a, A> = HashMap<&'a [u8], Definition, BuildHasherDefault<FoldHasher>, A>;
+/// The labels of a text, in the order of their names: whoever writes the text chooses these, and could choose such as collide in a
+/// hash map.
+pub type Labels<'a, A> = BTreeMap<&'a [u8], Definition, A>;
 
 /// Where a label is defined, if it is.
-pub fn find_label<A: Allocator>(labels: &Labels<'_, A>, name: &[u8]) -> Option<Definition>
+pub fn find_label<'a, A: Allocator>(labels: &Labels<'a, A>, name: &'a [u8]) -> Option<Definition>
     ensures { result ≡ definition_of labels.now name.now }
 {
     labels.get(&name).copied()
@@ -76,7 +76,7 @@ pub fn find_labels<'a, A: Allocator + Copy>(
 ) -> Result<Labels<'a, A>, AllocError>
     ensures { IfOk result (IsTableOf (map view_line lines.now)) }
 {
-    let mut labels = HashMap::new(alloc);
+    let mut labels = BTreeMap::new(alloc);
     let mut unit = 0;
     for (at, line) in lines.iter().enumerate() {
         record_line(&mut labels, line, Definition { line: at, unit })?;

@@ -1,7 +1,8 @@
 -- Runs that are computed are runs.
-use Rattle.std.proofs.Common.{ℕ, zero, suc, ◌≡◌, ◌+◌, refl, ap, sym, ◌∙◌, List}
+use Rattle.std.proofs.Common.{ℕ, ◌≡◌, ◌+◌, refl, ap, sym, ◌∙◌, List}
 use Rattle.std.specs.Prelude.{ℤ, true, Option, Some, None}
 use Rattle.std.specs.Option.{option_and_then, option_map}
+use Rattle.std.proofs.lemmas.Option.{same_Some}
 use Rattle.bpf_insn.specs.declared.insn.Width.TheVariants.{W64}
 use Rattle.bpf_insn.specs.declared.insn.Op.TheVariants.{Mov}
 use Rattle.bpf_insn.specs.declared.insn.Operand.TheVariants.{Imm, Reg}
@@ -9,44 +10,24 @@ use Rattle.bpf_insn.specs.declared.insn.Insn.{Insn}
 use Rattle.bpf_insn.specs.declared.insn.Insn.TheVariants.{Alu}
 use Rattle.bpf_helpers.specs.declared.values.Env.{Env}
 use Rattle.bpf_helpers.specs.Machine.{Config, step, ended}
-use Rattle.bpf_helpers.specs.Runs.{start, Reaches, Outcome, Ends, Sticks}
-
--- n steps
-abbrev pub after : ℕ → List Insn → Config → Option Config
-after zero program c = Some c
-after (suc n) program c = option_and_then (step program) (after n program c)
-
-then_step : (program : List Insn) (o : Option Config) (d : Config) → option_and_then (step program) o ≡ Some d → (between : Config) × (o ≡ Some between) × (step program between ≡ Some d)
-then_step program None d e = absurd cc
-then_step program (Some between) d e = (between, refl, e)
-
-some_is : (c d : Config) → Some c ≡ Some d → c ≡ d
-some_is c d e = cc
-
-reaches : (n : ℕ) (program : List Insn) (c d : Config) → after n program c ≡ Some d → Reaches program n c d
-reaches zero program c d e = some_is c d e
-reaches (suc n) program c d e =
-    let last = then_step program (after n program c) d e in
-    (last.0, reaches n program c last.0 last.1, last.2)
+use Rattle.bpf_helpers.specs.Runs.{start, Outcome, Ends, Sticks, after, outcome_at}
+use Rattle.bpf_helpers.proofs.OneEnd.{reaches}
 
 -- what stands after n steps, and whether it is the end
 abbrev pub given : ℕ → List Insn → Config → Option Outcome
-given n program c = option_and_then (λ (d : Config). option_map (λ (code : ℕ). record { code = code; word = d.word; bytes = d.bytes; steps = n + 1 }) (ended program d)) (after n program c)
+given n program c = option_and_then (outcome_at n program) (after n program c)
 
 ended_with : (n : ℕ) (program : List Insn) (o : Option Config) (out : Outcome)
-    → option_and_then (λ (d : Config). option_map (λ (code : ℕ). record { code = code; word = d.word; bytes = d.bytes; steps = n + 1 }) (ended program d)) o ≡ Some out
+    → option_and_then (outcome_at n program) o ≡ Some out
     → (last : Config) × (o ≡ Some last) × (ended program last ≡ Some out.code) × (out.word ≡ last.word) × (out.bytes ≡ last.bytes) × (out.steps ≡ n + 1)
 ended_with n program None out e = absurd cc
 ended_with n program (Some last) out e = at_end (ended program last) refl e
   where
-    is_out : (x : Outcome) → Some x ≡ Some out → x ≡ out
-    is_out x h = cc
-
     at_end : (code : Option ℕ) → ended program last ≡ code → option_map (λ (k : ℕ). record { code = k; word = last.word; bytes = last.bytes; steps = n + 1 }) code ≡ Some out
         → (c : Config) × (Some last ≡ Some c) × (ended program c ≡ Some out.code) × (out.word ≡ c.word) × (out.bytes ≡ c.bytes) × (out.steps ≡ n + 1)
     at_end None was h = absurd cc
     at_end (Some code) was h =
-        let same = is_out _ h in
+        let same = same_Some _ out h in
         (last, refl, was ∙ ap (λ (x : Outcome). Some x.code) same, ap (λ (x : Outcome). x.word) (sym same), ap (λ (x : Outcome). x.bytes) (sym same), ap (λ (x : Outcome). x.steps) (sym same))
 
 -- a run that is computed is a run

@@ -1,5 +1,5 @@
 -- Calls, from what is known before them.
-use Rattle.std.proofs.Common.{◌≡◌, ℕ, ℤ, pos, ◌+◌, ◌≤◌, length, take, drop, refl, ap, ◌∙◌, arith, List, Option, Some, None, cond, length-take, length-drop, lit<}
+use Rattle.std.proofs.Common.{◌≡◌, ℕ, ℤ, pos, ◌+◌, ◌≤◌, length, take, drop, refl, ap, ◌∙◌, arith, Some, None, cond, lit<}
 use Rattle.std.specs.Prelude.{IsSome, ◌+ℤ◌}
 use Rattle.std.specs.Option.{option_and_then, option_map}
 use Rattle.std.proofs.lemmas.Bool.{le-leb}
@@ -19,7 +19,8 @@ use Rattle.bpf_verify.specs.declared.state.State.{State}
 use Rattle.bpf_verify.specs.Kinds.{IsNumber, IsPointer, Between}
 use Rattle.bpf_verify.specs.States.{Fits, IsConfig}
 use Rattle.bpf_verify.specs.Steps.{Passes, IsCalled, Accesses}
-use Rattle.bpf_verify.proofs.Memories.{Written, writes_contents, found, inside_at}
+use Rattle.bpf_helpers.proofs.Lengths.{inside_at, taken, moved}
+use Rattle.bpf_verify.proofs.Memories.{Written, writes_contents, found}
 
 pub call_passes : (id : ℤ) (h : Helper) (s t : State) → numbered id ≡ Some h → IsCalled h s t → Passes (Call id) s t
 call_passes id h s t is called = λ c config f.
@@ -53,19 +54,12 @@ reply_called s t k z a zero num = λ c config f. at c f (register c 1) refl (num
 plus_none : (o : ℤ) → o +ℤ pos 0 ≡ o
 plus_none o = omega (arith, ints)
 
--- a copy whose places are found
-abbrev pub moved : Config → Region → Region → ℤ → ℤ → ℕ → Option Config
-moved c r q o e n = option_and_then (λ to. option_and_then (λ from. option_map (answered Copy n) (with_contents c r to (take n (drop from (contents c q))))) (access c q e n)) (access c r o n)
-
 copy_is : (c d : Config) (r q : Region) (o e : ℤ) (n to from : ℕ) → n ≤ 1024 → access c r o n ≡ Some to → access c q e n ≡ Some from → with_contents c r to (take n (drop from (contents c q))) ≡ Some d → copy_of r o q e n c ≡ Some (answered Copy n d)
 copy_is c d r q o e n to from l a b w =
     ap (λ z. cond z (moved c r q o e n) None) (le-leb n 1024 l)
     ∙ ap (option_and_then (λ to. option_and_then (λ from. option_map (answered Copy n) (with_contents c r to (take n (drop from (contents c q))))) (access c q e n))) a
     ∙ ap (option_and_then (λ from. option_map (answered Copy n) (with_contents c r to (take n (drop from (contents c q)))))) b
     ∙ ap (option_map (answered Copy n)) w
-
-pub taken : (n from : ℕ) (xs : List ℕ) → from + n ≤ length xs → length (take n (drop from xs)) ≡ n
-taken n from xs h = simp (length-take, length-drop) (omega arith)
 
 copies : (s t : State) (z : Known) (c : Config) (r q : Region) (o e : ℤ) (n : ℕ) → Answers s t z → Contains z n → Fits s c → n ≤ 1024 → (r ≡ Argument → ⊥) → IsSome (access c r (o +ℤ pos 0) n) → IsSome (access c q (e +ℤ pos 0) n)
     → (d : Config) × (copy_of r o q e n c ≡ Some d) × (d.place ≡ c.place + 1) × Fits t d

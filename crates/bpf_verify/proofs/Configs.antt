@@ -1,5 +1,5 @@
 -- What a step keeps.
-use Rattle.std.proofs.Common.{◌≡◌, ℕ, ℤ, pos, negsuc, zero, suc, ◌+◌, ◌-◌, ◌/◌, ◌^◌, ◌<◌, ◌≤◌, length, take, drop, Option, Some, None, Bool, true, false, cond, refl, ap, ◌∙◌, subst, arith, List, [], ◌∷◌, ◌++◌, lit<, length-drop}
+use Rattle.std.proofs.Common.{◌≡◌, ℕ, ℤ, pos, negsuc, zero, suc, ◌+◌, ◌-◌, ◌/◌, ◌^◌, ◌<◌, ◌≤◌, length, take, drop, Some, None, Bool, true, false, ◌∙◌, subst, arith, List, [], ◌∷◌, ◌++◌, lit<, length-drop}
 use Rattle.std.specs.Prelude.{slice_set, ◌==◌, nat_le, ◌+ℤ◌, if◌then◌else◌}
 use Rattle.std.specs.Option.{option_and_then, option_map}
 use Rattle.std.specs.Int.{bytes_low_first, byte_at}
@@ -20,8 +20,8 @@ use Rattle.bpf_helpers.specs.declared.helpers.Helper.TheVariants.{Reply, Now, Pr
 use Rattle.bpf_helpers.specs.Helpers.{Answer, answer_of}
 use Rattle.bpf_helpers.specs.Runs.{AreBytes}
 use Rattle.bpf_verify.specs.States.{IsConfig}
-use Rattle.bpf_verify.proofs.Memories.{length_splice, inside_at, contents_bytes}
-use Rattle.bpf_verify.proofs.Calling.{taken, moved}
+use Rattle.bpf_helpers.proofs.Lengths.{allowed, length_splice, inside_at, length_low, taken, mapped, moved}
+use Rattle.bpf_verify.proofs.Memories.{contents_bytes, drop_bytes}
 
 -- ---- bytes
 
@@ -39,11 +39,6 @@ bytes_take (suc k) [] p i = lit< tt
 bytes_take (suc k) (x ∷ xs) p zero = p 0
 bytes_take (suc k) (x ∷ xs) p (suc i) = bytes_take k xs (λ j. p (suc j)) i
 
-bytes_drop : (k : ℕ) (xs : List ℕ) → AreBytes xs → AreBytes (drop k xs)
-bytes_drop zero xs p i = p i
-bytes_drop (suc k) [] p i = lit< tt
-bytes_drop (suc k) (x ∷ xs) p i = bytes_drop k xs (λ j. p (suc j)) i
-
 byte_below : (k n : ℕ) → byte_at k n < 256
 byte_below zero n = mod-lt n (lit< tt)
 byte_below (suc k) n = mod-lt (n / 256 ^ suc k) (lit< tt)
@@ -53,22 +48,14 @@ bytes_low i zero n j = lit< tt
 bytes_low i (suc k) n zero = byte_below i n
 bytes_low i (suc k) n (suc j) = bytes_low (suc i) k n j
 
-length_low : (i k n : ℕ) → length (bytes_low_first i k n) ≡ k
-length_low i zero n = refl
-length_low i (suc k) n = ap suc (length_low (suc i) k n)
-
 bytes_splice : (xs : List ℕ) (p : ℕ) (new : List ℕ) → AreBytes xs → AreBytes new → AreBytes (splice xs p new)
-bytes_splice xs p new a b = bytes_append (take p xs) (new ++ drop (p + length new) xs) (bytes_take p xs a) (bytes_append new (drop (p + length new) xs) b (bytes_drop (p + length new) xs a))
+bytes_splice xs p new a b = bytes_append (take p xs) (new ++ drop (p + length new) xs) (bytes_take p xs a) (bytes_append new (drop (p + length new) xs) b (drop_bytes (p + length new) xs a))
 
 -- ---- steps
 
-cond_right : {A : Type 0} (b : Bool) (x y : A) → cond b None (Some x) ≡ Some y → x ≡ y
-cond_right true x y e = let f : ⊥ = cc in absurd f
-cond_right false x y e = same_Some x y e
-
 keeps_register : (c d : Config) (u r : ℕ) (v : Value) → IsConfig c → with_register c u r v ≡ Some d → IsConfig d
 keeps_register c d u r v h e =
-    let s = cond_right (r == 10) (record c { place = c.place + u; registers = slice_set c.registers r v }) d e in
+    let s = allowed (r == 10) (record c { place = c.place + u; registers = slice_set c.registers r v }) d e in
     subst (λ x. IsConfig x) s (record { eleven = length-set c.registers r v ∙ h.eleven; stack_fits = h.stack_fits; are_bytes = h.are_bytes; are_argument = h.are_argument; are_stack = h.are_stack; now_fits = h.now_fits; who_fits = h.who_fits })
 
 keeps_place : (c : Config) (p : ℕ) → IsConfig c → IsConfig (record c { place = p })
@@ -87,10 +74,6 @@ keeps_contents c d Record p new h b l e = subst (λ y. IsConfig y) (same_Some _ 
 keeps_contents c d Argument p new h b l e = let f : ⊥ = cc in absurd f
 keeps_contents c d Stack p new h b l e =
     subst (λ y. IsConfig y) (same_Some _ d e) (record { eleven = h.eleven; stack_fits = length_splice c.stack p new l ∙ h.stack_fits; are_bytes = h.are_bytes; are_argument = h.are_argument; are_stack = bytes_splice c.stack p new h.are_stack b; now_fits = h.now_fits; who_fits = h.who_fits })
-
-mapped : {A B P : Type 0} (f : A → B) (o : Option A) (y : B) → option_map f o ≡ Some y → ((x : A) → o ≡ Some x → f x ≡ y → P) → P
-mapped f None y e g = let h : ⊥ = cc in absurd h
-mapped f (Some x) y e g = g x refl (same_Some (f x) y e)
 
 keeps_number_store : (c d : Config) (a : Value) (off : ℤ) (n x : ℕ) → IsConfig c → after_number_store c a off n x ≡ Some d → IsConfig d
 keeps_number_store c d Nothing off n x h e = let f : ⊥ = cc in absurd f
@@ -132,7 +115,7 @@ keeps_copy c d r q o p n h e = tested (nat_le n 1024) e
         let i : to + n ≤ length (contents c r) = inside_at (o +ℤ base_of r) n (length (contents c r)) to is in
         let j : from + n ≤ length (contents c q) = inside_at (p +ℤ base_of q) n (length (contents c q)) from is' in
         let m : length (take n (drop from (contents c q))) ≡ n = taken n from (contents c q) j in
-        subst (λ y. IsConfig y) same (keeps_answer w (answer_of Copy n w.env w.word) (keeps_contents c w r to (take n (drop from (contents c q))) h (bytes_take n _ (bytes_drop from _ (contents_bytes c q h))) (rw m i) was)))))
+        subst (λ y. IsConfig y) same (keeps_answer w (answer_of Copy n w.env w.word) (keeps_contents c w r to (take n (drop from (contents c q))) h (bytes_take n _ (drop_bytes from _ (contents_bytes c q h))) (rw m i) was)))))
 
     tested : (b : Bool) → (if b then moved c r q o p n else None) ≡ Some d → IsConfig d
     tested true e = within e

@@ -1,12 +1,10 @@
 -- Loads and stores, from what is known before them.
-use Rattle.std.proofs.Common.{◌≡◌, ◌≢◌, ℕ, ℤ, pos, negsuc, zero, suc, ◌+◌, ◌*◌, ◌^◌, ◌%◌, ◌<◌, ◌≤◌, length, drop, refl, sym, ap, ◌∙◌, arith, List, [], ◌∷◌, Option, Some, None, Bool, true, false, cond, lit<, length-append, length-take, length-drop}
-use Rattle.std.specs.Prelude.{slice_index, IsSome, ◌+ℤ◌, nat_le}
+use Rattle.std.proofs.Common.{◌≡◌, ◌≢◌, ℕ, ℤ, zero, suc, ◌+◌, ◌*◌, ◌^◌, ◌%◌, ◌<◌, ◌≤◌, length, drop, refl, sym, ap, ◌∙◌, arith, List, [], ◌∷◌, Option, Some, None, lit<}
+use Rattle.std.specs.Prelude.{slice_index, IsSome, ◌+ℤ◌}
 use Rattle.std.specs.Option.{option_and_then, option_map}
-use Rattle.std.specs.Int.{cast_unsigned, cast_signed, w64, w8, w16, w32}
+use Rattle.std.specs.Int.{cast_unsigned, w64}
 use Rattle.std.proofs.Math.Nat.{pow-succ', mod-lt}
 use Rattle.std.proofs.lemmas.Int.{ints}
-use Rattle.std.proofs.lemmas.Bool.{leb-true}
-use Rattle.std.proofs.lemmas.Option.{same_Some}
 use Rattle.byteorder.specs.Endian.{little_number, little_from, little_bytes}
 use Rattle.bpf_insn.specs.declared.insn.Size.{Size}
 use Rattle.bpf_insn.specs.declared.insn.Size.TheVariants.{Byte, Half, Word, Double}
@@ -16,8 +14,9 @@ use Rattle.bpf_helpers.specs.declared.values.Region.TheVariants.{Record, Argumen
 use Rattle.bpf_helpers.specs.declared.values.Value.{Value}
 use Rattle.bpf_helpers.specs.declared.values.Value.TheVariants.{Nothing, Number, Pointer}
 use Rattle.bpf_insn.specs.Arithmetic.{bytes_of, size_modulus, sign_extension}
-use Rattle.bpf_helpers.specs.Machine.{Config, register, with_register, with_contents, contents, access, inside, base_of, splice, loaded_number, after_number_store, after_store, next_unit}
+use Rattle.bpf_helpers.specs.Machine.{Config, register, with_register, with_contents, contents, access, base_of, splice, loaded_number, after_number_store, after_store, next_unit}
 use Rattle.bpf_helpers.specs.Runs.{AreBytes}
+use Rattle.bpf_helpers.proofs.Lengths.{length_splice, inside_at, length_low}
 use Rattle.bpf_range.specs.declared.known.Known.{Known}
 use Rattle.bpf_range.specs.Sets.{Contains, In}
 use Rattle.bpf_range.specs.declared.kinds.Kind.TheVariants.{Num}
@@ -46,7 +45,7 @@ number_fits i (suc n) xs h =
     let e : 256 ^ suc n ≡ 256 * 256 ^ n = pow-succ' 256 n in
     omega arith
 
-drop_bytes : (k : ℕ) (xs : List ℕ) → AreBytes xs → AreBytes (drop k xs)
+pub drop_bytes : (k : ℕ) (xs : List ℕ) → AreBytes xs → AreBytes (drop k xs)
 drop_bytes zero xs p i = p i
 drop_bytes (suc k) [] p i = lit< tt
 drop_bytes (suc k) (x ∷ xs) p i = drop_bytes k xs (λ j. p (suc j)) i
@@ -112,17 +111,6 @@ same_fits s c d r b a f = record {
   argument = rw a f.argument;
 }
 
-pub length_splice : (xs : List ℕ) (p : ℕ) (new : List ℕ) → p + length new ≤ length xs → length (splice xs p new) ≡ length xs
-length_splice xs p new h = simp (length-append, length-take, length-drop) (omega arith)
-
-pub inside_at : (z : ℤ) (n len p : ℕ) → inside z n len ≡ Some p → p + n ≤ len
-inside_at (negsuc q) n len p e = let f : ⊥ = cc in absurd f
-inside_at (pos q) n len p e = tested (nat_le (q + n) len) refl e
-  where
-    tested : (b : Bool) → nat_le (q + n) len ≡ b → cond b (Some q) None ≡ Some p → p + n ≤ len
-    tested true t e = let s : q ≡ p = same_Some q p e in let l : q + n ≤ len = leb-true (q + n) len t in omega arith
-    tested false t e = let f : ⊥ = cc in absurd f
-
 -- bytes are written, and nothing that a state speaks of changes
 pub record Written (s : State) (c : Config) (q : Region) (p : ℕ) (new : List ℕ) : Type 0 where
   pub next : Config
@@ -140,17 +128,13 @@ writes_contents s c Stack p new ne l f =
     let d : Config = record c { stack = splice c.stack p new } in
     record { next = d; is = refl; place = refl; registers = refl; fits = same_fits s c d refl refl refl f }
 
-length_from : (i k n : ℕ) → length (Rattle.std.specs.Int.bytes_low_first i k n) ≡ k
-length_from i zero n = refl
-length_from i (suc k) n = ap suc (length_from (suc i) k n)
-
 stores : (s : State) (c : Config) (q : Region) (off : ℤ) (n x : ℕ) (v : Value) → (q ≡ Argument → ⊥) → Fits s c → IsPointer q (λ o. IsSome (access c q (o +ℤ off) n)) v → (d : Config) × (after_number_store c v off n x ≡ Some d) × (d.place ≡ c.place + 1) × Fits s d
 stores s c q off n x Nothing ne f h = absurd h
 stores s c q off n x (Number y) ne f h = absurd h
 stores s c q off n x (Pointer r o) ne f h =
     let a : IsSome (access c r (o +ℤ off) n) = rw h.0 h.1 in
     let p = found (access c r (o +ℤ off) n) a in
-    let m : length (little_bytes n x) ≡ n = length_from 0 n x in
+    let m : length (little_bytes n x) ≡ n = length_low 0 n x in
     let l : p.0 + n ≤ length (contents c r) = inside_at (o +ℤ off +ℤ base_of r) n (length (contents c r)) p.0 p.1 in
     let w : Written s c r p.0 (little_bytes n x) = writes_contents s c r p.0 (little_bytes n x) (λ e. ne (sym h.0 ∙ e)) (rw m l) f in (
       next_unit w.next,

@@ -1,6 +1,6 @@
 -- The faults of instructions that are reached, and the text of a fault (own).
-use Rattle.std.specs.Prelude.{ℕ, ◌++◌, List, codes}
-use Rattle.std.specs.Fmt.{decimal}
+use Rattle.std.specs.Prelude.{ℕ, List, codes}
+use Rattle.bpf_insn.specs.Decoding.{with_place}
 use Rattle.bpf_verify.specs.declared.fault.FlowFault.{FlowFault}
 use Rattle.bpf_verify.specs.declared.fault.FlowFault.TheVariants as flow
 use Rattle.bpf_verify.specs.declared.fault.VerifyFault.{VerifyFault}
@@ -21,9 +21,6 @@ placed_fault flow.OutOfArgument at = OutOfArgument at
 placed_fault flow.OutOfStack at = OutOfStack at
 
 -- A fault's text: its name, and its place in brackets.
-abbrev pub with_place : List ℕ → ℕ → List ℕ
-with_place name at = name ++ (codes "(" ++ (decimal at ++ codes ")"))
-
 abbrev pub fault_text : VerifyFault → List ℕ
 fault_text NoMemory = codes "NoMemory"
 fault_text Empty = codes "Empty"

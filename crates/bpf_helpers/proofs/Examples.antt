@@ -1,5 +1,5 @@
 -- Programs that read and write memory and call helpers: what each gives.
-use Rattle.std.proofs.Common.{ℕ, refl, List, [], ◌∷◌}
+use Rattle.std.proofs.Common.{ℕ, ◌≡◌, refl, List, [], ◌∷◌, Some, None}
 use Rattle.std.specs.Prelude.{pos, false, replicate}
 use Rattle.bpf_insn.specs.declared.insn.Width.TheVariants.{W64}
 use Rattle.bpf_insn.specs.declared.insn.Size.TheVariants.{Byte, Half, Word, Double}
@@ -8,7 +8,7 @@ use Rattle.bpf_insn.specs.declared.insn.Test.TheVariants.{Lt}
 use Rattle.bpf_insn.specs.declared.insn.Operand.TheVariants.{Imm}
 use Rattle.bpf_insn.specs.declared.insn.Insn.{Insn}
 use Rattle.bpf_insn.specs.declared.insn.Insn.TheVariants.{Alu, Branch, Call, Exit, Load, LoadSigned, Store}
-use Rattle.bpf_helpers.specs.Runs.{Ends}
+use Rattle.bpf_helpers.specs.Runs.{Ends, run_outcome}
 use Rattle.bpf_helpers.proofs.Running.{ends, here, set, move}
 
 -- ---- a counter in the record
@@ -85,3 +85,34 @@ overlap = ends 6 _ (1 ∷ 2 ∷ 3 ∷ []) [] here _ refl
 -- a copy of no bytes at the end of the record, and its answer
 copies_nothing : Ends (Alu Add W64 1 (Imm (pos 1)) ∷ move 2 1 ∷ set 3 (pos 0) ∷ Call (pos 5) ∷ Exit ∷ []) (7 ∷ []) [] here (record { code = 0; word = 0; bytes = 7 ∷ []; steps = 5 })
 copies_nothing = ends 4 _ (7 ∷ []) [] here _ refl
+
+-- ---- the outcome, as a function of the program and what it is given
+
+outcome_counts : run_outcome counter (replicate 8 255) [] here ≡ Some (record { code = 1; word = 0; bytes = replicate 8 0; steps = 6 })
+outcome_counts = refl
+
+outcome_counts_nothing : run_outcome counter (replicate 7 255) [] here ≡ Some (record { code = 0; word = 0; bytes = replicate 7 255; steps = 3 })
+outcome_counts_nothing = refl
+
+outcome_replies : run_outcome (replies_helper 4) [] [] here ≡ Some (record { code = 0; word = 3; bytes = []; steps = 4 })
+outcome_replies = refl
+
+outcome_copies : run_outcome copies_argument (replicate 8 0) (1 ∷ 2 ∷ 3 ∷ 4 ∷ 5 ∷ 6 ∷ 7 ∷ 8 ∷ []) here ≡ Some (record { code = 1; word = 0; bytes = 1 ∷ 2 ∷ 3 ∷ 4 ∷ 5 ∷ 6 ∷ 7 ∷ 8 ∷ []; steps = 7 })
+outcome_copies = refl
+
+-- the last instruction is the end, in as many steps as the program has instructions
+outcome_of_two : run_outcome (set 0 (pos 2) ∷ Exit ∷ []) [] [] here ≡ Some (record { code = 2; word = 0; bytes = []; steps = 2 })
+outcome_of_two = refl
+
+-- a run that is stuck has none: no instruction, no number in R0, a load outside, no instruction behind the last
+no_program_has_none : run_outcome [] [] [] here ≡ None
+no_program_has_none = refl
+
+no_number_has_none : run_outcome (Exit ∷ []) [] [] here ≡ None
+no_number_has_none = refl
+
+outside_has_none : run_outcome (Load Byte 0 1 (pos 0) ∷ Exit ∷ []) [] [] here ≡ None
+outside_has_none = refl
+
+no_end_has_none : run_outcome (set 0 (pos 2) ∷ []) [] [] here ≡ None
+no_end_has_none = refl

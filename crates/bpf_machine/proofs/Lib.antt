@@ -4,5 +4,6 @@ pub mod Chains
 pub mod Sums
 pub mod Writing
 pub mod Accesses
+pub mod Loading
 pub mod Copying
 pub mod Turning

@@ -1,4 +1,5 @@
 pub mod Ends
+pub mod Classes
 pub mod Cpu
 pub mod Checked
 pub mod Words

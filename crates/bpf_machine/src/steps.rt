@@ -1,10 +1,10 @@
 //! One instruction.
 
-ghost use Rattle.std.specs.Prelude.{◌≤◌, length, IsTrue};
-ghost use Rattle.bpf_insn.specs.Spelling.{HasSpelling, is_access};
+ghost use Rattle.std.specs.Prelude.{◌≤◌, ℕ, List, length, IsTrue};
 ghost use Rattle.bpf_helpers.specs.declared.values.Env.{Env as EnvOf};
 ghost use Rattle.bpf_helpers.specs.Machine.{effect};
 ghost use Rattle.bpf_helpers.specs.Runs.{record_limit, argument_limit};
+ghost use Rattle.bpf_machine.specs.Classes.{is_load, is_store};
 ghost use Rattle.bpf_machine.specs.Cpu.{config_of, Leads, Begins};
 
 use crate::arithmetic::{step_alu, step_unary};
@@ -17,19 +17,19 @@ use bpf_helpers::{Env, Value};
 use bpf_insn::{Code, Insn};
 use std::alloc::Allocator;
 
-/// A load or a store.
-fn step_access<A: Allocator>(
+/// A load, with its sign or without.
+fn step_any_load<A: Allocator>(
     code: &Code<A>,
     cpu: &mut Cpu,
-    bytes: &mut [u8],
+    bytes: &[u8],
     argument: &[u8],
     insn: Insn,
 ) -> Option<Insn>
     requires here { Begins code.now cpu.old.place insn }
-    requires access { IsTrue (is_access insn) }
-    requires bytes_fit { length bytes.old ≤ record_limit }
+    requires load { IsTrue (is_load insn) }
+    requires bytes_fit { length bytes.now ≤ record_limit }
     requires argument_fits { length argument.now ≤ argument_limit }
-    ensures { (env : EnvOf) → Leads code.now (effect insn (config_of cpu.old bytes.old argument.now env)) (config_of cpu.old bytes.old argument.now env) (config_of cpu.new bytes.new argument.now env) result }
+    ensures { (env : EnvOf) → Leads code.now (effect insn (config_of cpu.old bytes.now argument.now env)) (config_of cpu.old bytes.now argument.now env) (config_of cpu.new bytes.now argument.now env) result }
 {
     match insn {
         Insn::Load {
@@ -44,6 +44,23 @@ fn step_access<A: Allocator>(
             base,
             offset,
         } => step_load_signed(code, cpu, bytes, argument, size, dst, base, offset),
+        _ => unreachable!(),
+    }
+}
+
+/// A store, of an immediate or of a register.
+fn step_any_store<A: Allocator>(
+    code: &Code<A>,
+    cpu: &mut Cpu,
+    bytes: &mut [u8],
+    insn: Insn,
+) -> Option<Insn>
+    requires here { Begins code.now cpu.old.place insn }
+    requires store { IsTrue (is_store insn) }
+    requires bytes_fit { length bytes.old ≤ record_limit }
+    ensures { (argument : List ℕ) (env : EnvOf) → Leads code.now (effect insn (config_of cpu.old bytes.old argument env)) (config_of cpu.old bytes.old argument env) (config_of cpu.new bytes.new argument env) result }
+{
+    match insn {
         Insn::StoreImm {
             size,
             base,
@@ -95,6 +112,9 @@ pub fn step<A: Allocator>(
         Insn::Call { helper } => step_call(code, cpu, bytes, argument, env, helper),
         Insn::Exit => None,
         Insn::Wide { dst, value } => cpu.set(code, 2, dst, Value::Number(value)),
-        _ => step_access(code, cpu, bytes, argument, insn),
+        Insn::Load { .. } | Insn::LoadSigned { .. } => {
+            step_any_load(code, cpu, bytes, argument, insn)
+        }
+        _ => step_any_store(code, cpu, bytes, insn),
     }
 }

@@ -1,10 +1,10 @@
 use Rattle.std.proofs.Common.{subst}
 use Rattle.std.proofs.lemmas.Int.{to_z-of_z}
-use Rattle.bpf_insn.specs.declared.insn.Insn.TheVariants.{Load, LoadSigned, StoreImm, Store}
+use Rattle.bpf_insn.specs.declared.insn.Insn.TheVariants.{Load, LoadSigned}
 use Rattle.bpf_insn.specs.Spelling.{HasSpelling}
 use Rattle.bpf_helpers.specs.Machine.{effect}
 use Rattle.bpf_machine.specs.Cpu.{config_of, Leads}
-use Rattle.bpf_machine.proofs.steps.step_access.Goals as goal
+use Rattle.bpf_machine.proofs.steps.step_any_load.Goals as goal
 
 pub returns-in-Load : goal.returns-in-Load
 returns-in-Load g c = λ env.
@@ -19,17 +19,3 @@ returns-in-LoadSigned g c = λ env.
     let has : HasSpelling (LoadSigned c.in-LoadSigned.size c.in-LoadSigned.dst c.in-LoadSigned.base c.in-LoadSigned.offset) = subst HasSpelling c.in-LoadSigned.is c.requires.here.has in
     let led : Leads c.args.code.now (effect (LoadSigned c.in-LoadSigned.size c.in-LoadSigned.dst c.in-LoadSigned.base c.in-LoadSigned.offset) here) here (config_of c.step_load_signed.new.cpu c.args.bytes.now c.args.argument.now env) c.step_load_signed.result = simp (to_z-of_z, has.3) at (c.step_load_signed.ensures env) in
     rw c.in-LoadSigned.is led
-
-pub returns-in-StoreImm : goal.returns-in-StoreImm
-returns-in-StoreImm g c = λ env.
-    let here = config_of c.args.cpu.now c.args.bytes.now c.args.argument.now env in
-    let has : HasSpelling (StoreImm c.in-StoreImm.size c.in-StoreImm.base c.in-StoreImm.offset c.in-StoreImm.value) = subst HasSpelling c.in-StoreImm.is c.requires.here.has in
-    let led : Leads c.args.code.now (effect (StoreImm c.in-StoreImm.size c.in-StoreImm.base c.in-StoreImm.offset c.in-StoreImm.value) here) here (config_of c.step_store_imm.new.cpu c.step_store_imm.new.bytes c.args.argument.now env) c.step_store_imm.result = simp (to_z-of_z, has.1, has.2) at (c.step_store_imm.ensures c.args.argument.now env) in
-    rw c.in-StoreImm.is led
-
-pub returns-in-Store : goal.returns-in-Store
-returns-in-Store g c = λ env.
-    let here = config_of c.args.cpu.now c.args.bytes.now c.args.argument.now env in
-    let has : HasSpelling (Store c.in-Store.size c.in-Store.base c.in-Store.offset c.in-Store.src) = subst HasSpelling c.in-Store.is c.requires.here.has in
-    let led : Leads c.args.code.now (effect (Store c.in-Store.size c.in-Store.base c.in-Store.offset c.in-Store.src) here) here (config_of c.step_store.new.cpu c.step_store.new.bytes c.args.argument.now env) c.step_store.result = simp (to_z-of_z, has.2) at (c.step_store.ensures c.args.argument.now env) in
-    rw c.in-Store.is led

@@ -1,8 +1,7 @@
 -- The value of a pair written over in its place.
-use Rattle.std.proofs.Common.{◌≡◌, ◌≢◌, ℕ, zero, suc, ◌+◌, ◌<◌, ◌≤◌, List, [], ◌∷◌, length, Bool, true, false, cond, Option, Some, None, refl, sym, ap, ◌∙◌, subst, arith, eqb}
-use Rattle.std.proofs.lemmas.Bool.{eqb-true, eq-eqb, cond-false, true≢false, false_from_ne_true}
+use Rattle.std.proofs.Common.{◌≡◌, ℕ, zero, suc, ◌+◌, ◌<◌, ◌≤◌, List, [], ◌∷◌, length, Bool, true, false, cond, Some, None, refl, sym, ap, ◌∙◌, subst, arith}
+use Rattle.std.proofs.lemmas.Bool.{true≢false}
 use Rattle.std.proofs.lemmas.List.Sums.{sum_by-cons}
-use Rattle.std.proofs.lemmas.Map.Lookups.{exact_bytes}
 use Rattle.std.specs.Cmp.Lexicographic.{nat_list_cmp_total}
 use Rattle.std.specs.Prelude.{slice_set}
 use Rattle.std.specs.List.{sum_by}
@@ -10,15 +9,13 @@ use Rattle.std.specs.Option.{option_map}
 use Rattle.std.specs.FinMap as map
 use Rattle.sdbm_addr.specs.declared.PageSize.{PageSize}
 use Rattle.sdbm_addr.specs.Hash.{hash_of}
-use Rattle.sdbm_addr.specs.Directory.{page_of, depth_of}
+use Rattle.sdbm_addr.specs.Directory.{page_of}
 use Rattle.sdbm_addr.specs.Pairs.{Pair, same_key, value_of, key_at, HasDistinctKeys, footprint, page_bytes, pair_limit, AreSmall, IsPage}
 use Rattle.sdbm_addr.specs.Database.{Database, IsDatabase, pairs_at, map_of, with_page}
-use Rattle.sdbm_addr.proofs.DirectoryLemmas.{depth_of-IsDepth, depth_of-le}
 use Rattle.sdbm_addr.proofs.PairLemmas.{same_key-refl, same_key-sym, equal_keys, absent_parts}
 use Rattle.sdbm_addr.proofs.SortedPairs.{apart_at}
-use Rattle.sdbm_addr.proofs.DatabaseLemmas.{get-map_of}
 use Rattle.sdbm_files.specs.Installed.{IsInstallable}
-use Rattle.sdbm_files.proofs.PutLemmas.{AreKept-put_page, IsPage-pairs_at, pairs-put_page}
+use Rattle.sdbm_files.proofs.PutLemmas.{IsPage-pairs_at, IsInstallable-with_key, map_of-with_key}
 use Rattle.desk_core.specs.Works.{in_place}
 
 -- where the key is absent nothing is written
@@ -63,11 +60,6 @@ value_of-in_place (e ∷ es) key value q = at (same_key key e.0) refl (same_key 
         let other : same_key q key ≡ false = ap (λ x. same_key x key) j ∙ same_key-sym e.0 key ∙ t in
         rw (s, other) refl
     at false t false s rest = rw s rest
-
-found_before : (b : Bool) (value : List ℕ) (o : Option (List ℕ)) → cond b (option_map (λ (old : List ℕ). value) o) o ≢ None → o ≢ None
-found_before true value None some = absurd (some refl)
-found_before true value (Some x) some = λ none. let no : Some x ≡ None = none in cc
-found_before false value o some = some
 
 -- ---- pages
 
@@ -138,59 +130,24 @@ IsPage-in_place size es key old value there same page =
 
 -- ---- databases
 
-module _ (db : Database) (ok : IsDatabase db) (n : ℕ) (key old value : List ℕ) (there : value_of (pairs_at db n) key ≡ Some old) (same : length value ≡ length old) where
-  abbrev pub written : Database
-  written = with_page db n (in_place key value (pairs_at db n))
+-- what is found is the new value, where the key was there
+found-in_place : (es : List Pair) (key old value : List ℕ) → value_of es key ≡ Some old → (q : List ℕ) → value_of (in_place key value es) q ≡ cond (same_key q key) (Some value) (value_of es q)
+found-in_place es key old value there q = value_of-in_place es key value q ∙ at (same_key q key) refl
+  where
+    at : (b : Bool) → same_key q key ≡ b → cond b (option_map (λ (x : List ℕ). value) (value_of es q)) (value_of es q) ≡ cond b (Some value) (value_of es q)
+    at true same = ap (option_map (λ (x : List ℕ). value)) (ap (value_of es) (equal_keys q key same) ∙ there)
+    at false other = refl
 
-  pairs-written : (q : ℕ) → pairs_at written q ≡ cond (eqb q n) (in_place key value (pairs_at db n)) (pairs_at db q)
-  pairs-written q = pairs-put_page db.pages n (in_place key value (pairs_at db n)) q
+module _ (db : Database) (ok : IsDatabase db) (n : ℕ) (key old value : List ℕ) (leads : n ≡ page_of db.splits (hash_of db.kind key)) (there : value_of (pairs_at db n) key ≡ Some old) (same : length value ≡ length old) where
+  page-written : IsPage db.size (in_place key value (pairs_at db n))
+  page-written = IsPage-in_place db.size (pairs_at db n) key old value there same (IsPage-pairs_at db ok n)
 
-  IsDatabase-written : IsDatabase written
-  IsDatabase-written = record {
-    directory = ok.directory;
-    pages = AreKept-put_page db.size db.pages n (in_place key value (pairs_at db n)) (IsPage-in_place db.size (pairs_at db n) key old value there same (IsPage-pairs_at db ok n)) ok.pages;
-    placed = λ q k some. at q k (eqb q n) refl (λ none. some (ap (λ es. value_of es k) (pairs-written q) ∙ none));
-  }
-    where
-      at : (q : ℕ) (k : List ℕ) (b : Bool) → eqb q n ≡ b → value_of (cond b (in_place key value (pairs_at db n)) (pairs_at db q)) k ≢ None → page_of db.splits (hash_of db.kind k) ≡ q
-      at q k true t some = ok.placed n k (found_before (same_key k key) value (value_of (pairs_at db n) k) (λ none. some (value_of-in_place (pairs_at db n) key value k ∙ none))) ∙ sym (eqb-true q n t)
-      at q k false t some = ok.placed q k some
+  -- a plan without splits that writes the value of a key over
+  pub IsInstallable-written : IsInstallable db n (record { size = db.size; pairs = in_place key value (pairs_at db n) }) [] []
+  IsInstallable-written = IsInstallable-with_key db ok n key leads (Some value) (in_place key value (pairs_at db n)) page-written (found-in_place (pairs_at db n) key old value there)
 
   -- its map has the new value
-  pub map_of-written : n ≡ page_of db.splits (hash_of db.kind key) → map_of written ≡ map.insert (map_of db) key value
-  map_of-written leads = map.same_map nat_list_cmp_total exact_bytes _ _ (λ q.
-      get-map_of written IsDatabase-written q
-      ∙ ap (λ es. value_of es q) (pairs-written (lead q))
-      ∙ at q (eqb (lead q) n) refl
-      ∙ sym (map.get-insert nat_list_cmp_total (map_of db) key value q ∙ ap (cond (same_key q key) (Some value)) (get-map_of db ok q)))
-    where
-      lead : List ℕ → ℕ
-      lead q = page_of db.splits (hash_of db.kind q)
-
-      other : (q : List ℕ) → eqb (lead q) n ≡ false → same_key q key ≡ false
-      other q t = false_from_ne_true _ (λ s. true≢false (sym (eq-eqb (lead q) n (ap lead (equal_keys q key s) ∙ sym leads)) ∙ t))
-
-      found : (q : List ℕ) (b : Bool) → same_key q key ≡ b → cond b (option_map (λ (x : List ℕ). value) (value_of (pairs_at db n) q)) (value_of (pairs_at db n) q) ≡ cond b (Some value) (value_of (pairs_at db n) q)
-      found q true s = ap (option_map (λ (x : List ℕ). value)) (ap (value_of (pairs_at db n)) (equal_keys q key s) ∙ there)
-      found q false s = refl
-
-      at : (q : List ℕ) (b : Bool) → eqb (lead q) n ≡ b → value_of (cond b (in_place key value (pairs_at db n)) (pairs_at db (lead q))) q ≡ cond (same_key q key) (Some value) (value_of (pairs_at db (lead q)) q)
-      at q true t = value_of-in_place (pairs_at db n) key value q ∙ found q (same_key q key) refl ∙ ap (λ k. cond (same_key q key) (Some value) (value_of (pairs_at db k) q)) (sym (eqb-true (lead q) n t))
-      at q false t = sym (cond-false _ _ _ (other q t))
-
-  -- a plan without splits that writes it
-  pub IsInstallable-written : IsInstallable db n (record { size = db.size; pairs = in_place key value (pairs_at db n) }) [] []
-  IsInstallable-written = record {
-    leaf_size = refl;
-    twin_sizes = λ k d l. absurd (omega arith);
-    path = record {
-      hash = 0;
-      depth = depth_of db.splits 0;
-      splits = 0;
-      directory = ok.directory;
-      leads = depth_of-IsDepth db.splits ok.directory 0;
-      shallow = let deep : depth_of db.splits 0 ≤ 31 = depth_of-le db.splits 0 in omega arith;
-      is = refl;
-    };
-    database = IsDatabase-written;
-  }
+  pub map_of-written : map_of (with_page db n (in_place key value (pairs_at db n))) ≡ map.insert (map_of db) key value
+  map_of-written =
+      map_of-with_key db ok n key leads (Some value) (in_place key value (pairs_at db n)) page-written (found-in_place (pairs_at db n) key old value there) (map.insert (map_of db) key value)
+      (map.get-insert nat_list_cmp_total (map_of db) key value)

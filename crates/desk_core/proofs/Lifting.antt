@@ -11,7 +11,7 @@ use Rattle.sdbm_addr.specs.Hash.{hash_of}
 use Rattle.sdbm_addr.specs.Directory.{Splits, IsDepth, depth_of, page_of}
 use Rattle.sdbm_addr.specs.Pairs.{Pair, Content, same_key, value_of, without, pair_limit}
 use Rattle.sdbm_addr.specs.Splitting.{neighbors, map_neighbors, IsLeastSplits, IsCrowded, split_along}
-use Rattle.sdbm_addr.specs.Database.{Database, IsDatabase, pairs_at, map_of, with_page}
+use Rattle.sdbm_addr.specs.Database.{Database, IsDatabase, pairs_at, map_of}
 use Rattle.sdbm_addr.proofs.DirectoryLemmas.{IsDepth-unique, depth_of-IsDepth, page_of_depth, same_place}
 use Rattle.sdbm_addr.proofs.DatabaseLemmas.{get-map_of}
 use Rattle.sdbm_addr.proofs.PairLemmas.{same_key-refl}
@@ -42,18 +42,6 @@ use Rattle.desk_core.proofs.InPlace.{map_of-written, IsInstallable-written}
 
 abbrev leads_to : Database → List ℕ → ℕ
 leads_to db key = page_of db.splits (hash_of db.kind key)
-
--- a plan that takes a pair out
-abbrev TakesOut : (A : Type 0) → Database → ℕ → List ℕ → ℕ → Content → List (ℕ × Content) → List ℕ → Type 0
-TakesOut A db session key n leaf twins bits =
-    IsInstallable db n leaf twins bits × Moves {A = A} (state_of db) (record { session = session; command = Delete key; reply = reply.Deleted }) (state_of (installed db n leaf twins bits))
-
-takes_out : (A : Type 0) (db : Database) → IsDatabase db → (session : ℕ) (key value : List ℕ) (n : ℕ) (leaf : Content) → n ≡ leads_to db key → map.get (map_of db) key ≡ Some value
-    → leaf.size ≡ db.size → leaf.pairs ≡ without key (pairs_at db n) → TakesOut A db session key n leaf [] []
-takes_out A db ok session key value n leaf leads there sized is =
-    let gone : map_of (installed db n leaf [] []) ≡ map.remove (map_of db) key =
-    ap (λ (ps : List Pair). map_of (with_page db n ps)) is ∙ map_of-taken_out db ok n key leads in
-    (IsInstallable-taken_out db ok n key leaf sized is, record { changes = ((ap is_some there, gone), refl); kind = refl; size = refl })
 
 -- the depth of a place
 depth_is : (db : Database) → IsDatabase db → (hash h : ℕ) → IsDepth db.splits hash h → h ≡ depth_of db.splits hash
@@ -154,9 +142,12 @@ fetch_leads db session key n (Some value) some = record { may = tt; move = λ en
 delete_leads : {A : Type 0} (db : Database) → IsDatabase db → (session : ℕ) (key : List ℕ) (n : ℕ) → n ≡ leads_to db key → (o : Option (List ℕ)) → map.get (map_of db) key ≡ o
     → LeadsTo {A = A} db session (Delete key) n (deleted db.size (pairs_at db n) key o)
 delete_leads db ok session key n leads None none = record { may = tt; move = λ ends. record { changes = ((none, refl), refl); kind = refl; size = refl }; beside = same_beside db _; changes = refl }
-delete_leads {A} db ok session key n leads (Some value) some =
-    let out = takes_out A db ok session key value n (record { size = db.size; pairs = without key (pairs_at db n) }) leads some refl refl in
-    record { may = out.0; move = λ ends. out.1; beside = taken_beside db n (record { size = db.size; pairs = without key (pairs_at db n) }); changes = refl }
+delete_leads db ok session key n leads (Some value) some = record {
+  may = IsInstallable-taken_out db ok n key leads;
+  move = λ ends. record { changes = ((ap is_some some, map_of-taken_out db ok n key leads), refl); kind = refl; size = refl };
+  beside = taken_beside db n (record { size = db.size; pairs = without key (pairs_at db n) });
+  changes = refl;
+}
 
 -- the page of a hash at a depth
 abbrev page_at : Database → ℕ → ℕ → Content
@@ -266,9 +257,9 @@ module _ (A : Type 0) (db : Database) (ok : IsDatabase db) (session : ℕ) (key 
 
         at : (b r : Bool) → saves o.code ≡ b → removes o.code ≡ r → LeadsTo db session command n (result_of o b r)
         at true r s d = record {
-          may = IsInstallable-written db ok n key value o.bytes on_page long;
+          may = IsInstallable-written db ok n key value o.bytes leads on_page long;
           move = λ e. record {
-            changes = inl (record { value = value; there = there; outcome = o; ends = ends; code_is = refl; word_is = refl; map_is = map_of-written db ok n key value o.bytes on_page long leads ∙ left o true r s d }, refl);
+            changes = inl (record { value = value; there = there; outcome = o; ends = ends; code_is = refl; word_is = refl; map_is = map_of-written db ok n key value o.bytes leads on_page long ∙ left o true r s d }, refl);
             kind = refl;
             size = refl;
           };
@@ -279,7 +270,7 @@ module _ (A : Type 0) (db : Database) (ok : IsDatabase db) (session : ℕ) (key 
             let leaf : Content = record { size = db.size; pairs = without key (pairs_at db n) } in
             let gone : map_of (installed db n leaf [] []) ≡ map.remove (map_of db) key = map_of-taken_out db ok n key leads in
             record {
-              may = IsInstallable-taken_out db ok n key leaf refl refl;
+              may = IsInstallable-taken_out db ok n key leads;
               move = λ e. record {
                 changes = inl (record { value = value; there = there; outcome = o; ends = ends; code_is = refl; word_is = refl; map_is = gone ∙ left o false true s d }, refl);
                 kind = refl;

@@ -1,21 +1,20 @@
 //! What the run of a program comes to, on the page of its key. The program runs in place: on the value in a copy of the page, or on
 //! a blank, which is stored as an insert stores.
-ghost use Rattle.std.specs.Prelude.{◌≡◌, ◌+◌, ◌≤◌, ◌<◌, length, [], true, None, IfOk, OnOk, OnErr};
+ghost use Rattle.std.specs.Prelude.{◌≡◌, ◌+◌, ◌≤◌, ◌<◌, length, true, None, IfOk, IfSome, OnOk, OnErr};
 ghost use Rattle.std.specs.Option.{option_map};
 ghost use Rattle.sdbm_addr.specs.Pairs.{pair_limit, value_of, value_at};
 ghost use Rattle.bpf_helpers.specs.Runs.{argument_limit, record_limit};
 ghost use Rattle.store_cmd.specs.Command.{FitsBlank};
 ghost use Rattle.store_cmd.specs.Answers.{env_of};
-ghost use Rattle.desk_core.specs.Works.{run_on, EndsOn, as_ran, change_of, IsPageOfKey};
+ghost use Rattle.desk_core.specs.Works.{as_ran, change_of, IsPageOfKey, pairs_lent};
 ghost use Rattle.store_cmd.specs.declared.Reply.TheVariants as Reply;
-ghost use Rattle.desk_core.specs.Worked.{IsWorked, IsRunAt, IsRunAnew, IsRunFirst, WantsAnew, WantsFirst, takes_memory};
+ghost use Rattle.desk_core.specs.Worked.{IsWorked, run_by, EndsBy, IsRunAt, IsRunAnew, WantsAnew, takes_memory};
 
-use crate::work::{Worked, changed, store, store_first, unchanged};
+use crate::work::{Site, Worked, changed, pair_of, store_in, unchanged};
 use bpf_helpers::Env;
 use bpf_machine::{Ended, run};
 use bpf_verify::Verified;
-use sdbm_addr::{KeyBytes, Mode, PageSize};
-use sdbm_dir::Place;
+use sdbm_addr::Mode;
 use sdbm_page::{Page, SharedPage};
 use std::alloc::{AllocError, Allocator};
 use store_cmd::Reply;
@@ -25,82 +24,56 @@ const SAVED: u64 = 1;
 
 const REMOVED: u64 = 2;
 
-// The most bytes of a record.
+// The most bytes of a record, which are those of a pair of a wide page.
 const RECORD_LIMIT: usize = 8008;
 
-/// A run on the value of its key on a page, or on a blank of zeros where the key isn't there. It is told the time and the session.
+/// What a run is told and lent: the session and the time, its key, its program and argument, and the length of the blank on which
+/// it runs where the key isn't there.
+#[derive(Drop)]
+pub struct RunInput<'a, A: Allocator> {
+    pub session: u64,
+    pub time: u64,
+    pub key: &'a [u8],
+    pub program: &'a Verified<A>,
+    pub arg: &'a [u8],
+    pub blank: Option<usize>,
+}
+
+/// A run on the value of its key, or on a blank of zeros where the key isn't there, as where the place has no page.
 ///
 /// # Errors
 /// `AllocError` where no memory is left for the page on which it runs, or for those that its record is stored on.
-pub fn run_on_page<A: Allocator + Copy>(
+pub fn run_on<A: Allocator + Copy>(
     alloc: A,
-    page: &Page<A>,
-    place: Place,
-    kind: KeyBytes,
-    key: &[u8],
-    program: &Verified<A>,
-    told: (u64, u64),
-    arg: &[u8],
-    blank: Option<usize>,
+    page: Option<&Page<A>>,
+    site: Site,
+    input: &RunInput<'_, A>,
 ) -> Result<Worked<A>, AllocError>
-    requires blank_fits { FitsBlank page.now.size key.now blank }
-    requires placed { IsPageOfKey place kind page.now.size page.now.pairs key.now }
-    requires argument_fits { length arg.now ≤ argument_limit }
-    ensures worked { IfOk result (IsWorked (run_on kind page.now place.depth told.1 key.now program.now.code arg.now told.0 (value_of page.now.pairs key.now) blank)) }
-    ensures ends { OnOk result (EndsOn told.1 program.now.code arg.now told.0 (value_of page.now.pairs key.now) blank) }
-    ensures err { OnErr result (takes_memory (run_on {A = A} kind page.now place.depth told.1 key.now program.now.code arg.now told.0 (value_of page.now.pairs key.now) blank).reply ≡ true) }
+    requires size { IfSome page (λ p. p.now.size ≡ site.size) }
+    requires blank_fits { FitsBlank site.size input.now.key.now input.now.blank }
+    requires placed { IsPageOfKey site.place site.kind site.size (pairs_lent page) input.now.key.now }
+    requires argument_fits { length input.now.arg.now ≤ argument_limit }
+    ensures worked { IfOk result (IsWorked (run_by site (pairs_lent page.entry) input.now)) }
+    ensures ends { OnOk result (EndsBy (pairs_lent page.entry) input.now) }
+    ensures err { OnErr result (takes_memory (run_by site (pairs_lent page.entry) input.now).reply ≡ true) }
 {
-    if let Some(i) = page.find(key) {
-        return run_there(alloc, page, i, program, env_of(told, true), arg);
+    if let Some((page, i)) = pair_of(page, input.key) {
+        return run_there(alloc, page, i, input);
     }
-    let Some(len) = blank else {
+    let Some(len) = input.blank else {
         return Ok(unchanged(Reply::Missing));
     };
-    let env = env_of(told, false);
-    let mut zeros = [0; RECORD_LIMIT];
-    let bytes = &mut zeros[..len];
-    run_anew(alloc, page, place, kind, key, program, env, arg, bytes)
+    run_anew(alloc, page, site, input, len)
 }
 
-/// The same where the place has no pairs.
-///
-/// # Errors
-/// `AllocError` where no memory is left for the page that its record is stored on.
-pub fn run_on_none<A: Allocator + Copy>(
-    alloc: A,
-    place: Place,
-    kind: KeyBytes,
-    size: PageSize,
-    key: &[u8],
-    program: &Verified<A>,
-    told: (u64, u64),
-    arg: &[u8],
-    blank: Option<usize>,
-) -> Result<Worked<A>, AllocError>
-    requires shallow { place.depth ≤ 31 }
-    requires blank_fits { FitsBlank size key.now blank }
-    requires argument_fits { length arg.now ≤ argument_limit }
-    ensures worked { IfOk result (IsWorked (run_on kind (record { size = size; pairs = [] }) place.depth told.1 key.now program.now.code arg.now told.0 None blank)) }
-    ensures ends { OnOk result (EndsOn told.1 program.now.code arg.now told.0 None blank) }
-    ensures err { OnErr result (takes_memory (run_on {A = A} kind (record { size = size; pairs = [] }) place.depth told.1 key.now program.now.code arg.now told.0 None blank).reply ≡ true) }
-{
-    let Some(len) = blank else {
-        return Ok(unchanged(Reply::Missing));
-    };
-    let env = env_of(told, false);
-    let mut zeros = [0; RECORD_LIMIT];
-    let bytes = &mut zeros[..len];
-    run_first(alloc, size, key, program, env, arg, bytes)
-}
-
-// What the helpers know of a run that is told the time and the session.
-fn env_of(told: (u64, u64), present: bool) -> Env
-    ensures { result ≡ env_of told.0 present told.1 }
+// What the helpers know of a run.
+fn env_of<A: Allocator>(input: &RunInput<'_, A>, present: bool) -> Env
+    ensures { result ≡ env_of input.now.time present input.now.session }
 {
     Env {
-        now: told.0,
+        now: input.time,
         present,
-        who: told.1,
+        who: input.session,
     }
 }
 
@@ -109,17 +82,16 @@ fn run_there<A: Allocator + Copy>(
     alloc: A,
     page: &Page<A>,
     i: usize,
-    program: &Verified<A>,
-    env: Env,
-    arg: &[u8],
+    input: &RunInput<'_, A>,
 ) -> Result<Worked<A>, AllocError>
     requires inside { i < length page.now.pairs }
     requires record_fits { length (value_at page.now.pairs i) ≤ record_limit }
-    requires argument_fits { length arg.now ≤ argument_limit }
-    ensures { IfOk result (IsRunAt page.now i program.now.code arg.now env) }
+    requires argument_fits { length input.now.arg.now ≤ argument_limit }
+    ensures { IfOk result (IsRunAt page.now i input.now) }
 {
+    let env = env_of(input, true);
     let mut made = page.try_clone()?;
-    let ended = run(program, &env, made.record_mut(i), arg);
+    let ended = run(input.program, &env, made.record_mut(i), input.arg);
     if ended.code == SAVED {
         let leaf = SharedPage::new(alloc, made)?;
         return Ok(changed(alloc, ran(ended), leaf));
@@ -132,55 +104,30 @@ fn run_there<A: Allocator + Copy>(
     Ok(unchanged(ran(ended)))
 }
 
-// Runs a program on a record for a key that is not on its page, and stores the record where it is saved.
+// Runs a program on a blank for a key that isn't there, and stores the record where it is saved.
 fn run_anew<A: Allocator + Copy>(
     alloc: A,
-    page: &Page<A>,
-    place: Place,
-    kind: KeyBytes,
-    key: &[u8],
-    program: &Verified<A>,
-    env: Env,
-    arg: &[u8],
-    bytes: &mut [u8],
+    page: Option<&Page<A>>,
+    site: Site,
+    input: &RunInput<'_, A>,
+    len: usize,
 ) -> Result<Worked<A>, AllocError>
-    requires absent { value_of page.now.pairs key.now ≡ None }
-    requires small { length key.now + length bytes.old ≤ pair_limit page.now.size }
-    requires record_fits { length bytes.old ≤ record_limit }
-    requires placed { IsPageOfKey place kind page.now.size page.now.pairs key.now }
-    requires argument_fits { length arg.now ≤ argument_limit }
-    ensures ran { IfOk result (IsRunAnew kind page.now key.now place.depth program.now.code arg.now env bytes.old) }
-    ensures err { OnErr result (WantsAnew A kind page.now key.now place.depth program.now.code arg.now env bytes.old) }
+    requires size { IfSome page (λ p. p.now.size ≡ site.size) }
+    requires absent { value_of (pairs_lent page) input.now.key.now ≡ None }
+    requires small { length input.now.key.now + len ≤ pair_limit site.size }
+    requires placed { IsPageOfKey site.place site.kind site.size (pairs_lent page) input.now.key.now }
+    requires argument_fits { length input.now.arg.now ≤ argument_limit }
+    ensures ran { IfOk result (IsRunAnew site (pairs_lent page.entry) input.now len) }
+    ensures err { OnErr result (WantsAnew site (pairs_lent page.entry) input.now len) }
 {
-    let ended = run(program, &env, bytes, arg);
+    let env = env_of(input, false);
+    let mut zeros = [0; RECORD_LIMIT];
+    let bytes = &mut zeros[..len];
+    let ended = run(input.program, &env, bytes, input.arg);
     if ended.code != SAVED {
         return Ok(unchanged(ran(ended)));
     }
-    let stored = store(alloc, page, place, kind, key, bytes, Mode::Insert)?;
-    Ok(as_ran(stored, ran(ended)))
-}
-
-// The same for the first key of a page.
-fn run_first<A: Allocator + Copy>(
-    alloc: A,
-    size: PageSize,
-    key: &[u8],
-    program: &Verified<A>,
-    env: Env,
-    arg: &[u8],
-    bytes: &mut [u8],
-) -> Result<Worked<A>, AllocError>
-    requires small { length key.now + length bytes.old ≤ pair_limit size }
-    requires record_fits { length bytes.old ≤ record_limit }
-    requires argument_fits { length arg.now ≤ argument_limit }
-    ensures ran { IfOk result (IsRunFirst size key.now program.now.code arg.now env bytes.old) }
-    ensures err { OnErr result (WantsFirst program.now.code arg.now env bytes.old) }
-{
-    let ended = run(program, &env, bytes, arg);
-    if ended.code != SAVED {
-        return Ok(unchanged(ran(ended)));
-    }
-    let stored = store_first(alloc, size, key, bytes)?;
+    let stored = store_in(alloc, page, site, input.key, bytes, Mode::Insert)?;
     Ok(as_ran(stored, ran(ended)))
 }
 

@@ -1,0 +1,4 @@
+pub mod ShareLemmas
+pub mod DoneLemmas
+pub mod GatherLemmas
+pub mod PoolLemmas

@@ -1,0 +1,233 @@
+-- What workers leave is what comes of the tasks. A worker is known by its session, its replies and the task that it was refused.
+use Rattle.std.proofs.Common.{inl, inr, ◌≡◌, ◌∙◌, sym, ap, ◌∷◌, [], zero, suc, length, ◌<◌, ◌≤◌, ℕ, ◌++◌, arith, List, refl, subst}
+use Rattle.std.specs.Prelude.{◌%◌, take, drop, map, slice_index_or, Option, Some, None, IfSome}
+use Rattle.std.specs.List.{All, slice_get}
+use Rattle.std.proofs.lemmas.List.{length-map, get_or-map, take_all, drop_all, append-nil}
+use Rattle.std.proofs.lemmas.List.Elements.{All-get_or, All-map, All-nil, All-push, All-weaker}
+use Rattle.std.proofs.lemmas.Option.{slice_get-map, slice_get-get_or, slice_get_within, get_or_from_slice_get}
+use Rattle.std.specs.Option.{option_map}
+use Rattle.sdbm_addr.specs.declared.PageSize.{PageSize}
+use Rattle.bpf_verify.specs.Verified.{Accepted}
+use Rattle.store_cmd.specs.declared.Reply.{Reply}
+use Rattle.store_cmd.specs.declared.Entry.{Entry}
+use Rattle.store_cmd.specs.declared.Refusal.{Refusal}
+use Rattle.store_shared.specs.Shared.{SessionState, CallsState, calls_left}
+use Rattle.worker_pool.specs.declared.task.Task.{Task}
+use Rattle.worker_pool.specs.Tasks.{run_of, IsTaskRefusal}
+use Rattle.worker_pool.specs.Shares.{share_of, runs_of, HasDone, HasWorked, IsRefusedAt, IsNoLater, IsLowerOf, IsFirstIn, stop_of}
+use Rattle.worker_pool.proofs.ShareLemmas.{some_of, share_length}
+use Rattle.worker_pool.specs.Pool.{AreIdle, MayBegin, AreDone, AreRefused, HasCome, IsShareDone}
+
+-- what stands in a map of a list, as what stands in the list
+pub record Mapped {X Y : Type 0} (f : X → Y) (xs : List X) (i : ℕ) (y : Y) : Type 0 where
+  pub source : X
+  pub here : slice_get xs i ≡ Some source
+  pub value : f source ≡ y
+
+pub mapped : {X Y : Type 0} (f : X → Y) (xs : List X) (i : ℕ) (y : Y) → slice_get (map f xs) i ≡ Some y → Mapped f xs i y
+mapped f [] i y h = absurd (cc)
+mapped f (x ∷ xs) zero y h = record { source = x; here = refl; value = cc }
+mapped f (x ∷ xs) (suc i) y h = let rest = mapped f xs i y h in record { source = rest.source; here = rest.here; value = rest.value }
+
+-- what holds of each holds of what stands at a place
+all_at : {X : Type 0} (P : X → Type 0) (xs : List X) (i : ℕ) (x : X) → slice_get xs i ≡ Some x → All P xs → P x
+all_at P xs i x here all = subst P (get_or_from_slice_get xs i x x here) (All-get_or P xs i x (slice_get_within xs i x here) all)
+
+slice_get-front : {X : Type 0} (front back : List X) (i : ℕ) (x : X) → slice_get front i ≡ Some x → slice_get (front ++ back) i ≡ Some x
+slice_get-front [] back i x h = absurd (cc)
+slice_get-front (y ∷ ys) back zero x h = h
+slice_get-front (y ∷ ys) back (suc i) x h = slice_get-front ys back i x h
+
+slice_get-behind : {X : Type 0} (front : List X) (x : X) (rest : List X) → slice_get (front ++ x ∷ rest) (length front) ≡ Some x
+slice_get-behind [] x rest = refl
+slice_get-behind (y ∷ ys) x rest = slice_get-behind ys x rest
+
+pub some_each : {X : Type 0} (P : X → Type 0) (o : Option X) → ((x : X) → o ≡ Some x → P x) → IfSome o P
+some_each P None each = tt
+some_each P (Some x) each = each x refl
+
+some_at : {X : Type 0} (P : X → Type 0) (o : Option X) (x : X) → o ≡ Some x → IfSome o P → P x
+some_at {X} P o x is h = subst (λ (p : Option X). IfSome p P) is h
+
+none_of : (o : Option (ℕ × Refusal)) → IsNoLater None o → o ≡ None
+none_of None h = refl
+none_of (Some r) h = absurd h
+
+-- whoever was refused no earlier task stopped no earlier
+stopped_later : (end : ℕ) (r : ℕ × Refusal) (o : Option (ℕ × Refusal)) → r.0 < end → IsNoLater (Some r) o → r.0 ≤ stop_of end o
+stopped_later end r None within h = omega arith
+stopped_later end r (Some s) within h = h
+
+module _ {A W : Type 0} (session : W → SessionState A) (replies : W → List (Reply A)) (refused : W → Option (ℕ × Refusal)) (programs : List Accepted) (tasks : List (Task A)) (k : ℕ) where
+  -- what a worker of a crew has done
+  abbrev pub Worked : ℕ → W → Type 0
+  Worked w x = HasWorked programs tasks k w (session x) (replies x) (refused x)
+
+  abbrev left_by : W → CallsState A
+  left_by x = calls_left (session x)
+
+  pub no_later : (crew : List W) (first : Option (ℕ × Refusal)) (w : ℕ) (x : W) → IsFirstIn (map refused crew) first → slice_get crew w ≡ Some x → IsNoLater first (refused x)
+  no_later crew first w x is here = all_at (IsNoLater first) (map refused crew) w (refused x) (slice_get-map refused crew w ∙ ap (option_map refused) here) is.lowest
+
+  pub pool_done : (crew : List W) (calls : List (CallsState A)) (answers : List (Reply A)) → MayBegin programs tasks k → length crew ≡ k → ((w : ℕ) → IfSome (slice_get crew w) (Worked w))
+      → IsFirstIn (map refused crew) None → calls ≡ map left_by crew → length answers ≡ length tasks
+      → ((w : ℕ) (x : W) → slice_get crew w ≡ Some x → share_of k w answers ≡ replies x)
+      → AreDone programs tasks k answers calls
+  pool_done crew calls answers begun count worked none left one_each shared = record {
+    begun = begun;
+    one_each = one_each;
+    all_workers = ap length left ∙ (length-map crew left_by ∙ count);
+    shares = λ w its here.
+        let m = mapped left_by crew w its (ap (λ cs. slice_get cs w) (sym left) ∙ here) in
+        let x = m.source in
+        let did = some_at (Worked w) (slice_get crew w) x m.here (worked w) in
+        let to_end : refused x ≡ None = none_of (refused x) (no_later crew None w x none m.here) in
+        let done : HasDone programs tasks k w (length tasks) (session x).number (session x).calls = subst (λ o. HasDone programs tasks k w (stop_of (length tasks) o) (session x).number (session x).calls) to_end did.done in
+        subst (λ c. IsShareDone programs tasks k w answers c) m.value (record { done = done; replied = did.replied ∙ sym (shared w x m.here) });
+  }
+
+  pub pool_refused : (size : PageSize) (crew : List W) (calls : List (CallsState A)) (r : ℕ × Refusal) → length crew ≡ k → ((w : ℕ) → IfSome (slice_get crew w) (Worked w))
+      → ((w : ℕ) (x : W) → slice_get crew w ≡ Some x → (session x).size ≡ size)
+      → IsFirstIn (map refused crew) (Some r) → calls ≡ map left_by crew
+      → AreRefused size programs tasks k r.0 r.1 calls
+  pool_refused size crew calls r count worked sized first left =
+      let m = mapped refused crew first.here.0 (Some r) first.here.1 in
+      let x = m.source in
+      let did = some_at (Worked first.here.0) (slice_get crew first.here.0) x m.here (worked first.here.0) in
+      let at : IsRefusedAt (session x).size programs tasks k first.here.0 r.0 r.1 = some_at (λ s. IsRefusedAt (session x).size programs tasks k first.here.0 s.0 s.1) (refused x) r m.value did.refusal in
+      let within : r.0 < length tasks = slice_get_within tasks r.0 at.task at.here in
+      record {
+        task = at.task;
+        here = at.here;
+        why = subst (λ s. IsTaskRefusal s (run_of programs at.task) r.1) (sized first.here.0 x m.here) at.why;
+        all_workers = ap length left ∙ (length-map crew left_by ∙ count);
+        its_worker = λ its here.
+            let n = mapped left_by crew (r.0 % k) its (ap (λ cs. slice_get cs (r.0 % k)) (sym left) ∙ here) in
+            let same : Some n.source ≡ Some x = sym n.here ∙ (ap (slice_get crew) at.its_own ∙ m.here) in
+            let same_worker : n.source ≡ x = cc in
+            let done : HasDone programs tasks k (r.0 % k) r.0 (session x).number (session x).calls = subst (λ w. HasDone programs tasks k w r.0 (session x).number (session x).calls) (sym at.its_own) (subst (λ o. HasDone programs tasks k first.here.0 (stop_of (length tasks) o) (session x).number (session x).calls) m.value did.done) in
+            subst (λ c. HasDone programs tasks k (r.0 % k) r.0 c.number c.calls) n.value (subst (λ y. HasDone programs tasks k (r.0 % k) r.0 (session y).number (session y).calls) (sym same_worker) done);
+        others = λ w its here.
+            let n = mapped left_by crew w its (ap (λ cs. slice_get cs w) (sym left) ∙ here) in
+            let does = some_at (Worked w) (slice_get crew w) n.source n.here (worked w) in
+            let come : HasCome programs tasks k w r.0 (left_by n.source) = record {
+              stop = stop_of (length tasks) (refused n.source);
+              later = stopped_later (length tasks) r (refused n.source) within (no_later crew (Some r) w n.source first n.here);
+              done = does.done;
+            } in
+            subst (λ c. HasCome programs tasks k w r.0 c) n.value come;
+      }
+
+-- each worker's session is of the size of all before
+pub sized_all : {A W : Type 0} (session : W → SessionState A) (size : PageSize) (old new : List W) → length new ≡ length old
+    → ((w : ℕ) → IfSome (slice_get new w) (λ x. IfSome (slice_get old w) (λ y. (session x).size ≡ (session y).size)))
+    → All (λ y. (session y).size ≡ size) old → (w : ℕ) (x : W) → slice_get new w ≡ Some x → (session x).size ≡ size
+sized_all {A} {W} session size old new count kept sized w x here =
+    let near : w < length new = slice_get_within new w x here in
+    let y : W = slice_index_or old w x in
+    let was : slice_get old w ≡ Some y = slice_get-get_or old w x (omega arith) in
+    some_at (λ (v : W). (session x).size ≡ (session v).size) (slice_get old w) y was (some_at (λ (u : W). IfSome (slice_get old w) (λ v. (session u).size ≡ (session v).size)) (slice_get new w) x here (kept w))
+    ∙ all_at (λ (v : W). (session v).size ≡ size) old w y was sized
+
+-- what stands in lists at a place, where the lists are those of a crew
+pub view_at : {S W Y : Type 0} (view : S → Y) (f : W → Y) (lists : List S) (crew : List W) → map view lists ≡ map f crew → (w : ℕ) (d : S) (x : W) → slice_get crew w ≡ Some x → view (slice_index_or lists w d) ≡ f x
+view_at view f lists crew same w d x here =
+    let near : w < length crew = slice_get_within crew w x here in
+    let count : length (map view lists) ≡ length (map f crew) = ap length same in
+    let long = length-map lists view in
+    let crew_long = length-map crew f in
+    sym (get_or-map view lists w d (f x) (omega arith)) ∙ (ap (λ ys. slice_index_or ys w (f x)) same ∙ get_or_from_slice_get (map f crew) w (f x) (f x) (slice_get-map f crew w ∙ ap (option_map f) here))
+
+module _ {A W S : Type 0} (session : W → SessionState A) (replies : W → List (Reply A)) (refused : W → Option (ℕ × Refusal)) (programs : List Accepted) (tasks : List (Task A)) (k : ℕ) (view : S → List (Reply A)) where
+  -- where all is done, the list of a worker is as long as its share
+  pub pool_shares : (crew : List W) (lists : List S) → length crew ≡ k → map view lists ≡ map replies crew → ((w : ℕ) → IfSome (slice_get crew w) (Worked session replies refused programs tasks k w)) → IsFirstIn (map refused crew) None
+      → (w : ℕ) (d : S) → w < length lists → length (view (slice_index_or lists w d)) ≡ length (share_of (length lists) w tasks)
+  pool_shares crew lists count same worked none w d near =
+      let both : length (map view lists) ≡ length (map replies crew) = ap length same in
+      let long = length-map lists view in
+      let crew_long = length-map crew replies in
+      let at : w < length crew = omega arith in
+      let x : W = slice_index_or crew w (some_of crew w at) in
+      let here : slice_get crew w ≡ Some x = slice_get-get_or crew w (some_of crew w at) at in
+      let did = some_at (Worked session replies refused programs tasks k w) (slice_get crew w) x here (worked w) in
+      let to_end : refused x ≡ None = none_of (refused x) (no_later session replies refused programs tasks k crew None w x none here) in
+      let done : HasDone programs tasks k w (length tasks) (session x).number (session x).calls = subst (λ o. HasDone programs tasks k w (stop_of (length tasks) o) (session x).number (session x).calls) to_end did.done in
+      let runs = runs_of programs tasks in
+      let all_runs : length (take (length tasks) runs) ≡ length tasks = ap length (take_all (length tasks) runs (omega (arith, length-map tasks (run_of programs)))) ∙ length-map tasks (run_of programs) in
+      let its : length (replies x) ≡ length (share_of k w (take (length tasks) runs)) = ap length (sym did.replied) ∙ (length-map (session x).calls (λ (e : Entry A). e.reply) ∙ (sym (length-map (session x).calls (λ (e : Entry A). e.command)) ∙ ap length done.commands)) in
+      ap length (view_at view replies lists crew same w d x here) ∙ (its ∙ (share_length k w (take (length tasks) runs) tasks all_runs ∙ ap (λ n. length (share_of n w tasks)) (omega arith)))
+
+  -- what is taken from the lists is each worker's share
+  pub pool_taken : (crew : List W) (lists : List S) (answers : List (Reply A)) → length crew ≡ k → map view lists ≡ map replies crew
+      → ((w : ℕ) (d : S) → w < length lists → share_of (length lists) w answers ≡ view (slice_index_or lists w d))
+      → (w : ℕ) (x : W) → slice_get crew w ≡ Some x → share_of k w answers ≡ replies x
+  pool_taken crew lists answers count same taken w x here =
+      let both : length (map view lists) ≡ length (map replies crew) = ap length same in
+      let long = length-map lists view in
+      let crew_long = length-map crew replies in
+      let near : w < length crew = slice_get_within crew w x here in
+      let at : w < length lists = omega arith in
+      let d : S = some_of lists w at in
+      let size : k ≡ length lists = omega arith in
+      ap (λ n. share_of n w answers) size ∙ (taken w d at ∙ view_at view replies lists crew same w d x here)
+
+-- ---- a crew that has worked, as its list has it
+
+written_back : {W : Type 0} (items new : List W) (len : ℕ) → length new ≡ length items → length items ≡ len → take len (new ++ drop (length new) items) ≡ new
+written_back items new len count long = ap (λ xs. take len (new ++ xs)) (drop_all (length new) items (omega arith)) ∙ (ap (take len) (append-nil new) ∙ take_all len new (omega arith))
+
+-- these workers, as they were before, have worked
+pub record IsBack {A W : Type 0} (session : W → SessionState A) (replies : W → List (Reply A)) (refused : W → Option (ℕ × Refusal)) (programs : List Accepted) (tasks : List (Task A)) (items crew : List W) : Type 0 where
+  pub count : length crew ≡ length items
+  pub worked : (w : ℕ) → IfSome (slice_get crew w) (Worked session replies refused programs tasks (length items) w)
+  pub sizes : (w : ℕ) → IfSome (slice_get crew w) (λ x. IfSome (slice_get items w) (λ y. (session x).size ≡ (session y).size))
+
+pub crew_back : {A W : Type 0} (session : W → SessionState A) (replies : W → List (Reply A)) (refused : W → Option (ℕ × Refusal)) (programs : List Accepted) (tasks : List (Task A)) (items lent new : List W) (len : ℕ) → lent ≡ items → length new ≡ length lent → length lent ≡ len
+    → ((w : ℕ) → IfSome (slice_get new w) (Worked session replies refused programs tasks (length lent) w))
+    → ((w : ℕ) → IfSome (slice_get new w) (λ x. IfSome (slice_get lent w) (λ y. (session x).size ≡ (session y).size)))
+    → IsBack session replies refused programs tasks items (take len (new ++ drop (length new) items))
+crew_back {A} {W} session replies refused programs tasks items lent new len same count long worked sizes =
+    let long_items : length items ≡ len = ap length (sym same) ∙ long in
+    let counted : length new ≡ length items = count ∙ ap length same in
+    let whole : IsBack session replies refused programs tasks items new = record {
+      count = counted;
+      worked = λ w. subst (λ xs. IfSome (slice_get new w) (Worked session replies refused programs tasks (length xs) w)) same (worked w);
+      sizes = λ w. subst (λ xs. IfSome (slice_get new w) (λ x. IfSome (slice_get xs w) (λ y. (session x).size ≡ (session y).size))) same (sizes w);
+    } in
+    subst (λ xs. IsBack session replies refused programs tasks items xs) (sym (written_back items new len counted long_items)) whole
+
+-- ---- which is the first
+
+no_later_of : (a b c : Option (ℕ × Refusal)) → IsNoLater a b → IsNoLater b c → IsNoLater a c
+no_later_of None None c h j = j
+no_later_of None (Some s) c h j = absurd h
+no_later_of (Some r) None None h j = tt
+no_later_of (Some r) None (Some t) h j = absurd j
+no_later_of (Some r) (Some s) None h j = tt
+no_later_of (Some r) (Some s) (Some t) h j = omega arith
+
+pub first_none : IsFirstIn [] None
+first_none = record { lowest = All-nil (λ (o : Option (ℕ × Refusal)). IsNoLater None o); here = tt }
+
+still_here : (xs : List (Option (ℕ × Refusal))) (o : Option (ℕ × Refusal)) (r : Option (ℕ × Refusal)) → IfSome r (λ s. (w : ℕ) × (slice_get xs w ≡ Some (Some s))) → IfSome r (λ s. (w : ℕ) × (slice_get (xs ++ o ∷ []) w ≡ Some (Some s)))
+still_here xs o None h = tt
+still_here xs o (Some s) h = (h.0, slice_get-front xs (o ∷ []) h.0 (Some s) h.1)
+
+now_here : (xs : List (Option (ℕ × Refusal))) (o : Option (ℕ × Refusal)) → IfSome o (λ s. (w : ℕ) × (slice_get (xs ++ o ∷ []) w ≡ Some (Some s)))
+now_here xs None = tt
+now_here xs (Some s) = (length xs, slice_get-behind xs (Some s) [])
+
+-- one worker more
+pub first_more : (xs : List (Option (ℕ × Refusal))) (a b r : Option (ℕ × Refusal)) → IsFirstIn xs a → IsLowerOf a b r → IsFirstIn (xs ++ b ∷ []) r
+first_more xs a b r first lower = record {
+  lowest = All-push (λ o. IsNoLater r o) xs b (All-weaker (λ o. IsNoLater a o) (λ o. IsNoLater r o) (λ o h. no_later_of r a o lower.first h) xs first.lowest) lower.second;
+  here = elim lower.either [
+    | inl e ↦ subst (λ o. IfSome o (λ s. (w : ℕ) × (slice_get (xs ++ b ∷ []) w ≡ Some (Some s)))) (sym e) (still_here xs b a first.here)
+    | inr e ↦ subst (λ o. IfSome o (λ s. (w : ℕ) × (slice_get (xs ++ b ∷ []) w ≡ Some (Some s)))) (sym e) (now_here xs b)
+  ];
+}
+
+-- workers that did nothing leave no calls
+pub idle_left : {A W : Type 0} (session : W → SessionState A) (crew : List W) (calls : List (CallsState A)) → calls ≡ map (λ x. calls_left (session x)) crew → All (λ x. (session x).calls ≡ []) crew → AreIdle calls
+idle_left {A} {W} session crew calls left idle =
+    subst AreIdle (sym left) (All-map (λ (its : CallsState A). its.calls ≡ []) (λ (x : W). calls_left (session x)) crew idle)

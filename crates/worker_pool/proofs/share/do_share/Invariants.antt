@@ -1,0 +1,15 @@
+use Rattle.std.proofs.Common.{◌≡◌, ◌-◌, length}
+use Rattle.std.specs.Prelude.{◌%◌}
+use Rattle.worker_pool.specs.Shares.{HasDone, replies_of}
+use Rattle.worker_pool.proofs.share.do_share.Given as goal
+
+abbrev pub invariant-loop-at : goal.invariant-loop-at
+invariant-loop-at g l = record {
+  its_own : l.at % l.workers ≡ l.worker;
+  done : HasDone l.registry.programs l.tasks l.workers l.worker l.at l.session.number l.session.calls;
+  replied : replies_of l.session.calls ≡ l.replies.items;
+  size : l.session.size ≡ l.fn.session.size;
+}
+
+abbrev pub decreases-loop-at : goal.decreases-loop-at
+decreases-loop-at g l = length l.tasks - l.at

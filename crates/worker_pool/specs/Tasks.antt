@@ -1,0 +1,39 @@
+-- What a task asks, which programs are there, and why a task is refused.
+use Rattle.std.specs.Prelude.{◌≡◌, ◌<◌, ◌≤◌, ℕ, ◌⊎◌, List, [], length, take, Some}
+use Rattle.std.specs.List.{All, slice_get}
+use Rattle.std.specs.Option.{option_map_or}
+use Rattle.sdbm_addr.specs.declared.PageSize.{PageSize}
+use Rattle.bpf_insn.specs.declared.insn.Insn.{Insn}
+use Rattle.bpf_verify.specs.Verified.{Accepted}
+use Rattle.store_cmd.specs.declared.Command.{Command}
+use Rattle.store_cmd.specs.declared.Command.TheVariants as commands
+use Rattle.store_cmd.specs.declared.Refusal.{Refusal}
+use Rattle.store_cmd.specs.declared.Refusal.TheVariants as refusals
+use Rattle.store_shared.specs.Shared.{IsRefusal}
+use Rattle.worker_pool.specs.declared.task.Task.{Task}
+
+-- the program of a number that is there, as its instructions
+abbrev pub code_of : List Accepted → ℕ → List Insn
+code_of programs id = option_map_or (λ (p : Accepted). p.code) (slice_get programs id) []
+
+-- what a task asks: a run of the program of its number
+abbrev pub run_of : {A : Type 0} → List Accepted → Task A → Command A
+run_of programs task = commands.Run task.key (code_of programs task.prog.0) task.arg task.blank task.now
+
+-- the program of the task is there
+abbrev pub IsKnown : {A : Type 0} → List Accepted → Task A → Type 0
+IsKnown programs task = task.prog.0 < length programs
+
+abbrev pub AreKnown : {A : Type 0} → List Accepted → List (Task A) → Type 0
+AreKnown {A} programs tasks = All (λ (task : Task A). IsKnown programs task) tasks
+
+-- the first task whose program is not there
+pub record IsFirstUnknown {A : Type 0} (programs : List Accepted) (tasks : List (Task A)) (at : ℕ) : Type 0 where
+  pub task : Task A
+  pub here : slice_get tasks at ≡ Some task
+  pub unknown : length programs ≤ task.prog.0
+  pub known : AreKnown programs (take at tasks)
+
+-- Why a task is refused: as a session's call for it is, or for want of memory before that is made.
+abbrev pub IsTaskRefusal : {A : Type 0} → PageSize → Command A → Refusal → Type 0
+IsTaskRefusal size command refusal = IsRefusal size command refusal ⊎ (refusal ≡ refusals.NoMemory)

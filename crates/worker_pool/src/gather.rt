@@ -1,0 +1,110 @@
+//! The calls and the replies of workers.
+ghost use Rattle.std.specs.Prelude.{◌≡◌, ◌<◌, ◌+◌, ◌≤◌, ◌++◌, [], ℕ, map, IsTrue, IfOk, length, slice_index_or, vec_len, vec_capacity};
+ghost use Rattle.std.specs.Vec.Iter.{into_iter_items};
+ghost use Rattle.store_shared.specs.Shared.{calls_left};
+ghost use Rattle.worker_pool.specs.Shares.{share_of, IsFirstIn, IsLowerOf};
+
+use crate::crew::Worker;
+use crate::task::Task;
+use std::alloc::{AllocError, Allocator};
+use std::vec::IntoIter;
+use store_cmd::{Refusal, Reply};
+use store_shared::{Calls, Gate};
+
+/// The lists for what workers leave. Their memory is taken before anything is run.
+#[derive(Drop)]
+pub(crate) struct Room<A: Allocator> {
+    /// The replies of all tasks.
+    pub(crate) replies: Vec<Reply<A>, A>,
+    /// The replies of each worker.
+    pub(crate) lists: Vec<IntoIter<Reply<A>, A>, A>,
+    /// The calls of each worker.
+    pub(crate) calls: Vec<Calls<A>, A>,
+}
+
+impl<A: Allocator + Copy> Room<A> {
+    /// Room for so many tasks and workers.
+    pub(crate) fn new(alloc: A, tasks: usize, workers: usize) -> Result<Self, AllocError>
+        ensures replies { IfOk result (λ room. (room.replies.items ≡ []) × (tasks ≤ vec_capacity room.replies) × (vec_len room.replies ≡ 0)) }
+        ensures lists { IfOk result (λ room. (room.lists.items ≡ []) × (workers ≤ vec_capacity room.lists)) }
+        ensures calls { IfOk result (λ room. (room.calls.items ≡ []) × (workers ≤ vec_capacity room.calls)) }
+    {
+        Ok(Room {
+            replies: Vec::with_capacity(alloc, tasks)?,
+            lists: Vec::with_capacity(alloc, workers)?,
+            calls: Vec::with_capacity(alloc, workers)?,
+        })
+    }
+}
+
+/// The first task that a worker was refused, with why.
+pub(crate) fn first_refused<A: Allocator, G: Gate>(
+    crew: &[Worker<'_, A, G>],
+) -> Option<(usize, Refusal)>
+    ensures { IsFirstIn (map (λ x. x.refused) crew.now) result }
+{
+    let mut first = None;
+    for worker in crew {
+        first = lower(first, worker.refused);
+    }
+    first
+}
+
+// The one of the lower place, or the one that is there.
+fn lower(one: Option<(usize, Refusal)>, other: Option<(usize, Refusal)>) -> Option<(usize, Refusal)>
+    ensures { IsLowerOf one other result }
+{
+    let Some(first) = one else {
+        return other;
+    };
+    let Some(second) = other else {
+        return one;
+    };
+    if second.0 < first.0 {
+        return other;
+    }
+    one
+}
+
+/// Ends the sessions of workers, and leaves their calls and replies.
+pub(crate) fn dismiss<A: Allocator + Copy, G: Gate>(
+    crew: Vec<Worker<'_, A, G>, A>,
+    lists: &mut Vec<IntoIter<Reply<A>, A>, A>,
+    calls: &mut Vec<Calls<A>, A>,
+)
+    requires lists { (lists.old.items ≡ []) × (length crew.items ≤ vec_capacity lists.old) }
+    requires calls { (calls.old.items ≡ []) × (length crew.items ≤ vec_capacity calls.old) }
+    ensures lists { map (λ list. into_iter_items list) lists.new.items ≡ map (λ x. x.replies.items) crew.entry.items }
+    ensures calls { calls.new.items ≡ map (λ x. calls_left x.session) crew.entry.items }
+{
+    for worker in crew {
+        let Worker {
+            session,
+            replies,
+            ..
+        } = worker;
+        lists.push_reserved(replies.into_iter());
+        calls.push_reserved(session.into_calls());
+    }
+}
+
+/// Takes replies from the lists of all workers in turn, which gives them in the order of the tasks.
+pub(crate) fn gather<A: Allocator>(
+    tasks: &[Task<A>],
+    lists: &mut [IntoIter<Reply<A>, A>],
+    replies: &mut Vec<Reply<A>, A>,
+)
+    requires some { 0 < length lists.old }
+    requires shares { (w : ℕ) (d : _) → w < length lists.old → length (into_iter_items (slice_index_or lists.old w d)) ≡ length (share_of (length lists.old) w tasks.now) }
+    requires room { (replies.old.items ≡ []) × (length tasks.now ≤ vec_capacity replies.old) × (vec_len replies.old ≡ 0) }
+    ensures all { length replies.new.items ≡ length tasks.now }
+    ensures shares { (w : ℕ) (d : _) → w < length lists.old → share_of (length lists.old) w replies.new.items ≡ into_iter_items (slice_index_or lists.old w d) }
+{
+    let workers = lists.len();
+    for at in 0..tasks.len() {
+        let Some(reply) = lists[at % workers].next() else {
+            unreachable!()
+        };
+        replies.push_reserved(reply);
+    }
+}

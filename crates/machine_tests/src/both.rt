@@ -32,7 +32,7 @@ impl Tally {
 }
 
 /// Whether both machines answer the same of a run, and leave the same record.
-fn is_alike(
+pub fn is_alike(
     alloc: Global,
     program: &Verified,
     env: &Env,

@@ -1,6 +1,7 @@
 //! Answers to the lines of standard input.
 
 use crate::both::{Tally, count_changed, count_runs};
+use crate::changes::changes_text;
 use crate::lines::{ARGUMENT_LIMIT, RECORD_LIMIT, Run, read_run};
 use bpf_helpers::Env;
 use bpf_insn::Code;
@@ -75,10 +76,18 @@ fn show_run(alloc: Global, run: Run) -> Result<String, AllocError> {
     }
 }
 
+const UNREAD: &str = "a line that cannot be read";
+
 /// The answer to a line.
 pub fn show_line(alloc: Global, line: &str) -> Result<String, AllocError> {
+    if let Some(text) = line.strip_prefix("changes ") {
+        return match changes_text(alloc, text) {
+            Some(said) => Ok(said),
+            None => String::from_str(alloc, UNREAD),
+        };
+    }
     match read_run(alloc, line) {
         Some(run) => show_run(alloc, run),
-        None => String::from_str(alloc, "a line that cannot be read"),
+        None => String::from_str(alloc, UNREAD),
     }
 }

@@ -12,12 +12,14 @@
 //! | `again READ WRITE` | the number of pairs after the script of the line before, and its answers, or the fault: as many bytes are read and written at a time as told |
 //! | `reader FAULT COUNT`, `writer FAULT COUNT` | the same where the stream fails once, with so many bytes left or written, and how much of the answers is written |
 //! | `lines COUNT` | the same of so many empty lines |
+//! | `heaps COUNT` | of that script whether it is refused in each heap up to one of more bytes than that, and then answered as with ample memory |
 //! | `# TEXT` | the line itself |
 //!
 //! In texts `\n`, `\r` and `\t` stand for a line feed, a carriage return and a tab. A script runs on an empty database. The answers
 //! under `cases` are those of an independent model of the store.
 #![tactic(auto)]
 
+mod heaps;
 mod scripts;
 mod streams;
 mod words;

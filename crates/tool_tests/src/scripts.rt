@@ -1,12 +1,14 @@
 //! Scripts, and what they answer.
 
+use crate::heaps::heaps_text;
 use crate::streams::{EmptyLines, Given, Taken, run};
 use crate::words::unescaped;
 use dbm_script::ScriptFault;
 use std::alloc::Global;
 use std::io::ErrorKind;
 
-fn giving(text: &[u8], step: usize) -> Given<'_> {
+/// Gives a text, so many bytes a call.
+pub fn giving(text: &[u8], step: usize) -> Given<'_> {
     Given {
         text,
         step,
@@ -75,8 +77,8 @@ fn reader_line(global: Global, script: &[u8], rest: &str) -> Option<String> {
     ended(global, came, writer.text.as_slice())
 }
 
-// What a script answers where nothing fails.
-fn answers(global: Global, script: &[u8]) -> Vec<u8> {
+/// What a script answers where nothing fails.
+pub fn answers(global: Global, script: &[u8]) -> Vec<u8> {
     let mut writer = Taken::new(global, 4096, None);
     let _came = run(global, &mut giving(script, 4096), &mut writer);
     writer.text
@@ -115,6 +117,7 @@ pub fn script_line(global: Global, script: &mut String, word: &str, rest: &str) 
         "reader" => reader_line(global, script.as_bytes(), rest),
         "writer" => writer_line(global, script.as_bytes(), rest),
         "lines" => empty_lines(global, rest),
+        "heaps" => heaps_text(global, script.as_bytes(), rest),
         _ => None,
     }
 }

@@ -3,7 +3,7 @@
 use dbm_script::{ScriptFault, run_script};
 use sdbm_addr::{KeyBytes, PageSize};
 use sdbm_files::Image;
-use std::alloc::Global;
+use std::alloc::{Allocator, Global};
 use std::io;
 use std::io::{ErrorKind, Read, Write};
 
@@ -86,13 +86,13 @@ impl Write for Taken {
 }
 
 /// Runs a script on an empty database, and gives the number of pairs after it.
-pub fn run<R: Read>(
-    global: Global,
+pub fn run<A: Allocator + Copy, R: Read>(
+    alloc: A,
     reader: &mut R,
     writer: &mut Taken,
 ) -> Result<usize, ScriptFault> {
-    let image = Image::empty(global, KeyBytes::Signed, PageSize::Small);
-    match run_script(global, reader, writer, image) {
+    let image = Image::empty(alloc, KeyBytes::Signed, PageSize::Small);
+    match run_script(alloc, reader, writer, image) {
         Ok(after) => Ok(after.count()),
         Err(fault) => Err(fault),
     }

@@ -1,0 +1,46 @@
+//! Scripts in heaps of each size.
+
+use crate::scripts::{answers, giving};
+use crate::streams::{Taken, run};
+use dbm_script::ScriptFault;
+use linked_list_allocator::LocalHeap;
+use std::alloc::Global;
+
+// Whether a script comes to its end in a heap of so many bytes, or nothing where it has other answers than told, where one that is
+// refused has another fault or wrote something, and where something stays in the heap.
+fn is_answered(global: Global, size: usize, script: &[u8], told: &[u8]) -> Option<bool> {
+    let heap = LocalHeap::new(global, size).ok()?;
+    let mut writer = Taken::new(global, 4096, None);
+    let came = run(&heap, &mut giving(script, 4096), &mut writer);
+    let said = writer.text.as_slice();
+    if heap.used() != 0 {
+        return None;
+    }
+    match came {
+        Ok(_) if said == told => Some(true),
+        Err(ScriptFault::NoMemory) if said.is_empty() => Some(false),
+        _ => None,
+    }
+}
+
+// The bytes of the first heap of 128, 144 and so on in which a script is answered.
+fn least_heap(global: Global, script: &[u8]) -> Option<usize> {
+    let told = answers(global, script);
+    for blocks in 8..4000 {
+        if is_answered(global, 16 * blocks, script, told.as_slice())? {
+            return Some(16 * blocks);
+        }
+    }
+    None
+}
+
+/// Whether a script is refused in each smaller heap, with nothing written, and answered in one of more bytes than told.
+pub fn heaps_text(global: Global, script: &[u8], count: &str) -> Option<String> {
+    let count = count.parse::<usize>().ok()?;
+    let text = if least_heap(global, script)? > count {
+        "refused in each heap up to a larger one"
+    } else {
+        "answered in a heap of so many bytes"
+    };
+    String::from_str(global, text).ok()
+}

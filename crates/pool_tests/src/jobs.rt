@@ -53,8 +53,8 @@ pub fn registry(alloc: Global, image: &[u8]) -> Option<Registry<Global>> {
     Some(registry)
 }
 
-/// A store over a database without pairs.
-pub fn open(alloc: Global) -> Option<Store<Global, NoGate>> {
+/// A store over a database without pairs, whose trail may have so many entries.
+pub fn open(alloc: Global, limit: usize) -> Option<Store<Global, NoGate>> {
     let image = Image::empty(alloc, KeyBytes::Signed, PageSize::Small);
-    Store::open(alloc, image, 100, NoGate).ok()
+    Store::open(alloc, image, limit, NoGate).ok()
 }

@@ -26,7 +26,7 @@ fn time_of(entry: &Entry<Global>) -> Option<u64> {
 fn seven_by_three(rt: HostRuntime) -> Result<(), Fail> {
     let alloc = rt.alloc();
     let programs = registry(alloc, &CLOCK).ok_or("a registry")?;
-    let store = open(alloc).ok_or("a store")?;
+    let store = open(alloc, 100).ok_or("a store")?;
     let tasks = told(alloc)?;
     let Ok(answers) = run_jobs(&rt, alloc, &store, &programs, tasks.as_slice(), 3) else {
         return Err("a fault".into());

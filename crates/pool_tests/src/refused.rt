@@ -13,7 +13,7 @@ fn closes<R: Threads + Wait + Sync>(rt: &R, alloc: Global, tasks: &[Task<Global>
     let Some(programs) = registry(alloc, &COUNTER) else {
         return true;
     };
-    let Some(store) = open(alloc) else {
+    let Some(store) = open(alloc, 100) else {
         return true;
     };
     let calls = match run_jobs(rt, alloc, &store, &programs, tasks, 2) {

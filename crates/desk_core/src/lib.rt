@@ -382,10 +382,10 @@ impl<A: Allocator + Copy> Desk<A> {
         }
     }
 
-    /// The same, where who asked wants the command back, to keep it without a copy.
+    /// Commits as `finish` does, and gives the command back beside the reply, so that whoever asked can keep it without a copy.
     ///
     /// # Errors
-    /// Those of `finish`.
+    /// Those of `finish`, with the same left as it was.
     pub fn settle(&mut self, done: Done<A>) -> Result<Settled<A>, (FinishFault, Done<A>)>
         ensures ok { IfOk result (λ settled. Finishes self.old done settled.reply self.new) }
         ensures command { IfOk result (λ settled. settled.command ≡ done.asked.command) }

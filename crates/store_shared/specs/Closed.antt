@@ -83,7 +83,7 @@ IsCloseFault s made opened handed (Missing n) = AreOwn made handed × IsFirstMis
 IsCloseFault s made opened handed (Torn n) = AreOwn made handed × (Covers s.entries handed × IsFirstTorn s.entries handed n)
 IsCloseFault s made opened handed Opening = AreOwn made handed × (Covers s.entries handed × (All (Agrees s.entries) handed × ¬ (IsStartedSo s opened)))
 
--- the same of what stands under the lock of a store, which no contract can name
+-- The same of some desk and some number of sessions. That they are those under the lock of a store no contract can name.
 abbrev pub IsRefusedClose : {A : Type 0} → Opened → List (CallsState A) → CloseFault → Type 0
 IsRefusedClose {A} opened handed fault = (s : DeskState A) × ((made : ℕ) × IsCloseFault s made opened handed fault)
 

@@ -163,6 +163,7 @@ impl<A: Allocator + Copy, G: Gate> Store<A, G> {
         core.sessions = number + 1;
         Ok(Session::new(self, self.alloc, self.size, number))
     }
+
     /// Takes the database and the trail out, where the calls that are handed in are those that the trail has. Every session is gone
     /// by then, since each of them borrows the store. It takes no memory, and time in the entries times the sessions.
     ///

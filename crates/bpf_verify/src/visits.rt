@@ -18,7 +18,7 @@ use crate::state::State;
 use crate::structure::structure;
 use crate::table::States;
 use crate::verified::Verified;
-use bpf_insn::{Code, Insn};
+use bpf_insn::{Code, Insn, encode};
 use std::alloc::{AllocError, Allocator};
 
 /// What fits the old state, where there was one, or the new one.
@@ -128,8 +128,11 @@ pub fn verify<A: Allocator + Copy>(
         Ok(states) => states,
         Err(fault) => return Err((fault, code)),
     };
-    match flatten(alloc, &code, &states) {
-        Ok(flats) => Ok(Verified::new(code, states, flats)),
+    let Ok(flats) = flatten(alloc, &code, &states) else {
+        return Err((VerifyFault::NoMemory, code));
+    };
+    match encode(alloc, &code) {
+        Ok(image) => Ok(Verified::new(code, states, flats, image)),
         Err(AllocError) => Err((VerifyFault::NoMemory, code)),
     }
 }

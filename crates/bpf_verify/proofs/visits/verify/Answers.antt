@@ -5,8 +5,8 @@ use Rattle.bpf_verify.proofs.visits.verify.Goals as goal
 pub returns-in-Err-clause-structure : goal.returns-in-Err-clause-structure
 returns-in-Err-clause-structure g c = λ fault is. only_misbuilt c.args.code c.in-Err.fault fault c.in-Err.ensures.err is
 
-pub returns-in-Ok-flatten-clause-safe : goal.returns-in-Ok-flatten-clause-safe
-returns-in-Ok-flatten-clause-safe g c = rw c.new.ensures.code (safe c.args.code c.in-Ok.states c.in-Ok.ensures.verified)
+pub returns-in-Ok-encode-clause-safe : goal.returns-in-Ok-encode-clause-safe
+returns-in-Ok-encode-clause-safe g c = rw c.new.ensures.code (safe c.args.code c.in-Ok.states c.in-Ok.ensures.verified)
 
-pub returns-in-Ok-flatten-clause-structure : goal.returns-in-Ok-flatten-clause-structure
-returns-in-Ok-flatten-clause-structure g c = λ fault is. built_not c.args.code fault c.in_default.ensures.ok is
+pub returns-in-Ok-encode-clause-structure : goal.returns-in-Ok-encode-clause-structure
+returns-in-Ok-encode-clause-structure g c = λ fault is. built_not c.args.code fault c.in_default.ensures.ok is

@@ -53,11 +53,6 @@ none_of : (o : Option (ℕ × Refusal)) → IsNoLater None o → o ≡ None
 none_of None h = refl
 none_of (Some r) h = absurd h
 
--- whoever was refused no earlier task stopped no earlier
-stopped_later : (end : ℕ) (r : ℕ × Refusal) (o : Option (ℕ × Refusal)) → r.0 < end → IsNoLater (Some r) o → r.0 ≤ stop_of end o
-stopped_later end r None within h = omega arith
-stopped_later end r (Some s) within h = h
-
 module _ {A W : Type 0} (session : W → SessionState A) (replies : W → List (Reply A)) (refused : W → Option (ℕ × Refusal)) (programs : List Accepted) (tasks : List (Task A)) (k : ℕ) where
   -- what a worker of a crew has done
   abbrev pub Worked : ℕ → W → Type 0
@@ -95,7 +90,6 @@ module _ {A W : Type 0} (session : W → SessionState A) (replies : W → List (
       let x = m.source in
       let did = some_at (Worked first.here.0) (slice_get crew first.here.0) x m.here (worked first.here.0) in
       let at : IsRefusedAt (session x).size programs tasks k first.here.0 r.0 r.1 = some_at (λ s. IsRefusedAt (session x).size programs tasks k first.here.0 s.0 s.1) (refused x) r m.value did.refusal in
-      let within : r.0 < length tasks = slice_get_within tasks r.0 at.task at.here in
       record {
         task = at.task;
         here = at.here;
@@ -110,12 +104,13 @@ module _ {A W : Type 0} (session : W → SessionState A) (replies : W → List (
         others = λ w its here.
             let n = mapped left_by crew w its (ap (λ cs. slice_get cs w) (sym left) ∙ here) in
             let does = some_at (Worked w) (slice_get crew w) n.source n.here (worked w) in
-            let come : HasCome programs tasks k w r.0 (left_by n.source) = record {
-              stop = stop_of (length tasks) (refused n.source);
-              later = stopped_later (length tasks) r (refused n.source) within (no_later crew (Some r) w n.source first n.here);
+            let come : HasCome size programs tasks k w (r.0, r.1) (left_by n.source) = record {
+              refused = refused n.source;
+              later = no_later crew (Some r) w n.source first n.here;
               done = does.done;
+              why = subst (λ s. IfSome (refused n.source) (λ o. IsRefusedAt s programs tasks k w o.0 o.1)) (sized w n.source n.here) does.refusal;
             } in
-            subst (λ c. HasCome programs tasks k w r.0 c) n.value come;
+            subst (λ c. HasCome size programs tasks k w (r.0, r.1) c) n.value come;
       }
 
 -- each worker's session is of the size of all before

@@ -1,5 +1,5 @@
 -- What comes of tasks: all are done, or why they are not.
-use Rattle.std.specs.Prelude.{◌≡◌, ◌<◌, ◌≤◌, ◌%◌, ℕ, List, [], length, Some}
+use Rattle.std.specs.Prelude.{◌≡◌, ◌<◌, ◌%◌, ℕ, List, [], length, Option, Some, IfSome}
 use Rattle.std.specs.List.{All, slice_get}
 use Rattle.sdbm_addr.specs.declared.PageSize.{PageSize}
 use Rattle.bpf_verify.specs.Verified.{Accepted}
@@ -10,7 +10,7 @@ use Rattle.worker_pool.specs.declared.task.Task.{Task}
 use Rattle.worker_pool.specs.declared.task.PoolFault.{PoolFault}
 use Rattle.worker_pool.specs.declared.task.PoolFault.TheVariants.{NoWorkers, NoProgram, NoSession, NoThread, Refused, NoMemory}
 use Rattle.worker_pool.specs.Tasks.{run_of, AreKnown, IsFirstUnknown, IsTaskRefusal}
-use Rattle.worker_pool.specs.Shares.{share_of, replies_of, HasDone}
+use Rattle.worker_pool.specs.Shares.{share_of, replies_of, HasDone, IsRefusedAt, IsNoLater, stop_of}
 
 -- there are workers, and the programs of all tasks
 pub record MayBegin {A : Type 0} (programs : List Accepted) (tasks : List (Task A)) (workers : ℕ) : Type 0 where
@@ -29,20 +29,23 @@ pub record AreDone {A : Type 0} (programs : List Accepted) (tasks : List (Task A
   pub all_workers : length calls ≡ workers
   pub shares : (worker : ℕ) (its : CallsState A) → slice_get calls worker ≡ Some its → IsShareDone programs tasks workers worker replies its
 
--- A worker's calls are the runs of its share of the tasks below a place that is no lower than this one.
-pub record HasCome {A : Type 0} (programs : List Accepted) (tasks : List (Task A)) (workers worker at : ℕ) (calls : CallsState A) : Type 0 where
-  pub stop : ℕ
-  pub later : at ≤ stop
-  pub done : HasDone programs tasks workers worker stop calls.number calls.calls
+-- How far a worker came, where the first task that was refused is this one: its calls are the runs of its whole share, or of what came
+-- before a task of its own that was refused too, and no earlier.
+pub record HasCome {A : Type 0} (size : PageSize) (programs : List Accepted) (tasks : List (Task A)) (workers worker : ℕ) (first : ℕ × Refusal) (calls : CallsState A) : Type 0 where
+  pub refused : Option (ℕ × Refusal)
+  pub later : IsNoLater (Some first) refused
+  pub done : HasDone programs tasks workers worker (stop_of (length tasks) refused) calls.number calls.calls
+  pub why : IfSome refused (λ r. IsRefusedAt size programs tasks workers worker r.0 r.1)
 
--- This task is the first that was refused: its worker did its share of those before, and each other did as much, or more.
+-- This task is the first that was refused: its worker did its share of those before, and each other all of its own, or what came before
+-- one that it was refused.
 pub record AreRefused {A : Type 0} (size : PageSize) (programs : List Accepted) (tasks : List (Task A)) (workers at : ℕ) (refusal : Refusal) (calls : List (CallsState A)) : Type 0 where
   pub task : Task A
   pub here : slice_get tasks at ≡ Some task
   pub why : IsTaskRefusal size (run_of programs task) refusal
   pub all_workers : length calls ≡ workers
   pub its_worker : (its : CallsState A) → slice_get calls (at % workers) ≡ Some its → HasDone programs tasks workers (at % workers) at its.number its.calls
-  pub others : (worker : ℕ) (its : CallsState A) → slice_get calls worker ≡ Some its → HasCome programs tasks workers worker at its
+  pub others : (worker : ℕ) (its : CallsState A) → slice_get calls worker ≡ Some its → HasCome size programs tasks workers worker (at, refusal) its
 
 -- sessions that made no calls
 abbrev pub AreIdle : {A : Type 0} → List (CallsState A) → Type 0

@@ -1,0 +1,94 @@
+//! A gate at which two sessions meet.
+ghost use Rattle.std.specs.Prelude.{◌≡◌, IfOk, IfErr};
+
+use desk_core::{Done, Job};
+use std::alloc::{AllocError, Allocator};
+use std::sync::atomic::{AtomicU64, Ordering};
+use store_shared::Gate;
+
+// How often a thread looks before it gives up.
+const TURNS: u64 = 1_000_000_000;
+
+/// Where two sessions meet at work: whether they have to, how many jobs came, how often session 1 was done, and who waited in vain.
+#[derive(Drop)]
+pub struct Meeting {
+    wanted: AtomicU64,
+    came: AtomicU64,
+    done: AtomicU64,
+    vain: AtomicU64,
+}
+
+impl Meeting {
+    pub fn new() -> Self {
+        Meeting {
+            wanted: AtomicU64::new(0),
+            came: AtomicU64::new(0),
+            done: AtomicU64::new(0),
+            vain: AtomicU64::new(0),
+        }
+    }
+
+    /// From now on sessions have to meet, or they do no longer. Nobody came so far.
+    pub fn want(&self, is_wanted: bool) {
+        for count in [&self.came, &self.done, &self.vain] {
+            count.store(0, Ordering::SeqCst);
+        }
+        self.wanted.store(u64::from(is_wanted), Ordering::SeqCst);
+    }
+
+    /// How many jobs came, and how many sessions waited in vain.
+    pub fn counts(&self) -> (u64, u64) {
+        (
+            self.came.load(Ordering::SeqCst),
+            self.vain.load(Ordering::SeqCst),
+        )
+    }
+
+    // Waits until a count is reached, and notes where it never is.
+    fn wait_for(&self, count: &AtomicU64, wanted: u64) {
+        for _ in 0..TURNS {
+            if count.load(Ordering::SeqCst) >= wanted {
+                return;
+            }
+        }
+        self.vain.fetch_add(1, Ordering::SeqCst);
+    }
+
+    // A session is at work.
+    fn come(&self, session: u64) {
+        self.came.fetch_add(1, Ordering::SeqCst);
+        if self.wanted.load(Ordering::SeqCst) == 0 {
+            return;
+        }
+        self.wait_for(&self.came, 2);
+        if session == 0 {
+            self.wait_for(&self.done, 1);
+        }
+    }
+}
+
+/// A gate that keeps sessions at work until they have met, where they have to.
+#[derive(Clone, Copy)]
+pub struct MeetingGate<'a> {
+    pub meeting: &'a Meeting,
+}
+
+impl<'a> Gate for MeetingGate<'a> {
+    fn work<A: Allocator + Copy>(
+        &self,
+        session: u64,
+        job: Job<A>,
+    ) -> Result<Done<A>, (AllocError, Job<A>)>
+        ensures ok { IfOk result (λ done. done ≡ job) }
+        ensures returned { IfErr result (λ refused. refused.1 ≡ job) }
+    {
+        self.meeting.come(session);
+        job.work()
+    }
+
+    fn after(&self, session: u64) {
+        if session == 1 {
+            self.meeting.done.fetch_add(1, Ordering::SeqCst);
+        }
+    }
+}

@@ -1,0 +1,35 @@
+//! The database's two files.
+
+use sdbm_addr::{KeyBytes, PageSize};
+use sdbm_files::{Image, MemSink};
+use std::alloc::Global;
+use std::fs;
+use std::rt::Files;
+
+const DIR: &str = "visits.dir";
+
+const PAG: &str = "visits.pag";
+
+/// The database that both files spell.
+pub fn read_image<R: Files + AllocGlobal>(rt: &R) -> Result<Image<Global>, &'static str> {
+    let dir = fs::read(rt, DIR).map_err(|_| "visits.dir cannot be read")?;
+    let pag = fs::read(rt, PAG).map_err(|_| "visits.pag cannot be read")?;
+    let (dir, pag) = (dir.as_slice(), pag.as_slice());
+    match Image::open(rt.alloc(), dir, pag, KeyBytes::Signed, PageSize::Small) {
+        Ok(image) => Ok(image),
+        Err(_) => Err("the files are no database"),
+    }
+}
+
+/// Writes both files. Whoever must not lose the old ones at a fault writes beside them and renames, as `dbm` does.
+pub fn write_image<R: Files + AllocGlobal>(
+    rt: &R,
+    image: &Image<Global>,
+) -> Result<(), &'static str> {
+    let (mut dir, mut pag) = (MemSink::new(rt.alloc()), MemSink::new(rt.alloc()));
+    if image.write(&mut dir, &mut pag).is_err() {
+        return Err("no memory for the files");
+    }
+    fs::write(rt, PAG, pag.bytes()).map_err(|_| "visits.pag cannot be written")?;
+    fs::write(rt, DIR, dir.bytes()).map_err(|_| "visits.dir cannot be written")
+}

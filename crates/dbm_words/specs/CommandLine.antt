@@ -37,6 +37,9 @@ delete = subcommand (codes "delete") (required_word (codes "BASE") ∷ required_
 abbrev pub run : Shape
 run = subcommand (codes "run") (required_word (codes "BASE") ∷ required_word (codes "KEY") ∷ required_word (codes "FILE") ∷ required_word (codes "ARG") ∷ required_word (codes "BLANK") ∷ required_word (codes "NOW") ∷ flag (codes "image") ∷ form_options)
 
+abbrev pub batch : Shape
+batch = subcommand (codes "batch") (required_word (codes "BASE") ∷ required_word (codes "FILE") ∷ required_word (codes "WORKERS") ∷ flag (codes "image") ∷ form_options)
+
 abbrev pub list : Shape
 list = subcommand (codes "list") (required_word (codes "BASE") ∷ form_options)
 
@@ -74,7 +77,7 @@ bare = record titled {
 abbrev pub tool : App
 tool = record {
   top = record bare { is_leaf = false };
-  subs = fetch ∷ store ∷ delete ∷ list ∷ check ∷ script ∷ widen ∷ asm ∷ disasm ∷ verify ∷ run ∷ [];
+  subs = fetch ∷ store ∷ delete ∷ list ∷ check ∷ script ∷ widen ∷ asm ∷ disasm ∷ verify ∷ run ∷ batch ∷ [];
 }
 
 -- a command with these rules, none of whose arguments holds for its subcommands too

@@ -33,6 +33,7 @@ base_of (wish.Fetch base form key) = Some base.now
 base_of (wish.Store base form key value insert) = Some base.now
 base_of (wish.Delete base form key) = Some base.now
 base_of (wish.Run base form key file arg blank now image) = Some base.now
+base_of (wish.Batch base form file workers image) = Some base.now
 base_of (wish.List base form) = Some base.now
 base_of (wish.Check base form) = Some base.now
 base_of (wish.Script base form) = option_map (λ text. text.now) base
@@ -44,6 +45,7 @@ base_of (wish.Verify file image) = None
 -- the program's file that a wish is about
 abbrev pub file_of : Wish → Option Text
 file_of (wish.Run base form key file arg blank now image) = Some file.now
+file_of (wish.Batch base form file workers image) = Some file.now
 file_of (wish.Asm file) = Some file.now
 file_of (wish.Disasm file) = Some file.now
 file_of (wish.Verify file image) = Some file.now
@@ -55,6 +57,7 @@ writes_files (wish.Fetch base form key) = false
 writes_files (wish.Store base form key value insert) = true
 writes_files (wish.Delete base form key) = true
 writes_files (wish.Run base form key file arg blank now image) = true
+writes_files (wish.Batch base form file workers image) = true
 writes_files (wish.List base form) = false
 writes_files (wish.Check base form) = false
 writes_files (wish.Script base form) = is_some base
@@ -73,6 +76,8 @@ SubcommandAsks name rows (wish.Delete base form key) =
     (name ≡ codes "delete") × (IsWord (codes "BASE") rows base × (IsForm rows form × IsWord (codes "KEY") rows key))
 SubcommandAsks name rows (wish.Run base form key file arg blank now image) =
     (name ≡ codes "run") × (IsWord (codes "BASE") rows base × (IsForm rows form × (IsWord (codes "KEY") rows key × (IsWord (codes "FILE") rows file × (IsWord (codes "ARG") rows arg × (IsWord (codes "BLANK") rows blank × (IsWord (codes "NOW") rows now × (image ≡ is_given (codes "image") rows))))))))
+SubcommandAsks name rows (wish.Batch base form file workers image) =
+    (name ≡ codes "batch") × (IsWord (codes "BASE") rows base × (IsForm rows form × (IsWord (codes "FILE") rows file × (IsWord (codes "WORKERS") rows workers × (image ≡ is_given (codes "image") rows)))))
 SubcommandAsks name rows (wish.List base form) =
     (name ≡ codes "list") × (IsWord (codes "BASE") rows base × IsForm rows form)
 SubcommandAsks name rows (wish.Check base form) =

@@ -25,6 +25,7 @@ pub fn asked<'a>(name: &str, matches: &ArgMatches<'a>) -> Option<Wish<'a>>
         "disasm" => disasm(matches),
         "verify" => verify(matches),
         "run" => run(matches),
+        "batch" => batch(matches),
         _ => None,
     }
 }
@@ -170,6 +171,19 @@ fn run<'a>(matches: &ArgMatches<'a>) -> Option<Wish<'a>>
         arg: word(matches, "ARG")?,
         blank: word(matches, "BLANK")?,
         now: word(matches, "NOW")?,
+        image: has_flag(matches, "image"),
+    })
+}
+
+fn batch<'a>(matches: &ArgMatches<'a>) -> Option<Wish<'a>>
+    ensures some { IfSome result (SubcommandAsks (codes "batch") (rows_of (found_of matches.now))) }
+    ensures none { IsNone result → has_words spec.batch.rules (rows_of (found_of matches.now)) ≡ false }
+{
+    Some(Wish::Batch {
+        base: word(matches, "BASE")?,
+        form: form(matches),
+        file: word(matches, "FILE")?,
+        workers: word(matches, "WORKERS")?,
         image: has_flag(matches, "image"),
     })
 }

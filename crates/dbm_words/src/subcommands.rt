@@ -26,7 +26,8 @@ pub fn tool_command<'a>(alloc: Global) -> Result<Command<'a>, AllocError>
         .subcommand(asm_command(alloc)?)?
         .subcommand(disasm_command(alloc)?)?
         .subcommand(verify_command(alloc)?)?
-        .subcommand(run_command(alloc)?)
+        .subcommand(run_command(alloc)?)?
+        .subcommand(batch_command(alloc)?)
 }
 
 // The program's name, version and help.
@@ -229,4 +230,29 @@ fn run_command<'a>(alloc: Global) -> Result<Command<'a>, AllocError>
          refused FAULT (the program is not accepted, or KEY and BLANK or ARG are too long).\n\n\
          Example: dbm run users 6162 counter.s . 8 0";
     subcommand(alloc, "run", about, notes, args)
+}
+
+fn batch_command<'a>(alloc: Global) -> Result<Command<'a>, AllocError>
+    ensures { IfOk result (IsSubcommand spec.batch) }
+{
+    let args = vec![in alloc;
+        base(alloc),
+        file(alloc, "The program as text, one instruction a line"),
+        required_word(
+            alloc,
+            "WORKERS",
+            "How many workers share the tasks, each in a thread of its own where one can be made"
+        ),
+        image(alloc),
+        unsigned(alloc),
+        wide(alloc),
+    ]?;
+    let about = "Run a program on the records of many keys, by workers side by side";
+    let notes =
+        "Standard input has a task in each line: KEY ARG BLANK NOW, as the words of run. An empty line is skipped.\n\
+         Prints for each task, in their order, ran CODE WORD, missing, or crowded (there is no room for a new\n\
+         record). Nothing is printed or written where a line is no task, the program is not accepted, or a task\n\
+         is refused; the fault is then bad line N, or Refused(N, FAULT) with the number of the task from 0 on.\n\n\
+         Example: printf '6162 . 8 0\\n6364 . 8 0\\n' | dbm batch users counter.s 2";
+    subcommand(alloc, "batch", about, notes, args)
 }

@@ -46,6 +46,15 @@ pub enum Wish<'a> {
         now: &'a str,
         image: bool,
     },
+    /// A program is to be run on the records of many keys by so many workers, each run as a line on standard input says: the program
+    /// of a text, or with `image` that of an image.
+    Batch {
+        base: &'a str,
+        form: Form,
+        file: &'a str,
+        workers: &'a str,
+        image: bool,
+    },
     /// All pairs.
     List {
         base: &'a str,
@@ -91,6 +100,7 @@ impl<'a> Wish<'a> {
             | Wish::Store { base, .. }
             | Wish::Delete { base, .. }
             | Wish::Run { base, .. }
+            | Wish::Batch { base, .. }
             | Wish::List { base, .. }
             | Wish::Check { base, .. }
             | Wish::Widen { base, .. } => Some(base),
@@ -105,6 +115,7 @@ impl<'a> Wish<'a> {
     {
         match *self {
             Wish::Run { file, .. }
+            | Wish::Batch { file, .. }
             | Wish::Asm { file }
             | Wish::Disasm { file }
             | Wish::Verify { file, .. } => Some(file),
@@ -112,14 +123,17 @@ impl<'a> Wish<'a> {
         }
     }
 
-    /// Whether the files of its database are written once it was served: by `store`, `delete`, `run`, `widen`, and `script` with a
-    /// base. A `store`, `delete` or `run` that changed nothing writes them too.
+    /// Whether the files of its database are written once it was served: by `store`, `delete`, `run`, `batch`, `widen`, and `script`
+    /// with a base. A `store`, `delete` or `run` that changed nothing writes them too.
     pub fn writes(&self) -> bool
         ensures { result ≡ writes_files self.now }
     {
         match *self {
-            Wish::Store { .. } | Wish::Delete { .. } | Wish::Run { .. } | Wish::Widen { .. } =>
-                true,
+            Wish::Store { .. }
+            | Wish::Delete { .. }
+            | Wish::Run { .. }
+            | Wish::Batch { .. }
+            | Wish::Widen { .. } => true,
             Wish::Script { base, .. } => base.is_some(),
             Wish::Fetch { .. }
             | Wish::List { .. }

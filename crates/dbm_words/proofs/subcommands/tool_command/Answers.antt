@@ -1,5 +1,5 @@
 use Rattle.std.proofs.lemmas.Result.{IfOk-weaker}
-use Rattle.dbm_words.specs.CommandLine.{fetch, store, delete, list, check, script, widen, asm, disasm, verify, run}
+use Rattle.dbm_words.specs.CommandLine.{fetch, store, delete, list, check, script, widen, asm, disasm, verify, run, batch}
 use Rattle.dbm_words.proofs.Commands.{joins}
 use Rattle.dbm_words.proofs.subcommands.tool_command.Goals as goal
 
@@ -15,4 +15,5 @@ returns c =
     let assembled = joins _ _ _ _ asm c.in_ok-subcommand-8.ensures widened c.in_ok-asm_command.ensures in
     let disassembled = joins _ _ _ _ disasm c.in_ok-subcommand-9.ensures assembled c.in_ok-disasm_command.ensures in
     let verified = joins _ _ _ _ verify c.in_ok-subcommand-10.ensures disassembled c.in_ok-verify_command.ensures in
-    IfOk-weaker c.subcommand-11.result _ _ (λ r h. joins _ _ r _ run h verified c.in_ok-run_command.ensures) c.subcommand-11.ensures
+    let ran = joins _ _ _ _ run c.in_ok-subcommand-11.ensures verified c.in_ok-run_command.ensures in
+    IfOk-weaker c.subcommand-12.result _ _ (λ r h. joins _ _ r _ batch h ran c.in_ok-batch_command.ensures) c.subcommand-12.ensures

@@ -1,4 +1,5 @@
 pub mod Runs
 pub mod Cuts
+pub mod TaskLines
 pub mod Decimals
 pub mod Numbered

@@ -33,8 +33,11 @@ pub fn show_answer<A: Allocator + Copy>(
     }
 }
 
-// Writes the text of a reply after a text.
-fn show_reply<A: Allocator + Copy>(
+/// Writes the text of a reply after a text.
+///
+/// # Errors
+/// `AllocError` where there is no memory for it. The text is of no use then.
+pub fn show_reply<A: Allocator + Copy>(
     alloc: A,
     reply: &Reply<A>,
     text: &mut Vec<u8, A>,

@@ -6,8 +6,9 @@ ghost use Rattle.dbm_script.specs.Numbers.{number_of, blank_of};
 ghost use Rattle.dbm_script.specs.Lines.{plain, program_of, run_of, ask_of};
 
 use crate::commands::{read_bytes, read_command};
-use crate::numbers::{read_blank, read_number};
+use crate::numbers::read_number;
 use crate::pieces::first_piece;
+use crate::run_words::read_run_words;
 use crate::running::RunAsk;
 use sdbm_addr::Bytes;
 use std::alloc::{AllocError, Allocator};
@@ -99,27 +100,18 @@ fn read_run<A: Allocator + Copy>(
 ) -> Result<Option<Ask<A>>, AllocError>
     ensures { IfOk result (λ ask. ask ≡ run_of (bytes_of key.now) (number_of 4294967295 prog.now) (bytes_of arg.now) (blank_of blank.now) (number_of 18446744073709551615 now.now)) }
 {
-    let Some(key) = read_bytes(alloc, key)? else {
-        return Ok(None);
-    };
     let Some(prog) = read_prog(prog) else {
         return Ok(None);
     };
-    let Some(arg) = read_bytes(alloc, arg)? else {
-        return Ok(None);
-    };
-    let Some(blank) = read_blank(blank) else {
-        return Ok(None);
-    };
-    let Some(now) = read_number(now, u64::MAX) else {
+    let Some(words) = read_run_words(alloc, key, arg, blank, now)? else {
         return Ok(None);
     };
     Ok(Some(Ask::Run(RunAsk {
-        key,
+        key: words.key,
         prog,
-        arg,
-        blank,
-        now,
+        arg: words.arg,
+        blank: words.blank,
+        now: words.now,
     })))
 }
 

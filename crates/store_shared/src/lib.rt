@@ -3,6 +3,7 @@
 #![tactic(auto)]
 
 mod close;
+mod fault_text;
 mod serving;
 mod session;
 mod store;

@@ -1,3 +1,4 @@
 pub mod Tasks
 pub mod Shares
 pub mod Pool
+pub mod FaultText

@@ -2,6 +2,7 @@
 #![tactic(auto)]
 
 mod crew;
+mod fault_text;
 mod gather;
 mod pool;
 mod share;

@@ -1,0 +1,65 @@
+-- Tasks: lines that ask runs of a program that is known.
+use Rattle.std.specs.Prelude.{◌≡◌, ◌+◌, ◌++◌, ℕ, Bool, true, false, List, [], ◌∷◌, length, Option, Some, None, ⊤}
+use Rattle.dbm_script.specs.Pieces.{pieces_of}
+use Rattle.dbm_script.specs.Commands.{bytes_of}
+use Rattle.dbm_script.specs.Numbers.{number_of, blank_of}
+use Rattle.dbm_script.specs.declared.run_words.RunWords.{RunWords}
+use Rattle.dbm_script.specs.declared.tasks.TasksFault.{TasksFault}
+use Rattle.dbm_script.specs.declared.tasks.TasksFault.TheVariants.{BadLine, NoMemory}
+
+abbrev pub all_words : {A : Type 0} → Option (List ℕ) → Option (List ℕ) → Option (Option ℕ) → Option ℕ → Option (RunWords A)
+all_words None arg blank now = None
+all_words (Some key) None blank now = None
+all_words (Some key) (Some arg) None now = None
+all_words (Some key) (Some arg) (Some blank) None = None
+all_words (Some key) (Some arg) (Some blank) (Some now) = Some (record { key = key; arg = arg; blank = blank; now = now })
+
+-- what the words of a run mean: bytes of a key and an argument, a blank and a time
+abbrev pub run_words_of : {A : Type 0} → List ℕ → List ℕ → List ℕ → List ℕ → Option (RunWords A)
+run_words_of key arg blank now = all_words (bytes_of key) (bytes_of arg) (blank_of blank) (number_of 18446744073709551615 now)
+
+-- the task that the words of a line ask
+abbrev pub task_of : {A : Type 0} → List (List ℕ) → Option (RunWords A)
+task_of [] = None
+task_of (key ∷ []) = None
+task_of (key ∷ arg ∷ []) = None
+task_of (key ∷ arg ∷ blank ∷ []) = None
+task_of (key ∷ arg ∷ blank ∷ now ∷ []) = run_words_of key arg blank now
+task_of (key ∷ arg ∷ blank ∷ now ∷ other ∷ others) = None
+
+-- the tasks of lines, in their order: an empty line has none, and each other line has one
+abbrev pub AskTasks : (A : Type 0) → List (List ℕ) → List (RunWords A) → Type 0
+AskTasks A [] [] = ⊤
+AskTasks A [] (task ∷ tasks) = ⊥
+AskTasks A ([] ∷ lines) tasks = AskTasks A lines tasks
+AskTasks A ((c ∷ cs) ∷ lines) [] = ⊥
+AskTasks A ((c ∷ cs) ∷ lines) (task ∷ tasks) = (task_of (pieces_of 32 (c ∷ cs)) ≡ Some task) × AskTasks A lines tasks
+
+-- the tasks of a text, whose lines end with LF; the last one may lack it
+abbrev pub AreTasksOf : (A : Type 0) → List ℕ → List (RunWords A) → Type 0
+AreTasksOf A input tasks = AskTasks A (pieces_of 10 input) tasks
+
+-- a line that is not empty and asks no task
+abbrev pub IsBadLine : (A : Type 0) → List ℕ → Type 0
+IsBadLine A [] = ⊥
+IsBadLine A (c ∷ cs) = task_of {A = A} (pieces_of 32 (c ∷ cs)) ≡ None
+
+-- A line's task goes behind others, where the line is good: an empty one has none.
+abbrev pub AddsTask : (A : Type 0) → List ℕ → Bool → List (RunWords A) → List (RunWords A) → Type 0
+AddsTask A line true old new = (added : List (RunWords A)) × (AskTasks A (line ∷ []) added × (new ≡ old ++ added))
+AddsTask A line false old new = IsBadLine A line
+
+-- the first such line of a text, by its number from 1 on; empty lines count too
+pub record IsFirstBad (A : Type 0) (input : List ℕ) (number : ℕ) : Type 0 where
+  pub before : List (List ℕ)
+  pub line : List ℕ
+  pub behind : List (List ℕ)
+  pub lines : pieces_of 10 input ≡ before ++ line ∷ behind
+  pub number_is : number ≡ length before + 1
+  pub bad : IsBadLine A line
+  pub tasks : List (RunWords A)
+  pub good : AskTasks A before tasks
+
+abbrev pub IsTasksFault : (A : Type 0) → List ℕ → TasksFault → Type 0
+IsTasksFault A input (BadLine number) = IsFirstBad A input number
+IsTasksFault A input NoMemory = ⊤

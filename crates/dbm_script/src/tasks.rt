@@ -1,0 +1,92 @@
+//! Tasks: lines that ask runs of a program that is known.
+ghost use Rattle.std.specs.Prelude.{◌≡◌, ◌++◌, ◌∷◌, [], List, IfOk, IfErr, true, false};
+ghost use Rattle.dbm_script.specs.Pieces.{pieces_of};
+ghost use Rattle.dbm_script.specs.Tasks.{AreTasksOf, AddsTask, IsBadLine, IsTasksFault, task_of};
+ghost use Rattle.dbm_script.specs.declared.tasks.TasksFault.TheVariants.{NoMemory};
+
+use crate::pieces::first_piece;
+use crate::run_words::{RunWords, read_run_words};
+use std::alloc::{AllocError, Allocator};
+
+/// Why a text has no tasks.
+#[derive(Clone, Copy, Debug, PartialEq, Eq)]
+pub enum TasksFault {
+    /// The line with this number, from 1 on, is not empty and asks no task. It is the first such.
+    BadLine(usize),
+    /// No memory was left.
+    NoMemory,
+}
+
+impl From<AllocError> for TasksFault {
+    ghost from_gives = { λ _ fault. fault ≡ NoMemory };
+
+    fn from(_error: AllocError) -> TasksFault {
+        TasksFault::NoMemory
+    }
+}
+
+/// The tasks of a text, one in each line: KEY ARG BLANK NOW, as in a line that runs a program. An empty line is skipped.
+///
+/// # Errors
+/// `BadLine` with the first line that is neither empty nor a task, and `NoMemory`.
+pub fn read_tasks<A: Allocator + Copy>(
+    alloc: A,
+    input: &[u8],
+) -> Result<Vec<RunWords<A>, A>, TasksFault>
+    ensures ok { IfOk result (λ tasks. AreTasksOf A input.now tasks.items) }
+    ensures fault { IfErr result (IsTasksFault A input.now) }
+{
+    let mut tasks = Vec::new(alloc);
+    let mut number = 0;
+    let mut rest = Some(input);
+    while let Some(left) = rest {
+        let (line, after) = first_piece(b'\n', left);
+        number += 1;
+        if !add_task(alloc, line, &mut tasks)? {
+            return Err(TasksFault::BadLine(number));
+        }
+        rest = after;
+    }
+    Ok(tasks)
+}
+
+// Puts the task of a line behind others, and tells whether the line is good: one that is empty has none.
+fn add_task<A: Allocator + Copy>(
+    alloc: A,
+    line: &[u8],
+    tasks: &mut Vec<RunWords<A>, A>,
+) -> Result<bool, AllocError>
+    ensures { IfOk result (λ good. AddsTask A line.now good tasks.old.items tasks.new.items) }
+{
+    if line.is_empty() {
+        return Ok(true);
+    }
+    let Some(task) = read_task(alloc, line)? else {
+        return Ok(false);
+    };
+    tasks.push(task)?;
+    Ok(true)
+}
+
+// The task of a line, where it asks one.
+fn read_task<A: Allocator + Copy>(alloc: A, line: &[u8]) -> Result<Option<RunWords<A>>, AllocError>
+    ensures { IfOk result (λ task. task ≡ task_of (pieces_of 32 line.now)) }
+{
+    let (key, rest) = first_piece(b' ', line);
+    let Some(rest) = rest else {
+        return Ok(None);
+    };
+    let (arg, rest) = first_piece(b' ', rest);
+    let Some(rest) = rest else {
+        return Ok(None);
+    };
+    let (blank, rest) = first_piece(b' ', rest);
+    let Some(rest) = rest else {
+        return Ok(None);
+    };
+    let (now, rest) = first_piece(b' ', rest);
+    match rest {
+        None => read_run_words(alloc, key, arg, blank, now),
+        Some(_) => Ok(None),
+    }
+}

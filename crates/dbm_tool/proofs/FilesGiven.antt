@@ -7,7 +7,8 @@ use Rattle.dbm_words.specs.declared.wish.Wish.TheVariants as wish
 use Rattle.dbm_tool.specs.declared.databases.Files.{Files}
 use Rattle.dbm_tool.specs.declared.subcommands.Report.{Report}
 use Rattle.dbm_tool.specs.declared.serve.Given.{Given}
-use Rattle.dbm_tool.specs.declared.running.RunWords.{RunWords}
+use Rattle.std.specs.declared.alloc.Global.{Global}
+use Rattle.dbm_script.specs.declared.run_words.RunWords.{RunWords}
 use Rattle.dbm_tool.specs.Databases.{AreFilesToWrite}
 use Rattle.dbm_tool.specs.Reports.{Judges, RunsImage}
 use Rattle.dbm_tool.specs.Subcommands.{subcommand_for}
@@ -18,7 +19,7 @@ judged_alone image report (inl h) = h.1.written
 judged_alone image report (inr h) = h.1.1.written
 
 -- after a run there is a database to be written
-ran_on : (before : Database) (words : RunWords) (image : List ℕ) (report : Report) → RunsImage before words image report → is_some report.database ≡ true
+ran_on : (before : Database) (words : RunWords Global) (image : List ℕ) (report : Report) → RunsImage before words image report → is_some report.database ≡ true
 ran_on before words image report (inl h) = ap (λ (db : Option Database). is_some db) h.1.1.1.1
 ran_on before words image report (inr h) = ap (λ (db : Option Database). is_some db) h.1.1.written
 
@@ -29,6 +30,7 @@ database_given (wish.Fetch base form key) given input report comes = ap (λ (db 
 database_given (wish.Store base form key value insert) given input report comes = ap (λ (db : Option Database). is_some db) comes.holds.1.1
 database_given (wish.Delete base form key) given input report comes = ap (λ (db : Option Database). is_some db) comes.holds.1.1
 database_given (wish.Run base form key file arg blank now image) given input report comes = ran_on comes.before comes.words comes.image report comes.runs
+database_given (wish.Batch base form file workers image) given input report comes = ap (λ (db : Option Database). is_some db) comes.1.1.1.1.written
 database_given (wish.List base form) given input report comes = ap (λ (db : Option Database). is_some db) comes.1.1.written
 database_given (wish.Check base form) given input report comes = ap (λ (db : Option Database). is_some db) comes.1.1.written
 database_given (wish.Script None form) given input report comes = ap (λ (db : Option Database). is_some db) comes.1.1

@@ -4,3 +4,4 @@ pub mod Playing
 pub mod Examples
 pub mod FilesGiven
 pub mod RunFaults
+pub mod BatchFaults

@@ -17,7 +17,7 @@ use Rattle.dbm_script.specs.Images.{Denies}
 use Rattle.dbm_words.specs.declared.wish.Form.{Form}
 use Rattle.dbm_tool.specs.declared.serve.Given.{Given}
 use Rattle.dbm_tool.specs.declared.fault.ServeFault.{ServeFault}
-use Rattle.dbm_tool.specs.declared.fault.ServeFault.TheVariants.{ReadFile, FileTooLong, WriteFile, BadHex, BadNumber, Open, NotText, Assemble, Decode, Read, TooLong, Write, NoMemory}
+use Rattle.dbm_tool.specs.declared.fault.ServeFault.TheVariants.{ReadFile, FileTooLong, WriteFile, BadHex, BadNumber, Open, NotText, Assemble, Decode, Submit, Read, TooLong, BadLine, Pool, Close, Write, NoMemory}
 use Rattle.dbm_tool.specs.Databases.{IsOpened, Opens}
 use Rattle.dbm_tool.specs.Causes.{Causes, IsCaused, no_causes, file_causes, program_causes}
 
@@ -32,8 +32,12 @@ no_fault causes (Open reason) h = absurd h
 no_fault causes NotText h = absurd h
 no_fault causes (Assemble fault) h = absurd h
 no_fault causes (Decode fault) h = absurd h
+no_fault causes (Submit fault) h = absurd h
 no_fault causes Read h = absurd h
 no_fault causes TooLong h = absurd h
+no_fault causes (BadLine number) h = absurd h
+no_fault causes (Pool fault) h = absurd h
+no_fault causes (Close fault) h = absurd h
 no_fault causes Write h = h
 no_fault causes NoMemory h = h
 
@@ -49,8 +53,12 @@ opened_fault form given false (Open reason) opens h = absurd h
 opened_fault form given false NotText opens h = (opens, h)
 opened_fault form given false (Assemble fault) opens h = (opens, h)
 opened_fault form given false (Decode fault) opens h = h
+opened_fault form given false (Submit fault) opens h = h
 opened_fault form given false Read opens h = h
 opened_fault form given false TooLong opens h = h
+opened_fault form given false (BadLine number) opens h = h
+opened_fault form given false (Pool fault) opens h = h
+opened_fault form given false (Close fault) opens h = h
 opened_fault form given false Write opens h = h
 opened_fault form given false NoMemory opens h = h
 

@@ -13,12 +13,19 @@ use Rattle.dbm_script.specs.Commands.{bytes_of, command_of}
 use Rattle.dbm_script.specs.Numbers.{blank_of, number_of}
 use Rattle.dbm_script.specs.declared.fault.ScriptFault.{ScriptFault}
 use Rattle.dbm_script.specs.declared.fault.ScriptFault.TheVariants as streams
+use Rattle.dbm_script.specs.declared.run_words.RunWords.{RunWords}
+use Rattle.dbm_script.specs.declared.tasks.TasksFault.{TasksFault}
+use Rattle.dbm_script.specs.declared.tasks.TasksFault.TheVariants as tasks
+use Rattle.prog_registry.specs.declared.fault.RegFault.{RegFault}
+use Rattle.prog_registry.specs.declared.fault.RegFault.TheVariants as reg
+use Rattle.store_shared.specs.declared.close.CloseFault.{CloseFault}
+use Rattle.worker_pool.specs.declared.task.PoolFault.{PoolFault}
+use Rattle.worker_pool.specs.declared.task.PoolFault.TheVariants as jobs
 use Rattle.dbm_words.specs.declared.wish.Form.{Form}
 use Rattle.dbm_tool.specs.declared.serve.Given.{Given}
 use Rattle.dbm_tool.specs.declared.running.RunTexts.{RunTexts}
-use Rattle.dbm_tool.specs.declared.running.RunWords.{RunWords}
 use Rattle.dbm_tool.specs.declared.fault.ServeFault.{ServeFault}
-use Rattle.dbm_tool.specs.declared.fault.ServeFault.TheVariants.{ReadFile, FileTooLong, WriteFile, BadHex, BadNumber, Open, NotText, Assemble, Decode, Read, TooLong, Write, NoMemory}
+use Rattle.dbm_tool.specs.declared.fault.ServeFault.TheVariants.{ReadFile, FileTooLong, WriteFile, BadHex, BadNumber, Open, NotText, Assemble, Decode, Submit, Read, TooLong, BadLine, Pool, Close, Write, NoMemory}
 use Rattle.dbm_tool.specs.Databases.{IsShut, IsTooLong, Opens}
 
 -- the causes for which nothing comes of a wish
@@ -32,9 +39,16 @@ pub record Causes : Type 1 where
   pub no_text : Type 0
   pub assembling : AsmFault → Type 0
   pub decoding : DecodeFault → Type 0
+  -- the image's program gets no number
+  pub submitting : RegFault → Type 0
   -- standard input could not be read, or is too long
   pub reading : Type 0
   pub long : Type 0
+  -- a line asks no task
+  pub bad_line : ℕ → Type 0
+  -- not all tasks are done, or the store does not close
+  pub pool : PoolFault → Type 0
+  pub closing : CloseFault → Type 0
 
 abbrev pub no_causes : Causes
 no_causes = record {
@@ -44,8 +58,12 @@ no_causes = record {
   no_text = ⊥;
   assembling = λ fault. ⊥;
   decoding = λ fault. ⊥;
+  submitting = λ fault. ⊥;
   reading = ⊥;
   long = ⊥;
+  bad_line = λ number. ⊥;
+  pool = λ fault. ⊥;
+  closing = λ fault. ⊥;
 }
 
 -- A fault comes only for its cause. Memory may be wanted at any time; the other faults are not of these steps.
@@ -59,8 +77,12 @@ IsCaused causes (Open reason) = causes.opening reason
 IsCaused causes NotText = causes.no_text
 IsCaused causes (Assemble fault) = causes.assembling fault
 IsCaused causes (Decode fault) = causes.decoding fault
+IsCaused causes (Submit fault) = causes.submitting fault
 IsCaused causes Read = causes.reading
 IsCaused causes TooLong = causes.long
+IsCaused causes (BadLine number) = causes.bad_line number
+IsCaused causes (Pool fault) = causes.pool fault
+IsCaused causes (Close fault) = causes.closing fault
 IsCaused causes Write = ⊥
 IsCaused causes NoMemory = ⊤
 
@@ -103,13 +125,13 @@ file_causes true file = no_causes
 file_causes false file = text_causes file
 
 -- the words of a run: bytes of a key and an argument, and then a blank and a time
-abbrev pub AreRunWords : RunTexts → RunWords → Type 0
+abbrev pub AreRunWords : RunTexts → RunWords Global → Type 0
 AreRunWords texts words =
     (bytes_of texts.key.now ≡ Some words.key) × ((bytes_of texts.arg.now ≡ Some words.arg)
     × ((blank_of texts.blank.now ≡ Some words.blank) × (number_of 18446744073709551615 texts.now.now ≡ Some words.now)))
 
 abbrev pub Means : RunTexts → Type 0
-Means texts = (words : RunWords) × AreRunWords texts words
+Means texts = (words : RunWords Global) × AreRunWords texts words
 
 abbrev pub HasBadBytes : RunTexts → Type 0
 HasBadBytes texts = (bytes_of texts.key.now ≡ None) ⊎ (bytes_of texts.arg.now ≡ None)
@@ -156,3 +178,24 @@ stream_fault streams.Read = Read
 stream_fault streams.TooLong = TooLong
 stream_fault streams.Write = Write
 stream_fault streams.NoMemory = NoMemory
+
+-- the fault of lines that ask tasks
+abbrev pub tasks_fault : TasksFault → ServeFault
+tasks_fault (tasks.BadLine number) = BadLine number
+tasks_fault tasks.NoMemory = NoMemory
+
+-- the fault of an image
+abbrev pub submit_fault : RegFault → ServeFault
+submit_fault reg.NoMemory = NoMemory
+submit_fault (reg.Decode fault) = Submit (reg.Decode fault)
+submit_fault (reg.Verify fault) = Submit (reg.Verify fault)
+submit_fault reg.Full = Submit reg.Full
+
+-- the fault of tasks
+abbrev pub pool_fault : PoolFault → ServeFault
+pool_fault jobs.NoWorkers = Pool jobs.NoWorkers
+pool_fault (jobs.NoProgram task) = Pool (jobs.NoProgram task)
+pool_fault jobs.NoSession = Pool jobs.NoSession
+pool_fault (jobs.NoThread worker) = Pool (jobs.NoThread worker)
+pool_fault (jobs.Refused task refusal) = Pool (jobs.Refused task refusal)
+pool_fault jobs.NoMemory = NoMemory

@@ -2,6 +2,7 @@ pub mod Names
 pub mod Databases
 pub mod Reports
 pub mod Causes
+pub mod Batches
 pub mod Subcommands
 pub mod Outcomes
 pub mod FaultText

@@ -31,7 +31,7 @@ use Rattle.dbm_words.specs.declared.wish.Form.{Form}
 use Rattle.dbm_tool.specs.declared.subcommands.Report.{Report}
 use Rattle.dbm_tool.specs.declared.serve.Given.{Given}
 use Rattle.dbm_tool.specs.declared.running.RunTexts.{RunTexts}
-use Rattle.dbm_tool.specs.declared.running.RunWords.{RunWords}
+use Rattle.dbm_script.specs.declared.run_words.RunWords.{RunWords}
 use Rattle.dbm_tool.specs.Causes.{AreRunWords}
 use Rattle.dbm_tool.specs.Databases.{IsOpened, key_bytes_of, page_size_of}
 
@@ -200,7 +200,7 @@ Verifies is_image file report = (image : List ℕ) × (IsFileImage is_image file
 
 -- The run of an image's accepted program answers a command, after which the files are written; or the image gets no number in a
 -- registry without programs, and the files are written as they are.
-abbrev pub RunsImage : Database → RunWords → List ℕ → Report → Type 0
+abbrev pub RunsImage : Database → RunWords Global → List ℕ → Report → Type 0
 RunsImage before words image report =
     ((p : Accepted) × (IsProgramOf image p × Changes before (Run words.key p.code words.arg words.blank words.now) report))
     ⊎ ((fault : RegFault) × (Denies [] image fault × Refuses fault (Some before) report))
@@ -209,7 +209,7 @@ RunsImage before words image report =
 pub record OnRun (form : Form) (given : Given) (texts : RunTexts) (is_image : Bool) (report : Report) : Type 0 where
   pub before : Database
   pub opened : IsOpened form given before
-  pub words : RunWords
+  pub words : RunWords Global
   pub are : AreRunWords texts words
   pub image : List ℕ
   pub image_is : IsFileImage is_image given.file.items image

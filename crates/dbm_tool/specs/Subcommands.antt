@@ -5,6 +5,7 @@ use Rattle.dbm_words.specs.declared.wish.Wish.TheVariants as wish
 use Rattle.dbm_tool.specs.declared.subcommands.Report.{Report}
 use Rattle.dbm_tool.specs.declared.serve.Given.{Given}
 use Rattle.dbm_tool.specs.Reports.{OnCommand, OnDatabase, Looks, Changes, Lists, Counts, PlaysAlone, PlaysOn, Widens, PrintsOf, IsAssembled, IsDisassembled, Verifies, OnRun, fetch_words, store_words, delete_words, small_form}
+use Rattle.dbm_tool.specs.Batches.{OnBatch, batch_causes}
 use Rattle.dbm_tool.specs.Causes.{Causes, command_causes, opening_causes, input_causes, script_causes, text_causes, image_causes, file_causes, run_causes}
 
 pub record Subcommand : Type 1 where
@@ -30,6 +31,10 @@ subcommand_for (wish.Delete base form key) given input = record {
 subcommand_for (wish.Run base form key file arg blank now image) given input = record {
   reports = OnRun form given (record { key = key; arg = arg; blank = blank; now = now }) image;
   causes = run_causes form given (record { key = key; arg = arg; blank = blank; now = now }) image;
+}
+subcommand_for (wish.Batch base form file workers image) given input = record {
+  reports = OnBatch form given workers image input;
+  causes = batch_causes form given workers image input;
 }
 subcommand_for (wish.List base form) given input = record {
   reports = λ report. OnDatabase form given (Lists report);
@@ -64,7 +69,8 @@ subcommand_for (wish.Verify file image) given input = record {
   causes = file_causes image given.file.items;
 }
 
--- only a script reads
+-- a script and a batch alone read
 abbrev pub reads_input : Wish → Bool
 reads_input (wish.Script base form) = true
+reads_input (wish.Batch base form file workers image) = true
 reads_input _ = false

@@ -4,11 +4,14 @@ ghost use Rattle.dbm_tool.specs.declared.fault.ServeFault.TheVariants.{NoMemory}
 
 use bpf_asm::AsmFault;
 use bpf_insn::DecodeFault;
-use dbm_script::ScriptFault;
+use dbm_script::{ScriptFault, TasksFault};
+use prog_registry::RegFault;
 use sdbm_files::OpenFault;
 use std::alloc::{AllocError, AllocFailed};
 use std::error::Error;
 use std::fmt;
+use store_shared::CloseFault;
+use worker_pool::PoolFault;
 
 /// Why a wish was not served. It prints as the text that stands behind `dbm: ` on standard error.
 #[derive(Clone, Copy, Debug, PartialEq, Eq)]
@@ -31,10 +34,18 @@ pub enum ServeFault {
     Assemble(AsmFault),
     /// The image is no program.
     Decode(DecodeFault),
+    /// The program of a batch gets no number.
+    Submit(RegFault),
     /// Standard input could not be read.
     Read,
     /// There are more than 16,777,216 bytes on standard input.
     TooLong,
+    /// The line of a batch with this number, from 1 on, asks no task.
+    BadLine(usize),
+    /// Not all tasks of a batch were done.
+    Pool(PoolFault),
+    /// The calls of a batch's workers are not those that its store has.
+    Close(CloseFault),
     /// Standard output could not be written.
     Write,
     /// No memory is left.
@@ -58,8 +69,12 @@ impl fmt::Display for ServeFault {
             ServeFault::NotText => write!(f, "NotText"),
             ServeFault::Assemble(fault) => write!(f, "{fault}"),
             ServeFault::Decode(fault) => write!(f, "{fault}"),
+            ServeFault::Submit(fault) => write!(f, "{fault}"),
             ServeFault::Read => write!(f, "Read"),
             ServeFault::TooLong => write!(f, "TooLong"),
+            ServeFault::BadLine(number) => write!(f, "bad line {number}"),
+            ServeFault::Pool(fault) => write!(f, "{fault}"),
+            ServeFault::Close(fault) => write!(f, "{fault}"),
             ServeFault::Write => write!(f, "Write"),
             ServeFault::NoMemory => write!(f, "NoMemory"),
         }
@@ -95,6 +110,49 @@ impl From<ScriptFault> for ServeFault {
             ScriptFault::TooLong => ServeFault::TooLong,
             ScriptFault::Write => ServeFault::Write,
             ScriptFault::NoMemory => ServeFault::NoMemory,
+        }
+    }
+}
+
+impl From<TasksFault> for ServeFault {
+    ghost use Rattle.dbm_tool.specs.Causes.{tasks_fault};
+
+    ghost from_gives = { λ reason fault. fault ≡ tasks_fault reason };
+
+    fn from(fault: TasksFault) -> ServeFault {
+        match fault {
+            TasksFault::BadLine(number) => ServeFault::BadLine(number),
+            TasksFault::NoMemory => ServeFault::NoMemory,
+        }
+    }
+}
+
+impl From<RegFault> for ServeFault {
+    ghost use Rattle.dbm_tool.specs.Causes.{submit_fault};
+
+    ghost from_gives = { λ reason fault. fault ≡ submit_fault reason };
+
+    fn from(fault: RegFault) -> ServeFault {
+        match fault {
+            RegFault::NoMemory => ServeFault::NoMemory,
+            RegFault::Decode(_) | RegFault::Verify(_) | RegFault::Full => ServeFault::Submit(fault),
+        }
+    }
+}
+
+impl From<PoolFault> for ServeFault {
+    ghost use Rattle.dbm_tool.specs.Causes.{pool_fault};
+
+    ghost from_gives = { λ reason fault. fault ≡ pool_fault reason };
+
+    fn from(fault: PoolFault) -> ServeFault {
+        match fault {
+            PoolFault::NoMemory => ServeFault::NoMemory,
+            PoolFault::NoWorkers
+            | PoolFault::NoProgram(_)
+            | PoolFault::NoSession
+            | PoolFault::NoThread(_)
+            | PoolFault::Refused(_, _) => ServeFault::Pool(fault),
         }
     }
 }

@@ -3,6 +3,7 @@
 
 ghost use Rattle.dbm_tool.specs.Endings.{IsTold};
 
+mod batch;
 mod databases;
 mod ending;
 mod fault;
@@ -24,6 +25,8 @@ use std::fs::File;
 use std::io::ErrorKind;
 use std::process::ExitCode;
 use std::rt::Runtime;
+use std::sync::Wait;
+use std::thread::Threads;
 use std::{env, io};
 
 fn main(rt: HostRuntime) -> ExitCode {
@@ -36,7 +39,9 @@ fn main(rt: HostRuntime) -> ExitCode {
 }
 
 // Reads the words behind the program's name, and serves what they ask.
-fn run<R: Runtime<File = File> + AllocGlobal>(rt: &R) -> Result<Ending, ServeFault> {
+fn run<R: Runtime<File = File> + AllocGlobal + Threads + Wait + Sync>(
+    rt: &R,
+) -> Result<Ending, ServeFault> {
     let alloc = rt.alloc();
     let args = match env::args(rt) {
         Ok(args) => args,
@@ -55,12 +60,13 @@ fn run<R: Runtime<File = File> + AllocGlobal>(rt: &R) -> Result<Ending, ServeFau
 }
 
 // Serves a wish on the files that it names. The lock, where there is one, is held to the end.
-fn serve_files<R: Runtime<File = File> + AllocGlobal>(
+fn serve_files<R: Runtime<File = File> + AllocGlobal + Threads + Wait + Sync>(
     rt: &R,
     wish: Wish<'_>,
 ) -> Result<Ending, ServeFault> {
     let Taken { given, lock: _lock } = take_files(rt, &wish)?;
     let outcome = serve(
+        rt,
         rt.alloc(),
         wish,
         given,

@@ -12,7 +12,7 @@ use crate::fault::ServeFault;
 use crate::programs::{file_image, refused};
 use crate::serve::Given;
 use crate::subcommands::{Report, change};
-use dbm_script::{RunAsk, command_of_run, read_blank, read_bytes, read_number};
+use dbm_script::{RunAsk, RunWords, command_of_run, read_blank, read_bytes, read_number};
 use dbm_words::Form;
 use prog_registry::Registry;
 use sdbm_addr::Bytes;
@@ -26,15 +26,6 @@ pub struct RunTexts<'a> {
     pub arg: &'a str,
     pub blank: &'a str,
     pub now: &'a str,
-}
-
-/// What they mean.
-#[derive(Drop)]
-pub struct RunWords {
-    pub key: Bytes<Global>,
-    pub arg: Bytes<Global>,
-    pub blank: Option<usize>,
-    pub now: u64,
 }
 
 /// The answer to a run of the program of a file on the database of the files, which is to be written after it; or why the program
@@ -58,7 +49,7 @@ pub fn report_run(
 }
 
 // What the words mean, read from left to right.
-fn run_words(alloc: Global, texts: RunTexts<'_>) -> Result<RunWords, ServeFault>
+fn run_words(alloc: Global, texts: RunTexts<'_>) -> Result<RunWords<Global>, ServeFault>
     ensures ok { IfOk result (AreRunWords texts.entry) }
     ensures fault { IfErr result (IsCaused (word_causes texts.entry)) }
 {
@@ -88,8 +79,11 @@ fn word_bytes(alloc: Global, word: &str) -> Result<Option<Bytes<Global>>, AllocE
     read_bytes(alloc, word.as_bytes())
 }
 
-// The database of the files, and then the image of the program's file.
-fn database_and_image(
+/// The database of the files, and then the image of the program's file.
+///
+/// # Errors
+/// Those of `open`, and then those of `file_image`.
+pub fn database_and_image(
     alloc: Global,
     given: Given,
     form: Form,
@@ -114,7 +108,7 @@ fn run_image(
     alloc: Global,
     database: Image<Global>,
     image: &[u8],
-    words: RunWords,
+    words: RunWords<Global>,
 ) -> Result<Report, AllocError>
     ensures { IfOk result (RunsImage database words image.now) }
 {

@@ -9,6 +9,7 @@ ghost use Rattle.dbm_tool.specs.Outcomes.{IsServed, IsUnserved};
 ghost use Rattle.dbm_tool.specs.Reports.{OnCommand, OnDatabase, Looks, Changes, Lists, Counts, PlaysAlone, PlaysOn, Widens, delete_words, fetch_words, small_form, store_name, store_words};
 ghost use Rattle.dbm_tool.specs.Subcommands.{subcommand_for, reads_input};
 
+use crate::batch::report_batch;
 use crate::databases::{Files, files_to_write, key_bytes_of, open, page_size_of};
 use crate::fault::ServeFault;
 use crate::programs::{assemble_file, disassemble_file, verify_file};
@@ -19,6 +20,8 @@ use dbm_words::{Form, Wish};
 use sdbm_files::Image;
 use std::alloc::Global;
 use std::io::{Read, Write};
+use std::sync::Wait;
+use std::thread::Threads;
 use store_cmd::Command;
 
 /// The status of every fault.
@@ -47,17 +50,19 @@ struct Served {
     files: Option<Files>,
 }
 
-/// Serves a wish: reads what its words mean, opens the database, reads standard input for a script, does what is asked, writes the
+/// Serves a wish: reads what its words mean, opens the database, reads standard input for a script or a batch, does what is asked, writes the
 /// lines that it prints, and makes the files. The status is 1 where the answer is that nothing was found or changed, and `FAULT`
 /// where there is a fault. Files are given exactly for a wish that writes (`Wish::writes`), and none where there is a fault.
 ///
 /// # Errors
 /// The first that is met, in this order: `BadHex` where a word is no bytes, `BadNumber` where one is no number; `Open` where the files do not open; `NotText` and
-/// `Assemble` where a program's file is no text of one, `Decode` where it is no image; of a script, `Read` where it could not be
-/// read and `TooLong` above 16,777,216 bytes; `Write` where lines could not be written; `FileTooLong` where `.pag` would be above
+/// `Assemble` where a program's file is no text of one, `Decode` where it is no image, and of a batch `Submit` where its program gets
+/// no number; of a script or a batch, `Read` where it could not be read and `TooLong` above 16,777,216 bytes; of a batch, `BadLine`
+/// with the first line that asks no task, `Pool` where not all tasks were done, and `Close` where the store does not close; `Write` where lines could not be written; `FileTooLong` where `.pag` would be above
 /// `PAG_LIMIT`, after the lines were written. `NoMemory` may come at any step. Nothing is written at a fault before the lines, and
 /// their first bytes at `Write`.
-pub fn serve<R: Read, W: Write>(
+pub fn serve<T: Threads + Wait + Sync, R: Read, W: Write>(
+    rt: &T,
     alloc: Global,
     wish: Wish<'_>,
     given: Given,
@@ -71,7 +76,7 @@ pub fn serve<R: Read, W: Write>(
     ensures status { IfSome result.err (λ _. result.status ≡ 2) }
     ensures none { IfSome result.err (λ _. result.files ≡ None) }
 {
-    match serve_wish(alloc, wish, given, reader, writer) {
+    match serve_wish(rt, alloc, wish, given, reader, writer) {
         Ok(served) => Outcome {
             err: None,
             status: served.status,
@@ -86,7 +91,8 @@ pub fn serve<R: Read, W: Write>(
 }
 
 // Serves a wish: what comes of it is found before a line is written, and the files are made after the lines.
-fn serve_wish<R: Read, W: Write>(
+fn serve_wish<T: Threads + Wait + Sync, R: Read, W: Write>(
+    rt: &T,
     alloc: Global,
     wish: Wish<'_>,
     given: Given,
@@ -98,7 +104,7 @@ fn serve_wish<R: Read, W: Write>(
     ensures files { IfOk result (λ served. is_some served.files ≡ writes_files wish.entry) }
     ensures unread { reads_input wish.entry ≡ false → R.remaining reader.new ≡ R.remaining reader.old }
 {
-    let report = report_on(alloc, wish, given, reader)?;
+    let report = report_on(rt, alloc, wish, given, reader)?;
     write_all(writer, report.text.as_slice())?;
     let files = files_to_write(alloc, &report.database)?;
     Ok(Served {
@@ -108,7 +114,8 @@ fn serve_wish<R: Read, W: Write>(
 }
 
 // What comes of a wish: it is found before a line is written.
-fn report_on<R: Read>(
+fn report_on<T: Threads + Wait + Sync, R: Read>(
+    rt: &T,
     alloc: Global,
     wish: Wish<'_>,
     given: Given,
@@ -145,6 +152,12 @@ fn report_on<R: Read>(
             };
             report_run(alloc, given, form, texts, image)
         }
+        Wish::Batch {
+            form,
+            workers,
+            image,
+            ..
+        } => report_batch(rt, alloc, given, form, workers, image, reader),
         Wish::List { form, .. } => report_list(alloc, given, form),
         Wish::Check { form, .. } => report_check(alloc, given, form),
         Wish::Script { base, form } => report_script(alloc, given, base, form, reader),

@@ -14,3 +14,6 @@ returns-in-Widen-clause-ok g c = rw (c.in-Widen.is) c.report_widen.ensures.ok
 
 pub returns-in-Run-clause-fault : goal.returns-in-Run-clause-fault
 returns-in-Run-clause-fault g c = rw (c.in-Run.is) c.report_run.ensures.fault
+
+pub returns-in-Batch-clause-fault : goal.returns-in-Batch-clause-fault
+returns-in-Batch-clause-fault g c = rw (c.in-Batch.is) c.report_batch.ensures.fault

@@ -1,0 +1,10 @@
+-- A page with another value in one of its pairs.
+use Rattle.std.specs.Prelude.{ℕ, List, slice_set}
+use Rattle.sdbm_addr.specs.Pairs.{Pair, Content, key_at}
+
+-- pairs with another value in pair i
+abbrev pub with_value_in : List Pair → ℕ → List ℕ → List Pair
+with_value_in pairs i value = slice_set pairs i (key_at pairs i, value)
+
+abbrev pub rewritten : Content → ℕ → List ℕ → Content
+rewritten content i value = record { size = content.size; pairs = with_value_in content.pairs i value }

@@ -1,14 +1,16 @@
 //! The two files of a database as one value: the directory of `.dir`, and the pages of `.pag` that have pairs, by number.
 #![tactic(auto)]
 
-ghost use Rattle.std.specs.Prelude.{◌≡◌, ◌≢◌, ◌≤◌, ◌%◌, ◌^◌, [], IfOk, OnOk, IfErr, OnErr, IfSome};
+ghost use Rattle.std.specs.Prelude.{◌≡◌, ◌≢◌, ◌<◌, ◌≤◌, ◌%◌, ◌^◌, [], length, true, false, IfOk, OnOk, IfErr, OnErr, IfSome};
 ghost use Rattle.std.specs.Option.{option_map};
 ghost use Rattle.std.specs.FinMap as map;
 ghost use Rattle.sdbm_addr.specs.Hash.{hash_of};
 ghost use Rattle.sdbm_addr.specs.Directory.{IsDepth, hash_prefix, page_of, word_number};
-ghost use Rattle.sdbm_addr.specs.Database.{map_of, empty_database, Database, IsDatabase};
+ghost use Rattle.sdbm_addr.specs.Pairs.{value_at};
+ghost use Rattle.sdbm_addr.specs.Database.{pairs_at, map_of, empty_database, Database, IsDatabase};
 ghost use Rattle.sdbm_addr.specs.Files.{SpellsDatabase};
-ghost use Rattle.sdbm_files.specs.Installed.{installed, IsInstallable};
+ghost use Rattle.sdbm_page.specs.Rewritten.{rewritten};
+ghost use Rattle.sdbm_files.specs.Installed.{installed, content_at, IsInstallable};
 ghost use Rattle.sdbm_files.specs.Opened.{IsOpenFault, SpellsNoDatabase};
 
 mod fault_text;
@@ -22,7 +24,7 @@ pub use opening::OpenFault;
 use opening::{keep_pages, misplaced, read_dir, read_pages};
 use pages::{
     Pages, copy_pairs, count_pairs, grow_all, mark_all, put_page, put_pages, replace_page,
-    sort_pairs,
+    sort_pairs, write_record,
 };
 use sdbm_addr::{Bytes, KeyBytes, PageSize, hash};
 use sdbm_dir::{Dir, Place};
@@ -195,6 +197,18 @@ impl<A: Allocator + Copy> Image<A> {
             Ok(()) => Ok(()),
             Err(leaf) => Err((AllocError, Plan { leaf, twins, bits })),
         }
+    }
+
+    /// Writes over the value of pair `i` of the page with a number by one as long, and says whether it did: not where someone else
+    /// shares the page. The database is then as it was. It takes no memory.
+    pub fn write_record(&mut self, number: u32, i: usize, value: &[u8]) -> bool
+        requires inside { i < length (pairs_at self.old number) }
+        requires long { length value.now ≡ length (value_at (pairs_at self.old number) i) }
+        requires installable { IsInstallable self.old number (rewritten (content_at self.old number) i value.now) [] [] }
+        ensures written { result ≡ true → self.new ≡ installed self.old number (rewritten (content_at self.old number) i value.now) [] [] }
+        ensures kept { result ≡ false → self.new ≡ self.old }
+    {
+        write_record(&mut self.pages, number, i, value)
     }
 
     /// The number of pairs.

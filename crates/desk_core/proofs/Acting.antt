@@ -15,6 +15,7 @@ use Rattle.store_cmd.specs.Command.{IsSmall}
 use Rattle.store_cmd.specs.Moves.{Moves}
 use Rattle.desk_core.specs.Works.{PageResult, works, key_of, HasKey, HasEnd}
 use Rattle.desk_core.specs.Leads.{IsPlaceOf, LeadsTo, changed_by, state_of}
+use Rattle.desk_core.specs.Rewrites.{IsDone}
 use Rattle.desk_core.specs.Acts.{Acts, IsExactFor, IsOnPage}
 use Rattle.desk_core.proofs.Lifting.{works_lead}
 
@@ -41,6 +42,10 @@ Acts-on_page {A} db db' ok place session command answer keyed small leads ends i
       move = subst (λ (d : Database). Moves (state_of db) (entry answer) (state_of d)) (sym installed)
           (subst (λ (r : Reply A). Moves (state_of db) (entry r) (state_of (changed_by db place.page result.change))) (sym is) (lead.move ends));
     }
+
+pub Acts-done : {A : Type 0} (db db' : Database) → IsDatabase db → (place : Place) (session : ℕ) (command : Command A) (answer : Reply A) → HasKey command → IsSmall db.size command → IsDone db place session command answer db'
+    → Acts db (record { session = session; command = command; reply = answer }) db'
+Acts-done db db' ok place session command answer keyed small done = Acts-on_page db db' ok place session command answer keyed small done.leads done.ends done.reply_is done.database
 
 -- a count
 pub Acts-count : {A : Type 0} (db db' : Database) (session : ℕ) (answer : Reply A) → answer ≡ reply.Count (map.len (map_of db)) → db' ≡ db → Acts db (record { session = session; command = Count; reply = answer }) db'

@@ -3,6 +3,7 @@ pub mod InPlace
 pub mod RunLemmas
 pub mod Lifting
 pub mod Acting
+pub mod Rewriting
 pub mod Ties
 pub mod Sound
 pub mod Doing

@@ -125,15 +125,20 @@ left_by_key page i key o distinct place =
     ∙ ap (λ (ps : List Pair). cond (saves o.code) (Some (leaf_alone page.size (in_place key o.bytes page.pairs))) (cond (removes o.code) (Some (leaf_alone page.size ps)) None)) (remove-without page.pairs key i place.in_range place.has_key distinct)
 
 -- a run on the value of its key
+pub ran_there : (A : Type 0) (site : Site) (pairs : List Pair) (input : RunInput A) (i : ℕ) (o : Outcome) → HasDistinctKeys pairs → IsPlace pairs input.key.now i → outcome_on input (value_at pairs i) ≡ Some o
+    → run_by site pairs input ≡ record { reply = reply.Ran o.code o.word; change = left_at (page_on site pairs) i o }
+ran_there A site pairs input i o distinct place is =
+    ap (λ (v : Option (List ℕ)). run_on {A = A} site.kind (page_on site pairs) site.place.depth input.session input.key.now input.program.now.code input.arg.now input.time v input.blank) place.has_value
+    ∙ ap (λ (x : Option Outcome). ran_on site.size pairs input.key.now x) is
+    ∙ ap (λ (x : Option PageChange). let r : PageResult A = record { reply = reply.Ran o.code o.word; change = x } in r) (sym (left_by_key (page_on site pairs) i input.key.now o distinct place))
+
 pub there_worked : (A : Type 0) (site : Site) (page : Content) (input : RunInput A) (i : ℕ) (worked : Worked A) → page.size ≡ site.size → HasDistinctKeys page.pairs → IsPlace page.pairs input.key.now i → IsRunAt page i input worked
     → IsWorked (run_by site page.pairs input) worked
 there_worked A site page input i worked sized distinct place ran =
-    let result : run_by site page.pairs input ≡ ran_on site.size page.pairs input.key.now (Some ran.outcome) =
-    ap (λ (v : Option (List ℕ)). run_on {A = A} site.kind (page_on site page.pairs) site.place.depth input.session input.key.now input.program.now.code input.arg.now input.time v input.blank) place.has_value
-    ∙ ap (λ (x : Option Outcome). ran_on site.size page.pairs input.key.now x) ran.is in
+    let result = ran_there A site page.pairs input i ran.outcome distinct place ran.is in
     record {
       reply = ran.reply ∙ sym (ap (λ (r : PageResult A). r.reply) result);
-      change = ran.change ∙ left_by_key page i input.key.now ran.outcome distinct place ∙ ap (λ (z : PageSize). left_on z page.pairs input.key.now ran.outcome) sized ∙ sym (ap (λ (r : PageResult A). r.change) result);
+      change = ran.change ∙ ap (λ (z : PageSize). left_at (record { size = z; pairs = page.pairs }) i ran.outcome) sized ∙ sym (ap (λ (r : PageResult A). r.change) result);
     }
 
 -- ---- on a blank

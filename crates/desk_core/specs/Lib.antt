@@ -6,3 +6,4 @@ pub mod Desk
 pub mod Acts
 pub mod Calls
 pub mod Events
+pub mod Rewrites

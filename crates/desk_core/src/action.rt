@@ -5,9 +5,11 @@ ghost use Rattle.sdbm_addr.specs.Database.{IsDatabase, pairs_at};
 ghost use Rattle.store_cmd.specs.Command.{IsSmall};
 ghost use Rattle.desk_core.specs.Acts.{Acts};
 ghost use Rattle.desk_core.specs.Leads.{IsPlaceOf, MayChange, changed_by};
+ghost use Rattle.desk_core.specs.Rewrites.{IsDone};
 ghost use Rattle.desk_core.specs.Worked.{IsWorked, takes_memory};
 ghost use Rattle.desk_core.specs.Works.{works, HasKey, HasEnd, key_of, change_of, pairs_lent};
 
+use crate::in_place::run_in_place;
 use crate::work::{Worked, work_on};
 use sdbm_dir::Place;
 use sdbm_files::Image;
@@ -74,6 +76,27 @@ fn act_on_page<A: Allocator + Copy>(
     ensures err { OnErr result (image.new ≡ image.old) }
 {
     let place = image.place(key_in(command));
+    if let Some(reply) = run_in_place(image, place, session, command) {
+        return Ok(reply);
+    }
+    work_and_put(alloc, image, place, session, command)
+}
+
+// Puts in what a session's command comes to on its page, which is worked out first.
+fn work_and_put<A: Allocator + Copy>(
+    alloc: A,
+    image: &mut Image<A>,
+    place: Place,
+    session: u64,
+    command: &Command<A>,
+) -> Result<Reply<A>, AllocError>
+    requires keyed { HasKey command.now }
+    requires small { IsSmall image.old.size command.now }
+    requires place { IsPlaceOf image.old (key_of command.now) place }
+    requires database { IsDatabase image.old }
+    ensures done { IfOk result (λ reply. IsDone image.old place session command.now reply image.new) }
+    ensures err { OnErr result (image.new ≡ image.old) }
+{
     let Worked { reply, change } = work_at(alloc, image, place, session, command)?;
     match put_in(image, place, change) {
         Ok(()) => Ok(reply),
@@ -120,8 +143,8 @@ pub(crate) fn work_at<A: Allocator + Copy>(
     work_on(alloc, page, place, kind, size, session, command)
 }
 
-// The page with a number, where it has pairs.
-fn page_at<A: Allocator + Copy>(image: &Image<A>, number: u32) -> Option<&Page<A>>
+/// The page with a number, where it has pairs.
+pub(crate) fn page_at<A: Allocator + Copy>(image: &Image<A>, number: u32) -> Option<&Page<A>>
     ensures pairs { pairs_lent result ≡ pairs_at image.now number }
     ensures size { IfSome result (λ page. page.now.size ≡ image.now.size) }
 {

@@ -13,6 +13,7 @@ ghost use Rattle.desk_core.specs.Calls.{refusal_of};
 
 mod action;
 mod events;
+mod in_place;
 mod job;
 mod page_copy;
 mod runs;

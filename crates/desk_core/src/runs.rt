@@ -20,9 +20,9 @@ use std::alloc::{AllocError, Allocator};
 use store_cmd::Reply;
 
 // The numbers with which a program ends that means to change something.
-const SAVED: u64 = 1;
+pub(crate) const SAVED: u64 = 1;
 
-const REMOVED: u64 = 2;
+pub(crate) const REMOVED: u64 = 2;
 
 // The most bytes of a record, which are those of a pair of a wide page.
 const RECORD_LIMIT: usize = 8008;
@@ -66,8 +66,8 @@ pub fn run_on<A: Allocator + Copy>(
     run_anew(alloc, page, site, input, len)
 }
 
-// What the helpers know of a run.
-fn env_of<A: Allocator>(input: &RunInput<'_, A>, present: bool) -> Env
+/// What the helpers know of a run.
+pub(crate) fn env_of<A: Allocator>(input: &RunInput<'_, A>, present: bool) -> Env
     ensures { result ≡ env_of input.now.time present input.now.session }
 {
     Env {
@@ -145,8 +145,8 @@ fn as_ran<A: Allocator>(stored: Worked<A>, reply: Reply<A>) -> Worked<A>
     }
 }
 
-// The reply to a run.
-fn ran<A: Allocator>(ended: Ended) -> Reply<A>
+/// The reply to a run.
+pub(crate) fn ran<A: Allocator>(ended: Ended) -> Reply<A>
     ensures { result ≡ Reply.Ran ended.code ended.word }
 {
     Reply::Ran {

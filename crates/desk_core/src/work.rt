@@ -67,8 +67,8 @@ pub fn work_on<A: Allocator + Copy>(
     }
 }
 
-// What the run of a session's command is told and lent.
-fn input_of<A: Allocator>(session: u64, command: &Command<A>) -> RunInput<'_, A>
+/// What the run of a session's command is told and lent.
+pub(crate) fn input_of<A: Allocator>(session: u64, command: &Command<A>) -> RunInput<'_, A>
     requires { IsRun command.now }
     ensures session { result.session ≡ session }
     ensures command { command.now ≡ Run result.key.now result.program.now.code result.arg.now result.blank result.time }

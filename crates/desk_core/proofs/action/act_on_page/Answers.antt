@@ -1,27 +1,16 @@
-use Rattle.std.proofs.Common.{List, ℕ, Option, sym, ap, ◌∙◌, subst}
-use Rattle.sdbm_split.specs.Planned.{PageChange}
-use Rattle.desk_core.specs.Works.{key_of}
-use Rattle.desk_core.specs.Leads.{IsPlaceOf, MayChange, changed_by}
-use Rattle.desk_core.proofs.Lifting.{works_lead}
-use Rattle.desk_core.proofs.Acting.{Acts-on_page}
+use Rattle.std.proofs.Common.{subst}
+use Rattle.std.specs.Prelude.{IfOk}
+use Rattle.std.proofs.lemmas.Result.{IfOk-weaker}
+use Rattle.sdbm_addr.specs.Database.{Database}
+use Rattle.store_cmd.specs.declared.Reply.{Reply}
+use Rattle.desk_core.specs.Rewrites.{IsDone}
+use Rattle.desk_core.proofs.Acting.{Acts-done}
 use Rattle.desk_core.proofs.action.act_on_page.Goals as goal
 
-pub put_in-requires : goal.put_in-requires
-put_in-requires g c =
-    let db = c.args.image.now in
-    let place = c.place-place.result in
-    let p = c.place-place.ensures in
-    let first_place : IsPlaceOf db c.key_in.result.now place = record { depth = p.depth; shallow = p.shallow; low_bits = p.low_bits; bit = p.bit } in
-    let placed : IsPlaceOf db (key_of c.args.command.now) place = subst (λ (k : List ℕ). IsPlaceOf db k place) c.key_in.ensures first_place in
-    let leads = works_lead db p.database place c.args.session c.args.command.now c.requires.keyed c.requires.small placed in
-    subst (λ (x : Option PageChange). MayChange db place.page x) (sym c.in_ok-reply.ensures.worked.change) leads.may
+pub returns-in-Some-clause-ok : goal.returns-in-Some-clause-ok
+returns-in-Some-clause-ok g c = Acts-done c.args.image.now _ c.place-place.ensures.database c.place-place.result c.args.session c.args.command.now c.in-Some.reply c.requires.keyed c.requires.small c.in-Some.ensures.done
 
-pub returns-in-Ok-clause-ok : goal.returns-in-Ok-clause-ok
-returns-in-Ok-clause-ok g c =
-    let db = c.args.image.now in
-    let place = c.place-place.result in
-    let p = c.place-place.ensures in
-    let first_place : IsPlaceOf db c.key_in.result.now place = record { depth = p.depth; shallow = p.shallow; low_bits = p.low_bits; bit = p.bit } in
-    let placed : IsPlaceOf db (key_of c.args.command.now) place = subst (λ (k : List ℕ). IsPlaceOf db k place) c.key_in.ensures first_place in
-    Acts-on_page db c.put_in.new.image p.database place c.args.session c.args.command.now c.in_ok-reply.field-0.reply c.requires.keyed c.requires.small placed c.in_ok-reply.ensures.ends
-    c.in_ok-reply.ensures.worked.reply (c.in-Ok.ensures.ok ∙ ap (changed_by db place.page) c.in_ok-reply.ensures.worked.change)
+pub returns-clause-ok : goal.returns-clause-ok
+returns-clause-ok g c =
+    let done = subst (λ (db : Database). IfOk c.work_and_put.result (λ (reply : Reply g.row.A.Denot). IsDone db c.place-place.result c.args.session c.args.command.now reply c.work_and_put.new.image)) c.in_default.ensures.none c.work_and_put.ensures.done in
+    IfOk-weaker c.work_and_put.result _ _ (λ reply is. Acts-done c.args.image.now _ c.place-place.ensures.database c.place-place.result c.args.session c.args.command.now reply c.requires.keyed c.requires.small is) done

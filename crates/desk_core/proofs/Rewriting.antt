@@ -1,5 +1,5 @@
 -- What a run comes to whose record is written back where it stands.
-use Rattle.std.proofs.Common.{◌≡◌, ℕ, ◌+◌, ◌≤◌, List, [], ◌++◌, length, take, Bool, true, false, cond, Option, Some, None, is_some, remove, sym, ap, ◌∙◌, subst, arith}
+use Rattle.std.proofs.Common.{◌≡◌, ℕ, ◌+◌, ◌≤◌, List, [], ◌++◌, length, take, Bool, true, cond, Option, Some, None, is_some, remove, sym, ap, ◌∙◌, subst, arith}
 use Rattle.std.proofs.lemmas.List.{take_at, length-append}
 use Rattle.sdbm_addr.specs.Pairs.{Pair, value_at, IsPlace}
 use Rattle.sdbm_addr.specs.Database.{Database, IsDatabase, pairs_at}
@@ -78,12 +78,6 @@ module _ {A : Type 0} (db : Database) (ok : IsDatabase db) (place : Place) (comm
       ap (λ (r : PageResult A). r.change) result_is
       ∙ ap (λ (b : Bool). cond b (Some (record { leaf = rewritten (content_at db place.page) copied.i ran.outcome.bytes; twins = []; bits = [] })) (cond (removes ran.outcome.code) (Some (leaf_alone db.size (remove pairs copied.i))) None)) saved
 
-  left_nothing : saves ran.outcome.code ≡ false → removes ran.outcome.code ≡ false → result.change ≡ None
-  left_nothing unsaved kept =
-      let leaf : Option PageChange = Some (record { leaf = rewritten (content_at db place.page) copied.i ran.outcome.bytes; twins = []; bits = [] }) in
-      let out : Option PageChange = Some (leaf_alone db.size (remove pairs copied.i)) in
-      ap (λ (r : PageResult A). r.change) result_is ∙ ap (λ (b : Bool). cond b leaf (cond (removes ran.outcome.code) out None)) unsaved ∙ ap (λ (b : Bool). cond b out None) kept
-
   pub may_write : saves ran.outcome.code ≡ true → IsInstallable db place.page (rewritten (content_at db place.page) copied.i (take copied.len bytes)) [] []
   may_write saved =
       subst (λ (v : List ℕ). IsInstallable db place.page (rewritten (content_at db place.page) copied.i v) [] []) (sym ran.left)
@@ -96,12 +90,4 @@ module _ {A : Type 0} (db : Database) (ok : IsDatabase db) (place : Place) (comm
     ends = ends;
     reply_is = reply_so answer is;
     database = written ∙ ap (λ (v : List ℕ). installed db place.page (rewritten (content_at db place.page) copied.i v) [] []) ran.left ∙ sym (ap (changed_by db place.page) (left_saved saved));
-  }
-
-  pub left_so : (answer : Reply A) → saves ran.outcome.code ≡ false → removes ran.outcome.code ≡ false → answer ≡ Ran copied.ended.code copied.ended.word → IsDone db place input.session command answer db
-  left_so answer unsaved kept is = record {
-    leads = leads;
-    ends = ends;
-    reply_is = reply_so answer is;
-    database = sym (ap (changed_by db place.page) (left_nothing unsaved kept));
   }

@@ -29,7 +29,7 @@ use Rattle.desk_core.specs.Jobs.{worked}
 use Rattle.desk_core.specs.Leads.{changed_by, LeadsTo, IsPlaceOf, IsSameBeside}
 use Rattle.desk_core.specs.Desk.{DeskState, IsSound, IsTied, Ties, MayHold, first_hold, the_ticket, ticket_of}
 use Rattle.desk_core.specs.Acts.{Acts}
-use Rattle.desk_core.specs.Calls.{page_led}
+use Rattle.desk_core.specs.Calls.{IsRun, page_led}
 use Rattle.desk_core.proofs.Acting.{Acts-on_page}
 use Rattle.desk_core.proofs.Lifting.{works_lead, keys_lead}
 
@@ -86,6 +86,13 @@ keyed_may (Store key value how) mode m = tt
 keyed_may (Delete key) mode m = tt
 keyed_may (Run key program argument blank now) mode m = tt
 keyed_may Count mode m = m
+
+pub keyed_run : {A : Type 0} (c : Command A) → IsRun c → HasKey c
+keyed_run (Fetch key) r = absurd r
+keyed_run (Store key value how) r = absurd r
+keyed_run (Delete key) r = absurd r
+keyed_run (Run key program argument blank now) r = tt
+keyed_run Count r = absurd r
 
 pub may_exclusive : {A : Type 0} (c : Command A) → MayHold c Update → MayHold c Exclusive
 may_exclusive (Fetch key) h = absurd cc

@@ -4,12 +4,14 @@ ghost use Rattle.std.specs.Option.{option_map};
 ghost use Rattle.sdbm_addr.specs.Database.{IsDatabase, pairs_at};
 ghost use Rattle.store_cmd.specs.Command.{IsSmall};
 ghost use Rattle.desk_core.specs.Acts.{Acts};
+ghost use Rattle.desk_core.specs.Calls.{IsRun};
 ghost use Rattle.desk_core.specs.Leads.{IsPlaceOf, MayChange, changed_by};
 ghost use Rattle.desk_core.specs.Rewrites.{IsDone};
 ghost use Rattle.desk_core.specs.Worked.{IsWorked, takes_memory};
 ghost use Rattle.desk_core.specs.Works.{works, HasKey, HasEnd, key_of, change_of, pairs_lent};
 
 use crate::in_place::run_in_place;
+use crate::runs::ran;
 use crate::work::{Worked, work_on};
 use sdbm_dir::Place;
 use sdbm_files::Image;
@@ -59,6 +61,7 @@ fn reply_to<A: Allocator + Copy>(
 {
     match command {
         Command::Count => Ok(Reply::Count(image.count())),
+        Command::Run { .. } => act_by_run(alloc, image, session, command),
         _ => act_on_page(alloc, image, session, command),
     }
 }
@@ -76,8 +79,25 @@ fn act_on_page<A: Allocator + Copy>(
     ensures err { OnErr result (image.new ≡ image.old) }
 {
     let place = image.place(key_in(command));
-    if let Some(reply) = run_in_place(image, place, session, command) {
-        return Ok(reply);
+    work_and_put(alloc, image, place, session, command)
+}
+
+// The same for a run.
+fn act_by_run<A: Allocator + Copy>(
+    alloc: A,
+    image: &mut Image<A>,
+    session: u64,
+    command: &Command<A>,
+) -> Result<Reply<A>, AllocError>
+    requires run { IsRun command.now }
+    requires keyed { HasKey command.now }
+    requires small { IsSmall image.old.size command.now }
+    ensures ok { IfOk result (λ reply. Acts image.old (record { session = session; command = command.now; reply = reply }) image.new) }
+    ensures err { OnErr result (image.new ≡ image.old) }
+{
+    let place = image.place(key_in(command));
+    if let Some(ended) = run_in_place(image, place, session, command) {
+        return Ok(ran(ended));
     }
     work_and_put(alloc, image, place, session, command)
 }

@@ -4,19 +4,20 @@ ghost use Rattle.std.specs.Prelude.{◌≡◌, ◌≤◌, length, true, IfSome, 
 ghost use Rattle.sdbm_addr.specs.Database.{IsDatabase, pairs_at};
 ghost use Rattle.bpf_helpers.specs.Runs.{argument_limit};
 ghost use Rattle.store_cmd.specs.Command.{IsSmall};
+ghost use Rattle.store_cmd.specs.declared.Reply.TheVariants as Reply;
 ghost use Rattle.desk_core.specs.Calls.{IsRun};
 ghost use Rattle.desk_core.specs.Leads.{IsPlaceOf};
 ghost use Rattle.desk_core.specs.Works.{key_of};
 ghost use Rattle.desk_core.specs.Rewrites.{IsRunCopied, IsDone};
 
 use crate::action::page_at;
-use crate::runs::{REMOVED, RunInput, SAVED, env_of, ran};
+use crate::runs::{REMOVED, RunInput, SAVED, env_of};
 use crate::work::{input_of, pair_of};
 use bpf_machine::{Ended, run};
 use sdbm_dir::Place;
 use sdbm_files::Image;
 use std::alloc::Allocator;
-use store_cmd::{Command, Reply};
+use store_cmd::Command;
 
 // The most bytes of a record that is short.
 const SHORT: usize = 256;
@@ -29,23 +30,31 @@ struct Copied {
     ended: Ended,
 }
 
+/// Whether a command is a run.
+pub(crate) fn is_run<A: Allocator>(command: &Command<A>) -> bool
+    ensures { result ≡ true → IsRun command.now }
+{
+    match command {
+        Command::Run { .. } => true,
+        _ => false,
+    }
+}
+
 /// Runs a program where its key is there with a short value, and puts in what it comes to, if that is none or a value that is
-/// saved on a page that nobody else reads. It takes no memory. Else nothing is done, and there is no reply.
+/// saved on a page that nobody else reads. It takes no memory. Else nothing is done.
 pub(crate) fn run_in_place<A: Allocator + Copy>(
     image: &mut Image<A>,
     place: Place,
     session: u64,
     command: &Command<A>,
-) -> Option<Reply<A>>
+) -> Option<Ended>
+    requires run { IsRun command.now }
     requires small { IsSmall image.old.size command.now }
     requires place { IsPlaceOf image.old (key_of command.now) place }
     requires database { IsDatabase image.old }
-    ensures done { IfSome result (λ reply. IsDone image.old place session command.now reply image.new) }
+    ensures done { IfSome result (λ ended. IsDone image.old place session command.now (Reply.Ran ended.code ended.word) image.new) }
     ensures none { IfNone result (image.new ≡ image.old) }
 {
-    if !is_run(command) {
-        return None;
-    }
     let input = input_of(session, command);
     let mut bytes = [0; SHORT];
     let Some(copied) = run_copied(image, place.page, &input, &mut bytes) else {
@@ -55,22 +64,12 @@ pub(crate) fn run_in_place<A: Allocator + Copy>(
         return None;
     }
     if copied.ended.code != SAVED {
-        return Some(ran(copied.ended));
+        return Some(copied.ended);
     }
     if image.write_record(place.page, copied.i, &bytes[..copied.len]) {
-        return Some(ran(copied.ended));
+        return Some(copied.ended);
     }
     None
-}
-
-// Whether a command is a run.
-fn is_run<A: Allocator>(command: &Command<A>) -> bool
-    ensures { result ≡ true → IsRun command.now }
-{
-    match command {
-        Command::Run { .. } => true,
-        _ => false,
-    }
 }
 
 // Runs a program on a copy of the value of its key, which is made in the first of some bytes, where the key is on a page and its value

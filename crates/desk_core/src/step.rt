@@ -14,6 +14,8 @@ ghost use Rattle.desk_core.specs.Desk.{IsSound, first_hold};
 ghost use Rattle.desk_core.specs.Calls.{MayAsk, Steps, IsStepFault, works_there};
 
 use crate::action::{put_in, work_at};
+use crate::in_place::{is_run, run_in_place};
+use crate::runs::ran;
 use crate::work::Worked;
 use crate::{AskFault, Desk, Wanted};
 use hold_modes::Hold;
@@ -63,6 +65,61 @@ impl<A: Allocator + Copy> Desk<A> {
 
     // The same for a command that has a key, on its page as it stands.
     fn step_on(
+        &mut self,
+        session: u64,
+        command: Command<A>,
+        wanted: Wanted,
+    ) -> Result<Reply<A>, (AskFault, Command<A>)>
+        requires may { MayAsk self.old command }
+        requires mode { first_hold command ≡ Some wanted.mode }
+        requires place { IsPlaceOf self.old.database (key_of command) wanted.place }
+        ensures ok { IfOk result (λ reply. Steps self.old session command reply self.new) }
+        ensures refused { IfErr result (λ refused. IsStepFault self.old session command refused.0) }
+        ensures returned { IfErr result (λ refused. refused.1 ≡ command) }
+        ensures err { OnErr result (self.new ≡ self.old) }
+    {
+        match self.step_in_place(session, command, wanted.place) {
+            Ok(reply) => Ok(reply),
+            Err(command) => self.step_by_plan(session, command, wanted),
+        }
+    }
+
+    // The same for a run on a short record of a page that nobody else holds or reads, which takes the memory of its entry alone. Any
+    // other command comes back, and nothing is done.
+    fn step_in_place(
+        &mut self,
+        session: u64,
+        command: Command<A>,
+        place: Place,
+    ) -> Result<Reply<A>, Command<A>>
+        requires may { MayAsk self.old command }
+        requires place { IsPlaceOf self.old.database (key_of command) place }
+        ensures ok { IfOk result (λ reply. Steps self.old session command reply self.new) }
+        ensures returned { IfErr result (λ back. back ≡ command) }
+        ensures err { OnErr result (self.new ≡ self.old) }
+    {
+        if !is_run(&command) {
+            return Err(command);
+        }
+        if self.is_in_the_way(place.page, true) {
+            return Err(command);
+        }
+        let Ok(()) = self.trail.entries.reserve(self.tickets.len() + 1) else {
+            return Err(command);
+        };
+        let Some(ended) = run_in_place(&mut self.image, place, session, &command) else {
+            return Err(command);
+        };
+        self.trail.entries.push_reserved(Entry {
+            session,
+            command,
+            reply: ran(ended),
+        });
+        Ok(ran(ended))
+    }
+
+    // The same for a command that has a key, by what is worked out first.
+    fn step_by_plan(
         &mut self,
         session: u64,
         command: Command<A>,

@@ -1,0 +1,38 @@
+use Rattle.std.proofs.Common.{◌+◌, ◌≤◌, refl, ap, sym, ◌∙◌, subst, arith, rules}
+use Rattle.std.specs.Prelude.{vec_len, vec_capacity}
+use Rattle.std.specs.List.{list_any}
+use Rattle.slab.specs.Slab.{slab_len}
+use Rattle.hold_modes.specs.declared.modes.Hold.TheVariants.{Exclusive}
+use Rattle.hold_modes.specs.Held.{bars}
+use Rattle.store_cmd.specs.declared.Reply.{Reply}
+use Rattle.desk_core.specs.Works.{key_of}
+use Rattle.desk_core.specs.Leads.{IsPlaceOf}
+use Rattle.desk_core.specs.Rewrites.{IsDone}
+use Rattle.desk_core.specs.Desk.{DeskState}
+use Rattle.desk_core.specs.Calls.{MayAsk, Steps}
+use Rattle.desk_core.proofs.Ties.{keyed_run}
+use Rattle.desk_core.proofs.Sound.{Steps-sound}
+use Rattle.desk_core.proofs.Doing.{stepped_at_once}
+use Rattle.desk_core.proofs.Desk.step_in_place.Goals as goal
+
+-- the desk as it was, and the step on it
+abbrev state : (g : _) → goal.After-ran-2 g → DeskState g.row.A.Denot
+state g c = record { database = c.self.inside.image; opening = c.self.inside.trail.opening.items; entries = c.self.inside.trail.entries.items; tickets = c.self.inside.tickets.slots; next = c.self.inside.tickets.vacant_key; holds = c.self.inside.holds; limit = c.self.inside.limit }
+
+steps : (g : _) (c : goal.After-ran-2 g) → Steps (state g c) c.args.session c.args.command c.ran-2.result (record (state g c) { database = c.run_in_place.new.image; entries = c.push_reserved.new.self.items })
+steps g c =
+    let s : DeskState g.row.A.Denot = state g c in
+    let may = subst (λ (x : DeskState g.row.A.Denot). MayAsk x c.args.command) (sym c.self.view_is) c.requires.may in
+    let leads = subst (λ (x : DeskState g.row.A.Denot). IsPlaceOf x.database (key_of c.args.command) c.args.place) (sym c.self.view_is) c.requires.place in
+    let done = subst (λ (r : Reply g.row.A.Denot). IsDone s.database c.args.place c.args.session c.args.command r c.run_in_place.new.image) (sym c.ran-2.ensures) c.in-Some.ensures.done in
+    let free = ap (λ (x : DeskState g.row.A.Denot). list_any (bars c.args.place.page Exclusive) x.holds) c.self.view_is ∙ sym c.is_in_the_way.ensures ∙ c.if-is_in_the_way.false in
+    stepped_at_once s c.args.session c.args.command c.args.place c.self.invariant.0 may (keyed_run c.args.command (c.if-not-is_run.ensures refl)) leads c.ran-2.result c.ran.result c.run_in_place.new.image c.reserve.new.self.items c.push_reserved.new.self.items
+    done (c.ran.ensures ∙ sym c.ran-2.ensures) free c.reserve.ensures.items c.push_reserved.ensures.items
+
+pub invariant_of-self-2 : goal.invariant_of-self-2
+invariant_of-self-2 g c =
+    let room : vec_len c.reserve.new.self + (slab_len c.self.inside.tickets + 1) ≤ vec_capacity c.reserve.new.self = search rules in
+    (Steps-sound (state g c) _ c.args.session c.args.command c.ran-2.result c.self.invariant.0 (steps g c), omega (arith, c.push_reserved.ensures.len, c.push_reserved.ensures.capacity))
+
+pub returns-clause-ok : goal.returns-clause-ok
+returns-clause-ok g c = rw (← c.self.view_is) (steps g c)

@@ -1,9 +1,11 @@
 -- Tasks: lines that ask runs of a program that is known.
-use Rattle.std.specs.Prelude.{◌≡◌, ◌+◌, ◌++◌, ℕ, Bool, true, false, List, [], ◌∷◌, length, Option, Some, None, ⊤}
+use Rattle.std.specs.Prelude.{◌≡◌, ◌⊎◌, ◌+◌, ◌++◌, ℕ, Bool, true, false, List, [], ◌∷◌, length, Option, Some, None, IsSome, ⊤}
 use Rattle.dbm_script.specs.Pieces.{pieces_of}
 use Rattle.dbm_script.specs.Commands.{bytes_of}
 use Rattle.dbm_script.specs.Numbers.{number_of, blank_of}
 use Rattle.dbm_script.specs.declared.run_words.RunWords.{RunWords}
+use Rattle.dbm_script.specs.declared.run_words.WordFault.{WordFault}
+use Rattle.dbm_script.specs.declared.run_words.WordFault.TheVariants as words
 use Rattle.dbm_script.specs.declared.tasks.TasksFault.{TasksFault}
 use Rattle.dbm_script.specs.declared.tasks.TasksFault.TheVariants.{BadLine, NoMemory}
 
@@ -17,6 +19,21 @@ all_words (Some key) (Some arg) (Some blank) (Some now) = Some (record { key = k
 -- what the words of a run mean: bytes of a key and an argument, a blank and a time
 abbrev pub run_words_of : {A : Type 0} → List ℕ → List ℕ → List ℕ → List ℕ → Option (RunWords A)
 run_words_of key arg blank now = all_words (bytes_of key) (bytes_of arg) (blank_of blank) (number_of 18446744073709551615 now)
+
+-- one of these words is no bytes
+abbrev pub HasBadBytes : List ℕ → List ℕ → Type 0
+HasBadBytes key arg = (bytes_of key ≡ None) ⊎ (bytes_of arg ≡ None)
+
+-- those are bytes, and one of the others is no number
+abbrev pub HasBadNumber : List ℕ → List ℕ → List ℕ → List ℕ → Type 0
+HasBadNumber key arg blank now =
+    IsSome (bytes_of key) × (IsSome (bytes_of arg) × ((blank_of blank ≡ None) ⊎ (number_of 18446744073709551615 now ≡ None)))
+
+-- why words mean no run
+abbrev pub IsWordFault : List ℕ → List ℕ → List ℕ → List ℕ → WordFault → Type 0
+IsWordFault key arg blank now words.BadHex = HasBadBytes key arg
+IsWordFault key arg blank now words.BadNumber = HasBadNumber key arg blank now
+IsWordFault key arg blank now words.NoMemory = ⊤
 
 -- the task that the words of a line ask
 abbrev pub task_of : {A : Type 0} → List (List ℕ) → Option (RunWords A)

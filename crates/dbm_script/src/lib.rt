@@ -21,7 +21,7 @@ pub use images::{answer_image, show_refusal};
 pub use lines::{Ask, read_line};
 pub use numbers::{read_blank, read_number};
 pub use pieces::first_piece;
-pub use run_words::{RunWords, read_run_words};
+pub use run_words::{RunWords, WordFault, read_run_words};
 pub use running::{RunAsk, answer_run, command_of_run};
 pub use script::{answer_command, run_lines, run_script};
 pub use streams::{SCRIPT_LIMIT, read_all, write_all};

@@ -8,7 +8,7 @@ ghost use Rattle.dbm_script.specs.Lines.{plain, program_of, run_of, ask_of};
 use crate::commands::{read_bytes, read_command};
 use crate::numbers::read_number;
 use crate::pieces::first_piece;
-use crate::run_words::read_run_words;
+use crate::run_words::words_asked;
 use crate::running::RunAsk;
 use sdbm_addr::Bytes;
 use std::alloc::{AllocError, Allocator};
@@ -103,7 +103,7 @@ fn read_run<A: Allocator + Copy>(
     let Some(prog) = read_prog(prog) else {
         return Ok(None);
     };
-    let Some(words) = read_run_words(alloc, key, arg, blank, now)? else {
+    let Some(words) = words_asked(alloc, key, arg, blank, now)? else {
         return Ok(None);
     };
     Ok(Some(Ask::Run(RunAsk {

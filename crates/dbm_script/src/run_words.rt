@@ -1,6 +1,7 @@
 //! The words of a run that do not name its program.
-ghost use Rattle.std.specs.Prelude.{◌≡◌, IfOk};
-ghost use Rattle.dbm_script.specs.Tasks.{run_words_of};
+ghost use Rattle.std.specs.Prelude.{◌≡◌, IfErr, IfOk, Some};
+ghost use Rattle.dbm_script.specs.Tasks.{IsWordFault, run_words_of};
+ghost use Rattle.dbm_script.specs.declared.run_words.WordFault.TheVariants.{NoMemory};
 
 use crate::commands::read_bytes;
 use crate::numbers::{read_blank, read_number};
@@ -17,11 +18,65 @@ pub struct RunWords<A: Allocator> {
     pub now: u64,
 }
 
-/// What four words mean, where they are a key, an argument, a blank and a time.
+/// Why four words are not those of a run.
+#[derive(Clone, Copy, Debug, PartialEq, Eq)]
+pub enum WordFault {
+    /// The key or the argument is no bytes.
+    BadHex,
+    /// Those are bytes, and the blank or the time is no number.
+    BadNumber,
+    /// No memory was left.
+    NoMemory,
+}
+
+impl From<AllocError> for WordFault {
+    ghost from_gives = { λ _ fault. fault ≡ NoMemory };
+
+    fn from(_error: AllocError) -> WordFault {
+        WordFault::NoMemory
+    }
+}
+
+/// What four words mean: a key, an argument, a blank and a time.
+///
+/// # Errors
+/// The first of: `BadHex` where the key or the argument is no bytes, `BadNumber` where the blank or the time is no number; and
+/// `NoMemory`.
+pub fn read_run_words<A: Allocator + Copy>(
+    alloc: A,
+    key: &[u8],
+    arg: &[u8],
+    blank: &[u8],
+    now: &[u8],
+) -> Result<RunWords<A>, WordFault>
+    ensures words { IfOk result (λ words. run_words_of key.now arg.now blank.now now.now ≡ Some words) }
+    ensures fault { IfErr result (IsWordFault key.now arg.now blank.now now.now) }
+{
+    let Some(key) = read_bytes(alloc, key)? else {
+        return Err(WordFault::BadHex);
+    };
+    let Some(arg) = read_bytes(alloc, arg)? else {
+        return Err(WordFault::BadHex);
+    };
+    let Some(blank) = read_blank(blank) else {
+        return Err(WordFault::BadNumber);
+    };
+    let Some(now) = read_number(now, u64::MAX) else {
+        return Err(WordFault::BadNumber);
+    };
+    Ok(RunWords {
+        key,
+        arg,
+        blank,
+        now,
+    })
+}
+
+/// What four words mean, where they are those of a run. Here it is no fault where they are not.
 ///
 /// # Errors
 /// `AllocError` where there is no memory for the bytes.
-pub fn read_run_words<A: Allocator + Copy>(
+pub(crate) fn words_asked<A: Allocator + Copy>(
     alloc: A,
     key: &[u8],
     arg: &[u8],
@@ -30,22 +85,9 @@ pub fn read_run_words<A: Allocator + Copy>(
 ) -> Result<Option<RunWords<A>>, AllocError>
     ensures { IfOk result (λ words. words ≡ run_words_of key.now arg.now blank.now now.now) }
 {
-    let Some(key) = read_bytes(alloc, key)? else {
-        return Ok(None);
-    };
-    let Some(arg) = read_bytes(alloc, arg)? else {
-        return Ok(None);
-    };
-    let Some(blank) = read_blank(blank) else {
-        return Ok(None);
-    };
-    let Some(now) = read_number(now, u64::MAX) else {
-        return Ok(None);
-    };
-    Ok(Some(RunWords {
-        key,
-        arg,
-        blank,
-        now,
-    }))
+    match read_run_words(alloc, key, arg, blank, now) {
+        Ok(words) => Ok(Some(words)),
+        Err(WordFault::NoMemory) => Err(AllocError),
+        Err(WordFault::BadHex | WordFault::BadNumber) => Ok(None),
+    }
 }

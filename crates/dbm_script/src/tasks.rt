@@ -5,7 +5,7 @@ ghost use Rattle.dbm_script.specs.Tasks.{AreTasksOf, AddsTask, IsBadLine, IsTask
 ghost use Rattle.dbm_script.specs.declared.tasks.TasksFault.TheVariants.{NoMemory};
 
 use crate::pieces::first_piece;
-use crate::run_words::{RunWords, read_run_words};
+use crate::run_words::{RunWords, words_asked};
 use std::alloc::{AllocError, Allocator};
 
 /// Why a text has no tasks.
@@ -86,7 +86,7 @@ fn read_task<A: Allocator + Copy>(alloc: A, line: &[u8]) -> Result<Option<RunWor
     };
     let (now, rest) = first_piece(b' ', rest);
     match rest {
-        None => read_run_words(alloc, key, arg, blank, now),
+        None => words_asked(alloc, key, arg, blank, now),
         Some(_) => Ok(None),
     }
 }

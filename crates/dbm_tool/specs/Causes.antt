@@ -9,11 +9,13 @@ use Rattle.bpf_insn.specs.declared.fault.DecodeFault.{DecodeFault}
 use Rattle.bpf_asm.specs.Denotes.{DenotesNone}
 use Rattle.bpf_asm.specs.Fault.{IsLineOf}
 use Rattle.bpf_asm.specs.declared.fault.AsmFault.{AsmFault}
-use Rattle.dbm_script.specs.Commands.{bytes_of, command_of}
-use Rattle.dbm_script.specs.Numbers.{blank_of, number_of}
+use Rattle.dbm_script.specs.Commands.{command_of}
+use Rattle.dbm_script.specs.Tasks.{HasBadBytes, HasBadNumber, run_words_of}
 use Rattle.dbm_script.specs.declared.fault.ScriptFault.{ScriptFault}
 use Rattle.dbm_script.specs.declared.fault.ScriptFault.TheVariants as streams
 use Rattle.dbm_script.specs.declared.run_words.RunWords.{RunWords}
+use Rattle.dbm_script.specs.declared.run_words.WordFault.{WordFault}
+use Rattle.dbm_script.specs.declared.run_words.WordFault.TheVariants as meant
 use Rattle.dbm_script.specs.declared.tasks.TasksFault.{TasksFault}
 use Rattle.dbm_script.specs.declared.tasks.TasksFault.TheVariants as tasks
 use Rattle.prog_registry.specs.declared.fault.RegFault.{RegFault}
@@ -124,25 +126,18 @@ abbrev pub file_causes : Bool → List ℕ → Causes
 file_causes true file = no_causes
 file_causes false file = text_causes file
 
--- the words of a run: bytes of a key and an argument, and then a blank and a time
+-- what the words of a run mean
 abbrev pub AreRunWords : RunTexts → RunWords Global → Type 0
-AreRunWords texts words =
-    (bytes_of texts.key.now ≡ Some words.key) × ((bytes_of texts.arg.now ≡ Some words.arg)
-    × ((blank_of texts.blank.now ≡ Some words.blank) × (number_of 18446744073709551615 texts.now.now ≡ Some words.now)))
+AreRunWords texts words = run_words_of texts.key.now texts.arg.now texts.blank.now texts.now.now ≡ Some words
 
 abbrev pub Means : RunTexts → Type 0
 Means texts = (words : RunWords Global) × AreRunWords texts words
 
-abbrev pub HasBadBytes : RunTexts → Type 0
-HasBadBytes texts = (bytes_of texts.key.now ≡ None) ⊎ (bytes_of texts.arg.now ≡ None)
-
-abbrev pub HasBadNumber : RunTexts → Type 0
-HasBadNumber texts =
-    IsSome (bytes_of texts.key.now) × (IsSome (bytes_of texts.arg.now)
-    × ((blank_of texts.blank.now ≡ None) ⊎ (number_of 18446744073709551615 texts.now.now ≡ None)))
-
 abbrev pub word_causes : RunTexts → Causes
-word_causes texts = record no_causes { words = HasBadBytes texts; numbers = HasBadNumber texts }
+word_causes texts = record no_causes {
+  words = HasBadBytes texts.key.now texts.arg.now;
+  numbers = HasBadNumber texts.key.now texts.arg.now texts.blank.now texts.now.now;
+}
 
 -- the files of a database, and then a program's file
 abbrev pub program_causes : Form → Given → Bool → Causes
@@ -155,8 +150,8 @@ program_causes form given is_image = record no_causes {
 -- a run: its words come before the files
 abbrev pub run_causes : Form → Given → RunTexts → Bool → Causes
 run_causes form given texts is_image = record no_causes {
-  words = HasBadBytes texts;
-  numbers = HasBadNumber texts;
+  words = (word_causes texts).words;
+  numbers = (word_causes texts).numbers;
   opening = λ reason. Means texts × IsShut form given reason;
   no_text = Means texts × (program_causes form given is_image).no_text;
   assembling = λ fault. Means texts × (program_causes form given is_image).assembling fault;
@@ -178,6 +173,12 @@ stream_fault streams.Read = Read
 stream_fault streams.TooLong = TooLong
 stream_fault streams.Write = Write
 stream_fault streams.NoMemory = NoMemory
+
+-- the fault of words
+abbrev pub word_fault : WordFault → ServeFault
+word_fault meant.BadHex = BadHex
+word_fault meant.BadNumber = BadNumber
+word_fault meant.NoMemory = NoMemory
 
 -- the fault of lines that ask tasks
 abbrev pub tasks_fault : TasksFault → ServeFault

@@ -4,7 +4,7 @@ ghost use Rattle.dbm_tool.specs.declared.fault.ServeFault.TheVariants.{NoMemory}
 
 use bpf_asm::AsmFault;
 use bpf_insn::DecodeFault;
-use dbm_script::{ScriptFault, TasksFault};
+use dbm_script::{ScriptFault, TasksFault, WordFault};
 use prog_registry::RegFault;
 use sdbm_files::OpenFault;
 use std::alloc::{AllocError, AllocFailed};
@@ -110,6 +110,20 @@ impl From<ScriptFault> for ServeFault {
             ScriptFault::TooLong => ServeFault::TooLong,
             ScriptFault::Write => ServeFault::Write,
             ScriptFault::NoMemory => ServeFault::NoMemory,
+        }
+    }
+}
+
+impl From<WordFault> for ServeFault {
+    ghost use Rattle.dbm_tool.specs.Causes.{word_fault};
+
+    ghost from_gives = { λ reason fault. fault ≡ word_fault reason };
+
+    fn from(fault: WordFault) -> ServeFault {
+        match fault {
+            WordFault::BadHex => ServeFault::BadHex,
+            WordFault::BadNumber => ServeFault::BadNumber,
+            WordFault::NoMemory => ServeFault::NoMemory,
         }
     }
 }

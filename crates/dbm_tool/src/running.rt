@@ -2,7 +2,6 @@
 ghost use Rattle.std.specs.Prelude.{◌≡◌, ◌⊎◌, IfOk, IfErr, None, Some, slice_get, IsSome};
 ghost use Rattle.bpf_verify.specs.Verified.{Accepted};
 ghost use Rattle.store_cmd.specs.declared.Command.TheVariants as command;
-ghost use Rattle.dbm_script.specs.Commands.{bytes_of};
 ghost use Rattle.dbm_tool.specs.Causes.{AreRunWords, IsCaused, no_causes, program_causes, run_causes, word_causes};
 ghost use Rattle.dbm_tool.specs.Databases.{IsOpened};
 ghost use Rattle.dbm_tool.specs.Reports.{Changes, IsFileImage, OnRun, RunsImage};
@@ -12,10 +11,9 @@ use crate::fault::ServeFault;
 use crate::programs::{file_image, refused};
 use crate::serve::Given;
 use crate::subcommands::{Report, change};
-use dbm_script::{RunAsk, RunWords, command_of_run, read_blank, read_bytes, read_number};
+use dbm_script::{RunAsk, RunWords, command_of_run, read_run_words};
 use dbm_words::Form;
 use prog_registry::Registry;
-use sdbm_addr::Bytes;
 use sdbm_files::Image;
 use std::alloc::{AllocError, Global};
 
@@ -53,30 +51,9 @@ fn run_words(alloc: Global, texts: RunTexts<'_>) -> Result<RunWords<Global>, Ser
     ensures ok { IfOk result (AreRunWords texts.entry) }
     ensures fault { IfErr result (IsCaused (word_causes texts.entry)) }
 {
-    let Some(key) = word_bytes(alloc, texts.key)? else {
-        return Err(ServeFault::BadHex);
-    };
-    let Some(arg) = word_bytes(alloc, texts.arg)? else {
-        return Err(ServeFault::BadHex);
-    };
-    let Some(blank) = read_blank(texts.blank.as_bytes()) else {
-        return Err(ServeFault::BadNumber);
-    };
-    let Some(now) = read_number(texts.now.as_bytes(), u64::MAX) else {
-        return Err(ServeFault::BadNumber);
-    };
-    Ok(RunWords {
-        key,
-        arg,
-        blank,
-        now,
-    })
-}
-
-fn word_bytes(alloc: Global, word: &str) -> Result<Option<Bytes<Global>>, AllocError>
-    ensures { IfOk result (λ bytes. bytes ≡ bytes_of word.now) }
-{
-    read_bytes(alloc, word.as_bytes())
+    let (key, arg) = (texts.key.as_bytes(), texts.arg.as_bytes());
+    let (blank, now) = (texts.blank.as_bytes(), texts.now.as_bytes());
+    Ok(read_run_words(alloc, key, arg, blank, now)?)
 }
 
 /// The database of the files, and then the image of the program's file.

@@ -24,7 +24,8 @@ pub enum ServeFault {
     WriteFile,
     /// A key, a value or an argument is no hex and no dot.
     BadHex,
-    /// A blank is neither a dot nor a number below 65,536, or a time is no number below 2^64, without leading zeros.
+    /// A blank is neither a dot nor a number below 65,536, a time is no number below 2^64, or a number of workers none below 2^32.
+    /// Numbers have no leading zeros.
     BadNumber,
     /// The files are no database.
     Open(OpenFault),

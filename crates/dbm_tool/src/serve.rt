@@ -50,15 +50,16 @@ struct Served {
     files: Option<Files>,
 }
 
-/// Serves a wish: reads what its words mean, opens the database, reads standard input for a script or a batch, does what is asked, writes the
-/// lines that it prints, and makes the files. The status is 1 where the answer is that nothing was found or changed, and `FAULT`
-/// where there is a fault. Files are given exactly for a wish that writes (`Wish::writes`), and none where there is a fault.
+/// Serves a wish: reads what its words mean, opens the database, reads standard input for a script or a batch, does what is asked,
+/// writes the lines that it prints, and makes the files. The status is 1 where the answer is that nothing was found or changed, and
+/// `FAULT` where there is a fault. Files are given exactly for a wish that writes (`Wish::writes`), and none where there is a fault.
 ///
 /// # Errors
-/// The first that is met, in this order: `BadHex` where a word is no bytes, `BadNumber` where one is no number; `Open` where the files do not open; `NotText` and
-/// `Assemble` where a program's file is no text of one, `Decode` where it is no image, and of a batch `Submit` where its program gets
-/// no number; of a script or a batch, `Read` where it could not be read and `TooLong` above 16,777,216 bytes; of a batch, `BadLine`
-/// with the first line that asks no task, `Pool` where not all tasks were done, and `Close` where the store does not close; `Write` where lines could not be written; `FileTooLong` where `.pag` would be above
+/// The first that is met, in this order: `BadHex` where a word is no bytes, `BadNumber` where one is no number; `Open` where the
+/// files do not open; `NotText` and `Assemble` where a program's file is no text of one, `Decode` where it is no image, and of a
+/// batch `Submit` where its program gets no number; of a script or a batch, `Read` where it could not be read and `TooLong` above
+/// 16,777,216 bytes; of a batch, `BadLine` with the first line that asks no task, `Pool` where not all tasks were done, and `Close`
+/// where the store does not close; `Write` where lines could not be written; `FileTooLong` where `.pag` would be above
 /// `PAG_LIMIT`, after the lines were written. `NoMemory` may come at any step. Nothing is written at a fault before the lines, and
 /// their first bytes at `Write`.
 pub fn serve<T: Threads + Wait + Sync, R: Read, W: Write>(

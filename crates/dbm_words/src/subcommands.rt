@@ -252,7 +252,8 @@ fn batch_command<'a>(alloc: Global) -> Result<Command<'a>, AllocError>
         "Standard input has a task in each line: KEY ARG BLANK NOW, as the words of run. An empty line is skipped.\n\
          Prints for each task, in their order, ran CODE WORD, missing, or crowded (there is no room for a new\n\
          record). Nothing is printed or written where a line is no task, the program is not accepted, or a task\n\
-         is refused; the fault is then bad line N, or Refused(N, FAULT) with the number of the task from 0 on.\n\n\
+         is refused; the fault is then bad line N, Verify(FAULT), or Refused(N, FAULT) with the task's number from\n\
+         0 on.\n\n\
          Example: printf '6162 . 8 0\\n6364 . 8 0\\n' | dbm batch users counter.s 2";
     subcommand(alloc, "batch", about, notes, args)
 }

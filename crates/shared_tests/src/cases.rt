@@ -39,9 +39,17 @@ fn read_case(lines: &str) -> Option<Case<'_>> {
     let (who, rest) = head.split_once(' ')?;
     let (from, rest) = rest.split_once(' ')?;
     let (limit, manner) = rest.split_once(' ')?;
+    if !matches!(who, "turns" | "lean" | "apart") {
+        return None;
+    }
+    let kept = match from {
+        "empty" => false,
+        "kept" => true,
+        _ => return None,
+    };
     Some(Case {
         who,
-        kept: from == "kept",
+        kept,
         limit: limit.parse::<usize>().ok()?,
         manner: read_manner(manner)?,
         calls,

@@ -1,36 +1,8 @@
--- What the definitions of files, lock and status make of wishes that are written out.
-use Rattle.std.proofs.Common.{◌≡◌, ℕ, List, [], ◌∷◌, Some, None, Bor, true, false, refl, codes}
-use Rattle.dbm_words.specs.declared.wish.Form.{Form}
-use Rattle.dbm_words.specs.declared.wish.Wish.TheVariants as wish
+-- What the definition of the status makes of endings that are written out.
+use Rattle.std.proofs.Common.{refl}
 use Rattle.dbm_tool.specs.Endings.{IsExitStatus}
-use Rattle.dbm_tool.specs.Names.{FileRead, files_read, lock_of}
 use Rattle.dbm_tool.specs.declared.ending.Ending.TheVariants.{Served, Failed}
 use Rattle.dbm_tool.specs.declared.fault.ServeFault.TheVariants.{WriteFile}
-use Rattle.dbm_tool.specs.declared.names.Part.TheVariants.{Dir, Pag, Program}
-
-abbrev dir : FileRead
-dir = record { part = Dir; name = codes "db.dir"; limit = 268435456; may_be_absent = true }
-
-abbrev pag : FileRead
-pag = record { part = Pag; name = codes "db.pag"; limit = 1073741824; may_be_absent = true }
-
-abbrev program : FileRead
-program = record { part = Program; name = codes "counter.s"; limit = 1048576; may_be_absent = false }
-
-pub check_reads_both : (base : Bor (List ℕ)) (form : Form) → base.now ≡ codes "db" → files_read (wish.Check base form) ≡ dir ∷ pag ∷ []
-check_reads_both base form h = rw h refl
-
-pub asm_reads_its_program : (file : Bor (List ℕ)) → file.now ≡ codes "counter.s" → files_read (wish.Asm file) ≡ program ∷ []
-asm_reads_its_program file h = rw h refl
-
-pub script_alone_reads_none : (form : Form) → files_read (wish.Script None form) ≡ []
-script_alone_reads_none form = refl
-
-pub delete_locks_alone : (base key : Bor (List ℕ)) (form : Form) → base.now ≡ codes "db" → lock_of (wish.Delete base form key) ≡ Some (codes "db.lock", true)
-delete_locks_alone base key form h = rw h refl
-
-pub fetch_shares_the_lock : (base key : Bor (List ℕ)) (form : Form) → base.now ≡ codes "db" → lock_of (wish.Fetch base form key) ≡ Some (codes "db.lock", false)
-fetch_shares_the_lock base key form h = rw h refl
 
 pub missing_ends_with_1 : IsExitStatus (Served 1) 1
 missing_ends_with_1 = refl

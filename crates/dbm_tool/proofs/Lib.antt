@@ -1,7 +1,4 @@
-pub mod PairLines
 pub mod Faults
-pub mod Playing
-pub mod Examples
 pub mod FilesGiven
-pub mod RunFaults
 pub mod BatchFaults
+pub mod Examples

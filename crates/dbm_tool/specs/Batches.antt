@@ -1,5 +1,5 @@
 -- What comes of a batch: tasks that workers do on a database, each a run of one program.
-use Rattle.std.specs.Prelude.{◌≡◌, ℕ, ◌++◌, Bool, List, [], ◌∷◌, map, Option, Some, None, IfSome, IsSome, ⊤}
+use Rattle.std.specs.Prelude.{◌≡◌, ℕ, ◌≤◌, ◌++◌, Bool, List, [], ◌∷◌, length, map, Option, Some, None, IfSome, IsSome, ⊤}
 use Rattle.std.specs.List.{All, flat_map}
 use Rattle.std.specs.Borrow.{Bor}
 use Rattle.std.specs.declared.alloc.Global.{Global}
@@ -21,11 +21,12 @@ use Rattle.dbm_script.specs.Tasks.{AreTasksOf, IsFirstBad}
 use Rattle.dbm_script.specs.declared.run_words.RunWords.{RunWords}
 use Rattle.dbm_words.specs.declared.wish.Form.{Form}
 use Rattle.dbm_tool.specs.declared.batch.Batch.{Batch}
-use Rattle.dbm_tool.specs.declared.serve.Given.{Given}
-use Rattle.dbm_tool.specs.declared.subcommands.Report.{Report}
-use Rattle.dbm_tool.specs.Causes.{Causes, IsLongScript, no_causes, program_causes}
-use Rattle.dbm_tool.specs.Databases.{IsOpened, IsShut, Opens}
-use Rattle.dbm_tool.specs.Reports.{IsFileImage}
+use Rattle.dbm_reports.specs.declared.databases.Given.{Given}
+use Rattle.dbm_reports.specs.declared.subcommands.Report.{Report}
+use Rattle.dbm_reports.specs.Causes.{IsLongScript, no_causes, program_causes}
+use Rattle.dbm_tool.specs.Causes.{WishCauses, no_wish_causes, only_report}
+use Rattle.dbm_reports.specs.Databases.{IsOpened, IsShut, Opens}
+use Rattle.dbm_reports.specs.Reports.{IsFileImage}
 
 -- ---- before standard input is read
 
@@ -54,10 +55,20 @@ pub record IsReady (form : Form) (given : Given) (workers : Bor (List ℕ)) (is_
 abbrev pub task_for : ProgId → RunWords Global → Task Global
 task_for program words = record { key = words.key; prog = program; arg = words.arg; blank = words.blank; now = words.now }
 
+-- the lines of at most 16,777,216 bytes ask just these runs
+pub record AreShortTasks (bytes : List ℕ) (words : List (RunWords Global)) : Type 0 where
+  pub short : length bytes ≤ 16777216
+  pub are : AreTasksOf Global bytes words
+
+-- the first line of at most 16,777,216 bytes that asks no task
+pub record HasBadLine (bytes : List ℕ) (number : ℕ) : Type 0 where
+  pub short : length bytes ≤ 16777216
+  pub is : IsFirstBad Global bytes number
+
 -- P holds of the tasks that standard input asks, where it is known
 abbrev pub OnTasks : Batch → Option (List ℕ) → (List (Task Global) → Type 0) → Type 0
 OnTasks batch input P =
-    (words : List (RunWords Global)) × (IfSome input (λ bytes. AreTasksOf Global bytes words) × P (map (task_for batch.program) words))
+    (words : List (RunWords Global)) × (IfSome input (λ bytes. AreShortTasks bytes words) × P (map (task_for batch.program) words))
 
 -- The calls of sessions lead from a database to another: they are in a legal history from the one to the other, each session's in their
 -- order, and no others are.
@@ -101,40 +112,43 @@ OnBatch form given workers is_image input report =
 -- ---- faults
 
 -- the program of an image gets no number
-abbrev pub submit_causes : List ℕ → Causes
-submit_causes image = record no_causes { submitting = Denies [] image }
+abbrev pub submit_causes : List ℕ → WishCauses
+submit_causes image = record no_wish_causes { submitting = Denies [] image }
 
 -- the number of workers, the files, and then the program's image
-abbrev pub ready_causes : Form → Given → Bor (List ℕ) → Bool → Causes
-ready_causes form given workers is_image = record no_causes {
+abbrev pub ready_causes : Form → Given → Bor (List ℕ) → Bool → WishCauses
+ready_causes form given workers is_image = record (only_report (record no_causes {
   numbers = workers_of workers.now ≡ None;
   opening = λ reason. IsSome (workers_of workers.now) × IsShut form given reason;
   no_text = IsSome (workers_of workers.now) × (program_causes form given is_image).no_text;
   assembling = λ fault. IsSome (workers_of workers.now) × (program_causes form given is_image).assembling fault;
+})) {
   submitting = λ fault. IsSome (workers_of workers.now) × (Opens form given × ((image : List ℕ) × (IsFileImage is_image given.file.items image × (submit_causes image).submitting fault)));
 }
 
 -- the workers' calls, and then that they are what the store's trail has
-abbrev pub doing_causes : Batch → List (Task Global) → Causes
-doing_causes batch tasks = record no_causes {
+abbrev pub doing_causes : Batch → List (Task Global) → WishCauses
+doing_causes batch tasks = record no_wish_causes {
   pool = λ fault. (calls : List (CallsState Global)) × IsPoolFault batch.database.size batch.registry.programs tasks batch.workers fault calls;
   closing = λ fault. (replies : List (Reply Global)) × ((calls : List (CallsState Global))
       × (AreDone batch.registry.programs tasks batch.workers replies calls × IsRefusedClose (opened_by batch.database) calls fault));
 }
 
 -- the lines, and then the tasks
-abbrev pub task_causes : Batch → Option (List ℕ) → Causes
-task_causes batch input = record no_causes {
-  bad_line = λ number. IfSome input (λ bytes. IsFirstBad Global bytes number);
+abbrev pub task_causes : Batch → Option (List ℕ) → WishCauses
+task_causes batch input = record no_wish_causes {
+  bad_line = λ number. IfSome input (λ bytes. HasBadLine bytes number);
   pool = λ fault. OnTasks batch input (λ tasks. (doing_causes batch tasks).pool fault);
   closing = λ fault. OnTasks batch input (λ tasks. (doing_causes batch tasks).closing fault);
 }
 
 -- a batch: standard input is read once it may begin
-abbrev pub batch_causes : Form → Given → Bor (List ℕ) → Bool → Option (List ℕ) → Causes
+abbrev pub batch_causes : Form → Given → Bor (List ℕ) → Bool → Option (List ℕ) → WishCauses
 batch_causes form given workers is_image input = record (ready_causes form given workers is_image) {
-  reading = OnReady form given workers is_image (λ batch. ⊤);
-  long = OnReady form given workers is_image (λ batch. IsLongScript input);
+  report = record (ready_causes form given workers is_image).report {
+    reading = OnReady form given workers is_image (λ batch. ⊤);
+    long = OnReady form given workers is_image (λ batch. IsLongScript input);
+  };
   bad_line = λ number. OnReady form given workers is_image (λ batch. (task_causes batch input).bad_line number);
   pool = λ fault. OnReady form given workers is_image (λ batch. (task_causes batch input).pool fault);
   closing = λ fault. OnReady form given workers is_image (λ batch. (task_causes batch input).closing fault);

@@ -1,9 +1,6 @@
-pub mod Names
-pub mod Databases
-pub mod Reports
 pub mod Causes
 pub mod Batches
-pub mod Subcommands
+pub mod Services
 pub mod Outcomes
 pub mod FaultText
 pub mod Endings

@@ -4,19 +4,19 @@ use Rattle.std.specs.Io.KnownBytes.{Appends, Keeps}
 use Rattle.sdbm_addr.specs.Database.{Database, IsDatabase}
 use Rattle.dbm_script.specs.Script.{WritesPart}
 use Rattle.dbm_words.specs.declared.wish.Wish.{Wish}
-use Rattle.dbm_tool.specs.declared.serve.Given.{Given}
-use Rattle.dbm_tool.specs.declared.databases.Files.{Files}
-use Rattle.dbm_tool.specs.declared.subcommands.Report.{Report}
+use Rattle.dbm_reports.specs.declared.databases.Given.{Given}
+use Rattle.dbm_reports.specs.declared.databases.Files.{Files}
+use Rattle.dbm_reports.specs.declared.subcommands.Report.{Report}
 use Rattle.dbm_tool.specs.declared.fault.ServeFault.{ServeFault}
 use Rattle.dbm_tool.specs.declared.fault.ServeFault.TheVariants.{FileTooLong, Write, NoMemory}
-use Rattle.dbm_tool.specs.Databases.{AreFilesToWrite, IsTooLong}
-use Rattle.dbm_tool.specs.Causes.{IsCaused}
-use Rattle.dbm_tool.specs.Subcommands.{subcommand_for}
+use Rattle.dbm_reports.specs.Databases.{AreFilesToWrite, IsTooLong}
+use Rattle.dbm_tool.specs.Causes.{HasCause}
+use Rattle.dbm_tool.specs.Services.{service_for}
 
 -- A wish is served: the text of what comes of it was written, the status is its own, and the files are those of its database.
 pub record IsServed (wish : Wish) (given : Given) (input old new : Option (List ℕ)) (status : ℕ) (files : Option Files) : Type 0 where
   pub report : Report
-  pub reports : (subcommand_for wish given input).reports report
+  pub reports : (service_for wish given input).reports report
   pub printed : Appends old new report.text.items
   pub status_is : status ≡ report.status
   pub files_are : AreFilesToWrite report.database files
@@ -24,7 +24,7 @@ pub record IsServed (wish : Wish) (given : Given) (input old new : Option (List 
 -- all of the text was written, and there is a database that is to be written
 pub record WasPrinted (wish : Wish) (given : Given) (input old new : Option (List ℕ)) : Type 0 where
   pub report : Report
-  pub reports : (subcommand_for wish given input).reports report
+  pub reports : (service_for wish given input).reports report
   pub printed : Appends old new report.text.items
   pub database : Database
   pub is : report.database ≡ Some database
@@ -32,13 +32,13 @@ pub record WasPrinted (wish : Wish) (given : Given) (input old new : Option (Lis
 -- the first bytes of the text were written
 pub record WasCutShort (wish : Wish) (given : Given) (input old new : Option (List ℕ)) : Type 0 where
   pub report : Report
-  pub reports : (subcommand_for wish given input).reports report
+  pub reports : (service_for wish given input).reports report
   pub part : WritesPart old new report.text.items
 
 -- all of the text was written, and the database that is to be written is too long
 pub record WasTooLong (wish : Wish) (given : Given) (input old new : Option (List ℕ)) : Type 0 where
   pub report : Report
-  pub reports : (subcommand_for wish given input).reports report
+  pub reports : (service_for wish given input).reports report
   pub printed : Appends old new report.text.items
   pub database : Database
   pub is : report.database ≡ Some database
@@ -51,4 +51,4 @@ abbrev pub IsUnserved : Wish → Given → Option (List ℕ) → Option (List �
 IsUnserved wish given input old new Write = WasCutShort wish given input old new
 IsUnserved wish given input old new FileTooLong = WasTooLong wish given input old new
 IsUnserved wish given input old new NoMemory = Keeps old new ⊎ WasPrinted wish given input old new
-IsUnserved wish given input old new fault = IsCaused (subcommand_for wish given input).causes fault × Keeps old new
+IsUnserved wish given input old new fault = HasCause (service_for wish given input).causes fault × Keeps old new

@@ -1,18 +1,16 @@
 //! The subcommand that runs a program on the records of many keys, by workers side by side.
-ghost use Rattle.std.specs.Prelude.{◌≡◌, ◌++◌, IfOk, IfErr, OnOk, Some, map};
+ghost use Rattle.std.specs.Prelude.{◌≡◌, ◌≤◌, ◌++◌, length, IfOk, IfErr, OnOk, Some, map};
 ghost use Rattle.std.specs.List.{flat_map};
 ghost use Rattle.sdbm_addr.specs.Database.{Database};
 ghost use Rattle.store_shared.specs.Closed.{IsRefusedClose};
 ghost use Rattle.store_shared.specs.Shared.{opened_by};
 ghost use Rattle.dbm_tool.specs.Batches.{DoesTasks, IsClosedAfter, IsReady, IsSubmitted, LeadTo, OnBatch, OnTasks, batch_causes, doing_causes, ready_causes, reply_line, submit_causes, task_causes, task_for};
 ghost use Rattle.dbm_tool.specs.declared.fault.ServeFault.TheVariants.{Close};
-ghost use Rattle.dbm_tool.specs.Causes.{IsCaused};
+ghost use Rattle.dbm_tool.specs.Causes.{HasCause};
 
 use crate::fault::ServeFault;
-use crate::running::database_and_image;
-use crate::serve::Given;
-use crate::subcommands::Report;
-use dbm_script::{RunWords, read_all, read_number, read_tasks, show_reply};
+use dbm_reports::{Given, Report, ReportFault, database_and_image, read_input};
+use dbm_script::{RunWords, read_number, read_tasks, show_reply};
 use dbm_words::Form;
 use prog_registry::{ProgId, Registry};
 use sdbm_files::Image;
@@ -60,10 +58,10 @@ pub fn report_batch<T: Threads + Wait + Sync, R: Read>(
     reader: &mut R,
 ) -> Result<Report, ServeFault>
     ensures ok { IfOk result (OnBatch form given workers.entry is_image (R.remaining reader.old)) }
-    ensures fault { IfErr result (IsCaused (batch_causes form given workers.entry is_image (R.remaining reader.old))) }
+    ensures fault { IfErr result (HasCause (batch_causes form given workers.entry is_image (R.remaining reader.old))) }
 {
     let batch = ready_batch(alloc, given, form, workers, is_image)?;
-    let input = read_all(alloc, reader)?;
+    let input = read_input(alloc, reader)?;
     run_batch(rt, alloc, batch, input.as_slice())
 }
 
@@ -76,10 +74,10 @@ fn ready_batch(
     is_image: bool,
 ) -> Result<Batch, ServeFault>
     ensures ok { IfOk result (IsReady form given workers.entry is_image) }
-    ensures fault { IfErr result (IsCaused (ready_causes form given workers.entry is_image)) }
+    ensures fault { IfErr result (HasCause (ready_causes form given workers.entry is_image)) }
 {
     let Some(workers) = read_number(workers.as_bytes(), WORKERS_MOST) else {
-        return Err(ServeFault::BadNumber);
+        return Err(ServeFault::Report(ReportFault::BadNumber));
     };
     let (database, image) = database_and_image(alloc, given, form, is_image)?;
     let (registry, program) = register(alloc, image.as_slice())?;
@@ -94,7 +92,7 @@ fn ready_batch(
 // A registry with the program of an image alone, and its number.
 fn register(alloc: Global, image: &[u8]) -> Result<(Registry<Global>, ProgId), ServeFault>
     ensures ok { IfOk result (λ r. IsSubmitted image.now r.0.programs r.1) }
-    ensures fault { IfErr result (IsCaused (submit_causes image.now)) }
+    ensures fault { IfErr result (HasCause (submit_causes image.now)) }
 {
     let mut registry = Registry::new(alloc)?;
     let program = registry.submit(image)?;
@@ -108,8 +106,9 @@ fn run_batch<T: Threads + Wait + Sync>(
     batch: Batch,
     input: &[u8],
 ) -> Result<Report, ServeFault>
+    requires { length input.now ≤ 16777216 }
     ensures ok { IfOk result (λ report. OnTasks batch (Some input.now) (λ tasks. DoesTasks batch tasks report)) }
-    ensures fault { IfErr result (IsCaused (task_causes batch (Some input.now))) }
+    ensures fault { IfErr result (HasCause (task_causes batch (Some input.now))) }
 {
     let words = read_tasks(alloc, input)?;
     let tasks = tasks_for(alloc, batch.program, words)?;
@@ -157,7 +156,7 @@ fn do_tasks<T: Threads + Wait + Sync>(
     tasks: &[Task<Global>],
 ) -> Result<Done, ServeFault>
     ensures ok { IfOk result (λ done. LeadTo batch tasks.now done.replies.items done.database) }
-    ensures fault { IfErr result (IsCaused (doing_causes batch tasks.now)) }
+    ensures fault { IfErr result (HasCause (doing_causes batch tasks.now)) }
 {
     let Batch {
         workers,

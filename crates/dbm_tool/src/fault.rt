@@ -2,11 +2,9 @@
 ghost use Rattle.std.specs.Prelude.{◌≡◌};
 ghost use Rattle.dbm_tool.specs.declared.fault.ServeFault.TheVariants.{NoMemory};
 
-use bpf_asm::AsmFault;
-use bpf_insn::DecodeFault;
-use dbm_script::{ScriptFault, TasksFault, WordFault};
+use dbm_reports::{FilesFault, ReportFault};
+use dbm_script::TasksFault;
 use prog_registry::RegFault;
-use sdbm_files::OpenFault;
 use std::alloc::{AllocError, AllocFailed};
 use std::error::Error;
 use std::fmt;
@@ -16,31 +14,18 @@ use worker_pool::PoolFault;
 /// Why a wish was not served. It prints as the text that stands behind `dbm: ` on standard error.
 #[derive(Clone, Copy, Debug, PartialEq, Eq)]
 pub enum ServeFault {
+    /// A word of the command line is not UTF-8.
+    NotText,
     /// A file could not be read.
     ReadFile,
     /// A file is longer than the program takes, or would be after the command.
     FileTooLong,
     /// A file could not be written.
     WriteFile,
-    /// A key, a value or an argument is no hex and no dot.
-    BadHex,
-    /// A blank is neither a dot nor a number below 65,536, a time is no number below 2^64, or a number of workers none below 2^32.
-    /// Numbers have no leading zeros.
-    BadNumber,
-    /// The files are no database.
-    Open(OpenFault),
-    /// A word of the command line, or the file of a program's text, is not UTF-8.
-    NotText,
-    /// The text is no program.
-    Assemble(AsmFault),
-    /// The image is no program.
-    Decode(DecodeFault),
+    /// Nothing comes of the words, the files and standard input. The fault within is never `NoMemory`.
+    Report(ReportFault),
     /// The program of a batch gets no number.
     Submit(RegFault),
-    /// Standard input could not be read.
-    Read,
-    /// There are more than 16,777,216 bytes on standard input.
-    TooLong,
     /// The line of a batch with this number, from 1 on, asks no task.
     BadLine(usize),
     /// Not all tasks of a batch were done.
@@ -61,18 +46,12 @@ impl fmt::Display for ServeFault {
 
     fn fmt<W: fmt::Write>(&self, f: &mut fmt::Formatter<W>) -> fmt::Result {
         match self {
+            ServeFault::NotText => write!(f, "NotText"),
             ServeFault::ReadFile => write!(f, "ReadFile"),
             ServeFault::FileTooLong => write!(f, "FileTooLong"),
             ServeFault::WriteFile => write!(f, "WriteFile"),
-            ServeFault::BadHex => write!(f, "BadHex"),
-            ServeFault::BadNumber => write!(f, "BadNumber"),
-            ServeFault::Open(fault) => write!(f, "{fault}"),
-            ServeFault::NotText => write!(f, "NotText"),
-            ServeFault::Assemble(fault) => write!(f, "{fault}"),
-            ServeFault::Decode(fault) => write!(f, "{fault}"),
+            ServeFault::Report(fault) => write!(f, "{fault}"),
             ServeFault::Submit(fault) => write!(f, "{fault}"),
-            ServeFault::Read => write!(f, "Read"),
-            ServeFault::TooLong => write!(f, "TooLong"),
             ServeFault::BadLine(number) => write!(f, "bad line {number}"),
             ServeFault::Pool(fault) => write!(f, "{fault}"),
             ServeFault::Close(fault) => write!(f, "{fault}"),
@@ -100,31 +79,28 @@ impl<T: Drop> From<AllocFailed<T>> for ServeFault {
     }
 }
 
-impl From<ScriptFault> for ServeFault {
-    ghost use Rattle.dbm_tool.specs.Causes.{stream_fault};
+impl From<ReportFault> for ServeFault {
+    ghost use Rattle.dbm_tool.specs.Causes.{report_fault};
 
-    ghost from_gives = { λ reason fault. fault ≡ stream_fault reason };
+    ghost from_gives = { λ reason fault. fault ≡ report_fault reason };
 
-    fn from(fault: ScriptFault) -> ServeFault {
+    fn from(fault: ReportFault) -> ServeFault {
         match fault {
-            ScriptFault::Read => ServeFault::Read,
-            ScriptFault::TooLong => ServeFault::TooLong,
-            ScriptFault::Write => ServeFault::Write,
-            ScriptFault::NoMemory => ServeFault::NoMemory,
+            ReportFault::NoMemory => ServeFault::NoMemory,
+            fault => ServeFault::Report(fault),
         }
     }
 }
 
-impl From<WordFault> for ServeFault {
-    ghost use Rattle.dbm_tool.specs.Causes.{word_fault};
+impl From<FilesFault> for ServeFault {
+    ghost use Rattle.dbm_tool.specs.Causes.{files_fault};
 
-    ghost from_gives = { λ reason fault. fault ≡ word_fault reason };
+    ghost from_gives = { λ reason fault. fault ≡ files_fault reason };
 
-    fn from(fault: WordFault) -> ServeFault {
+    fn from(fault: FilesFault) -> ServeFault {
         match fault {
-            WordFault::BadHex => ServeFault::BadHex,
-            WordFault::BadNumber => ServeFault::BadNumber,
-            WordFault::NoMemory => ServeFault::NoMemory,
+            FilesFault::TooLong => ServeFault::FileTooLong,
+            FilesFault::NoMemory => ServeFault::NoMemory,
         }
     }
 }

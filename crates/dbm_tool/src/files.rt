@@ -1,9 +1,9 @@
 //! The files that a wish names, read and written.
-use crate::databases::Files as Written;
 use crate::fault::ServeFault;
 use crate::lock::take;
-use crate::names::{Source, Target, lock_of, put, sources, target_of, targets_of};
-use crate::serve::Given;
+use dbm_reports::{
+    Files as Written, Given, Source, Target, lock_of, put, sources, target_of, targets_of,
+};
 use dbm_words::Wish;
 use std::fs::{File, OpenFile};
 use std::io::{ErrorKind, Read, Write};
@@ -141,7 +141,7 @@ fn placed<'a, R: Files + AllocGlobal>(
         _ => return Ok(target),
     }
     match fs::canonicalize(rt, target.name.as_str()) {
-        Ok(real) => target_of(rt.alloc(), real.into_string(), target.bytes),
+        Ok(real) => Ok(target_of(rt.alloc(), real.into_string(), target.bytes)?),
         Err(error) if error.kind() == ErrorKind::OutOfMemory => Err(ServeFault::NoMemory),
         Err(_) => Err(ServeFault::WriteFile),
     }

@@ -1,6 +1,6 @@
 //! The lock of a database, which keeps runs of the program apart.
 use crate::fault::ServeFault;
-use crate::names::LockFile;
+use dbm_reports::LockFile;
 use std::fs;
 use std::fs::{File, OpenOptions};
 use std::rt::Files;

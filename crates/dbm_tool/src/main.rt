@@ -4,17 +4,11 @@
 ghost use Rattle.dbm_tool.specs.Endings.{IsTold};
 
 mod batch;
-mod databases;
 mod ending;
 mod fault;
 mod files;
-mod listing;
 mod lock;
-mod names;
-mod programs;
-mod running;
 mod serve;
-mod subcommands;
 
 use dbm_words::{Wish, read_words};
 use ending::{Ending, ending_of, exit_status};

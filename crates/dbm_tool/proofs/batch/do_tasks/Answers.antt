@@ -5,7 +5,7 @@ use Rattle.store_shared.specs.Shared.{Opened}
 use Rattle.worker_pool.specs.Pool.{IsPoolFault}
 use Rattle.dbm_tool.specs.declared.fault.ServeFault.{ServeFault}
 use Rattle.dbm_tool.specs.Batches.{doing_causes}
-use Rattle.dbm_tool.specs.Causes.{IsCaused}
+use Rattle.dbm_tool.specs.Causes.{HasCause}
 use Rattle.dbm_tool.proofs.BatchFaults.{closing_fault, jobs_fault}
 use Rattle.dbm_tool.proofs.batch.do_tasks.Goals as goal
 
@@ -17,7 +17,7 @@ returns-in-Ok-run_jobs-clause-fault g c =
 
 pub returns-clause-fault : goal.returns-clause-fault
 returns-clause-fault g c =
-    subst (λ (fault : ServeFault). IsCaused (doing_causes c.args.batch c.args.tasks.now) fault) (sym c.from.ensures)
+    subst (λ (fault : ServeFault). HasCause (doing_causes c.args.batch c.args.tasks.now) fault) (sym c.from.ensures)
     (jobs_fault c.args.batch c.args.tasks.now c.in-Err._calls.items c.in-Err.fault
     (subst (λ (size : PageSize). IsPoolFault size c.args.batch.registry.programs c.args.tasks.now c.args.batch.workers c.in-Err.fault c.in-Err._calls.items)
     (ap (λ (o : Opened). o.size) c.in-Ok.ensures.ok) c.in-Err.ensures.err))

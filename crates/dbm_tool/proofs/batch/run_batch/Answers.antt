@@ -3,21 +3,21 @@ use Rattle.std.specs.List.{flat_map}
 use Rattle.std.specs.declared.alloc.Global.{Global}
 use Rattle.worker_pool.specs.declared.task.Task.{Task}
 use Rattle.dbm_tool.specs.Batches.{LeadTo, reply_line, task_causes}
-use Rattle.dbm_tool.specs.Causes.{IsCaused}
+use Rattle.dbm_tool.specs.Causes.{HasCause}
 use Rattle.dbm_tool.proofs.BatchFaults.{doing_fault}
-use Rattle.dbm_tool.proofs.Faults.{as_err}
+use Rattle.dbm_reports.proofs.Faults.{as_err}
 use Rattle.dbm_tool.proofs.batch.run_batch.Goals as goal
 
 pub returns-in_err-done-clause-fault : goal.returns-in_err-done-clause-fault
 returns-in_err-done-clause-fault g c =
-    as_err (IsCaused (task_causes c.args.batch (Some c.args.input.now))) _ c.from_residual-in_err-done.ensures.1
-    (doing_fault c.args.batch c.args.input.now c.in_ok-words.words.items c.as_slice.result.now _ c.in_ok-words.ensures.ok (c.as_slice.ensures.value ∙ c.in_ok-tasks.ensures) c.in_err-done.ensures.fault)
+    as_err (HasCause (task_causes c.args.batch (Some c.args.input.now))) _ c.from_residual-in_err-done.ensures.1
+    (doing_fault c.args.batch c.args.input.now c.in_ok-words.words.items c.as_slice.result.now _ (record { short = c.requires; are = c.in_ok-words.ensures.ok }) (c.as_slice.ensures.value ∙ c.in_ok-tasks.ensures) c.in_err-done.ensures.fault)
 
 pub returns-clause-ok : goal.returns-clause-ok
 returns-clause-ok g c = (
   c.in_ok-words.words.items,
   (
-    c.in_ok-words.ensures.ok,
+    record { short = c.requires; are = c.in_ok-words.ensures.ok },
     record {
       replies = c.in_ok-done.done.replies.items;
       after = c.in_ok-done.done.database;

@@ -1,0 +1,47 @@
+-- Wishes after which files are written.
+use Rattle.std.proofs.Common.{◌≡◌, ℕ, List, Option, Some, None, is_some, true, inl, inr, refl, ap}
+use Rattle.sdbm_addr.specs.Database.{Database}
+use Rattle.dbm_words.specs.Wishes.{writes_files}
+use Rattle.dbm_words.specs.declared.wish.Wish.{Wish}
+use Rattle.dbm_words.specs.declared.wish.Wish.TheVariants as wish
+use Rattle.dbm_reports.specs.declared.databases.Files.{Files}
+use Rattle.dbm_reports.specs.declared.subcommands.Report.{Report}
+use Rattle.dbm_reports.specs.declared.databases.Given.{Given}
+use Rattle.std.specs.declared.alloc.Global.{Global}
+use Rattle.dbm_script.specs.declared.run_words.RunWords.{RunWords}
+use Rattle.dbm_reports.specs.Databases.{AreFilesToWrite}
+use Rattle.dbm_reports.specs.Reports.{Judges, RunsImage}
+use Rattle.dbm_reports.specs.Subcommands.{subcommand_for}
+
+-- what is said of an image changes no file
+judged_alone : (image : List ℕ) (report : Report) → Judges image report → report.database ≡ None
+judged_alone image report (inl h) = h.1.written
+judged_alone image report (inr h) = h.1.1.written
+
+-- after a run there is a database to be written
+ran_on : (before : Database) (words : RunWords Global) (image : List ℕ) (report : Report) → RunsImage before words image report → is_some report.database ≡ true
+ran_on before words image report (inl h) = ap (λ (db : Option Database). is_some db) h.1.1.1.1
+ran_on before words image report (inr h) = ap (λ (db : Option Database). is_some db) h.1.1.written
+
+-- a subcommand reports a database exactly where its files are written
+pub database_given : (wish : Wish) (given : Given) (input : Option (List ℕ)) (report : Report)
+    → (subcommand_for wish given input).reports report → is_some report.database ≡ writes_files wish
+database_given (wish.Fetch base form key) given input report comes = ap (λ (db : Option Database). is_some db) comes.holds.1.1
+database_given (wish.Store base form key value insert) given input report comes = ap (λ (db : Option Database). is_some db) comes.holds.1.1
+database_given (wish.Delete base form key) given input report comes = ap (λ (db : Option Database). is_some db) comes.holds.1.1
+database_given (wish.Run base form key file arg blank now image) given input report comes = ran_on comes.before comes.words comes.image report comes.runs
+database_given (wish.Batch base form file workers image) given input report comes = absurd comes
+database_given (wish.List base form) given input report comes = ap (λ (db : Option Database). is_some db) comes.1.1.written
+database_given (wish.Check base form) given input report comes = ap (λ (db : Option Database). is_some db) comes.1.1.written
+database_given (wish.Script None form) given input report comes = ap (λ (db : Option Database). is_some db) comes.1.1
+database_given (wish.Script (Some base) form) given input report comes = ap (λ (db : Option Database). is_some db) comes.1.1.1.1
+database_given (wish.Widen base unsigned) given input report comes = ap (λ (db : Option Database). is_some db) comes.1.1.written
+database_given (wish.Asm file) given input report comes = ap (λ (db : Option Database). is_some db) comes.1.written
+database_given (wish.Disasm file) given input report comes = ap (λ (db : Option Database). is_some db) comes.1.written
+database_given (wish.Verify file image) given input report comes = ap (λ (db : Option Database). is_some db) (judged_alone comes.0 report comes.1.1)
+
+pub files_given : (database : Option Database) (files : Option Files) → AreFilesToWrite database files → is_some files ≡ is_some database
+files_given None None are = refl
+files_given None (Some files) are = absurd are
+files_given (Some db) None are = absurd are
+files_given (Some db) (Some files) are = refl

@@ -1,0 +1,6 @@
+pub mod PairLines
+pub mod Faults
+pub mod Playing
+pub mod RunFaults
+pub mod FilesGiven
+pub mod Examples

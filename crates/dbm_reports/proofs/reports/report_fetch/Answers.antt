@@ -1,0 +1,12 @@
+use Rattle.std.proofs.Common.{ap, sym, ◌∙◌, ◌∷◌, [], List, ℕ, codes}
+use Rattle.dbm_script.specs.Commands.{command_of}
+use Rattle.dbm_reports.proofs.reports.report_fetch.Goals as goal
+
+pub returns-clause-ok : goal.returns-clause-ok
+returns-clause-ok c = record {
+  before = c.in_ok-image.image;
+  opened = c.in_ok-image.ensures.ok.0;
+  command = c.in_ok-image.command;
+  is = ap (λ (key : List ℕ). command_of (codes "fetch" ∷ (key ∷ []))) (sym c.as_bytes.ensures.value) ∙ c.in_ok-image.ensures.ok.1;
+  holds = c.in_ok-look.ensures;
+}

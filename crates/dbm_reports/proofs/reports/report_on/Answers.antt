@@ -1,0 +1,16 @@
+use Rattle.dbm_reports.proofs.reports.report_on.Goals as goal
+
+pub returns-in-List-clause-ok : goal.returns-in-List-clause-ok
+returns-in-List-clause-ok g c = rw (c.in-List.is) c.report_list.ensures.ok
+
+pub returns-in-Check-clause-ok : goal.returns-in-Check-clause-ok
+returns-in-Check-clause-ok g c = rw (c.in-Check.is) c.report_check.ensures.ok
+
+pub returns-in-Script-clause-ok : goal.returns-in-Script-clause-ok
+returns-in-Script-clause-ok g c = rw (c.in-Script.is, c.in-Script.base-is) c.report_script.ensures.ok
+
+pub returns-in-Widen-clause-ok : goal.returns-in-Widen-clause-ok
+returns-in-Widen-clause-ok g c = rw (c.in-Widen.is) c.report_widen.ensures.ok
+
+pub returns-in-Run-clause-fault : goal.returns-in-Run-clause-fault
+returns-in-Run-clause-fault g c = rw (c.in-Run.is) c.report_run.ensures.fault

@@ -1,0 +1,57 @@
+-- Databases from files and to files.
+use Rattle.std.specs.Prelude.{◌≡◌, ℕ, ◌≤◌, ◌<◌, Bool, cond, List, [], length, Option, Some, None, ⊤}
+use Rattle.sdbm_addr.specs.declared.KeyBytes.{KeyBytes}
+use Rattle.sdbm_addr.specs.declared.KeyBytes.TheVariants.{Signed, Unsigned}
+use Rattle.sdbm_addr.specs.declared.PageSize.{PageSize}
+use Rattle.sdbm_addr.specs.declared.PageSize.TheVariants.{Small, Wide}
+use Rattle.sdbm_addr.specs.Database.{Database}
+use Rattle.sdbm_addr.specs.Files.{ArePagBytes, SpellsDatabase}
+use Rattle.sdbm_files.specs.Opened.{IsOpenFault}
+use Rattle.sdbm_files.specs.Written.{IsWritten}
+use Rattle.sdbm_files.specs.declared.opening.OpenFault.{OpenFault}
+use Rattle.dbm_words.specs.declared.wish.Form.{Form}
+use Rattle.dbm_reports.specs.declared.databases.Given.{Given}
+use Rattle.dbm_reports.specs.declared.databases.Files.{Files}
+
+-- how keys hash and how large pages are, by the options
+abbrev pub key_bytes_of : Bool → KeyBytes
+key_bytes_of unsigned = cond unsigned Unsigned Signed
+
+abbrev pub page_size_of : Bool → PageSize
+page_size_of wide = cond wide Wide Small
+
+-- the files, read as the form says, spell this database and no other
+pub record IsOpened (form : Form) (given : Given) (db : Database) : Type 0 where
+  pub spells : SpellsDatabase db given.dir.items given.pag.items
+  pub kind : db.kind ≡ key_bytes_of form.unsigned
+  pub size : db.size ≡ page_size_of form.wide
+  pub only : (other : Database) → other.kind ≡ key_bytes_of form.unsigned → other.size ≡ page_size_of form.wide
+      → SpellsDatabase other given.dir.items given.pag.items → other ≡ db
+
+-- the files open
+abbrev pub Opens : Form → Given → Type 0
+Opens form given = (db : Database) × IsOpened form given db
+
+-- why the files do not open
+abbrev pub IsShut : Form → Given → OpenFault → Type 0
+IsShut form given = IsOpenFault (key_bytes_of form.unsigned) (page_size_of form.wide) given.dir.items given.pag.items
+
+-- the program writes no `.pag` that is longer
+abbrev pub pag_limit : ℕ
+pag_limit = 1073741824
+
+-- the bytes that a write of the database gives, with a `.pag` that is not too long
+pub record AreFilesOf (db : Database) (files : Files) : Type 0 where
+  pub written : IsWritten db [] files.dir.bytes [] files.pag.bytes
+  pub short : length files.pag.bytes ≤ pag_limit
+
+-- the `.pag` of a database is longer than the program writes
+abbrev pub IsTooLong : Database → Type 0
+IsTooLong db = (pag : List ℕ) → ArePagBytes db pag → pag_limit < length pag
+
+-- the files of the database that is to be written, and none where none is
+abbrev pub AreFilesToWrite : Option Database → Option Files → Type 0
+AreFilesToWrite None None = ⊤
+AreFilesToWrite None (Some files) = ⊥
+AreFilesToWrite (Some db) None = ⊥
+AreFilesToWrite (Some db) (Some files) = AreFilesOf db files

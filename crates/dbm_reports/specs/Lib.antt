@@ -1,0 +1,6 @@
+pub mod Names
+pub mod Databases
+pub mod Causes
+pub mod Reports
+pub mod Subcommands
+pub mod FaultText

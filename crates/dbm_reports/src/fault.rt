@@ -1,0 +1,88 @@
+//! Why nothing comes of a wish.
+ghost use Rattle.std.specs.Prelude.{◌≡◌};
+ghost use Rattle.dbm_reports.specs.declared.fault.ReportFault.TheVariants.{NoMemory};
+
+use bpf_asm::AsmFault;
+use bpf_insn::DecodeFault;
+use dbm_script::WordFault;
+use sdbm_files::OpenFault;
+use std::alloc::{AllocError, AllocFailed};
+use std::error::Error;
+use std::fmt;
+
+/// Why nothing comes of a wish. It prints as its name, or as the fault within it.
+#[derive(Clone, Copy, Debug, PartialEq, Eq)]
+pub enum ReportFault {
+    /// A key, a value or an argument is no hex and no dot.
+    BadHex,
+    /// A blank is neither a dot nor a number below 65,536, a time is no number below 2^64, or a number of workers none below 2^32.
+    /// Numbers have no leading zeros.
+    BadNumber,
+    /// The files are no database.
+    Open(OpenFault),
+    /// The file of a program's text is not UTF-8.
+    NotText,
+    /// The text is no program.
+    Assemble(AsmFault),
+    /// The image is no program.
+    Decode(DecodeFault),
+    /// Standard input could not be read.
+    Read,
+    /// There are more than 16,777,216 bytes on standard input.
+    TooLong,
+    /// No memory is left.
+    NoMemory,
+}
+
+impl fmt::Display for ReportFault {
+    ghost use Rattle.std.specs.Prelude.{Some};
+    ghost use Rattle.dbm_reports.specs.FaultText.{fault_text};
+
+    ghost output = { λ fault. Some (fault_text fault) };
+
+    fn fmt<W: fmt::Write>(&self, f: &mut fmt::Formatter<W>) -> fmt::Result {
+        match self {
+            ReportFault::BadHex => write!(f, "BadHex"),
+            ReportFault::BadNumber => write!(f, "BadNumber"),
+            ReportFault::Open(fault) => write!(f, "{fault}"),
+            ReportFault::NotText => write!(f, "NotText"),
+            ReportFault::Assemble(fault) => write!(f, "{fault}"),
+            ReportFault::Decode(fault) => write!(f, "{fault}"),
+            ReportFault::Read => write!(f, "Read"),
+            ReportFault::TooLong => write!(f, "TooLong"),
+            ReportFault::NoMemory => write!(f, "NoMemory"),
+        }
+    }
+}
+
+impl Error for ReportFault {}
+
+impl From<AllocError> for ReportFault {
+    ghost from_gives = { λ _ fault. fault ≡ NoMemory };
+
+    fn from(_error: AllocError) -> ReportFault {
+        ReportFault::NoMemory
+    }
+}
+
+impl<T: Drop> From<AllocFailed<T>> for ReportFault {
+    ghost from_gives = { λ _ fault. fault ≡ NoMemory };
+
+    fn from(_error: AllocFailed<T>) -> ReportFault {
+        ReportFault::NoMemory
+    }
+}
+
+impl From<WordFault> for ReportFault {
+    ghost use Rattle.dbm_reports.specs.Causes.{word_fault};
+
+    ghost from_gives = { λ reason fault. fault ≡ word_fault reason };
+
+    fn from(fault: WordFault) -> ReportFault {
+        match fault {
+            WordFault::BadHex => ReportFault::BadHex,
+            WordFault::BadNumber => ReportFault::BadNumber,
+            WordFault::NoMemory => ReportFault::NoMemory,
+        }
+    }
+}

@@ -1,0 +1,20 @@
+//! What comes of each subcommand of the program but a batch: which files it reads, what it prints, and which files it writes.
+#![tactic(auto)]
+
+mod databases;
+mod fault;
+mod listing;
+mod names;
+mod programs;
+mod reports;
+mod running;
+mod subcommands;
+
+pub use databases::{Files, FilesFault, Given, PAG_LIMIT, files_to_write};
+pub use fault::ReportFault;
+pub use names::{
+    LockFile, Part, Source, Target, Targets, lock_of, put, sources, target_of, targets_of,
+};
+pub use reports::{read_input, report_on};
+pub use running::{RunTexts, database_and_image};
+pub use subcommands::Report;

@@ -1,0 +1,222 @@
+//! What comes of each subcommand, from its words, the bytes of its files and standard input.
+ghost use Rattle.std.specs.Prelude.{◌≡◌, ◌≤◌, ◌∷◌, false, length, map, IfOk, IfErr, IfSome, Some};
+ghost use Rattle.dbm_script.specs.Commands.{command_of};
+ghost use Rattle.dbm_words.specs.declared.wish.Wish.TheVariants as wish;
+ghost use Rattle.dbm_reports.specs.Causes.{IsCaused, command_causes, opening_causes, input_causes, script_causes};
+ghost use Rattle.dbm_reports.specs.Databases.{IsOpened};
+ghost use Rattle.dbm_reports.specs.Reports.{OnCommand, OnDatabase, Looks, Changes, Lists, Counts, PlaysAlone, PlaysOn, Widens, delete_words, fetch_words, small_form, store_name, store_words};
+ghost use Rattle.dbm_reports.specs.Subcommands.{is_batch, is_script, subcommand_for};
+
+use crate::databases::{Given, key_bytes_of, open, page_size_of};
+use crate::fault::ReportFault;
+use crate::programs::{assemble_file, disassemble_file, verify_file};
+use crate::running::{RunTexts, report_run};
+use crate::subcommands::{Report, change, check, list, look, play, printed, widen_pages};
+use dbm_script::{ScriptFault, read_all, read_command};
+use dbm_words::{Form, Wish};
+use sdbm_files::Image;
+use std::alloc::Global;
+use std::io::Read;
+use store_cmd::Command;
+
+/// All of standard input, at most 16,777,216 bytes.
+///
+/// # Errors
+/// `Read` where it could not be read or a read was interrupted, `TooLong` above that many bytes, and `NoMemory`. What was read until
+/// then is gone.
+pub fn read_input<R: Read>(alloc: Global, reader: &mut R) -> Result<Vec<u8>, ReportFault>
+    ensures ok { IfOk result (λ all. IfSome (R.remaining reader.old) (λ input. all.items ≡ input)) }
+    ensures short { IfOk result (λ all. length all.items ≤ 16777216) }
+    ensures fault { IfErr result (IsCaused (input_causes (R.remaining reader.old))) }
+{
+    match read_all(alloc, reader) {
+        Ok(all) => Ok(all),
+        Err(ScriptFault::Read) => Err(ReportFault::Read),
+        Err(ScriptFault::TooLong) => Err(ReportFault::TooLong),
+        Err(ScriptFault::NoMemory) => Err(ReportFault::NoMemory),
+        Err(ScriptFault::Write) => unreachable!(),
+    }
+}
+
+/// What comes of a wish that asks no batch. It is found before a line is written, and standard input is read for a script alone.
+///
+/// # Errors
+/// The first that is met, in this order: `BadHex` where a word is no bytes, `BadNumber` where one is no number; `Open` where the
+/// files do not open; `NotText` and `Assemble` where a program's file is no text of one, `Decode` where it is no image; of a script,
+/// those of `read_input`. `NoMemory` may come at any step. The bytes of the files are let go, and nothing else changes.
+pub fn report_on<R: Read>(
+    alloc: Global,
+    wish: Wish<'_>,
+    given: Given,
+    reader: &mut R,
+) -> Result<Report, ReportFault>
+    requires { is_batch wish ≡ false }
+    ensures ok { IfOk result (λ report. (subcommand_for wish.entry given (R.remaining reader.old)).reports report) }
+    ensures fault { IfErr result (IsCaused (subcommand_for wish.entry given (R.remaining reader.old)).causes) }
+    ensures unread { is_script wish.entry ≡ false → R.remaining reader.new ≡ R.remaining reader.old }
+{
+    match wish {
+        Wish::Fetch { form, key, .. } => report_fetch(alloc, given, form, key),
+        Wish::Store {
+            form,
+            key,
+            value,
+            insert,
+            ..
+        } => report_store(alloc, given, form, key, value, insert),
+        Wish::Delete { form, key, .. } => report_delete(alloc, given, form, key),
+        Wish::Run {
+            form,
+            key,
+            arg,
+            blank,
+            now,
+            image,
+            ..
+        } => {
+            let texts = RunTexts {
+                key,
+                arg,
+                blank,
+                now,
+            };
+            report_run(alloc, given, form, texts, image)
+        }
+        Wish::List { form, .. } => report_list(alloc, given, form),
+        Wish::Check { form, .. } => report_check(alloc, given, form),
+        Wish::Script { base, form } => report_script(alloc, given, base, form, reader),
+        Wish::Widen { unsigned, .. } => report_widen(alloc, given, unsigned),
+        Wish::Asm { .. } => assemble_file(alloc, given.file.as_slice()),
+        Wish::Disasm { .. } => disassemble_file(alloc, given.file.as_slice()),
+        Wish::Verify { image, .. } => verify_file(alloc, given.file, image),
+        Wish::Batch { .. } => unreachable!(),
+    }
+}
+
+// The command that words ask, and the database of the files. The words are read first.
+fn command_on(
+    alloc: Global,
+    given: Given,
+    form: Form,
+    name: &[u8],
+    args: &[&[u8]],
+) -> Result<(Image<Global>, Command<Global>), ReportFault>
+    ensures ok { IfOk result (λ r. IsOpened form given r.0 × (command_of (name.now ∷ map (λ x. x.now) args.now) ≡ Some r.1)) }
+    ensures fault { IfErr result (IsCaused (command_causes form given (name.now ∷ map (λ x. x.now) args.now))) }
+{
+    let Some(command) = read_command(alloc, name, args)? else {
+        return Err(ReportFault::BadHex);
+    };
+    let image = open(alloc, given, form)?;
+    Ok((image, command))
+}
+
+fn report_fetch(alloc: Global, given: Given, form: Form, key: &str) -> Result<Report, ReportFault>
+    ensures ok { IfOk result (λ report. OnCommand form given (fetch_words key.entry) (λ db command. Looks db command report)) }
+    ensures fault { IfErr result (IsCaused (command_causes form given (fetch_words key.entry))) }
+{
+    let (image, command) = command_on(alloc, given, form, b"fetch", &[key.as_bytes()])?;
+    Ok(look(alloc, image, command)?)
+}
+
+fn report_store<'a>(
+    alloc: Global,
+    given: Given,
+    form: Form,
+    key: &'a str,
+    value: &'a str,
+    insert: bool,
+) -> Result<Report, ReportFault>
+    ensures ok { IfOk result (λ report. OnCommand form given (store_words key.entry value.entry insert) (λ db command. Changes db command report)) }
+    ensures fault { IfErr result (IsCaused (command_causes form given (store_words key.entry value.entry insert))) }
+{
+    let name = store_name(insert);
+    let args = [key.as_bytes(), value.as_bytes()];
+    let (image, command) = command_on(alloc, given, form, name, &args)?;
+    Ok(change(alloc, image, command)?)
+}
+
+// The name of the command of a store.
+fn store_name(insert: bool) -> &'static [u8]
+    ensures { result.now ≡ store_name insert }
+{
+    if insert { b"insert" } else { b"replace" }
+}
+
+fn report_delete(alloc: Global, given: Given, form: Form, key: &str) -> Result<Report, ReportFault>
+    ensures ok { IfOk result (λ report. OnCommand form given (delete_words key.entry) (λ db command. Changes db command report)) }
+    ensures fault { IfErr result (IsCaused (command_causes form given (delete_words key.entry))) }
+{
+    let (image, command) = command_on(alloc, given, form, b"delete", &[key.as_bytes()])?;
+    Ok(change(alloc, image, command)?)
+}
+
+fn report_list(alloc: Global, given: Given, form: Form) -> Result<Report, ReportFault>
+    ensures ok { IfOk result (λ report. OnDatabase form given (Lists report)) }
+    ensures fault { IfErr result (IsCaused (opening_causes form given)) }
+{
+    let image = open(alloc, given, form)?;
+    Ok(list(alloc, &image)?)
+}
+
+fn report_check(alloc: Global, given: Given, form: Form) -> Result<Report, ReportFault>
+    ensures ok { IfOk result (λ report. OnDatabase form given (Counts report)) }
+    ensures fault { IfErr result (IsCaused (opening_causes form given)) }
+{
+    let image = open(alloc, given, form)?;
+    Ok(check(alloc, &image)?)
+}
+
+fn report_script<R: Read>(
+    alloc: Global,
+    given: Given,
+    base: Option<&str>,
+    form: Form,
+    reader: &mut R,
+) -> Result<Report, ReportFault>
+    ensures ok { IfOk result (λ report. (subcommand_for (wish.Script base.entry form) given (R.remaining reader.old)).reports report) }
+    ensures fault { IfErr result (IsCaused (subcommand_for (wish.Script base.entry form) given (R.remaining reader.old)).causes) }
+{
+    match base {
+        None => report_alone(alloc, form, reader),
+        Some(_) => report_played(alloc, given, form, reader),
+    }
+}
+
+// A script on an empty database, which is not kept.
+fn report_alone<R: Read>(alloc: Global, form: Form, reader: &mut R) -> Result<Report, ReportFault>
+    ensures ok { IfOk result (PlaysAlone form (R.remaining reader.old)) }
+    ensures fault { IfErr result (IsCaused (input_causes (R.remaining reader.old))) }
+{
+    let image = Image::empty(alloc, key_bytes_of(form), page_size_of(form));
+    let script = read_input(alloc, reader)?;
+    let Report { text, .. } = play(alloc, image, script.as_slice())?;
+    Ok(printed(text))
+}
+
+// A script on the database of the files.
+fn report_played<R: Read>(
+    alloc: Global,
+    given: Given,
+    form: Form,
+    reader: &mut R,
+) -> Result<Report, ReportFault>
+    ensures ok { IfOk result (λ report. OnDatabase form given (PlaysOn (R.remaining reader.old) report)) }
+    ensures fault { IfErr result (IsCaused (script_causes form given (R.remaining reader.old))) }
+{
+    let image = open(alloc, given, form)?;
+    let script = read_input(alloc, reader)?;
+    Ok(play(alloc, image, script.as_slice())?)
+}
+
+fn report_widen(alloc: Global, given: Given, unsigned: bool) -> Result<Report, ReportFault>
+    ensures ok { IfOk result (λ report. OnDatabase (small_form unsigned) given (Widens report)) }
+    ensures fault { IfErr result (IsCaused (opening_causes (small_form unsigned) given)) }
+{
+    let form = Form {
+        unsigned,
+        wide: false,
+    };
+    let image = open(alloc, given, form)?;
+    Ok(widen_pages(alloc, image)?)
+}

@@ -1,0 +1,121 @@
+//! The subcommand that runs a program on the record of a key.
+ghost use Rattle.std.specs.Prelude.{◌≡◌, ◌⊎◌, IfOk, IfErr, None, Some, slice_get, IsSome};
+ghost use Rattle.bpf_verify.specs.Verified.{Accepted};
+ghost use Rattle.store_cmd.specs.declared.Command.TheVariants as command;
+ghost use Rattle.dbm_reports.specs.Causes.{AreRunWords, IsCaused, no_causes, program_causes, run_causes, word_causes};
+ghost use Rattle.dbm_reports.specs.Databases.{IsOpened};
+ghost use Rattle.dbm_reports.specs.Reports.{Changes, IsFileImage, OnRun, RunsImage};
+
+use crate::databases::{Given, open};
+use crate::fault::ReportFault;
+use crate::programs::{file_image, refused};
+use crate::subcommands::{Report, change};
+use dbm_script::{RunAsk, RunWords, command_of_run, read_run_words};
+use dbm_words::Form;
+use prog_registry::Registry;
+use sdbm_files::Image;
+use std::alloc::{AllocError, Global};
+
+/// The words of a run as they were given.
+#[derive(Clone, Copy, Debug, PartialEq, Eq)]
+pub struct RunTexts<'a> {
+    pub key: &'a str,
+    pub arg: &'a str,
+    pub blank: &'a str,
+    pub now: &'a str,
+}
+
+/// The answer to a run of the program of a file on the database of the files, which is to be written after it; or why the program
+/// gets no number, as a line of a script would say it that submits its image first.
+///
+/// # Errors
+/// The first of: `BadHex` and `BadNumber` of the words, those of `open`, those of `file_image`; and `NoMemory`.
+pub fn report_run(
+    alloc: Global,
+    given: Given,
+    form: Form,
+    texts: RunTexts<'_>,
+    is_image: bool,
+) -> Result<Report, ReportFault>
+    ensures ok { IfOk result (OnRun form given texts.entry is_image) }
+    ensures fault { IfErr result (IsCaused (run_causes form given texts.entry is_image)) }
+{
+    let words = run_words(alloc, texts)?;
+    let (database, image) = database_and_image(alloc, given, form, is_image)?;
+    Ok(run_image(alloc, database, image.as_slice(), words)?)
+}
+
+// What the words mean, read from left to right.
+fn run_words(alloc: Global, texts: RunTexts<'_>) -> Result<RunWords<Global>, ReportFault>
+    ensures ok { IfOk result (AreRunWords texts.entry) }
+    ensures fault { IfErr result (IsCaused (word_causes texts.entry)) }
+{
+    let (key, arg) = (texts.key.as_bytes(), texts.arg.as_bytes());
+    let (blank, now) = (texts.blank.as_bytes(), texts.now.as_bytes());
+    Ok(read_run_words(alloc, key, arg, blank, now)?)
+}
+
+/// The database of the files, and then the image of the program's file.
+///
+/// # Errors
+/// Those of `open`, and then those of `file_image`.
+pub fn database_and_image(
+    alloc: Global,
+    given: Given,
+    form: Form,
+    is_image: bool,
+) -> Result<(Image<Global>, Vec<u8>), ReportFault>
+    ensures ok { IfOk result (λ r. IsOpened form given r.0 × IsFileImage is_image given.file.items r.1.items) }
+    ensures fault { IfErr result (IsCaused (program_causes form given is_image)) }
+{
+    let Given { dir, pag, file } = given;
+    let files = Given {
+        dir,
+        pag,
+        file: Vec::new(alloc),
+    };
+    let database = open(alloc, files, form)?;
+    let image = file_image(alloc, file, is_image)?;
+    Ok((database, image))
+}
+
+// Runs the program of an image on a database, where it is accepted.
+fn run_image(
+    alloc: Global,
+    database: Image<Global>,
+    image: &[u8],
+    words: RunWords<Global>,
+) -> Result<Report, AllocError>
+    ensures { IfOk result (RunsImage database words image.now) }
+{
+    let mut registry = Registry::new(alloc)?;
+    match registry.submit(image) {
+        Ok(id) => {
+            let run = RunAsk {
+                key: words.key,
+                prog: id.0,
+                arg: words.arg,
+                blank: words.blank,
+                now: words.now,
+            };
+            run_program(alloc, database, &registry, run)
+        }
+        Err(fault) => refused(alloc, fault, Some(database)),
+    }
+}
+
+// Runs a program of a registry on a database.
+fn run_program(
+    alloc: Global,
+    database: Image<Global>,
+    registry: &Registry<Global>,
+    run: RunAsk<Global>,
+) -> Result<Report, AllocError>
+    requires { IsSome (slice_get registry.now.programs run.prog) }
+    ensures { IfOk result (λ report. (p : Accepted) × ((slice_get registry.now.programs run.prog ≡ Some p) × Changes database (command.Run run.key p.code run.arg run.blank run.now) report)) }
+{
+    let Some(command) = command_of_run(registry, run)? else {
+        unreachable!()
+    };
+    change(alloc, database, command)
+}

@@ -1,0 +1,31 @@
+-- Each wish: what comes of it, and why nothing does.
+use Rattle.std.specs.Prelude.{ℕ, Bool, true, List, Option}
+use Rattle.dbm_words.specs.declared.wish.Wish.{Wish}
+use Rattle.dbm_words.specs.declared.wish.Wish.TheVariants as wish
+use Rattle.dbm_reports.specs.declared.databases.Given.{Given}
+use Rattle.dbm_reports.specs.declared.subcommands.Report.{Report}
+use Rattle.dbm_reports.specs.Subcommands.{is_script, subcommand_for}
+use Rattle.dbm_tool.specs.Batches.{OnBatch, batch_causes}
+use Rattle.dbm_tool.specs.Causes.{WishCauses, only_report}
+
+pub record Service : Type 1 where
+  -- what comes of it
+  pub reports : Report → Type 0
+  -- why nothing comes of it
+  pub causes : WishCauses
+
+-- What is known of a wish, by the bytes of its files and of what is read.
+abbrev pub service_for : Wish → Given → Option (List ℕ) → Service
+service_for (wish.Batch base form file workers image) given input = record {
+  reports = OnBatch form given workers image input;
+  causes = batch_causes form given workers image input;
+}
+service_for other given input = record {
+  reports = (subcommand_for other given input).reports;
+  causes = only_report (subcommand_for other given input).causes;
+}
+
+-- a script and a batch alone read
+abbrev pub reads_input : Wish → Bool
+reads_input (wish.Batch base form file workers image) = true
+reads_input other = is_script other

@@ -39,8 +39,8 @@ fn titled_command<'a>(alloc: Global) -> Command<'a>
         .about("A key-value store in the files of an sdbm database")
         .after_help(
             "Bytes are written in hex, two digits a byte, or as . for none.\n\
-             The status is 0, or 1 where the answer of fetch, store, delete or run is that nothing was found\n\
-             or changed, or is refused, as that of verify may be, or 2 for a fault, which standard error names.\n\n\
+             The status is 0; 1 where fetch, store, delete or run answers missing, exists, crowded or refused,\n\
+             or verify answers refused; and 2 for a fault, which standard error names.\n\n\
              Example: dbm store users 6162 78797a\n\
              stores the value xyz of the key ab in users.dir and users.pag.",
         )
@@ -103,7 +103,7 @@ fn store_command<'a>(alloc: Global) -> Result<Command<'a>, AllocError>
     let about = "Store a pair, in place of the key's old value";
     let notes =
         "Prints stored, or with status 1 exists (only with --insert), crowded (there is no room) or\n\
-         refused PairTooLarge (key and value are too long together for a page).\n\n\
+         refused PairTooLarge (key and value have more than 1,008 bytes together, or 8,008 with --wide).\n\n\
          Example: dbm store users 6162 78797a --insert";
     subcommand(alloc, "store", about, notes, args)
 }
@@ -134,7 +134,7 @@ fn check_command<'a>(alloc: Global) -> Result<Command<'a>, AllocError>
     let about = "Check that the files are a database";
     let notes =
         "Prints ok N for a database of N pairs. Where the files are none, standard error names\n\
-         the fault, and the status is 2.\n\n\
+         the fault, and the status is 2. Where neither file is there, the database is empty.\n\n\
          Example: dbm check users";
     subcommand(alloc, "check", about, notes, args)
 }
@@ -151,8 +151,9 @@ fn script_command<'a>(alloc: Global) -> Result<Command<'a>, AllocError>
     let about = "Run the commands on standard input, a line each";
     let notes =
         "The lines are fetch KEY, insert KEY VALUE, replace KEY VALUE, delete KEY, count, program IMAGE and\n\
-         run KEY PROG ARG BLANK NOW. Prints a line of answer to each, bad line to any other that is not\n\
-         empty. All lines together have at most 16 MiB.\n\n\
+         run KEY PROG ARG BLANK NOW. insert answers exists where the key is there, and replace replaces.\n\
+         IMAGE is what asm prints, and PROG the number that program answered, from 0. Prints a line of\n\
+         answer to each, bad line to any other that is not empty. All lines together have at most 16 MiB.\n\n\
          Example: dbm script --base users < first.script";
     subcommand(alloc, "script", about, notes, args)
 }
@@ -162,7 +163,9 @@ fn widen_command<'a>(alloc: Global) -> Result<Command<'a>, AllocError>
 {
     let args = vec![in alloc; base(alloc), unsigned(alloc)]?;
     let about = "Write a database anew, with pages of 8,192 bytes for those of 1,024";
-    let notes = "Prints ok N for a database of N pairs. From then on it is opened with --wide.\n\n\
+    let notes =
+        "Prints ok N for a database of N pairs. From then on it is opened with --wide, and no other program\n\
+         of sdbm files reads it. It is not undone.\n\n\
          Example: dbm widen users";
     subcommand(alloc, "widen", about, notes, args)
 }
@@ -219,7 +222,11 @@ fn run_command<'a>(alloc: Global) -> Result<Command<'a>, AllocError>
             "BLANK",
             "How many zeros it runs on where the key is not there, or . to answer missing then",
         ),
-        required_word(alloc, "NOW", "The time that it is told, a number"),
+        required_word(
+            alloc,
+            "NOW",
+            "The time that it is told, a number in whatever unit it counts"
+        ),
         image(alloc),
         unsigned(alloc),
         wide(alloc),
@@ -227,7 +234,8 @@ fn run_command<'a>(alloc: Global) -> Result<Command<'a>, AllocError>
     let about = "Run a program on the record of a key";
     let notes =
         "Prints ran CODE WORD, or with status 1 missing, crowded (there is no room for a new record) or\n\
-         refused FAULT (the program is not accepted, or KEY and BLANK or ARG are too long).\n\n\
+         refused FAULT (the program is not accepted, or KEY and BLANK or ARG are too long). CODE 1 kept the\n\
+         record, 2 deleted the pair, and any other changed nothing; WORD is what the program replied.\n\n\
          Example: dbm run users 6162 counter.s . 8 0";
     subcommand(alloc, "run", about, notes, args)
 }

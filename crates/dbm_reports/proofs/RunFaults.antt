@@ -22,7 +22,7 @@ use Rattle.dbm_reports.specs.Databases.{IsOpened, Opens}
 use Rattle.dbm_reports.specs.Causes.{Causes, IsCaused, no_causes, file_causes, program_causes}
 
 -- no cause but want of memory
-pub no_fault : (causes : Causes) (fault : ReportFault) → IsCaused no_causes fault → IsCaused causes fault
+no_fault : (causes : Causes) (fault : ReportFault) → IsCaused no_causes fault → IsCaused causes fault
 no_fault causes BadHex h = absurd h
 no_fault causes BadNumber h = absurd h
 no_fault causes (Open reason) h = absurd h

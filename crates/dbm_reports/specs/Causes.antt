@@ -4,11 +4,12 @@ use Rattle.std.specs.declared.alloc.Global.{Global}
 use Rattle.std.specs.Str.{IsUtf8}
 use Rattle.sdbm_files.specs.declared.opening.OpenFault.{OpenFault}
 use Rattle.sdbm_addr.specs.Database.{Database, IsDatabase}
-use Rattle.bpf_insn.specs.Decoding.{HasFault}
 use Rattle.bpf_insn.specs.declared.fault.DecodeFault.{DecodeFault}
 use Rattle.bpf_asm.specs.Denotes.{DenotesNone}
 use Rattle.bpf_asm.specs.Fault.{IsLineOf}
 use Rattle.bpf_asm.specs.declared.fault.AsmFault.{AsmFault}
+use Rattle.bpf_asm.specs.declared.fault.FaultKind.TheVariants as kinds
+use Rattle.prog_registry.specs.Judged.{IsUndecoded}
 use Rattle.dbm_script.specs.Commands.{command_of}
 use Rattle.dbm_script.specs.Tasks.{HasBadBytes, HasBadNumber, run_words_of}
 use Rattle.dbm_script.specs.declared.run_words.RunWords.{RunWords}
@@ -88,11 +89,15 @@ script_causes form given input = record no_causes {
   long = Opens form given × IsLongScript input;
 }
 
+-- the text of no program: the fault has a line, and is not want of memory
+abbrev pub IsUnassembled : List ℕ → AsmFault → Type 0
+IsUnassembled file fault = IsUtf8 file × (DenotesNone file × (IsLineOf fault.kind fault.line × (fault.kind ≢ kinds.NoMemory)))
+
 -- the file of a program's text
 abbrev pub text_causes : List ℕ → Causes
 text_causes file = record no_causes {
   no_text = IsUtf8 file → ⊥;
-  assembling = λ fault. IsUtf8 file × (DenotesNone file × IsLineOf fault.kind fault.line);
+  assembling = λ fault. IsUnassembled file fault;
 }
 
 -- a program's file, which may be any bytes where it is an image
@@ -133,7 +138,7 @@ run_causes form given texts is_image = record no_causes {
 
 -- the file of a program's image
 abbrev pub image_causes : List ℕ → Causes
-image_causes file = record no_causes { decoding = HasFault file }
+image_causes file = record no_causes { decoding = IsUndecoded file }
 
 -- why the files of a database are not made
 abbrev pub IsFilesFault : Database → FilesFault → Type 0

@@ -9,6 +9,7 @@ use Rattle.sdbm_addr.specs.Files.{ArePagBytes, SpellsDatabase}
 use Rattle.sdbm_files.specs.Opened.{IsOpenFault}
 use Rattle.sdbm_files.specs.Written.{IsWritten}
 use Rattle.sdbm_files.specs.declared.opening.OpenFault.{OpenFault}
+use Rattle.sdbm_files.specs.declared.opening.OpenFault.TheVariants as opening
 use Rattle.dbm_words.specs.declared.wish.Form.{Form}
 use Rattle.dbm_reports.specs.declared.databases.Given.{Given}
 use Rattle.dbm_reports.specs.declared.databases.Files.{Files}
@@ -32,9 +33,10 @@ pub record IsOpened (form : Form) (given : Given) (db : Database) : Type 0 where
 abbrev pub Opens : Form → Given → Type 0
 Opens form given = (db : Database) × IsOpened form given db
 
--- why the files do not open
+-- Why the files do not open. Want of memory has a name of its own.
 abbrev pub IsShut : Form → Given → OpenFault → Type 0
-IsShut form given = IsOpenFault (key_bytes_of form.unsigned) (page_size_of form.wide) given.dir.items given.pag.items
+IsShut form given opening.NoMemory = ⊥
+IsShut form given reason = IsOpenFault (key_bytes_of form.unsigned) (page_size_of form.wide) given.dir.items given.pag.items reason
 
 -- the program writes no `.pag` that is longer
 abbrev pub pag_limit : ℕ

@@ -13,7 +13,7 @@ use Rattle.store_cmd.specs.declared.SizeFault.{SizeFault}
 use Rattle.store_cmd.specs.declared.SizeFault.TheVariants.{PairTooLarge, ArgTooLong}
 use Rattle.store_cmd.specs.Command.{IsSmall, IsSizeFault}
 use Rattle.store_cmd.specs.declared.Entry.{Entry}
-use Rattle.desk_core.proofs.Acting.{Acts-unique}
+use Rattle.store_moves.proofs.Acting.{Acts-unique}
 use Rattle.dbm_script.specs.Lines.{ask_of}
 use Rattle.dbm_script.specs.Images.{Verdict}
 use Rattle.dbm_script.specs.Answers.{IsAnswerTo, answer_text}

@@ -5,10 +5,9 @@ use Rattle.sdbm_addr.specs.Database.{Database}
 use Rattle.store_cmd.specs.declared.Command.{Command}
 use Rattle.store_cmd.specs.declared.Reply.{Reply}
 use Rattle.store_cmd.specs.declared.Reply.TheVariants.{Found, Missing, Stored, Exists, Crowded, Deleted, Ran, Count}
-use Rattle.store_cmd.specs.declared.SizeFault.{SizeFault}
 use Rattle.store_cmd.specs.declared.SizeFault.TheVariants.{PairTooLarge, ArgTooLong}
 use Rattle.store_cmd.specs.Command.{IsSmall, IsSizeFault}
-use Rattle.desk_core.specs.Acts.{Acts}
+use Rattle.store_moves.specs.Acts.{Acts}
 use Rattle.dbm_script.specs.declared.answers.Answer.{Answer}
 use Rattle.dbm_script.specs.declared.answers.Answer.TheVariants.{Replied, Refused}
 

@@ -15,12 +15,12 @@ use crate::lines::{Ask, read_line};
 use crate::pieces::first_piece;
 use crate::running::answer_run;
 use crate::streams::{read_all, write_all};
-use desk_core::act;
 use prog_registry::Registry;
 use sdbm_files::Image;
 use std::alloc::{AllocError, Allocator};
 use std::io::{Read, Write};
 use store_cmd::{Command, check};
+use store_moves::act;
 
 /// The session of all commands of a script.
 const SCRIPT_SESSION: u64 = 0;

@@ -13,6 +13,8 @@ use Rattle.prog_registry.specs.declared.registry.ProgId.{ProgId}
 use Rattle.store_shared.specs.Shared.{CallsState, opened_by}
 use Rattle.store_shared.specs.Closed.{Agrees, AreDistinct, Covers, IsRefusedClose}
 use Rattle.worker_pool.specs.Pool.{AreDone, IsPoolFault}
+use Rattle.worker_pool.specs.declared.task.PoolFault.{PoolFault}
+use Rattle.worker_pool.specs.declared.task.PoolFault.TheVariants as jobs
 use Rattle.worker_pool.specs.declared.task.Task.{Task}
 use Rattle.dbm_script.specs.Answers.{reply_text}
 use Rattle.dbm_script.specs.Images.{Denies}
@@ -126,10 +128,15 @@ ready_causes form given workers is_image = record (only_report (record no_causes
   submitting = λ fault. IsSome (workers_of workers.now) × (Opens form given × ((image : List ℕ) × (IsFileImage is_image given.file.items image × (submit_causes image).submitting fault)));
 }
 
+-- Not all tasks are done, for another reason than want of memory, which has a name of its own.
+abbrev pub IsUndone : Batch → List (Task Global) → PoolFault → Type 0
+IsUndone batch tasks jobs.NoMemory = ⊥
+IsUndone batch tasks fault = (calls : List (CallsState Global)) × IsPoolFault batch.database.size batch.registry.programs tasks batch.workers fault calls
+
 -- the workers' calls, and then that they are what the store's trail has
 abbrev pub doing_causes : Batch → List (Task Global) → WishCauses
 doing_causes batch tasks = record no_wish_causes {
-  pool = λ fault. (calls : List (CallsState Global)) × IsPoolFault batch.database.size batch.registry.programs tasks batch.workers fault calls;
+  pool = IsUndone batch tasks;
   closing = λ fault. (replies : List (Reply Global)) × ((calls : List (CallsState Global))
       × (AreDone batch.registry.programs tasks batch.workers replies calls × IsRefusedClose (opened_by batch.database) calls fault));
 }

@@ -14,15 +14,15 @@ use Rattle.store_cmd.specs.declared.Entry.{Entry}
 use Rattle.store_cmd.specs.declared.Reply.{Reply}
 use Rattle.desk_core.specs.declared.job.Open.{Open}
 use Rattle.desk_core.specs.declared.AskFault.TheVariants.{Busy, NoMemory}
-use Rattle.desk_core.specs.Works.{PageResult, key_of, HasKey, HasEnd}
-use Rattle.desk_core.specs.Worked.{is_change}
+use Rattle.store_moves.specs.Works.{PageResult, key_of, HasKey, HasEnd, IsRun}
+use Rattle.store_moves.specs.Worked.{is_change}
 use Rattle.desk_core.specs.Jobs.{Ticketed, worked}
-use Rattle.desk_core.specs.Leads.{IsPlaceOf, LeadsTo, MayChange, changed_by, does_change, is_there}
-use Rattle.desk_core.specs.Rewrites.{IsDone}
+use Rattle.store_moves.specs.Leads.{IsPlaceOf, LeadsTo, MayChange, changed_by, does_change, is_there}
+use Rattle.store_moves.specs.Rewrites.{IsDone}
 use Rattle.desk_core.specs.Desk.{DeskState, IsSound, IsTied, Ties, first_hold, the_ticket, ticket_of, open_count}
-use Rattle.desk_core.specs.Calls.{MayAsk, IsAsked, Opens, Changes, MayFinish, Finishes, Abandons, Steps, IsStepFault, WouldChange, IsRun, works_there, is_held, is_barred_in, page_led}
-use Rattle.desk_core.proofs.Acting.{Acts-on_page, IsPlaceOf-unique}
-use Rattle.desk_core.proofs.Lifting.{works_lead}
+use Rattle.desk_core.specs.Calls.{MayAsk, IsAsked, Opens, Changes, MayFinish, Finishes, Abandons, Steps, IsStepFault, WouldChange, works_there, is_held, is_barred_in, page_led}
+use Rattle.store_moves.proofs.Acting.{Acts-on_page, IsPlaceOf-unique}
+use Rattle.store_moves.proofs.Lifting.{works_lead}
 use Rattle.desk_core.proofs.Ties.{led_there, tied_leads, tied_acts, unchanged_by}
 
 -- ---- finish

@@ -1,11 +1,4 @@
-pub mod WorkLemmas
-pub mod InPlace
-pub mod RunLemmas
-pub mod Lifting
-pub mod Acting
-pub mod Rewriting
 pub mod Ties
 pub mod Sound
 pub mod Doing
 pub mod Playing
-pub mod Examples

@@ -13,11 +13,11 @@ use Rattle.desk_core.specs.declared.events.Event.{Event}
 use Rattle.desk_core.specs.declared.events.Event.TheVariants as event
 use Rattle.desk_core.specs.declared.events.Outcome.TheVariants as outcome
 use Rattle.desk_core.specs.declared.events.Outcome.{Outcome}
-use Rattle.desk_core.specs.Leads.{state_of}
+use Rattle.store_moves.specs.Leads.{state_of}
 use Rattle.desk_core.specs.Desk.{DeskState, IsSound}
-use Rattle.desk_core.specs.Acts.{Acts, ActsInTurn}
+use Rattle.store_moves.specs.Acts.{Acts, ActsInTurn}
 use Rattle.desk_core.specs.Events.{Hands, Does, Plays, GoesOn, OnAsk, OnConvert, OnFinish, OnAbandon}
-use Rattle.desk_core.proofs.Acting.{Acts-count}
+use Rattle.store_moves.proofs.Acting.{Acts-count}
 
 -- one event more
 pub Plays-push : {A : Type 0} (s mid s' : DeskState A) (h held h' : Hands A) (es : List (Event A)) (outs : List (Outcome A)) (e : Event A) (out : Outcome A)

@@ -24,14 +24,14 @@ use Rattle.store_cmd.specs.History.{History}
 use Rattle.store_cmd.proofs.HistoryLemmas.{History-push}
 use Rattle.store_cmd.proofs.MovesLemmas.{Replies-from_Moves}
 use Rattle.desk_core.specs.declared.job.Open.{Open}
-use Rattle.desk_core.specs.Works.{PageResult, works, HasKey, key_of}
+use Rattle.store_moves.specs.Works.{PageResult, works, HasKey, key_of}
 use Rattle.desk_core.specs.Jobs.{Ticketed, worked}
-use Rattle.desk_core.specs.Leads.{state_of, changed_by, MayChange, LeadsTo, IsPlaceOf, does_change, is_there}
+use Rattle.store_moves.specs.Leads.{state_of, changed_by, MayChange, LeadsTo, IsPlaceOf, does_change, is_there}
 use Rattle.desk_core.specs.Desk.{DeskState, IsSound, IsTied, Ties, MayHold, the_ticket, ticket_of, open_count}
-use Rattle.desk_core.specs.Acts.{Acts, IsOnPage}
+use Rattle.store_moves.specs.Acts.{Acts, IsOnPage}
 use Rattle.desk_core.specs.Calls.{StartsWith, MayAsk, IsAsked, Opens, Counts, Closes, Converts, Finishes, Abandons, Steps}
-use Rattle.desk_core.proofs.Acting.{Acts-count}
-use Rattle.desk_core.proofs.Lifting.{works_lead}
+use Rattle.store_moves.proofs.Acting.{Acts-count}
+use Rattle.store_moves.proofs.Lifting.{works_lead}
 use Rattle.desk_core.proofs.Ties.{either_way, Ties-same, held_by-push_here, held_by-push_other, may_first, may_exclusive, update_is, free_ticket, tied_leads, tied_still, held_apart, not_held, led_there}
 
 -- ---- histories

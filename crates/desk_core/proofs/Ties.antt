@@ -17,21 +17,19 @@ use Rattle.hold_modes.specs.declared.modes.Held.{Held}
 use Rattle.hold_modes.specs.Held.{are_compatible, bars, is_of, held_by, obeys_rule, update_in, is_update, exclusive_in, is_exclusive}
 use Rattle.hold_modes.proofs.HeldLemmas.{apart_pages, barred_by, no_two}
 use Rattle.sdbm_dir.specs.declared.Place.{Place}
-use Rattle.sdbm_files.proofs.PutLemmas.{IsPage-pairs_at}
 use Rattle.sdbm_split.specs.Planned.{PageChange}
 use Rattle.store_cmd.specs.declared.Command.{Command}
 use Rattle.store_cmd.specs.declared.Command.TheVariants.{Fetch, Store, Delete, Run, Count}
 use Rattle.store_cmd.specs.declared.Reply.{Reply}
-use Rattle.store_cmd.specs.Command.{IsSmall}
 use Rattle.desk_core.specs.declared.job.Open.{Open}
-use Rattle.desk_core.specs.Works.{PageResult, works, HasKey, key_of, HasEnd, IsWorkable}
+use Rattle.store_moves.specs.Works.{PageResult, works, HasKey, key_of, HasEnd}
 use Rattle.desk_core.specs.Jobs.{worked}
-use Rattle.desk_core.specs.Leads.{changed_by, LeadsTo, IsPlaceOf, IsSameBeside}
+use Rattle.store_moves.specs.Leads.{changed_by, LeadsTo, IsPlaceOf, IsSameBeside}
 use Rattle.desk_core.specs.Desk.{DeskState, IsSound, IsTied, Ties, MayHold, first_hold, the_ticket, ticket_of}
-use Rattle.desk_core.specs.Acts.{Acts}
-use Rattle.desk_core.specs.Calls.{IsRun, page_led}
-use Rattle.desk_core.proofs.Acting.{Acts-on_page}
-use Rattle.desk_core.proofs.Lifting.{works_lead, keys_lead}
+use Rattle.store_moves.specs.Acts.{Acts}
+use Rattle.desk_core.specs.Calls.{page_led}
+use Rattle.store_moves.proofs.Acting.{Acts-on_page}
+use Rattle.store_moves.proofs.Lifting.{works_lead}
 
 -- ---- holds
 
@@ -87,13 +85,6 @@ keyed_may (Delete key) mode m = tt
 keyed_may (Run key program argument blank now) mode m = tt
 keyed_may Count mode m = m
 
-pub keyed_run : {A : Type 0} (c : Command A) → IsRun c → HasKey c
-keyed_run (Fetch key) r = absurd r
-keyed_run (Store key value how) r = absurd r
-keyed_run (Delete key) r = absurd r
-keyed_run (Run key program argument blank now) r = tt
-keyed_run Count r = absurd r
-
 pub may_exclusive : {A : Type 0} (c : Command A) → MayHold c Update → MayHold c Exclusive
 may_exclusive (Fetch key) h = absurd cc
 may_exclusive (Store key value how) h = λ e. absurd cc
@@ -117,26 +108,6 @@ exclusive_is h p m e y =
 pub led_there : {A : Type 0} (s : DeskState A) (command : Command A) (place : Place) → IsDatabase s.database → IsPlaceOf s.database (key_of command) place → place.page ≡ page_led s command
 led_there s command place ok leads =
     leads.low_bits ∙ sym (page_of_depth s.database.splits ok.directory (hash_of s.database.kind (key_of command)) place.depth leads.depth)
-
--- a command that is asked may be worked
-pub workable : {A : Type 0} (db : Database) → IsDatabase db → (place : Place) (kind : KeyBytes) (size : PageSize) (pairs : List Pair) (command : Command A) → HasKey command
-    → IsSmall db.size command → kind ≡ db.kind → IsPlaceOf db (key_of command) place → size ≡ db.size → pairs ≡ pairs_at db place.page → IsWorkable place kind size pairs command
-workable {A} db ok place kind size pairs command keyed small is_kind p is_size is_pairs =
-    let hash = hash_of db.kind (key_of command) in
-    let here : IsWorkable place db.kind db.size (pairs_at db place.page) command = record {
-      keyed = keyed;
-      small = small;
-      placed = record {
-        shallow = p.shallow;
-        bit = p.bit;
-        key_leads = sym p.low_bits;
-        keys_lead = keys_lead db ok hash place.depth place.page p.depth p.low_bits;
-        page = IsPage-pairs_at db ok place.page;
-      };
-    } in
-    subst (λ (k : KeyBytes). IsWorkable place k size pairs command) (sym is_kind)
-    (subst (λ (z : PageSize). IsWorkable place db.kind z pairs command) (sym is_size)
-    (subst (λ (ps : List Pair). IsWorkable place db.kind db.size ps command) (sym is_pairs) here))
 
 -- ---- ties
 

@@ -10,7 +10,7 @@ use Rattle.hold_modes.specs.declared.modes.Hold.{Hold}
 use Rattle.hold_modes.specs.declared.modes.Hold.TheVariants.{Exclusive}
 use Rattle.hold_modes.specs.Held.{bars, held_by, without, made_exclusive, exclusive_in, is_updating, is_shared}
 use Rattle.store_cmd.specs.declared.Command.{Command}
-use Rattle.store_cmd.specs.declared.Command.TheVariants.{Fetch, Store, Delete, Run, Count}
+use Rattle.store_cmd.specs.declared.Command.TheVariants.{Count}
 use Rattle.store_cmd.specs.declared.Reply.{Reply}
 use Rattle.store_cmd.specs.declared.Reply.TheVariants as replies
 use Rattle.store_cmd.specs.declared.SizeFault.{SizeFault}
@@ -26,10 +26,10 @@ use Rattle.desk_core.specs.declared.ConvertFault.{ConvertFault}
 use Rattle.desk_core.specs.declared.ConvertFault.TheVariants as cf
 use Rattle.desk_core.specs.declared.FinishFault.{FinishFault}
 use Rattle.desk_core.specs.declared.FinishFault.TheVariants as ff
-use Rattle.desk_core.specs.Works.{PageResult, works, key_of}
+use Rattle.store_moves.specs.Works.{PageResult, works, key_of, IsRun}
 use Rattle.desk_core.specs.Jobs.{Ticketed, worked}
-use Rattle.desk_core.specs.Acts.{Acts}
-use Rattle.desk_core.specs.Leads.{changed_by, does_change, is_there, IsPlaceOf}
+use Rattle.store_moves.specs.Acts.{Acts}
+use Rattle.store_moves.specs.Leads.{changed_by, does_change, is_there, IsPlaceOf}
 use Rattle.desk_core.specs.Desk.{DeskState, open_count, ticket_of, the_ticket, first_hold}
 
 -- a desk that was just opened
@@ -200,14 +200,6 @@ pub record Steps {A : Type 0} (s : DeskState A) (session : ℕ) (command : Comma
   pub next : s'.next ≡ s.next
   pub holds : s'.holds ≡ s.holds
   pub limit_is : s'.limit ≡ s.limit
-
--- a command that is a run
-abbrev pub IsRun : {A : Type 0} → Command A → Type 0
-IsRun (Fetch key) = ⊥
-IsRun (Store key value mode) = ⊥
-IsRun (Delete key) = ⊥
-IsRun (Run key program argument blank now) = Unit {0}
-IsRun Count = ⊥
 
 -- When each refusal of a step comes: as of an ask, and Busy also where other tickets hold a page that would change. Memory is
 -- wanted only where neither is so; but a program has to run before it is known whether it changes its page, and the page on which

@@ -11,7 +11,7 @@ use Rattle.desk_core.specs.declared.events.Outcome.TheVariants as outcome
 use Rattle.desk_core.specs.declared.events.InHand.{InHand}
 use Rattle.desk_core.specs.declared.events.InHand.TheVariants as hand
 use Rattle.desk_core.specs.declared.Asked.TheVariants as asked
-use Rattle.desk_core.specs.Acts.{ActsInTurn}
+use Rattle.store_moves.specs.Acts.{ActsInTurn}
 use Rattle.desk_core.specs.Jobs.{Ticketed}
 use Rattle.desk_core.specs.Desk.{DeskState, IsSound, ticket_of}
 use Rattle.desk_core.specs.Calls.{Asks, IsAskFault, Converts, IsConvertFault, Finishes, IsFinishFault, Abandons}

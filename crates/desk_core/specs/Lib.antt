@@ -1,9 +1,4 @@
-pub mod Works
-pub mod Worked
-pub mod Leads
 pub mod Jobs
 pub mod Desk
-pub mod Acts
 pub mod Calls
 pub mod Events
-pub mod Rewrites

@@ -1,12 +1,11 @@
 //! What is open: commands that were asked and not yet answered.
 ghost use Rattle.std.specs.Prelude.{◌≡◌, ◌↔◌, IsTrue, IfOk, IfErr, OnOk, is_some};
 ghost use Rattle.desk_core.specs.Jobs.{worked, was_there, IsJob};
-ghost use Rattle.desk_core.specs.Works.{HasEnd};
-ghost use Rattle.desk_core.specs.Leads.{does_change};
-ghost use Rattle.desk_core.specs.Worked.{IsWorked};
+ghost use Rattle.store_moves.specs.Works.{HasEnd};
+ghost use Rattle.store_moves.specs.Leads.{does_change};
+ghost use Rattle.store_moves.specs.Worked.{IsWorked};
 
 use crate::page_copy::PageCopy;
-use crate::work::{Worked, work_on};
 use hold_modes::Ticket;
 use sdbm_addr::KeyBytes;
 use sdbm_dir::Place;
@@ -14,6 +13,7 @@ use sdbm_split::Plan;
 use std::alloc::{AllocError, Allocator};
 use std::marker::Model;
 use store_cmd::{Command, Reply};
+use store_moves::{Worked, work_on};
 
 /// What stands under an open ticket: who asked what, the place to which the key leads in a database whose keys hash so, and the
 /// page as it was.

@@ -6,22 +6,16 @@ ghost use Rattle.std.specs.Prelude.{◌≡◌, ◌≢◌, Some, None, IfOk, IfEr
 ghost use Rattle.std.specs.FinMap as map;
 ghost use Rattle.sdbm_addr.specs.Database.{map_of};
 ghost use Rattle.store_cmd.specs.declared.Command.TheVariants.{Count};
-ghost use Rattle.desk_core.specs.Works.{key_of};
-ghost use Rattle.desk_core.specs.Leads.{IsPlaceOf};
+ghost use Rattle.store_moves.specs.Works.{key_of};
+ghost use Rattle.store_moves.specs.Leads.{IsPlaceOf};
 ghost use Rattle.desk_core.specs.Desk.{IsSound, first_hold, ticket_of};
 ghost use Rattle.desk_core.specs.Calls.{refusal_of};
 
-mod action;
 mod events;
-mod in_place;
 mod job;
 mod page_copy;
-mod runs;
 mod step;
-mod work;
 
-pub use action::act;
-use action::{key_in, put_in};
 pub use events::{Event, Outcome};
 pub use hold_modes::Ticket;
 use hold_modes::{Hold, Holds};
@@ -35,6 +29,7 @@ use slab::Slab;
 use std::alloc::{AllocError, Allocator};
 use std::marker::Model;
 use store_cmd::{Command, Entry, Reply, SizeFault, Trail, check};
+use store_moves::{key_in, put_in};
 
 /// The core of a store, seen as its database, the opening and the entries of its trail, what is open under each ticket, the ticket
 /// that is opened next, the holds, and the most entries and open tickets that there may be.

@@ -6,22 +6,19 @@ ghost use Rattle.hold_modes.specs.Held.{bars};
 ghost use Rattle.store_cmd.specs.declared.Command.TheVariants.{Count};
 ghost use Rattle.store_cmd.specs.Command.{IsSmall};
 ghost use Rattle.sdbm_addr.specs.Database.{pairs_at};
-ghost use Rattle.desk_core.specs.Works.{HasKey, HasEnd, key_of};
-ghost use Rattle.desk_core.specs.Worked as worked;
-ghost use Rattle.desk_core.specs.Worked.{IsWorked, takes_memory};
-ghost use Rattle.desk_core.specs.Leads.{IsPlaceOf};
+ghost use Rattle.store_moves.specs.Works.{HasKey, HasEnd, key_of};
+ghost use Rattle.store_moves.specs.Worked as worked;
+ghost use Rattle.store_moves.specs.Worked.{IsWorked, takes_memory};
+ghost use Rattle.store_moves.specs.Leads.{IsPlaceOf};
 ghost use Rattle.desk_core.specs.Desk.{IsSound, first_hold};
 ghost use Rattle.desk_core.specs.Calls.{MayAsk, Steps, IsStepFault, works_there};
 
-use crate::action::{put_in, work_at};
-use crate::in_place::{is_run, run_in_place};
-use crate::runs::ran;
-use crate::work::Worked;
 use crate::{AskFault, Desk, Wanted};
 use hold_modes::Hold;
 use sdbm_dir::Place;
 use std::alloc::{AllocError, Allocator};
 use store_cmd::{Command, Entry, Reply};
+use store_moves::{Worked, is_run, put_in, ran, run_in_place, work_at};
 
 impl<A: Allocator + Copy> Desk<A> {
     /// Answers a session's command in one call, without a ticket.

@@ -16,7 +16,7 @@ use Rattle.store_cmd.specs.Command.{IsSmall, FitsPair, FitsArgument}
 use Rattle.desk_core.specs.declared.Asked.{Asked}
 use Rattle.desk_core.specs.declared.Asked.TheVariants as asked
 use Rattle.desk_core.specs.declared.job.Open.{Open}
-use Rattle.desk_core.specs.Works.{HasKey, HasEnd}
+use Rattle.store_moves.specs.Works.{HasKey, HasEnd}
 use Rattle.desk_core.specs.Jobs.{worked}
 
 -- how the keys of a store hash, how large its pages are, and the pairs with which it was opened

@@ -4,7 +4,7 @@ ghost use Rattle.store_cmd.specs.declared.Command.TheVariants as commands;
 ghost use Rattle.store_cmd.specs.declared.Reply.TheVariants as replies;
 ghost use Rattle.desk_core.specs.declared.ConvertFault.TheVariants as faults;
 ghost use Rattle.desk_core.specs.Jobs.{worked};
-ghost use Rattle.desk_core.specs.Works.{HasEnd};
+ghost use Rattle.store_moves.specs.Works.{HasEnd};
 ghost use Rattle.store_shared.specs.Shared.{entry_of, IsReplyTo, IsAskedFor, IsNotForSize};
 
 use crate::store::{Gate, Store};

@@ -1,5 +1,5 @@
 -- What workers leave is what comes of the tasks. A worker is known by its session, its replies and the task that it was refused.
-use Rattle.std.proofs.Common.{inl, inr, ◌≡◌, ◌∙◌, sym, ap, ◌∷◌, [], zero, suc, length, ◌<◌, ◌≤◌, ℕ, ◌++◌, arith, List, refl, subst}
+use Rattle.std.proofs.Common.{inl, inr, ◌≡◌, ◌∙◌, sym, ap, ◌∷◌, [], zero, suc, length, ◌<◌, ℕ, ◌++◌, arith, List, refl, subst}
 use Rattle.std.specs.Prelude.{◌%◌, take, drop, map, slice_index_or, Option, Some, None, IfSome}
 use Rattle.std.specs.List.{All, slice_get}
 use Rattle.std.proofs.lemmas.List.{length-map, get_or-map, take_all, drop_all, append-nil}

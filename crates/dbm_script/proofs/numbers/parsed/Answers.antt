@@ -1,4 +1,4 @@
-use Rattle.std.proofs.Common.{◌≡◌, ◌∙◌, Ok, ap}
+use Rattle.std.proofs.Common.{◌∙◌, ap}
 use Rattle.std.specs.Result.{result_ok}
 use Rattle.std.proofs.lemmas.Fmt.{parse-decimal}
 use Rattle.dbm_script.proofs.Decimals.{decimal_is_text}

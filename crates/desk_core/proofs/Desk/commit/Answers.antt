@@ -1,8 +1,8 @@
 use Rattle.std.proofs.Common.{◌≡◌, Option, is_some, true, ap, sym, ◌∙◌, subst, arith}
 use Rattle.sdbm_split.specs.Planned.{PageChange}
-use Rattle.desk_core.specs.Works.{change_of}
+use Rattle.store_moves.specs.Works.{change_of}
 use Rattle.desk_core.specs.Jobs.{Ticketed, worked}
-use Rattle.desk_core.specs.Leads.{MayChange, changed_by}
+use Rattle.store_moves.specs.Leads.{MayChange, changed_by}
 use Rattle.desk_core.specs.Desk.{DeskState}
 use Rattle.desk_core.proofs.Ties.{some_mapped}
 use Rattle.desk_core.proofs.Sound.{Finishes-sound}

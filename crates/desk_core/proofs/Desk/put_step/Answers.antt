@@ -6,9 +6,9 @@ use Rattle.sdbm_addr.specs.Database.{pairs_at}
 use Rattle.hold_modes.specs.declared.modes.Hold.TheVariants.{Exclusive}
 use Rattle.hold_modes.specs.Held.{bars}
 use Rattle.sdbm_split.specs.Planned.{PageChange}
-use Rattle.desk_core.specs.Works.{change_of, key_of, HasEnd}
-use Rattle.desk_core.specs.Worked.{IsWorked}
-use Rattle.desk_core.specs.Leads.{IsPlaceOf, MayChange, changed_by}
+use Rattle.store_moves.specs.Works.{change_of, key_of, HasEnd}
+use Rattle.store_moves.specs.Worked.{IsWorked}
+use Rattle.store_moves.specs.Leads.{IsPlaceOf, MayChange, changed_by}
 use Rattle.desk_core.specs.Desk.{DeskState}
 use Rattle.desk_core.specs.Calls.{MayAsk, works_there}
 use Rattle.desk_core.proofs.Ties.{some_mapped}

@@ -6,11 +6,11 @@ use Rattle.hold_modes.specs.declared.modes.Hold.TheVariants.{Exclusive}
 use Rattle.hold_modes.specs.Held.{bars}
 use Rattle.desk_core.specs.declared.AskFault.{AskFault}
 use Rattle.desk_core.specs.declared.AskFault.TheVariants.{Busy, NoMemory}
-use Rattle.desk_core.specs.Worked.{is_change}
-use Rattle.desk_core.specs.Works.{change_of}
+use Rattle.store_moves.specs.Worked.{is_change}
+use Rattle.store_moves.specs.Works.{change_of}
 use Rattle.desk_core.specs.Calls.{IsStepFault}
 use Rattle.desk_core.proofs.Ties.{keyed_may, may_first, some_mapped}
-use Rattle.desk_core.proofs.WorkLemmas.{works_change}
+use Rattle.store_moves.proofs.WorkLemmas.{works_change}
 use Rattle.desk_core.proofs.Doing.{step_refused, memory_refused}
 use Rattle.desk_core.proofs.Desk.step_by_plan.Goals as goal
 

@@ -5,12 +5,12 @@ use Rattle.slab.specs.Slab.{slab_len}
 use Rattle.hold_modes.specs.declared.modes.Hold.TheVariants.{Exclusive}
 use Rattle.hold_modes.specs.Held.{bars}
 use Rattle.store_cmd.specs.declared.Reply.{Reply}
-use Rattle.desk_core.specs.Works.{key_of}
-use Rattle.desk_core.specs.Leads.{IsPlaceOf}
-use Rattle.desk_core.specs.Rewrites.{IsDone}
+use Rattle.store_moves.specs.Works.{key_of}
+use Rattle.store_moves.specs.Leads.{IsPlaceOf}
+use Rattle.store_moves.specs.Rewrites.{IsDone}
 use Rattle.desk_core.specs.Desk.{DeskState}
 use Rattle.desk_core.specs.Calls.{MayAsk, Steps}
-use Rattle.desk_core.proofs.Ties.{keyed_run}
+use Rattle.store_moves.proofs.Acting.{keyed_run}
 use Rattle.desk_core.proofs.Sound.{Steps-sound}
 use Rattle.desk_core.proofs.Doing.{stepped_at_once}
 use Rattle.desk_core.proofs.Desk.step_in_place.Goals as goal
@@ -26,7 +26,7 @@ steps g c =
     let leads = subst (λ (x : DeskState g.row.A.Denot). IsPlaceOf x.database (key_of c.args.command) c.args.place) (sym c.self.view_is) c.requires.place in
     let done = subst (λ (r : Reply g.row.A.Denot). IsDone s.database c.args.place c.args.session c.args.command r c.run_in_place.new.image) (sym c.ran-2.ensures) c.in-Some.ensures.done in
     let free = ap (λ (x : DeskState g.row.A.Denot). list_any (bars c.args.place.page Exclusive) x.holds) c.self.view_is ∙ sym c.is_in_the_way.ensures ∙ c.if-is_in_the_way.false in
-    stepped_at_once s c.args.session c.args.command c.args.place c.self.invariant.0 may (keyed_run c.args.command (c.if-not-is_run.ensures refl)) leads c.ran-2.result c.ran.result c.run_in_place.new.image c.reserve.new.self.items c.push_reserved.new.self.items
+    stepped_at_once s c.args.session c.args.command c.args.place c.self.invariant.0 may (keyed_run c.args.command (c.if-not-is_run.ensures.run refl)) leads c.ran-2.result c.ran.result c.run_in_place.new.image c.reserve.new.self.items c.push_reserved.new.self.items
     done (c.ran.ensures ∙ sym c.ran-2.ensures) free c.reserve.ensures.items c.push_reserved.ensures.items
 
 pub invariant_of-self-2 : goal.invariant_of-self-2

@@ -3,7 +3,8 @@ use Rattle.sdbm_addr.specs.Database.{IsDatabase}
 use Rattle.desk_core.specs.declared.job.Open.{Open}
 use Rattle.desk_core.specs.Desk.{DeskState}
 use Rattle.desk_core.specs.Calls.{IsAsked}
-use Rattle.desk_core.proofs.Ties.{workable, keyed_may, may_first}
+use Rattle.store_moves.proofs.Acting.{workable}
+use Rattle.desk_core.proofs.Ties.{keyed_may, may_first}
 use Rattle.desk_core.proofs.Doing.{asked_so}
 use Rattle.desk_core.proofs.Desk.take.Goals as goal
 

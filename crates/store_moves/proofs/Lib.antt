@@ -1,0 +1,7 @@
+pub mod WorkLemmas
+pub mod InPlace
+pub mod RunLemmas
+pub mod Lifting
+pub mod Acting
+pub mod Rewriting
+pub mod Examples

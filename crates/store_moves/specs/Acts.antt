@@ -1,0 +1,39 @@
+-- What one command of a session does to a database, page by page.
+use Rattle.std.specs.Prelude.{◌≡◌, List, [], ◌∷◌}
+use Rattle.std.specs.FinMap as map
+use Rattle.sdbm_addr.specs.Database.{Database, pairs_at, map_of}
+use Rattle.sdbm_dir.specs.declared.Place.{Place}
+use Rattle.store_cmd.specs.declared.Command.{Command}
+use Rattle.store_cmd.specs.declared.Command.TheVariants.{Fetch, Store, Delete, Run, Count}
+use Rattle.store_cmd.specs.declared.Entry.{Entry}
+use Rattle.store_cmd.specs.declared.Reply.TheVariants as reply
+use Rattle.store_cmd.specs.Command.{IsSmall}
+use Rattle.store_cmd.specs.Moves.{Moves}
+use Rattle.store_moves.specs.Works.{works, key_of}
+use Rattle.store_moves.specs.Leads.{IsPlaceOf, changed_by, state_of}
+
+-- a command about a key: what it comes to on the page of its place is answered, and put in
+pub record IsOnPage {A : Type 0} (db : Database) (e : Entry A) (db' : Database) : Type 0 where
+  pub place : Place
+  pub leads : IsPlaceOf db (key_of e.command) place
+  pub answer_is : e.reply ≡ (works place db.kind db.size (pairs_at db place.page) e.session e.command).reply
+  pub database : db' ≡ changed_by db place.page (works place db.kind db.size (pairs_at db place.page) e.session e.command).change
+
+-- the answer to a command and the database after it, exactly
+abbrev pub IsExactFor : {A : Type 0} → Command A → Database → Entry A → Database → Type 0
+IsExactFor (Fetch key) db e db' = IsOnPage db e db'
+IsExactFor (Store key value mode) db e db' = IsOnPage db e db'
+IsExactFor (Delete key) db e db' = IsOnPage db e db'
+IsExactFor (Run key program argument blank now) db e db' = IsOnPage db e db'
+IsExactFor Count db e db' = (e.reply ≡ reply.Count (map.len (map_of db))) × (db' ≡ db)
+
+-- One entry, whose command is taken: exactly these pages and bits are put in, which is one move.
+pub record Acts {A : Type 0} (db : Database) (e : Entry A) (db' : Database) : Type 0 where
+  pub small : IsSmall db.size e.command
+  pub exact : IsExactFor e.command db e db'
+  pub move : Moves (state_of db) e (state_of db')
+
+-- entries whose commands are done one after another, with these replies
+abbrev pub ActsInTurn : {A : Type 0} → Database → List (Entry A) → Database → Type 0
+ActsInTurn db [] db' = db' ≡ db
+ActsInTurn {A} db (e ∷ es) db' = (mid : Database) × (Acts db e mid × ActsInTurn mid es db')

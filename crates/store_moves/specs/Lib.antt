@@ -1,0 +1,5 @@
+pub mod Works
+pub mod Worked
+pub mod Leads
+pub mod Acts
+pub mod Rewrites

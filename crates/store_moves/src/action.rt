@@ -1,0 +1,198 @@
+//! One command on a database, without a desk.
+ghost use Rattle.std.specs.Prelude.{◌≡◌, IfOk, IfErr, IfSome, OnOk, OnErr, is_some, true};
+ghost use Rattle.std.specs.Option.{option_map};
+ghost use Rattle.sdbm_addr.specs.Database.{IsDatabase, pairs_at};
+ghost use Rattle.store_cmd.specs.Command.{IsSmall};
+ghost use Rattle.store_moves.specs.Acts.{Acts};
+ghost use Rattle.store_moves.specs.Leads.{IsPlaceOf, MayChange, changed_by};
+ghost use Rattle.store_moves.specs.Rewrites.{IsDone};
+ghost use Rattle.store_moves.specs.Worked.{IsWorked, takes_memory};
+ghost use Rattle.store_moves.specs.Works.{works, HasKey, HasEnd, key_of, change_of, pairs_lent, IsRun};
+
+use crate::in_place::run_in_place;
+use crate::runs::ran;
+use crate::work::{Worked, work_on};
+use sdbm_dir::Place;
+use sdbm_files::Image;
+use sdbm_page::Page;
+use sdbm_split::Plan;
+use std::alloc::{AllocError, Allocator};
+use store_cmd::{Command, Entry, Reply};
+
+/// Does a session's command on a database of which no trail is kept, and gives the entry that a trail would have. The command is
+/// one that `check` takes.
+///
+/// # Errors
+/// `AllocError` where no memory is left. The database is then as it was, and the command comes back.
+pub fn act<A: Allocator + Copy>(
+    alloc: A,
+    image: &mut Image<A>,
+    session: u64,
+    command: Command<A>,
+) -> Result<Entry<A>, (AllocError, Command<A>)>
+    requires small { IsSmall image.old.size command }
+    ensures session { IfOk result (λ entry. entry.session ≡ session) }
+    ensures command { IfOk result (λ entry. entry.command ≡ command) }
+    ensures ok { IfOk result (λ entry. Acts image.old entry image.new) }
+    ensures returned { IfErr result (λ refused. refused.1 ≡ command) }
+    ensures err { OnErr result (image.new ≡ image.old) }
+{
+    match reply_to(alloc, image, session, &command) {
+        Ok(reply) => Ok(Entry {
+            session,
+            command,
+            reply,
+        }),
+        Err(error) => Err((error, command)),
+    }
+}
+
+// The reply to a command, which is done.
+fn reply_to<A: Allocator + Copy>(
+    alloc: A,
+    image: &mut Image<A>,
+    session: u64,
+    command: &Command<A>,
+) -> Result<Reply<A>, AllocError>
+    requires small { IsSmall image.old.size command.now }
+    ensures ok { IfOk result (λ reply. Acts image.old (record { session = session; command = command.now; reply = reply }) image.new) }
+    ensures err { OnErr result (image.new ≡ image.old) }
+{
+    match command {
+        Command::Count => Ok(Reply::Count(image.count())),
+        Command::Run { .. } => act_by_run(alloc, image, session, command),
+        _ => act_on_page(alloc, image, session, command),
+    }
+}
+
+// The same for a command about a key.
+fn act_on_page<A: Allocator + Copy>(
+    alloc: A,
+    image: &mut Image<A>,
+    session: u64,
+    command: &Command<A>,
+) -> Result<Reply<A>, AllocError>
+    requires keyed { HasKey command.now }
+    requires small { IsSmall image.old.size command.now }
+    ensures ok { IfOk result (λ reply. Acts image.old (record { session = session; command = command.now; reply = reply }) image.new) }
+    ensures err { OnErr result (image.new ≡ image.old) }
+{
+    let place = image.place(key_in(command));
+    work_and_put(alloc, image, place, session, command)
+}
+
+// The same for a run.
+fn act_by_run<A: Allocator + Copy>(
+    alloc: A,
+    image: &mut Image<A>,
+    session: u64,
+    command: &Command<A>,
+) -> Result<Reply<A>, AllocError>
+    requires run { IsRun command.now }
+    requires keyed { HasKey command.now }
+    requires small { IsSmall image.old.size command.now }
+    ensures ok { IfOk result (λ reply. Acts image.old (record { session = session; command = command.now; reply = reply }) image.new) }
+    ensures err { OnErr result (image.new ≡ image.old) }
+{
+    let place = image.place(key_in(command));
+    if let Some(ended) = run_in_place(image, place, session, command) {
+        return Ok(ran(ended));
+    }
+    work_and_put(alloc, image, place, session, command)
+}
+
+// Puts in what a session's command comes to on its page, which is worked out first.
+fn work_and_put<A: Allocator + Copy>(
+    alloc: A,
+    image: &mut Image<A>,
+    place: Place,
+    session: u64,
+    command: &Command<A>,
+) -> Result<Reply<A>, AllocError>
+    requires keyed { HasKey command.now }
+    requires small { IsSmall image.old.size command.now }
+    requires place { IsPlaceOf image.old (key_of command.now) place }
+    requires database { IsDatabase image.old }
+    ensures done { IfOk result (λ reply. IsDone image.old place session command.now reply image.new) }
+    ensures err { OnErr result (image.new ≡ image.old) }
+{
+    let Worked { reply, change } = work_at(alloc, image, place, session, command)?;
+    match put_in(image, place, change) {
+        Ok(()) => Ok(reply),
+        Err((error, _)) => Err(error),
+    }
+}
+
+/// The key of a command, which for a count is empty.
+pub fn key_in<A: Allocator>(command: &Command<A>) -> &[u8]
+    ensures { result.now ≡ key_of command.now }
+{
+    match command {
+        Command::Fetch { key } => key.as_slice(),
+        Command::Store { key, .. } => key.as_slice(),
+        Command::Delete { key } => key.as_slice(),
+        Command::Run { key, .. } => key.as_slice(),
+        Command::Count => &[],
+    }
+}
+
+/// What a session's command comes to on its page as it stands.
+///
+/// # Errors
+/// `AllocError` where no memory is left for the value that was found, for the pages that the command would change, or for the page
+/// on which a program runs.
+pub fn work_at<A: Allocator + Copy>(
+    alloc: A,
+    image: &Image<A>,
+    place: Place,
+    session: u64,
+    command: &Command<A>,
+) -> Result<Worked<A>, AllocError>
+    requires place { IsPlaceOf image.now (key_of command.now) place }
+    requires keyed { HasKey command.now }
+    requires small { IsSmall image.now.size command.now }
+    requires database { IsDatabase image.now }
+    ensures worked { IfOk result (IsWorked (works place image.now.kind image.now.size (pairs_at image.now place.page) session command.now)) }
+    ensures ends { OnOk result (HasEnd (pairs_at image.now place.page) session command.now) }
+    ensures err { OnErr result (takes_memory (works place image.now.kind image.now.size (pairs_at image.now place.page) session command.now).reply ≡ true) }
+{
+    let kind = image.key_bytes();
+    let size = image.page_size();
+    let page = page_at(image, place.page);
+    work_on(alloc, page, place, kind, size, session, command)
+}
+
+/// The page with a number, where it has pairs.
+pub(crate) fn page_at<A: Allocator + Copy>(image: &Image<A>, number: u32) -> Option<&Page<A>>
+    ensures pairs { pairs_lent result ≡ pairs_at image.now number }
+    ensures size { IfSome result (λ page. page.now.size ≡ image.now.size) }
+{
+    match image.page(number) {
+        None => None,
+        Some(page) => Some(page.page()),
+    }
+}
+
+/// Installs a plan for the page of a place, where there is one.
+///
+/// # Errors
+/// `AllocError` where no memory is left. The database is then as it was, and the plan comes back.
+pub fn put_in<A: Allocator + Copy>(
+    image: &mut Image<A>,
+    place: Place,
+    change: Option<Plan<A>>,
+) -> Result<(), (AllocError, Option<Plan<A>>)>
+    requires { MayChange image.old place.page (option_map change_of change) }
+    ensures ok { OnOk result (image.new ≡ changed_by image.old place.page (option_map change_of change)) }
+    ensures some { OnErr result (is_some change ≡ true) }
+    ensures returned { IfErr result (λ refused. refused.1 ≡ change) }
+    ensures err { OnErr result (image.new ≡ image.old) }
+{
+    let Some(plan) = change else {
+        return Ok(());
+    };
+    match image.install(place, plan) {
+        Ok(()) => Ok(()),
+        Err((error, plan)) => Err((error, Some(plan))),
+    }
+}

@@ -1,0 +1,99 @@
+//! Runs of programs on short records, which are written back where they stand: on a page that nobody else reads, and without a copy
+//! of it.
+ghost use Rattle.std.specs.Prelude.{◌≡◌, ◌≤◌, length, true, IfSome, IfNone};
+ghost use Rattle.sdbm_addr.specs.Database.{IsDatabase, pairs_at};
+ghost use Rattle.bpf_helpers.specs.Runs.{argument_limit};
+ghost use Rattle.store_cmd.specs.Command.{IsSmall};
+ghost use Rattle.store_cmd.specs.declared.Reply.TheVariants as Reply;
+ghost use Rattle.store_moves.specs.Leads.{IsPlaceOf};
+ghost use Rattle.store_moves.specs.Works.{key_of, IsRun};
+ghost use Rattle.store_moves.specs.Rewrites.{IsRunCopied, IsDone};
+
+use crate::action::page_at;
+use crate::runs::{REMOVED, RunInput, SAVED, env_of};
+use crate::work::{input_of, pair_of};
+use bpf_machine::{Ended, run};
+use sdbm_dir::Place;
+use sdbm_files::Image;
+use std::alloc::Allocator;
+use store_cmd::Command;
+
+// The most bytes of a record that is short.
+const SHORT: usize = 256;
+
+/// A run on a copy of the value of a pair: which pair it is, how long its value, and how the run ended.
+#[derive(Clone, Copy)]
+struct Copied {
+    i: usize,
+    len: usize,
+    ended: Ended,
+}
+
+/// Whether a command is a run of a program.
+pub fn is_run<A: Allocator>(command: &Command<A>) -> bool
+    ensures run { result ≡ true → IsRun command.now }
+    ensures other { IsRun command.now → result ≡ true }
+{
+    match command {
+        Command::Run { .. } => true,
+        _ => false,
+    }
+}
+
+/// Runs a program where its key is there with a short value, and puts in what it comes to, if that is none or a value that is
+/// saved on a page that nobody else reads. It takes no memory. Else nothing is done.
+pub fn run_in_place<A: Allocator + Copy>(
+    image: &mut Image<A>,
+    place: Place,
+    session: u64,
+    command: &Command<A>,
+) -> Option<Ended>
+    requires run { IsRun command.now }
+    requires small { IsSmall image.old.size command.now }
+    requires place { IsPlaceOf image.old (key_of command.now) place }
+    requires database { IsDatabase image.old }
+    ensures done { IfSome result (λ ended. IsDone image.old place session command.now (Reply.Ran ended.code ended.word) image.new) }
+    ensures none { IfNone result (image.new ≡ image.old) }
+{
+    let input = input_of(session, command);
+    let mut bytes = [0; SHORT];
+    let Some(copied) = run_copied(image, place.page, &input, &mut bytes) else {
+        return None;
+    };
+    if copied.ended.code == REMOVED {
+        return None;
+    }
+    if copied.ended.code != SAVED {
+        return Some(copied.ended);
+    }
+    if image.write_record(place.page, copied.i, &bytes[..copied.len]) {
+        return Some(copied.ended);
+    }
+    None
+}
+
+// Runs a program on a copy of the value of its key, which is made in the first of some bytes, where the key is on a page and its value
+// is no longer than they are.
+fn run_copied<A: Allocator + Copy>(
+    image: &Image<A>,
+    number: u32,
+    input: &RunInput<'_, A>,
+    bytes: &mut [u8],
+) -> Option<Copied>
+    requires long { length bytes.old ≤ 256 }
+    requires argument_fits { length input.now.arg.now ≤ argument_limit }
+    ensures { IfSome result (λ copied. IsRunCopied (pairs_at image.now number) input.now copied bytes.new) }
+{
+    let Some((page, i)) = pair_of(page_at(image, number), input.key) else {
+        return None;
+    };
+    let value = page.record(i);
+    let len = value.len();
+    if bytes.len() < len {
+        return None;
+    }
+    bytes[..len].copy_from_slice(value);
+    let env = env_of(input, true);
+    let ended = run(input.program, &env, &mut bytes[..len], input.arg);
+    Some(Copied { i, len, ended })
+}

@@ -1,0 +1,12 @@
+//! What one command does to a database: its reply, and the pages and bits that become others.
+#![tactic(auto)]
+
+mod action;
+mod in_place;
+mod runs;
+mod work;
+
+pub use action::{act, key_in, put_in, work_at};
+pub use in_place::{is_run, run_in_place};
+pub use runs::ran;
+pub use work::{Worked, work_on};

@@ -10,7 +10,7 @@ use std::alloc::{AllocError, AllocFailed};
 use std::error::Error;
 use std::fmt;
 
-/// Why nothing comes of a wish. It prints as its name, or as the fault within it.
+/// Why nothing comes of a wish. It prints as its name, or as the fault within it, which is never want of memory.
 #[derive(Clone, Copy, Debug, PartialEq, Eq)]
 pub enum ReportFault {
     /// A key, a value or an argument is no hex and no dot.

@@ -24,11 +24,11 @@ pub enum ServeFault {
     WriteFile,
     /// Nothing comes of the words, the files and standard input. The fault within is never `NoMemory`.
     Report(ReportFault),
-    /// The program of a batch gets no number.
+    /// The program of a batch gets no number. The fault within is never `NoMemory`.
     Submit(RegFault),
     /// The line of a batch with this number, from 1 on, asks no task.
     BadLine(usize),
-    /// Not all tasks of a batch were done.
+    /// Not all tasks of a batch were done. The fault within is never `NoMemory`, but a task may be refused for it.
     Pool(PoolFault),
     /// The calls of a batch's workers are not those that its store has.
     Close(CloseFault),

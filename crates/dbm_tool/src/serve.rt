@@ -44,8 +44,8 @@ struct Served {
 /// of one, `Decode` where it is no image, and of a batch `Submit` where its program gets no number; of a script or a batch, `Read`
 /// where it could not be read and `TooLong` above 16,777,216 bytes; of a batch, `BadLine` with the first line that asks no task,
 /// `Pool` where not all tasks were done, and `Close` where the store does not close; `Write` where lines could not be written;
-/// `FileTooLong` where `.pag` would be above `PAG_LIMIT`, after the lines were written. `NoMemory` may come at any step. Nothing is
-/// written at a fault before the lines, and their first bytes at `Write`.
+/// `FileTooLong` where `.pag` would be above `PAG_LIMIT`, after the lines were written. `NoMemory` may come at any step, and
+/// stands within no other fault but that of a task. Nothing is written at a fault before the lines, and their first bytes at `Write`.
 pub fn serve<T: Threads + Wait + Sync, R: Read, W: Write>(
     rt: &T,
     alloc: Global,

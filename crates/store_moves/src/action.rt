@@ -1,4 +1,4 @@
-//! One command on a database, without a desk.
+//! One command on a database: worked out, put in, or both.
 ghost use Rattle.std.specs.Prelude.{◌≡◌, IfOk, IfErr, IfSome, OnOk, OnErr, is_some, true};
 ghost use Rattle.std.specs.Option.{option_map};
 ghost use Rattle.sdbm_addr.specs.Database.{IsDatabase, pairs_at};
@@ -20,7 +20,7 @@ use std::alloc::{AllocError, Allocator};
 use store_cmd::{Command, Entry, Reply};
 
 /// Does a session's command on a database of which no trail is kept, and gives the entry that a trail would have. The command is
-/// one that `check` takes.
+/// one that `check` takes for the page size of the database.
 ///
 /// # Errors
 /// `AllocError` where no memory is left. The database is then as it was, and the command comes back.
@@ -136,11 +136,12 @@ pub fn key_in<A: Allocator>(command: &Command<A>) -> &[u8]
     }
 }
 
-/// What a session's command comes to on its page as it stands.
+/// What a session's command comes to on its page as it stands; the database is only read. The command is no count and is one that
+/// `check` takes for the page size of the database, and the place is that to which its key leads (`Image::place`).
 ///
 /// # Errors
 /// `AllocError` where no memory is left for the value that was found, for the pages that the command would change, or for the page
-/// on which a program runs.
+/// on which a program runs. It never comes where the reply would be `Missing`, `Exists` or `Crowded`.
 pub fn work_at<A: Allocator + Copy>(
     alloc: A,
     image: &Image<A>,
@@ -173,10 +174,11 @@ pub(crate) fn page_at<A: Allocator + Copy>(image: &Image<A>, number: u32) -> Opt
     }
 }
 
-/// Installs a plan for the page of a place, where there is one.
+/// Puts in what becomes of the page of a place: installs the plan, or does nothing where there is none. The plan is one that may be
+/// installed in the database as it stands, as what `work_at` gave of it and of that place is.
 ///
 /// # Errors
-/// `AllocError` where no memory is left. The database is then as it was, and the plan comes back.
+/// `AllocError` where no memory is left for the pages and the bits of a plan. The database is then as it was, and the plan comes back.
 pub fn put_in<A: Allocator + Copy>(
     image: &mut Image<A>,
     place: Place,

@@ -40,8 +40,10 @@ pub fn is_run<A: Allocator>(command: &Command<A>) -> bool
     }
 }
 
-/// Runs a program where its key is there with a short value, and puts in what it comes to, if that is none or a value that is
-/// saved on a page that nobody else reads. It takes no memory. Else nothing is done.
+/// Does a session's run without taking memory, and tells how its program ended: where the key is there with a value of at most 256
+/// bytes, and the program's number changes nothing, or saves the record on a page that nobody else shares. Else it is `None` and the
+/// database is as it was; `work_at` and `put_in` do the run then. The command is a run that `check` takes for the page size of the
+/// database, and the place is that to which its key leads (`Image::place`).
 pub fn run_in_place<A: Allocator + Copy>(
     image: &mut Image<A>,
     place: Place,

@@ -29,11 +29,13 @@ pub struct Site {
     pub size: PageSize,
 }
 
-/// Works a session's command out on the page of its place, or on none where that has no pairs.
+/// Works a session's command out on the page of its place, or on none where that has no pairs. The command is no count and is one
+/// that `check` takes for this page size; the place is that to which its key leads in a database whose keys hash so, and the page is
+/// the one there. Nothing is changed.
 ///
 /// # Errors
 /// `AllocError` where no memory is left for the value that was found, for the pages that the command would change, or for the page
-/// on which a program runs.
+/// on which a program runs. It never comes where the reply would be `Missing`, `Exists` or `Crowded`.
 pub fn work_on<A: Allocator + Copy>(
     alloc: A,
     page: Option<&Page<A>>,

@@ -18,7 +18,7 @@ use Rattle.store_moves.specs.Works.{PageResult, key_of, HasKey, HasEnd, IsRun}
 use Rattle.store_moves.specs.Worked.{is_change}
 use Rattle.desk_core.specs.Jobs.{Ticketed, worked}
 use Rattle.store_moves.specs.Leads.{IsPlaceOf, LeadsTo, MayChange, changed_by, does_change, is_there}
-use Rattle.store_moves.specs.Rewrites.{IsDone}
+use Rattle.store_moves.specs.Acts.{IsPutIn}
 use Rattle.desk_core.specs.Desk.{DeskState, IsSound, IsTied, Ties, first_hold, the_ticket, ticket_of, open_count}
 use Rattle.desk_core.specs.Calls.{MayAsk, IsAsked, Opens, Changes, MayFinish, Finishes, Abandons, Steps, IsStepFault, WouldChange, works_there, is_held, is_barred_in, page_led}
 use Rattle.store_moves.proofs.Acting.{Acts-on_page, IsPlaceOf-unique}
@@ -122,7 +122,7 @@ module _ {A : Type 0} (s : DeskState A) (session : ℕ) (command : Command A) (p
       }
 
   -- it was done at once, on a page that nobody else holds
-  pub stepped_at_once : (reply copy : Reply A) (db : Database) (mid entries : List (Entry A)) → IsDone s.database place session command reply db → copy ≡ reply → taken ≡ false → mid ≡ s.entries
+  pub stepped_at_once : (reply copy : Reply A) (db : Database) (mid entries : List (Entry A)) → IsPutIn s.database place session command reply db → copy ≡ reply → taken ≡ false → mid ≡ s.entries
       → entries ≡ mid ++ record { session = session; command = command; reply = copy } ∷ [] → Steps s session command reply (record s { database = db; entries = entries })
   stepped_at_once reply copy db mid entries done copy_is free same more = stepped done.ends reply copy db mid entries done.reply_is copy_is (at (is_some result.change) taken free) done.database same more
     where

@@ -1,7 +1,7 @@
 -- Open tickets and what they hold.
 use Rattle.std.proofs.Common.{◌≡◌, ◌≢◌, ℕ, true, false, List, [], ◌∷◌, ◌++◌, refl, sym, ap, subst, ◌∙◌, Option, Some, None, is_some}
-use Rattle.std.proofs.lemmas.Bool.{eqb-true, eq-eqb}
-use Rattle.std.specs.Prelude.{◌==◌, ◌||◌, if◌then◌else◌}
+use Rattle.std.proofs.lemmas.Bool.{eqb-true, eq-eqb, false≢true}
+use Rattle.std.specs.Prelude.{◌==◌, ◌||◌, if◌then◌else◌, IsSome}
 use Rattle.std.specs.List.{list_any}
 use Rattle.std.specs.Option.{option_map}
 use Rattle.sdbm_addr.specs.declared.KeyBytes.{KeyBytes}
@@ -56,6 +56,11 @@ held_by-push_other t (x ∷ xs) h y =
       | true ↦ refl
       | false ↦ held_by-push_other t xs h y
     ]
+
+-- a ticket that is not kept is not open, in a state of another name
+pub not_some : {X : Type 0} (o : Option X) → (IsSome o → false ≡ true) → o ≡ None
+not_some None h = refl
+not_some (Some x) h = absurd (false≢true (h refl))
 
 -- two numbers are equal or not
 pub either_way : (u t : ℕ) (P : Type 0) → (u ≡ t → P) → ((u ≡ t → ⊥) → (t == u) ≡ false → P) → P

@@ -19,8 +19,7 @@ use Rattle.store_cmd.specs.Command.{IsSmall}
 use Rattle.store_cmd.specs.Moves.{Moves}
 use Rattle.store_moves.specs.Works.{PageResult, works, key_of, HasKey, HasEnd, IsRun, IsWorkable}
 use Rattle.store_moves.specs.Leads.{IsPlaceOf, LeadsTo, changed_by, state_of}
-use Rattle.store_moves.specs.Rewrites.{IsDone}
-use Rattle.store_moves.specs.Acts.{Acts, IsExactFor, IsOnPage}
+use Rattle.store_moves.specs.Acts.{Acts, IsExactFor, IsOnPage, IsPutIn}
 use Rattle.store_moves.proofs.Lifting.{works_lead, keys_lead}
 
 -- a run is about a key
@@ -31,7 +30,7 @@ keyed_run (Delete key) r = absurd r
 keyed_run (Run key program argument blank now) r = tt
 keyed_run Count r = absurd r
 
--- a command that is asked may be worked
+-- a command about a key may be worked on the page of its place
 pub workable : {A : Type 0} (db : Database) → IsDatabase db → (place : Place) (kind : KeyBytes) (size : PageSize) (pairs : List Pair) (command : Command A) → HasKey command
     → IsSmall db.size command → kind ≡ db.kind → IsPlaceOf db (key_of command) place → size ≡ db.size → pairs ≡ pairs_at db place.page → IsWorkable place kind size pairs command
 workable {A} db ok place kind size pairs command keyed small is_kind p is_size is_pairs =
@@ -75,7 +74,7 @@ Acts-on_page {A} db db' ok place session command answer keyed small leads ends i
           (subst (λ (r : Reply A). Moves (state_of db) (entry r) (state_of (changed_by db place.page result.change))) (sym is) (lead.move ends));
     }
 
-pub Acts-done : {A : Type 0} (db db' : Database) → IsDatabase db → (place : Place) (session : ℕ) (command : Command A) (answer : Reply A) → HasKey command → IsSmall db.size command → IsDone db place session command answer db'
+pub Acts-done : {A : Type 0} (db db' : Database) → IsDatabase db → (place : Place) (session : ℕ) (command : Command A) (answer : Reply A) → HasKey command → IsSmall db.size command → IsPutIn db place session command answer db'
     → Acts db (record { session = session; command = command; reply = answer }) db'
 Acts-done db db' ok place session command answer keyed small done = Acts-on_page db db' ok place session command answer keyed small done.leads done.ends done.reply_is done.database
 

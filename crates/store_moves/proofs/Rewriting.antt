@@ -24,7 +24,8 @@ use Rattle.store_moves.specs.declared.in_place.Copied.{Copied}
 use Rattle.store_moves.specs.Works.{PageResult, works, key_of, HasKey, HasEnd, EndsOn, leaf_alone}
 use Rattle.store_moves.specs.Worked.{page_on, left_at}
 use Rattle.store_moves.specs.Leads.{IsPlaceOf, MayChange, changed_by}
-use Rattle.store_moves.specs.Rewrites.{IsRunCopied, IsDone}
+use Rattle.store_moves.specs.Acts.{IsPutIn}
+use Rattle.store_moves.specs.Rewrites.{IsRunCopied}
 use Rattle.store_moves.proofs.RunLemmas.{Ends-told, ran_there}
 use Rattle.store_moves.proofs.Lifting.{works_lead}
 
@@ -84,7 +85,7 @@ module _ {A : Type 0} (db : Database) (ok : IsDatabase db) (place : Place) (comm
       (subst (λ (x : Option PageChange). MayChange db place.page x) (left_saved saved) (works_lead db ok place input.session command keyed small leads).may)
 
   pub saved_so : (answer : Reply A) (db' : Database) → saves ran.outcome.code ≡ true → answer ≡ Ran copied.ended.code copied.ended.word
-      → db' ≡ installed db place.page (rewritten (content_at db place.page) copied.i (take copied.len bytes)) [] [] → IsDone db place input.session command answer db'
+      → db' ≡ installed db place.page (rewritten (content_at db place.page) copied.i (take copied.len bytes)) [] [] → IsPutIn db place input.session command answer db'
   saved_so answer db' saved is written = record {
     leads = leads;
     ends = ends;

@@ -1,7 +1,7 @@
 -- What a run comes to on its page, case by case.
 use Rattle.std.proofs.Common.{◌≡◌, ℕ, zero, suc, ◌+◌, ◌<◌, ◌≤◌, List, [], ◌∷◌, length, take, replicate, remove, Bool, true, false, cond, Option, Some, None, is_some, refl, sym, ap, ◌∙◌, subst, arith}
-use Rattle.std.proofs.lemmas.Bool.{eqb-true, eq-eqb, false_from_ne_true, false≢true}
-use Rattle.std.specs.Prelude.{◌==◌, slice_set, IsSome}
+use Rattle.std.proofs.lemmas.Bool.{eqb-true, eq-eqb, false_from_ne_true}
+use Rattle.std.specs.Prelude.{◌==◌, slice_set}
 use Rattle.std.specs.Option.{option_map}
 use Rattle.sdbm_addr.specs.declared.PageSize.{PageSize}
 use Rattle.sdbm_addr.specs.declared.PageSize.TheVariants.{Small, Wide}
@@ -187,10 +187,3 @@ module _ (A : Type 0) (site : Site) (pairs : List Pair) (input : RunInput A) (le
     saved = saved;
     takes = takes_so splits_so (ap (λ (r : PageResult A). takes_memory r.reply) (sym (placed_so absent)) ∙ takes);
   }
-
--- ---- tickets
-
--- a ticket that is not kept is not open, in a state of another name
-pub not_some : {X : Type 0} (o : Option X) → (IsSome o → false ≡ true) → o ≡ None
-not_some None h = refl
-not_some (Some x) h = absurd (false≢true (h refl))

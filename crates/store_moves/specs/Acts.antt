@@ -1,15 +1,16 @@
 -- What one command of a session does to a database, page by page.
-use Rattle.std.specs.Prelude.{◌≡◌, List, [], ◌∷◌}
+use Rattle.std.specs.Prelude.{◌≡◌, ℕ, List, [], ◌∷◌}
 use Rattle.std.specs.FinMap as map
 use Rattle.sdbm_addr.specs.Database.{Database, pairs_at, map_of}
 use Rattle.sdbm_dir.specs.declared.Place.{Place}
 use Rattle.store_cmd.specs.declared.Command.{Command}
 use Rattle.store_cmd.specs.declared.Command.TheVariants.{Fetch, Store, Delete, Run, Count}
 use Rattle.store_cmd.specs.declared.Entry.{Entry}
+use Rattle.store_cmd.specs.declared.Reply.{Reply}
 use Rattle.store_cmd.specs.declared.Reply.TheVariants as reply
 use Rattle.store_cmd.specs.Command.{IsSmall}
 use Rattle.store_cmd.specs.Moves.{Moves}
-use Rattle.store_moves.specs.Works.{works, key_of}
+use Rattle.store_moves.specs.Works.{works, key_of, HasEnd}
 use Rattle.store_moves.specs.Leads.{IsPlaceOf, changed_by, state_of}
 
 -- a command about a key: what it comes to on the page of its place is answered, and put in
@@ -18,6 +19,13 @@ pub record IsOnPage {A : Type 0} (db : Database) (e : Entry A) (db' : Database) 
   pub leads : IsPlaceOf db (key_of e.command) place
   pub answer_is : e.reply ≡ (works place db.kind db.size (pairs_at db place.page) e.session e.command).reply
   pub database : db' ≡ changed_by db place.page (works place db.kind db.size (pairs_at db place.page) e.session e.command).change
+
+-- a command of a session is done on the page of its place: it is answered, and what it comes to there is put in
+pub record IsPutIn {A : Type 0} (db : Database) (place : Place) (session : ℕ) (command : Command A) (reply : Reply A) (db' : Database) : Type 0 where
+  pub leads : IsPlaceOf db (key_of command) place
+  pub ends : HasEnd (pairs_at db place.page) session command
+  pub reply_is : reply ≡ (works place db.kind db.size (pairs_at db place.page) session command).reply
+  pub database : db' ≡ changed_by db place.page (works place db.kind db.size (pairs_at db place.page) session command).change
 
 -- the answer to a command and the database after it, exactly
 abbrev pub IsExactFor : {A : Type 0} → Command A → Database → Entry A → Database → Type 0

@@ -3,9 +3,8 @@ ghost use Rattle.std.specs.Prelude.{◌≡◌, IfOk, IfErr, IfSome, OnOk, OnErr,
 ghost use Rattle.std.specs.Option.{option_map};
 ghost use Rattle.sdbm_addr.specs.Database.{IsDatabase, pairs_at};
 ghost use Rattle.store_cmd.specs.Command.{IsSmall};
-ghost use Rattle.store_moves.specs.Acts.{Acts};
+ghost use Rattle.store_moves.specs.Acts.{Acts, IsPutIn};
 ghost use Rattle.store_moves.specs.Leads.{IsPlaceOf, MayChange, changed_by};
-ghost use Rattle.store_moves.specs.Rewrites.{IsDone};
 ghost use Rattle.store_moves.specs.Worked.{IsWorked, takes_memory};
 ghost use Rattle.store_moves.specs.Works.{works, HasKey, HasEnd, key_of, change_of, pairs_lent, IsRun};
 
@@ -113,7 +112,7 @@ fn work_and_put<A: Allocator + Copy>(
     requires small { IsSmall image.old.size command.now }
     requires place { IsPlaceOf image.old (key_of command.now) place }
     requires database { IsDatabase image.old }
-    ensures done { IfOk result (λ reply. IsDone image.old place session command.now reply image.new) }
+    ensures done { IfOk result (λ reply. IsPutIn image.old place session command.now reply image.new) }
     ensures err { OnErr result (image.new ≡ image.old) }
 {
     let Worked { reply, change } = work_at(alloc, image, place, session, command)?;

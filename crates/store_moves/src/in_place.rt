@@ -7,7 +7,8 @@ ghost use Rattle.store_cmd.specs.Command.{IsSmall};
 ghost use Rattle.store_cmd.specs.declared.Reply.TheVariants as Reply;
 ghost use Rattle.store_moves.specs.Leads.{IsPlaceOf};
 ghost use Rattle.store_moves.specs.Works.{key_of, IsRun};
-ghost use Rattle.store_moves.specs.Rewrites.{IsRunCopied, IsDone};
+ghost use Rattle.store_moves.specs.Acts.{IsPutIn};
+ghost use Rattle.store_moves.specs.Rewrites.{IsRunCopied};
 
 use crate::action::page_at;
 use crate::runs::{REMOVED, RunInput, SAVED, env_of};
@@ -54,7 +55,7 @@ pub fn run_in_place<A: Allocator + Copy>(
     requires small { IsSmall image.old.size command.now }
     requires place { IsPlaceOf image.old (key_of command.now) place }
     requires database { IsDatabase image.old }
-    ensures done { IfSome result (λ ended. IsDone image.old place session command.now (Reply.Ran ended.code ended.word) image.new) }
+    ensures done { IfSome result (λ ended. IsPutIn image.old place session command.now (Reply.Ran ended.code ended.word) image.new) }
     ensures none { IfNone result (image.new ≡ image.old) }
 {
     let input = input_of(session, command);

@@ -2,7 +2,7 @@ use Rattle.std.proofs.Common.{None, refl, sym, ap, ◌∙◌, arith}
 use Rattle.std.specs.Prelude.{slice_index_or}
 use Rattle.desk_core.specs.Desk.{DeskState, ticket_of}
 use Rattle.desk_core.proofs.Sound.{Abandons-sound}
-use Rattle.store_moves.proofs.RunLemmas.{not_some}
+use Rattle.desk_core.proofs.Ties.{not_some}
 use Rattle.desk_core.proofs.Doing.{abandoned}
 use Rattle.desk_core.proofs.Desk.abandon.Goals as goal
 

@@ -3,7 +3,7 @@ use Rattle.std.specs.Prelude.{slice_index_or, IsSome}
 use Rattle.hold_modes.specs.Held.{is_updating, is_shared, made_exclusive}
 use Rattle.desk_core.specs.Desk.{DeskState, ticket_of}
 use Rattle.desk_core.proofs.Sound.{Converts-sound}
-use Rattle.store_moves.proofs.RunLemmas.{not_some}
+use Rattle.desk_core.proofs.Ties.{not_some}
 use Rattle.desk_core.proofs.Desk.convert.Goals as goal
 
 pub returns-then-not-is_updating-clause-refused : goal.returns-then-not-is_updating-clause-refused

@@ -7,7 +7,7 @@ use Rattle.hold_modes.specs.Held.{bars}
 use Rattle.store_cmd.specs.declared.Reply.{Reply}
 use Rattle.store_moves.specs.Works.{key_of}
 use Rattle.store_moves.specs.Leads.{IsPlaceOf}
-use Rattle.store_moves.specs.Rewrites.{IsDone}
+use Rattle.store_moves.specs.Acts.{IsPutIn}
 use Rattle.desk_core.specs.Desk.{DeskState}
 use Rattle.desk_core.specs.Calls.{MayAsk, Steps}
 use Rattle.store_moves.proofs.Acting.{keyed_run}
@@ -24,7 +24,7 @@ steps g c =
     let s : DeskState g.row.A.Denot = state g c in
     let may = subst (λ (x : DeskState g.row.A.Denot). MayAsk x c.args.command) (sym c.self.view_is) c.requires.may in
     let leads = subst (λ (x : DeskState g.row.A.Denot). IsPlaceOf x.database (key_of c.args.command) c.args.place) (sym c.self.view_is) c.requires.place in
-    let done = subst (λ (r : Reply g.row.A.Denot). IsDone s.database c.args.place c.args.session c.args.command r c.run_in_place.new.image) (sym c.ran-2.ensures) c.in-Some.ensures.done in
+    let done = subst (λ (r : Reply g.row.A.Denot). IsPutIn s.database c.args.place c.args.session c.args.command r c.run_in_place.new.image) (sym c.ran-2.ensures) c.in-Some.ensures.done in
     let free = ap (λ (x : DeskState g.row.A.Denot). list_any (bars c.args.place.page Exclusive) x.holds) c.self.view_is ∙ sym c.is_in_the_way.ensures ∙ c.if-is_in_the_way.false in
     stepped_at_once s c.args.session c.args.command c.args.place c.self.invariant.0 may (keyed_run c.args.command (c.if-not-is_run.ensures.run refl)) leads c.ran-2.result c.ran.result c.run_in_place.new.image c.reserve.new.self.items c.push_reserved.new.self.items
     done (c.ran.ensures ∙ sym c.ran-2.ensures) free c.reserve.ensures.items c.push_reserved.ensures.items

@@ -1,0 +1,27 @@
+/* A Bloom filter of 1,024 bits with four bits a value. The argument is a hash of a value, 16 bytes; the bits are those at the first
+ * half, and the first half and one, two and three times the second.
+ * SAVE: the value is new, and is in now; the word is 0. KEEP: it was in, or may have been, and the word is 1; or a length is too
+ * short, and the word is 0. */
+#include "boddurci_record.h"
+
+enum { BITS = 1024, BITS_A_VALUE = 4 };
+
+struct hash {
+    uint64_t first, second;
+};
+
+uint64_t program(void *record, uint64_t record_length, const void *argument, uint64_t argument_length)
+{
+    uint64_t *words = record;
+    const struct hash *hash = argument;
+    if (record_length < BITS / 8 || argument_length < sizeof *hash)
+        return KEEP;
+    uint64_t there = 1;
+    for (uint64_t i = 0; i < BITS_A_VALUE; i++) {
+        uint64_t bit = (hash->first + i * hash->second) & (BITS - 1);
+        there &= words[bit >> 6] >> (bit & 63);
+        words[bit >> 6] |= 1ull << (bit & 63);
+    }
+    boddurci_reply(there);
+    return there ? KEEP : SAVE;
+}

@@ -1,0 +1,19 @@
+/* A histogram: eight numbers, of which the lowest three bits of the argument's first byte pick one, which gets one more.
+ * SAVE: it was counted; the word is the number's new value. KEEP: a length is too short. */
+#include "boddurci_record.h"
+
+struct histogram {
+    uint64_t counts[8];
+};
+
+uint64_t program(void *record, uint64_t record_length, const void *argument, uint64_t argument_length)
+{
+    struct histogram *histogram = record;
+    const uint8_t *value = argument;
+    if (record_length < sizeof *histogram || argument_length < sizeof *value)
+        return KEEP;
+    uint64_t *count = &histogram->counts[*value & 7];
+    *count += 1;
+    boddurci_reply(*count);
+    return SAVE;
+}

@@ -1,0 +1,26 @@
+/* Count, sum, least and greatest of the numbers that came, with the mean as the word.
+ * SAVE: the number was taken in; the word is the mean, rounded down. KEEP: the sum would be above 2^64 - 1, or a length is too
+ * short. */
+#include "boddurci_record.h"
+
+struct summary {
+    uint64_t count, sum, least, greatest;
+};
+
+uint64_t program(void *record, uint64_t record_length, const void *argument, uint64_t argument_length)
+{
+    struct summary *summary = record;
+    const uint64_t *number = argument;
+    if (record_length < sizeof *summary || argument_length < sizeof *number)
+        return KEEP;
+    if (*number > UINT64_MAX - summary->sum)
+        return KEEP;
+    if (summary->count == 0 || *number < summary->least)
+        summary->least = *number;
+    if (*number > summary->greatest)
+        summary->greatest = *number;
+    summary->count += 1;
+    summary->sum += *number;
+    boddurci_reply(summary->sum / summary->count);
+    return SAVE;
+}

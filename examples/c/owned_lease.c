@@ -1,0 +1,56 @@
+/* A lease with an owner of 16 bytes, renewals, and a fencing number that grows with each new owner, so that what a late owner
+ * writes can be told from what the next one does.
+ * SAVE: taken, renewed or given back; the word is the fencing number.
+ * KEEP: another one has it, who renews or gives back does not have it, there is no such operation, or a length is too short; the
+ * word is 0. */
+#include "boddurci_record.h"
+
+enum { TAKE, RENEW, GIVE_BACK };
+
+struct lease {
+    uint64_t owner[2], ends, fence, renewals;
+};
+struct request {
+    uint64_t owner[2], duration, operation;
+};
+
+static inline int is_owner(const struct lease *lease, const struct request *request)
+{
+    return ((lease->owner[0] ^ request->owner[0]) | (lease->owner[1] ^ request->owner[1])) == 0;
+}
+
+uint64_t program(void *record, uint64_t record_length, const void *argument, uint64_t argument_length)
+{
+    struct lease *lease = record;
+    const struct request *request = argument;
+    if (record_length < sizeof *lease || argument_length < sizeof *request)
+        return KEEP;
+    uint64_t now = boddurci_now();
+    int lasts = lease->ends > now;
+    switch (request->operation) {
+    case TAKE:
+        if (lasts)
+            return KEEP;
+        lease->owner[0] = request->owner[0];
+        lease->owner[1] = request->owner[1];
+        lease->fence += 1;
+        lease->renewals = 0;
+        break;
+    case RENEW:
+        if (!lasts || !is_owner(lease, request))
+            return KEEP;
+        lease->renewals += 1;
+        break;
+    case GIVE_BACK:
+        if (!lasts || !is_owner(lease, request))
+            return KEEP;
+        lease->ends = now;
+        boddurci_reply(lease->fence);
+        return SAVE;
+    default:
+        return KEEP;
+    }
+    lease->ends = now + request->duration;
+    boddurci_reply(lease->fence);
+    return SAVE;
+}

@@ -1,0 +1,35 @@
+/* A rate limit: so many in a window of time; zeros are a window that began at 0.
+ * SAVE: let through; the word is how many more the window lets through.
+ * KEEP: not let through; the word is how long the window still lasts, or would last where none does. Where a length is too
+ * short it is 0.
+ * Who comes where no window lasts, or where it began later than now, begins one. */
+#include "boddurci_record.h"
+
+struct window {
+    uint64_t began, count;
+};
+struct limit {
+    uint64_t duration, most;
+};
+
+uint64_t program(void *record, uint64_t record_length, const void *argument, uint64_t argument_length)
+{
+    struct window *window = record;
+    const struct limit *limit = argument;
+    if (record_length < sizeof *window || argument_length < sizeof *limit)
+        return KEEP;
+    uint64_t now = boddurci_now();
+    uint64_t age = now - window->began;
+    if (now < window->began || age >= limit->duration) {
+        window->began = now;
+        window->count = 0;
+        age = 0;
+    }
+    if (window->count >= limit->most) {
+        boddurci_reply(limit->duration - age);
+        return KEEP;
+    }
+    window->count += 1;
+    boddurci_reply(limit->most - window->count);
+    return SAVE;
+}

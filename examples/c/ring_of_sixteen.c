@@ -1,0 +1,22 @@
+/* The last sixteen numbers that came, and how many came in all: number n is at n modulo 16.
+ * SAVE: the number is in; the word is the one whose place it took. KEEP: a length is too short. */
+#include "boddurci_record.h"
+
+enum { PLACES = 16 };
+
+struct ring {
+    uint64_t count, numbers[PLACES];
+};
+
+uint64_t program(void *record, uint64_t record_length, const void *argument, uint64_t argument_length)
+{
+    struct ring *ring = record;
+    const uint64_t *number = argument;
+    if (record_length < sizeof *ring || argument_length < sizeof *number)
+        return KEEP;
+    uint64_t *place = &ring->numbers[ring->count % PLACES];
+    boddurci_reply(*place);
+    *place = *number;
+    ring->count += 1;
+    return SAVE;
+}

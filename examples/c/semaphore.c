@@ -1,0 +1,38 @@
+/* A semaphore of eight permits, each with a holder, above 0, and a time at which it ends, so that a holder that died gives it back.
+ * Who asks and has one already renews it; a duration of 0 gives it back.
+ * SAVE: who asks has a permit until the time in the word, or has given it back, and the word is 0.
+ * KEEP: none is free, nothing was there to give back, or a length is too short. The word is 0. */
+#include "boddurci_record.h"
+
+enum { PERMITS = 8 };
+
+struct permit {
+    uint64_t holder, ends;
+};
+struct request {
+    uint64_t holder, duration;
+};
+
+uint64_t program(void *record, uint64_t record_length, const void *argument, uint64_t argument_length)
+{
+    struct permit *permits = record;
+    const struct request *request = argument;
+    if (record_length < PERMITS * sizeof *permits || argument_length < sizeof *request)
+        return KEEP;
+    uint64_t now = boddurci_now();
+    uint64_t mine = PERMITS, free = PERMITS;
+    for (uint64_t i = 0; i < PERMITS; i++) {
+        if (permits[i].ends <= now)
+            free = i;
+        else if (permits[i].holder == request->holder)
+            mine = i;
+    }
+    uint64_t chosen = mine < PERMITS ? mine : free;
+    if (chosen >= PERMITS || (request->duration == 0 && mine >= PERMITS))
+        return KEEP;
+    struct permit *permit = &permits[chosen];
+    permit->holder = request->holder;
+    permit->ends = now + request->duration;
+    boddurci_reply(request->duration == 0 ? 0 : permit->ends);
+    return SAVE;
+}

@@ -1,0 +1,39 @@
+/* A sliding window: so many in any stretch of time, reckoned from the counts of this window and of the one before, of which the
+ * part counts that the stretch still covers. Duration and limit are below 2^32, and the duration is above 0.
+ * SAVE: let through; the word is how many more are. KEEP: not let through, or a number or a length is out of bounds; the word is 0. */
+#include "boddurci_record.h"
+
+struct counts {
+    uint64_t window, now, before; /* which window, its count, and that of the one before */
+};
+struct limit {
+    uint64_t duration, most;
+};
+
+uint64_t program(void *record, uint64_t record_length, const void *argument, uint64_t argument_length)
+{
+    struct counts *counts = record;
+    const struct limit *limit = argument;
+    if (record_length < sizeof *counts || argument_length < sizeof *limit)
+        return KEEP;
+    uint64_t duration = limit->duration, most = limit->most;
+    if (duration == 0 || duration > UINT32_MAX || most > UINT32_MAX)
+        return KEEP;
+    uint64_t now = boddurci_now();
+    uint64_t window = now / duration;
+    if (window == counts->window + 1) {
+        counts->before = counts->now;
+        counts->now = 0;
+    } else if (window != counts->window) {
+        counts->before = 0;
+        counts->now = 0;
+    }
+    counts->window = window;
+    uint64_t covered = duration - now % duration;
+    uint64_t used = counts->now + counts->before * covered / duration;
+    if (used >= most)
+        return KEEP;
+    counts->now += 1;
+    boddurci_reply(most - used - 1);
+    return SAVE;
+}

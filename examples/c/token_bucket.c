@@ -1,0 +1,47 @@
+/* A token bucket: it fills at a rate up to its capacity, and who comes takes tokens out. A new one is full.
+ * SAVE: they were taken; the word is how many are left.
+ * KEEP: there are too few; the word is how long to wait until there are enough, and 2^64 - 1 where there never are. Where a length
+ * is too short or the interval is 0, the word is 0.
+ * A clock that goes back adds nothing. */
+#include "boddurci_record.h"
+
+struct bucket {
+    uint64_t tokens, filled;
+};
+struct request {
+    uint64_t interval, capacity, cost; /* one token more every interval */
+};
+
+uint64_t program(void *record, uint64_t record_length, const void *argument, uint64_t argument_length)
+{
+    struct bucket *bucket = record;
+    const struct request *request = argument;
+    if (record_length < sizeof *bucket || argument_length < sizeof *request)
+        return KEEP;
+    uint64_t present = boddurci_present(), now = boddurci_now();
+    uint64_t interval = request->interval, capacity = request->capacity, cost = request->cost;
+    uint64_t tokens = capacity, filled = now;
+    if (interval == 0)
+        return KEEP;
+    if (present) {
+        tokens = bucket->tokens;
+        filled = bucket->filled;
+    }
+    if (now > filled) {
+        uint64_t more = (now - filled) / interval;
+        tokens = more > UINT64_MAX - tokens ? UINT64_MAX : tokens + more;
+        filled += more * interval;
+    }
+    if (tokens >= capacity) {
+        tokens = capacity;
+        filled = now > filled ? now : filled;
+    }
+    if (tokens < cost) {
+        boddurci_reply(cost > capacity ? UINT64_MAX : filled + (cost - tokens) * interval - now);
+        return KEEP;
+    }
+    bucket->tokens = tokens - cost;
+    bucket->filled = filled;
+    boddurci_reply(bucket->tokens);
+    return SAVE;
+}

@@ -1,0 +1,26 @@
+/* A document of 120 bytes with a version: it is replaced by whoever has seen the version that is there; a new one has version 0.
+ * SAVE: it is replaced; the word is its version now. KEEP: another version is there, and the word is that one; or a length is too
+ * short, and the word is 0. */
+#include "boddurci_record.h"
+
+struct document {
+    uint64_t version;
+    uint8_t text[120];
+};
+
+uint64_t program(void *record, uint64_t record_length, const void *argument, uint64_t argument_length)
+{
+    struct document *kept = record;
+    const struct document *next = argument;
+    if (record_length < sizeof *kept || argument_length < sizeof *next)
+        return KEEP;
+    uint64_t version = kept->version;
+    if (version != next->version) {
+        boddurci_reply(version);
+        return KEEP;
+    }
+    boddurci_copy(kept, next, sizeof *kept);
+    kept->version = version + 1;
+    boddurci_reply(version + 1);
+    return SAVE;
+}

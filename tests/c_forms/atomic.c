@@ -1,0 +1,12 @@
+/* Opcode */
+#include "boddurci_record.h"
+
+uint64_t program(void *record, uint64_t record_length, const void *argument, uint64_t argument_length)
+{
+    uint64_t *count = record;
+    (void)argument, (void)argument_length;
+    if (record_length < 8)
+        return KEEP;
+    __sync_fetch_and_add(count, 1); // here
+    return SAVE;
+}

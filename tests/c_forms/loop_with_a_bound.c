@@ -1,0 +1,18 @@
+/* accepted */
+#include "boddurci_record.h"
+
+/* FNV-1a of up to 64 bytes. */
+uint64_t program(void *record, uint64_t record_length, const void *argument, uint64_t argument_length)
+{
+    const uint8_t *bytes = argument;
+    uint64_t hash = 0xcbf29ce484222325;
+    (void)record, (void)record_length;
+    UNROLL(64)
+    for (uint64_t i = 0; i < 64; i++) {
+        if (i >= argument_length)
+            break;
+        hash = (hash ^ bytes[i]) * 0x100000001b3;
+    }
+    boddurci_reply(hash);
+    return KEEP;
+}

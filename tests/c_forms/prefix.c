@@ -1,0 +1,16 @@
+/* accepted or OutOfArgument */
+#include "boddurci_record.h"
+
+/* How many of the first sixteen bytes are the same, where either may be shorter. */
+uint64_t program(void *record, uint64_t record_length, const void *argument, uint64_t argument_length)
+{
+    const uint8_t *mine = record, *theirs = argument;
+    uint64_t same = 0;
+    for (uint64_t i = 0; i < 16; i++) {
+        if (record_length <= i || argument_length <= i || mine[i] != theirs[i])
+            break;
+        same++;
+    }
+    boddurci_reply(same);
+    return KEEP;
+}

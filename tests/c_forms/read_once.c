@@ -1,0 +1,21 @@
+/* accepted */
+#include "boddurci_record.h"
+
+struct ring {
+    uint64_t next, numbers[8];
+};
+
+uint64_t program(void *record, uint64_t record_length, const void *argument, uint64_t argument_length)
+{
+    struct ring *ring = record;
+    const uint64_t *number = argument;
+    if (record_length < sizeof *ring || argument_length < 8)
+        return KEEP;
+    uint64_t next = ring->next;
+    if (next >= 8)
+        return KEEP;
+    boddurci_reply(next);
+    ring->numbers[next] = *number;
+    ring->next = (next + 1) % 8;
+    return SAVE;
+}

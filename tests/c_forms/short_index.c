@@ -1,0 +1,15 @@
+/* accepted */
+#include "boddurci_record.h"
+
+uint64_t program(void *record, uint64_t record_length, const void *argument, uint64_t argument_length)
+{
+    uint64_t *counts = record;
+    const uint32_t *index = argument;
+    if (record_length < 64 || argument_length < 4)
+        return KEEP;
+    uint32_t i = *index;
+    if (i >= 8)
+        return KEEP;
+    counts[i] += 1;
+    return SAVE;
+}

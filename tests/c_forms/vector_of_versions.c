@@ -1,0 +1,15 @@
+/* accepted */
+#include "boddurci_record.h"
+
+/* Each of 32 numbers becomes the greater one of its own and the argument's. */
+uint64_t program(void *record, uint64_t record_length, const void *argument, uint64_t argument_length)
+{
+    uint64_t *mine = record;
+    const uint64_t *theirs = argument;
+    if (record_length < 256 || argument_length < 256)
+        return KEEP;
+    for (int i = 0; i < 32; i++)
+        if (theirs[i] > mine[i])
+            mine[i] = theirs[i];
+    return SAVE;
+}

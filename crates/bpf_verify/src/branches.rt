@@ -2,11 +2,12 @@
 
 ghost use Rattle.std.specs.Prelude.{◌≡◌, ◌≤◌, ◌≤ℤ◌, pos, ℕ, IfOk, IsSomeAnd, Some, None, true, false, length};
 ghost use Rattle.bpf_insn.specs.Spelling.{IsOperand};
-ghost use Rattle.bpf_helpers.specs.Machine.{register as register_of, operand as operand_of, comparison_of};
+ghost use Rattle.bpf_helpers.specs.Machine.{register as register_of, comparison_of};
 ghost use Rattle.bpf_range.specs.Sets.{In, Contains};
 ghost use Rattle.bpf_verify.specs.Kinds.{HoldsKind, IsNumber};
 ghost use Rattle.bpf_verify.specs.States.{Fits};
 ghost use Rattle.bpf_verify.specs.Steps.{Flows};
+ghost use Rattle.bpf_verify.specs.Tested.{tested};
 
 use crate::fault::FlowFault;
 use crate::numbers::{number_of, written};
@@ -47,7 +48,7 @@ fn narrowed(state: &State, register: u8, test: Test, known: Known) -> State
 
 fn narrowed_operand(state: &State, operand: Operand, test: Test, known: Known) -> State
     requires { IsOperand operand }
-    ensures { (c : _) → Fits state.now c → IsNumber (Contains known) (operand_of c operand) → Fits result c }
+    ensures { (w : Width) (c : _) → Fits state.now c → IsNumber (Contains known) (tested w c operand) → Fits result c }
 {
     match operand {
         Operand::Imm(_) => *state,
@@ -68,11 +69,24 @@ fn refined(
 ) -> Option<State>
     requires dst { dst ≤ 10 }
     requires src { IsOperand src }
-    ensures { (c : _) → Fits state.now c → IsNumber (Contains a) (register_of c dst) → IsNumber (Contains b) (operand_of c src) → comparison_of test width (register_of c dst) (operand_of c src) ≡ Some taken → IsSomeAnd result (λ t. Fits t c) }
+    ensures { (c : _) → Fits state.now c → IsNumber (Contains a) (register_of c dst) → IsNumber (Contains b) (tested width c src) → comparison_of test width (register_of c dst) (tested width c src) ≡ Some taken → IsSomeAnd result (λ t. Fits t c) }
 {
     let (x, y) = refine(test, width, a, b, taken)?;
     let first = narrowed(state, dst, test, x);
     Some(narrowed_operand(&first, src, test, y))
+}
+
+/// The kind of the second operand of a test: at 32 bits an immediate is a number below 2^32.
+fn tested_operand(state: &State, width: Width, operand: Operand) -> Kind
+    requires { IsOperand operand }
+    ensures { (c : _) → Fits state.now c → HoldsKind result (length c.bytes) (length c.argument) (tested width c operand) }
+{
+    match (width, operand) {
+        (Width::W32, Operand::Imm(k)) => Kind::Num(Known::single(
+            (k as i64).cast_unsigned() % 0x1_0000_0000,
+        )),
+        _ => state.operand(operand),
+    }
 }
 
 /// The edges of a conditional jump, by any distance that is not backward.
@@ -88,7 +102,7 @@ pub fn flow_branch(
     ensures { IfOk result (λ e. (offset : _) → pos 0 ≤ℤ offset → Flows (Insn.Branch test width dst src offset) state.now e) }
 {
     let first = state.kind(dst);
-    let second = state.operand(src);
+    let second = tested_operand(state, width, src);
     written(first)?;
     written(second)?;
     let Some(a) = number_of(first, state.bytes, state.argument) else {

@@ -27,6 +27,12 @@ fn show_verdict(alloc: Global, text: &str) -> Result<String, AllocError> {
     }
 }
 
+/// The verdict of a text behind which 0 is answered.
+fn show_ended(alloc: Global, text: &str) -> Result<String, AllocError> {
+    let text = format!(in alloc; "{text} / mov r0, 0 / exit")?;
+    show_verdict(alloc, text.as_str())
+}
+
 /// The verdict of a text in which a mark stands for so many instructions.
 fn show_filled(alloc: Global, words: &str) -> Result<String, AllocError> {
     let Some((count, text)) = words.split_once(' ') else {
@@ -101,6 +107,7 @@ fn show_kinds(alloc: Global, words: &str) -> Result<String, AllocError> {
 pub fn show_line(alloc: Global, line: &str) -> Result<String, AllocError> {
     match line.split_once(' ') {
         Some(("program", text)) => show_verdict(alloc, text),
+        Some(("ends", text)) => show_ended(alloc, text),
         Some(("filled", words)) => show_filled(alloc, words),
         Some(("kinds", words)) => show_kinds(alloc, words),
         _ => String::from_str(alloc, "a line of no kind"),

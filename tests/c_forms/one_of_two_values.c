@@ -1,0 +1,18 @@
+/* accepted */
+#include "boddurci_record.h"
+
+/* Both are loaded, and then one is chosen. */
+uint64_t program(void *record, uint64_t record_length, const void *argument, uint64_t argument_length)
+{
+    uint64_t *tokens = record;
+    const uint64_t *capacity = argument;
+    if (record_length < 16 || argument_length < 16)
+        return KEEP;
+    uint64_t left = capacity[1], kept = tokens[1];
+    if (boddurci_present())
+        left = kept;
+    if (left == 0)
+        return KEEP;
+    tokens[1] = left - 1;
+    return SAVE;
+}

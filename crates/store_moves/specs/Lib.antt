@@ -3,3 +3,4 @@ pub mod Worked
 pub mod Leads
 pub mod Acts
 pub mod Rewrites
+pub mod Wants

@@ -5,6 +5,7 @@ ghost use Rattle.sdbm_addr.specs.Database.{IsDatabase, pairs_at};
 ghost use Rattle.store_cmd.specs.Command.{IsSmall};
 ghost use Rattle.store_moves.specs.Acts.{Acts, IsPutIn};
 ghost use Rattle.store_moves.specs.Leads.{IsPlaceOf, MayChange, changed_by};
+ghost use Rattle.store_moves.specs.Wants.{WantsMemory};
 ghost use Rattle.store_moves.specs.Worked.{IsWorked, takes_memory};
 ghost use Rattle.store_moves.specs.Works.{works, HasKey, HasEnd, key_of, change_of, pairs_lent, IsRun};
 
@@ -22,7 +23,8 @@ use store_cmd::{Command, Entry, Reply};
 /// one that `check` takes for the page size of the database.
 ///
 /// # Errors
-/// `AllocError` where no memory is left. The database is then as it was, and the command comes back.
+/// `AllocError` where no memory is left, and never where the reply would be `Missing`, `Exists`, `Crowded` or a `Count`. The
+/// database is then as it was, and the command comes back.
 pub fn act<A: Allocator + Copy>(
     alloc: A,
     image: &mut Image<A>,
@@ -33,6 +35,7 @@ pub fn act<A: Allocator + Copy>(
     ensures session { IfOk result (λ entry. entry.session ≡ session) }
     ensures command { IfOk result (λ entry. entry.command ≡ command) }
     ensures ok { IfOk result (λ entry. Acts image.old entry image.new) }
+    ensures wants { OnErr result (WantsMemory image.old session command) }
     ensures returned { IfErr result (λ refused. refused.1 ≡ command) }
     ensures err { OnErr result (image.new ≡ image.old) }
 {
@@ -55,6 +58,7 @@ fn reply_to<A: Allocator + Copy>(
 ) -> Result<Reply<A>, AllocError>
     requires small { IsSmall image.old.size command.now }
     ensures ok { IfOk result (λ reply. Acts image.old (record { session = session; command = command.now; reply = reply }) image.new) }
+    ensures wants { OnErr result (WantsMemory image.old session command.now) }
     ensures err { OnErr result (image.new ≡ image.old) }
 {
     match command {
@@ -74,6 +78,7 @@ fn act_on_page<A: Allocator + Copy>(
     requires keyed { HasKey command.now }
     requires small { IsSmall image.old.size command.now }
     ensures ok { IfOk result (λ reply. Acts image.old (record { session = session; command = command.now; reply = reply }) image.new) }
+    ensures wants { OnErr result (WantsMemory image.old session command.now) }
     ensures err { OnErr result (image.new ≡ image.old) }
 {
     let place = image.place(key_in(command));
@@ -91,6 +96,7 @@ fn act_by_run<A: Allocator + Copy>(
     requires keyed { HasKey command.now }
     requires small { IsSmall image.old.size command.now }
     ensures ok { IfOk result (λ reply. Acts image.old (record { session = session; command = command.now; reply = reply }) image.new) }
+    ensures wants { OnErr result (WantsMemory image.old session command.now) }
     ensures err { OnErr result (image.new ≡ image.old) }
 {
     let place = image.place(key_in(command));
@@ -113,6 +119,7 @@ fn work_and_put<A: Allocator + Copy>(
     requires place { IsPlaceOf image.old (key_of command.now) place }
     requires database { IsDatabase image.old }
     ensures done { IfOk result (λ reply. IsPutIn image.old place session command.now reply image.new) }
+    ensures wants { OnErr result (WantsMemory image.old session command.now) }
     ensures err { OnErr result (image.new ≡ image.old) }
 {
     let Worked { reply, change } = work_at(alloc, image, place, session, command)?;

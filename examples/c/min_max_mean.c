@@ -1,6 +1,6 @@
 /* Count, sum, least and greatest of the numbers that came, with the mean as the word.
- * SAVE: the number was taken in; the word is the mean, rounded down. KEEP: the sum would be above 2^64 - 1, or a length is too
- * short. */
+ * SAVE: the number was taken in; the word is the mean, rounded down. KEEP: the sum or the count would be above 2^64 - 1, or
+ * a length is too short. */
 #include "boddurci_record.h"
 
 struct summary {
@@ -13,7 +13,7 @@ uint64_t program(void *record, uint64_t record_length, const void *argument, uin
     const uint64_t *number = argument;
     if (record_length < sizeof *summary || argument_length < sizeof *number)
         return KEEP;
-    if (*number > UINT64_MAX - summary->sum)
+    if (*number > UINT64_MAX - summary->sum || summary->count == UINT64_MAX)
         return KEEP;
     if (summary->count == 0 || *number < summary->least)
         summary->least = *number;

@@ -2,7 +2,8 @@
  * writes can be told from what the next one does.
  * SAVE: taken, renewed or given back; the word is the fencing number.
  * KEEP: another one has it, who renews or gives back does not have it, there is no such operation, or a length is too short; the
- * word is 0. */
+ * word is 0.
+ * A lease ends at 2^64 - 1 at the latest. */
 #include "boddurci_record.h"
 
 enum { TAKE, RENEW, GIVE_BACK };
@@ -50,7 +51,7 @@ uint64_t program(void *record, uint64_t record_length, const void *argument, uin
     default:
         return KEEP;
     }
-    lease->ends = now + request->duration;
+    lease->ends = now > UINT64_MAX - request->duration ? UINT64_MAX : now + request->duration;
     boddurci_reply(lease->fence);
     return SAVE;
 }

@@ -1,7 +1,8 @@
 /* A semaphore of eight permits, each with a holder, above 0, and a time at which it ends, so that a holder that died gives it back.
  * Who asks and has one already renews it; a duration of 0 gives it back.
  * SAVE: who asks has a permit until the time in the word, or has given it back, and the word is 0.
- * KEEP: none is free, nothing was there to give back, or a length is too short. The word is 0. */
+ * KEEP: none is free, nothing was there to give back, or a length is too short. The word is 0.
+ * A permit ends at 2^64 - 1 at the latest. */
 #include "boddurci_record.h"
 
 enum { PERMITS = 8 };
@@ -32,7 +33,7 @@ uint64_t program(void *record, uint64_t record_length, const void *argument, uin
         return KEEP;
     struct permit *permit = &permits[chosen];
     permit->holder = request->holder;
-    permit->ends = now + request->duration;
+    permit->ends = now > UINT64_MAX - request->duration ? UINT64_MAX : now + request->duration;
     boddurci_reply(request->duration == 0 ? 0 : permit->ends);
     return SAVE;
 }

@@ -2,7 +2,7 @@
  * SAVE: they were taken; the word is how many are left.
  * KEEP: there are too few; the word is how long to wait until there are enough, and 2^64 - 1 where there never are. Where a length
  * is too short or the interval is 0, the word is 0.
- * A clock that goes back adds nothing. */
+ * A clock that goes back adds nothing. The cost times the interval is below 2^63. */
 #include "boddurci_record.h"
 
 struct bucket {

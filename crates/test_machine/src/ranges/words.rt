@@ -1,6 +1,6 @@
 //! The words of a line.
 
-use crate::names::{read_edge, read_op, read_test, read_width};
+use super::names::{read_edge, read_op, read_test, read_width};
 use bpf_insn::{Op, Test, Width};
 use bpf_range::{Known, Range};
 

@@ -1,15 +1,10 @@
-//! Answers to the lines of standard input.
+//! Verdicts, and runs of programs that are accepted, with what the key has afterwards.
 
-use crate::lines::Input;
+use crate::lines::{ARGUMENT_LIMIT, Input, RECORD_LIMIT};
 use bpf_asm::assemble;
 use bpf_machine::{Ended, run};
 use bpf_verify::{Verified, verify};
 use std::alloc::{AllocError, Global};
-
-/// The longest record and argument of a run.
-const RECORD_LIMIT: usize = 8008;
-
-const ARGUMENT_LIMIT: usize = 1024;
 
 /// The program of a text, or why it is refused.
 fn accepted(alloc: Global, text: &str) -> Result<Result<Verified, String>, AllocError> {
@@ -64,7 +59,7 @@ fn show_end(
 }
 
 /// What comes of a text that is run on a record, or why it is refused.
-pub fn show_run(alloc: Global, text: &str, input: Input) -> Result<String, AllocError> {
+pub fn show_example(alloc: Global, text: &str, input: Input) -> Result<String, AllocError> {
     let program = match accepted(alloc, text)? {
         Ok(program) => program,
         Err(fault) => return Ok(fault),

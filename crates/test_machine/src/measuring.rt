@@ -1,5 +1,6 @@
 //! Measurements, and what is said of them.
 
+use crate::lines::UNREAD;
 use crate::programs::{counter, line};
 use bpf_helpers::Env;
 use bpf_machine::{Checked, run, run_checked};
@@ -102,13 +103,13 @@ fn read_measurement(alloc: Global, line_of: &str) -> Option<Measurement> {
 }
 
 /// The answer to a line.
-pub fn show_line(rt: &impl Clock, alloc: Global, text: &str) -> io::Result<String> {
+pub fn show_measurement(rt: &impl Clock, alloc: Global, text: &str) -> io::Result<String> {
     let (timed, rest) = match text.strip_prefix("time ") {
         Some(rest) => (true, rest),
         None => (false, text),
     };
     let Some(asked) = read_measurement(alloc, rest) else {
-        return Ok(String::from_str(alloc, "a line that cannot be read")?);
+        return Ok(String::from_str(alloc, UNREAD)?);
     };
     let start = Instant::now(rt)?;
     let total = measure(&asked);

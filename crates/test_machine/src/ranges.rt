@@ -1,9 +1,13 @@
-//! Answers to the lines of standard input.
+//! What is known of numbers.
 
-use crate::lines::{read_jump, read_operation, read_range, read_ranges, read_two_known};
+mod names;
+mod words;
+
+use crate::lines::UNREAD;
 use bpf_helpers::{known, result};
 use bpf_range::{Known, Range, join, refine, refine_range, transfer, transfer_range};
 use std::alloc::{AllocError, Global};
+use words::{read_jump, read_operation, read_range, read_ranges, read_two_known};
 
 /// What a line is answered by.
 enum Answer {
@@ -102,9 +106,9 @@ fn show_answer(alloc: Global, answer: Answer) -> Result<String, AllocError> {
 }
 
 /// The answer to a line.
-pub fn show_line(alloc: Global, line: &str) -> Result<String, AllocError> {
+pub fn show_range(alloc: Global, line: &str) -> Result<String, AllocError> {
     match answer_of(line) {
         Some(answer) => show_answer(alloc, answer),
-        None => String::from_str(alloc, "a line that cannot be read"),
+        None => String::from_str(alloc, UNREAD),
     }
 }

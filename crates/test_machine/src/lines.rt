@@ -10,10 +10,12 @@ pub const RECORD_LIMIT: usize = 8008;
 
 pub const ARGUMENT_LIMIT: usize = 1024;
 
-/// A run that is asked for.
+/// What is said of a line of no kind.
+pub const UNREAD: &str = "a line that cannot be read";
+
+/// What a program is run on.
 #[derive(Drop)]
-pub struct Run {
-    pub code: Code,
+pub struct Input {
     pub env: Env,
     pub bytes: Vec<u8>,
     pub argument: Vec<u8>,
@@ -51,6 +53,19 @@ fn read_env(words: &str) -> Option<(Env, &str)> {
     Some((env, rest))
 }
 
+/// What a program is run on, and the words behind.
+pub fn read_input(alloc: Global, words: &str) -> Option<(Input, &str)> {
+    let (bytes, rest) = words.split_once(' ')?;
+    let (argument, rest) = rest.split_once(' ')?;
+    let (env, rest) = read_env(rest)?;
+    let input = Input {
+        env,
+        bytes: read_bytes(alloc, bytes)?,
+        argument: read_bytes(alloc, argument)?,
+    };
+    Some((input, rest))
+}
+
 /// The program of an image or a text.
 fn read_program(alloc: Global, kind: &str, program: &str) -> Option<Code> {
     match kind {
@@ -66,16 +81,8 @@ fn read_program(alloc: Global, kind: &str, program: &str) -> Option<Code> {
     }
 }
 
-/// The run that a line asks for.
-pub fn read_run(alloc: Global, line: &str) -> Option<Run> {
-    let (kind, rest) = line.split_once(' ')?;
-    let (bytes, rest) = rest.split_once(' ')?;
-    let (argument, rest) = rest.split_once(' ')?;
-    let (env, program) = read_env(rest)?;
-    Some(Run {
-        code: read_program(alloc, kind, program)?,
-        env,
-        bytes: read_bytes(alloc, bytes)?,
-        argument: read_bytes(alloc, argument)?,
-    })
+/// A program, by the kind in which it is given, and what it is to be run on.
+pub fn read_run(alloc: Global, kind: &str, words: &str) -> Option<(Code, Input)> {
+    let (input, program) = read_input(alloc, words)?;
+    Some((read_program(alloc, kind, program)?, input))
 }

@@ -1,6 +1,7 @@
 //! Each change of one byte of an image, run on records of several lengths.
 
 use crate::both::is_alike;
+use crate::lines::UNREAD;
 use bpf_asm::assemble;
 use bpf_helpers::Env;
 use bpf_insn::{decode, encode};
@@ -86,8 +87,8 @@ fn count_byte(
     Ok(())
 }
 
-/// What comes of all changes of one byte of a text's image.
-pub fn changes_text(alloc: Global, text: &str) -> Option<String> {
+// What comes of all changes of one byte of a text's image.
+fn changes_text(alloc: Global, text: &str) -> Option<String> {
     let text = text.replace(alloc, " / ", "\n").ok()?;
     let code = assemble(alloc, text.as_str()).ok()?;
     let mut image = encode(alloc, &code).ok()?;
@@ -110,4 +111,12 @@ pub fn changes_text(alloc: Global, text: &str) -> Option<String> {
     format!(in alloc;
         "no image {undecoded}, refused {refused}, alike {alike}, unlike {unlike}"
     ).ok()
+}
+
+/// The same, or that the text cannot be read.
+pub fn show_changes(alloc: Global, text: &str) -> Result<String, AllocError> {
+    match changes_text(alloc, text) {
+        Some(said) => Ok(said),
+        None => String::from_str(alloc, UNREAD),
+    }
 }

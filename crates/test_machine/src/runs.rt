@@ -1,8 +1,7 @@
-//! Answers to the lines of standard input.
+//! Runs on the checked machine, and of accepted programs on both.
 
 use crate::both::{Tally, count_changed, count_runs};
-use crate::changes::changes_text;
-use crate::lines::{ARGUMENT_LIMIT, RECORD_LIMIT, Run, read_run};
+use crate::lines::{ARGUMENT_LIMIT, Input, RECORD_LIMIT, UNREAD, read_run};
 use bpf_helpers::Env;
 use bpf_insn::Code;
 use bpf_machine::{Checked, run_checked};
@@ -62,32 +61,23 @@ fn show_both(
     format!(in alloc; "{answer}, unlike in {} runs", tally.unlike)
 }
 
-/// What comes of a run.
-fn show_run(alloc: Global, run: Run) -> Result<String, AllocError> {
-    let Run {
-        code,
+/// What comes of a code.
+fn show_code(alloc: Global, code: Code, input: Input) -> Result<String, AllocError> {
+    let Input {
         env,
         bytes,
         argument,
-    } = run;
+    } = input;
     match verify(alloc, code) {
         Ok(program) => show_both(alloc, &program, &env, &bytes, &argument),
         Err((_, code)) => show_checked(alloc, &code, &env, &bytes, &argument),
     }
 }
 
-const UNREAD: &str = "a line that cannot be read";
-
-/// The answer to a line.
-pub fn show_line(alloc: Global, line: &str) -> Result<String, AllocError> {
-    if let Some(text) = line.strip_prefix("changes ") {
-        return match changes_text(alloc, text) {
-            Some(said) => Ok(said),
-            None => String::from_str(alloc, UNREAD),
-        };
-    }
-    match read_run(alloc, line) {
-        Some(run) => show_run(alloc, run),
+/// What comes of a run, by the kind in which its program is given.
+pub fn show_run(alloc: Global, kind: &str, words: &str) -> Result<String, AllocError> {
+    match read_run(alloc, kind, words) {
+        Some((code, input)) => show_code(alloc, code, input),
         None => String::from_str(alloc, UNREAD),
     }
 }

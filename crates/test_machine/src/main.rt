@@ -1,0 +1,106 @@
+//! Works out what is known of numbers, and runs programs on records, as lines say; and measures both machines.
+//!
+//! Each line of standard input is a case, and its first word says of which kind.
+//!
+//! | Line | Answer |
+//! |---|---|
+//! | `image RECORD ARGUMENT NOW KEY WHO IMAGE` | `ended CODE WORD STEPS RECORD` on the checked machine, or `stuck AT RECORD` |
+//! | `text RECORD ARGUMENT NOW KEY WHO TEXT` | the same of a text, with ` / ` in the place of line feeds |
+//! | `changes TEXT` | of all images that differ from a text's in one byte, how many are none, how many are refused, and how many are alike and unlike on both machines on records of 0, 7, 8, 1,008 and 8,008 zeros, within their lengths |
+//! | `file RECORD ARGUMENT NOW KEY WHO NAME` | `code CODE, word WORD, STEPS steps, VALUE` of the program in a file of `data/`, or why it is refused |
+//! | `example RECORD ARGUMENT NOW KEY WHO TEXT` | the same of a text |
+//! | `verdict TEXT` | `accepted`, or why the text is refused |
+//! | `MACHINE counter ROUNDS` | of so many runs of a program that adds 1 to a record of 8 bytes, the steps and a sum of what they gave; `MACHINE` is `run` or `run_checked` |
+//! | `MACHINE line LENGTH ROUNDS` | the same of a straight line of so many instructions, from 4 on, arithmetic on two registers |
+//! | `time MACHINE ..` | the same, with the instructions a second, and the nanoseconds of a run |
+//! | `transfer OPERATION WIDTH RANGE RANGE` | the range of the results |
+//! | `refine TEST WIDTH EDGE RANGE RANGE` | both ranges on that edge of a conditional jump, or `never` |
+//! | `of RANGE` | what is known of a number of the range |
+//! | `known OPERATION WIDTH KNOWN KNOWN` | what is known of the results |
+//! | `join KNOWN KNOWN` | what is known of one or the other |
+//! | `refined TEST WIDTH EDGE KNOWN KNOWN` | what is known of both on that edge, or `never` |
+//! | `helper NUMBER` | what is known of the number that a helper gives, or `never` where there is no such helper |
+//! | `# WORDS` | the line itself |
+//!
+//! Bytes are in hex, `.` is none, and `+N` behind them stands for N zeros more; the record that is
+//! printed is the one that the run left, its last zeros written so. `KEY` is `there`, or `absent`, where
+//! the record of an example is zeros. `VALUE` is what the key has once the code has been obeyed: bytes,
+//! or `none`; such a program is verified before it runs. A range is `LO..HI`, what is known
+//! `LO..HI,VALUE,UNKNOWN`, and an edge `taken` or `untaken`; operations and tests have the names of the
+//! assembler.
+//!
+//! The first 112 images were answered by an independent machine that tests everything, the 402 behind
+//! them by an independent implementation of what a run of an accepted program means. The texts were
+//! worked out by hand from the rules of a step, and so were the examples, whose steps an interpreter of
+//! its own counted. The first 48 lines of `transfer`, 56 of `refine`, 18 of `known` and 4 of `join` have the
+//! answers of an independent implementation of the rules, and the others those of a second one, which
+//! agrees with it on these; 15 lines, as far as the helpers, were worked out by hand. The last 83 lines
+//! of ranges have the answers of a third one, which agrees on all the others: each is a case that an
+//! answer may miss which is true and tells less.
+#![tactic(auto)]
+
+mod both;
+mod changes;
+mod examples;
+mod lines;
+mod measuring;
+mod programs;
+mod ranges;
+mod runs;
+
+use changes::show_changes;
+use examples::{show_example, show_verdict};
+use lines::{UNREAD, read_input};
+use measuring::show_measurement;
+use ranges::show_range;
+use runs::show_run;
+use std::alloc::{AllocError, Global};
+use std::rt::{Clock, Files};
+use std::{fs, io};
+
+// The text of a program that was written on one line, or that a file has.
+fn program_text<R: Files + AllocGlobal>(rt: &R, word: &str, program: &str) -> io::Result<String> {
+    match word {
+        "file" => fs::read_to_string(rt, program),
+        _ => Ok(program.replace(rt.alloc(), " / ", "\n")?),
+    }
+}
+
+// The answer to the run of an example.
+fn answer_example<R: Files + AllocGlobal>(rt: &R, word: &str, rest: &str) -> io::Result<String> {
+    let alloc = rt.alloc();
+    let Some((input, program)) = read_input(alloc, rest) else {
+        return Ok(String::from_str(alloc, UNREAD)?);
+    };
+    let text = program_text(rt, word, program)?;
+    Ok(show_example(alloc, text.as_str(), input)?)
+}
+
+// The answer to a line that needs neither files nor a clock.
+fn answer_alone(alloc: Global, word: &str, rest: &str, line: &str) -> Result<String, AllocError> {
+    match word {
+        "#" => String::from_str(alloc, line),
+        "image" | "text" => show_run(alloc, word, rest),
+        "changes" => show_changes(alloc, rest),
+        "verdict" => show_verdict(alloc, rest),
+        _ => show_range(alloc, line),
+    }
+}
+
+// The answer to a line of standard input.
+fn answer<R: Files + Clock + AllocGlobal>(rt: &R, line: &str) -> io::Result<String> {
+    let (word, rest) = line.split_once(' ').unwrap_or((line, ""));
+    match word {
+        "file" | "example" => answer_example(rt, word, rest),
+        "run" | "run_checked" | "time" => show_measurement(rt, rt.alloc(), line),
+        _ => Ok(answer_alone(rt.alloc(), word, rest, line)?),
+    }
+}
+
+fn main(rt: HostRuntime) -> io::Result<()> {
+    for line in rt.lines(rt.alloc()) {
+        let answer = answer(&rt, line?.as_str())?;
+        println!(rt; "{answer}")?;
+    }
+    Ok(())
+}

@@ -10,7 +10,8 @@
 //! A segment is `OFFSET:BYTES`, with the bytes in hex; bytes outside segments are zeros. `.` is a
 //! byte string without bytes. A page is read again from its own bytes, and a database is written,
 //! read again and written a second time: `again` says that it stayed the same. All answers but that
-//! word are those of an independent implementation.
+//! word are those of an independent implementation, but for lines 85 to 91: the keys of these pages
+//! were chosen to set the same marks, and their answers stand by construction.
 #![tactic(auto)]
 
 mod lines;

@@ -1,5 +1,5 @@
 -- The keys that stand in the bytes of a page.
-use Rattle.std.specs.Prelude.{◌≡◌, ◌≢◌, ℕ, ◌*◌, ◌+◌, ◌<◌, List, slice_range}
+use Rattle.std.specs.Prelude.{◌≡◌, ◌≢◌, ℕ, ◌*◌, ◌+◌, ◌<◌, List, AllPairs, slice_range}
 use Rattle.sdbm_page.specs.Fields.{number_at, end_at, IsInside}
 
 -- the key of pair i
@@ -19,3 +19,7 @@ pub record IsKeyBefore (bytes : List ℕ) (i : ℕ) : Type 0 where
   pub place : ℕ
   pub below : place < i
   pub is : key_of bytes place ≡ key_of bytes i
+
+-- no two keys of a list are equal
+abbrev pub AreUnlike : List (List ℕ) → Type 0
+AreUnlike keys = AllPairs (λ a b. a ≢ b) keys

@@ -1,5 +1,5 @@
 //! Whether the keys in the bytes of a page are distinct.
-ghost use Rattle.std.specs.Prelude.{◌≡◌, ◌+◌, ◌↔◌, length, IsTrue};
+ghost use Rattle.std.specs.Prelude.{◌≡◌, ◌+◌, ◌≤◌, ◌↔◌, length, IsTrue, IfSome};
 ghost use Rattle.sdbm_addr.specs.Pairs.{page_bytes};
 ghost use Rattle.sdbm_page.specs.Faults.{IsLayout, AreKeys};
 ghost use Rattle.sdbm_page.specs.Keys.{AreInside, AreApart, IsKeyBefore};
@@ -7,25 +7,41 @@ ghost use Rattle.sdbm_page.specs.Keys.{AreInside, AreApart, IsKeyBefore};
 use crate::fields::key_in;
 use crate::layout::Layout;
 use crate::noted::Noted;
+use crate::sorted::are_apart_sorted;
 use sdbm_addr::PageSize;
 
 // From so many keys on marks cost less than comparing.
 const MARKED: usize = 16;
 
-/// Whether no key comes twice in bytes that are laid out.
+// With more keys than these that may come twice, marks tell little, and all are sorted.
+const DOUBTED: usize = 16;
+
+/// Whether no key comes twice in bytes that are laid out. It costs no more than to sort the keys.
 pub fn has_distinct_keys(bytes: &[u8], size: PageSize, layout: Layout) -> bool
     requires long { length bytes.now ≡ page_bytes size }
     requires layout { IsLayout size bytes.now layout.count layout.low }
     ensures { IsTrue result ↔ AreKeys size bytes.now }
 {
-    if layout.count < MARKED {
-        return are_apart(bytes, layout.count);
-    }
-    are_apart_by_marks(bytes, layout.count)
+    are_apart(bytes, layout.count)
 }
 
-// Whether no two of the first `count` pairs have the same key. Each key is compared with all before it.
+// Whether no two of the first `count` pairs have the same key.
 fn are_apart(bytes: &[u8], count: usize) -> bool
+    requires inside { AreInside bytes.now count }
+    requires few { count ≤ 2048 }
+    ensures { IsTrue result ↔ AreApart bytes.now count }
+{
+    if count < MARKED {
+        return are_apart_one_by_one(bytes, count);
+    }
+    match are_apart_by_marks(bytes, count) {
+        Some(told) => told,
+        None => are_apart_sorted(bytes, count),
+    }
+}
+
+// The same, where each key is compared with all before it.
+fn are_apart_one_by_one(bytes: &[u8], count: usize) -> bool
     requires { AreInside bytes.now count }
     ensures { IsTrue result ↔ AreApart bytes.now count }
 {
@@ -37,20 +53,25 @@ fn are_apart(bytes: &[u8], count: usize) -> bool
     true
 }
 
-// The same, where a key is compared with those before it only if one of them may be equal.
-fn are_apart_by_marks(bytes: &[u8], count: usize) -> bool
+// The same, where a key is compared with those before it only if one of them may be equal. `None` where marks tell little.
+fn are_apart_by_marks(bytes: &[u8], count: usize) -> Option<bool>
     requires { AreInside bytes.now count }
-    ensures { IsTrue result ↔ AreApart bytes.now count }
+    ensures { IfSome result (λ told. IsTrue told ↔ AreApart bytes.now count) }
 {
     let mut noted = Noted::new();
+    let mut doubted = 0usize;
     for i in 0..count {
         if noted.note(key_in(bytes, i)) {
+            if doubted == DOUBTED {
+                return None;
+            }
+            doubted += 1;
             if comes_before(bytes, i) {
-                return false;
+                return Some(false);
             }
         }
     }
-    true
+    Some(true)
 }
 
 // Whether one of the pairs before pair `i` has its key.

@@ -19,6 +19,7 @@ mod keys;
 mod layout;
 mod noted;
 mod shared;
+mod sorted;
 
 use edits::{clear, put_pair, take_pair};
 use fields::{end_at, key_in, key_start, number_at, value_in, value_start};

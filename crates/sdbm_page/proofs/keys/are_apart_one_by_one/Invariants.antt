@@ -1,5 +1,5 @@
 use Rattle.sdbm_page.specs.Keys.{AreApart}
-use Rattle.sdbm_page.proofs.keys.are_apart.Given as goal
+use Rattle.sdbm_page.proofs.keys.are_apart_one_by_one.Given as goal
 
 -- the keys before place i are distinct
 abbrev pub invariant-loop-i : goal.invariant-loop-i

@@ -1,8 +1,9 @@
 //! Commands and replies that own no memory.
 
+use crate::values::{Value, bytes_of, is_value, value_of};
 use sdbm_addr::{Bytes, Mode};
 use std::alloc::{AllocError, Global};
-use store_cmd::{Command, Reply};
+use store_cmd::{Command, Program, Reply};
 
 /// The keys, sorted by their bytes, and their hashes. Some part at their first bits, `0000` and `0808` at the tenth, and `003f`,
 /// `0100` and `3f` not before.
@@ -17,11 +18,14 @@ pub const KEYS: [(&[u8], u32); 8] = [
     (b"\x63", 99),
 ];
 
-/// A byte and how often it comes.
-#[derive(Clone, Copy, Debug, PartialEq, Eq)]
-pub struct Value {
-    pub byte: u8,
-    pub count: usize,
+/// A run on a key, of a program by its place among the programs.
+#[derive(Clone, Copy, Debug)]
+pub struct Run {
+    pub key: usize,
+    pub program: usize,
+    pub arg: Value,
+    pub blank: Option<usize>,
+    pub now: u64,
 }
 
 /// A command on a key, by the key's place among `KEYS`.
@@ -31,6 +35,7 @@ pub enum Ask {
     Insert(usize, Value),
     Replace(usize, Value),
     Delete(usize),
+    Run(Run),
     Count,
 }
 
@@ -43,8 +48,10 @@ pub enum Told {
     Exists,
     Crowded,
     Deleted,
+    /// A program's number, and its reply word.
+    Ran(u64, u64),
     Count(usize),
-    /// A value of several bytes that differ.
+    /// A value whose bytes behind the first eight differ.
     Wrong,
 }
 
@@ -68,13 +75,34 @@ fn store(
 ) -> Result<Command<Global>, AllocError> {
     Ok(Command::Store {
         key: key_bytes(alloc, key)?,
-        value: Bytes::new(vec![in alloc; value.byte; value.count]?),
+        value: Bytes::new(bytes_of(alloc, value)?),
         mode,
     })
 }
 
+fn make_run(
+    alloc: Global,
+    programs: &[Program<Global>],
+    run: Run,
+) -> Result<Command<Global>, AllocError> {
+    let Some(prog) = programs.get(run.program) else {
+        return Err(AllocError);
+    };
+    Ok(Command::Run {
+        key: key_bytes(alloc, run.key)?,
+        prog: prog.try_clone()?,
+        arg: Bytes::new(bytes_of(alloc, run.arg)?),
+        blank: run.blank,
+        now: run.now,
+    })
+}
+
 /// The command.
-pub fn command_of(alloc: Global, ask: Ask) -> Result<Command<Global>, AllocError> {
+pub fn command_of(
+    alloc: Global,
+    programs: &[Program<Global>],
+    ask: Ask,
+) -> Result<Command<Global>, AllocError> {
     match ask {
         Ask::Fetch(key) => Ok(Command::Fetch {
             key: key_bytes(alloc, key)?,
@@ -84,22 +112,9 @@ pub fn command_of(alloc: Global, ask: Ask) -> Result<Command<Global>, AllocError
         Ask::Delete(key) => Ok(Command::Delete {
             key: key_bytes(alloc, key)?,
         }),
+        Ask::Run(run) => make_run(alloc, programs, run),
         Ask::Count => Ok(Command::Count),
     }
-}
-
-/// The value that bytes are, or none where they differ.
-pub fn value_of(bytes: &[u8]) -> Option<Value> {
-    let byte = bytes.first().copied().unwrap_or(0);
-    for other in bytes {
-        if *other != byte {
-            return None;
-        }
-    }
-    Some(Value {
-        byte,
-        count: bytes.len(),
-    })
 }
 
 /// What a reply says.
@@ -114,17 +129,38 @@ pub fn said_by(reply: &Reply<Global>) -> Told {
         Reply::Exists => Told::Exists,
         Reply::Crowded => Told::Crowded,
         Reply::Deleted => Told::Deleted,
-        Reply::Ran { .. } => Told::Wrong,
+        Reply::Ran { code, word } => Told::Ran(*code, *word),
         Reply::Count(count) => Told::Count(*count),
     }
 }
 
-fn is_value(bytes: &[u8], value: Value) -> bool {
-    value_of(bytes) == Some(value)
+// Whether a command is this run.
+fn is_run(command: &Command<Global>, programs: &[Program<Global>], run: Run) -> bool {
+    let Command::Run {
+        key,
+        prog,
+        arg,
+        blank,
+        now,
+    } = command
+    else {
+        return false;
+    };
+    let Some(own) = programs.get(run.program) else {
+        return false;
+    };
+    key.as_slice() == key_of(run.key)
+        && prog.equals(own)
+        && is_value(arg.as_slice(), run.arg)
+        && *blank == run.blank
+        && *now == run.now
 }
 
 /// Whether a command is what was asked.
-pub fn is_asked(command: &Command<Global>, ask: Ask) -> bool {
+pub fn is_asked(command: &Command<Global>, programs: &[Program<Global>], ask: Ask) -> bool {
+    if let Ask::Run(run) = ask {
+        return is_run(command, programs, run);
+    }
     match (command, ask) {
         (Command::Fetch { key }, Ask::Fetch(own)) => key.as_slice() == key_of(own),
         (Command::Delete { key }, Ask::Delete(own)) => key.as_slice() == key_of(own),

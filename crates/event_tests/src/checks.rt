@@ -1,13 +1,14 @@
 //! Whether desks are what the model says.
 
-use crate::asks::{Value, is_asked, key_of, said_by, value_of};
+use crate::asks::{is_asked, key_of, said_by};
 use crate::model::Answered;
+use crate::values::{Value, is_value};
 use sdbm_addr::Bytes;
 use std::alloc::Global;
-use store_cmd::Entry;
+use store_cmd::{Entry, Program};
 
 fn is_pair(pair: &(Bytes<Global>, Bytes<Global>), key: usize, value: Value) -> bool {
-    pair.0.as_slice() == key_of(key) && value_of(pair.1.as_slice()) == Some(value)
+    pair.0.as_slice() == key_of(key) && is_value(pair.1.as_slice(), value)
 }
 
 /// Whether pairs are those of the keys that have values, in the order of the keys.
@@ -24,19 +25,23 @@ pub fn are_pairs(pairs: &[(Bytes<Global>, Bytes<Global>)], values: &[Option<Valu
     rest.next().is_none()
 }
 
-fn is_entry(entry: &Entry<Global>, own: &Answered) -> bool {
+fn is_entry(entry: &Entry<Global>, programs: &[Program<Global>], own: &Answered) -> bool {
     entry.session == own.session
-        && is_asked(&entry.command, own.ask)
+        && is_asked(&entry.command, programs, own.ask)
         && said_by(&entry.reply) == own.told
 }
 
 /// Whether the entries of a trail are those of the model.
-pub fn are_entries(entries: &[Entry<Global>], own: &[Answered]) -> bool {
+pub fn are_entries(
+    entries: &[Entry<Global>],
+    programs: &[Program<Global>],
+    own: &[Answered],
+) -> bool {
     if entries.len() != own.len() {
         return false;
     }
     for (entry, one) in entries.iter().zip(own) {
-        if !is_entry(entry, one) {
+        if !is_entry(entry, programs, one) {
             return false;
         }
     }

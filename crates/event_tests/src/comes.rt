@@ -3,6 +3,7 @@
 use crate::asks::{Ask, Told, command_of, said_by};
 use desk_core::{AskFault, ConvertFault, Event, FinishFault, Outcome, Ticket};
 use std::alloc::{AllocError, Global};
+use store_cmd::Program;
 
 /// An event.
 #[derive(Clone, Copy, Debug)]
@@ -32,9 +33,13 @@ pub enum Comes {
 }
 
 /// The event.
-pub fn event_of(alloc: Global, does: Does) -> Result<Event<Global>, AllocError> {
+pub fn event_of(
+    alloc: Global,
+    programs: &[Program<Global>],
+    does: Does,
+) -> Result<Event<Global>, AllocError> {
     match does {
-        Does::Ask(session, ask) => Ok(Event::Ask(session, command_of(alloc, ask)?)),
+        Does::Ask(session, ask) => Ok(Event::Ask(session, command_of(alloc, programs, ask)?)),
         Does::Work(ticket) => Ok(Event::Work(Ticket(ticket))),
         Does::Convert(ticket) => Ok(Event::Convert(Ticket(ticket))),
         Does::Finish(ticket) => Ok(Event::Finish(Ticket(ticket))),

@@ -1,8 +1,10 @@
 //! What is drawn at random.
 ghost use Rattle.std.specs.Prelude.{◌<◌};
 
-use crate::asks::{Ask, Value};
+use crate::asks::{Ask, Run};
 use crate::comes::Does;
+use crate::programs::PROGRAMS;
+use crate::values::{Value, same_bytes};
 
 /// Steps of a linear congruential generator, by Knuth's MMIX.
 #[derive(Drop)]
@@ -31,18 +33,44 @@ const COUNTS: [usize; 8] = [1, 2, 300, 410, 411, 600, 1006, 1008];
 fn any_value(dice: &mut Dice) -> Value {
     let byte = dice.roll(200) as u8;
     let count = COUNTS[dice.roll(8) as usize];
-    Value { byte, count }
+    same_bytes(byte, count)
+}
+
+// Lengths of arguments, of which the last is too long.
+const ARGUMENTS: [usize; 5] = [0, 7, 8, 1024, 1025];
+
+// Lengths of blanks. Under keys of two bytes 1,006 are the most, and 1,007 are too large.
+const BLANKS: [usize; 8] = [0, 7, 8, 410, 411, 600, 1006, 1007];
+
+fn any_blank(dice: &mut Dice) -> Option<usize> {
+    match dice.roll(2) {
+        0 => None,
+        _ => Some(BLANKS[dice.roll(8) as usize]),
+    }
+}
+
+fn any_run(dice: &mut Dice, key: usize) -> Run {
+    let byte = dice.roll(200) as u8;
+    let arg = same_bytes(byte, ARGUMENTS[dice.roll(5) as usize]);
+    Run {
+        key,
+        program: dice.roll(PROGRAMS as u64) as usize,
+        arg,
+        blank: any_blank(dice),
+        now: dice.roll(1000),
+    }
 }
 
 /// Any command.
 pub fn any_ask(dice: &mut Dice) -> Ask {
     let key = dice.roll(8) as usize;
     let value = any_value(dice);
-    match dice.roll(9) {
+    match dice.roll(14) {
         0 | 1 => Ask::Fetch(key),
         2 | 3 => Ask::Insert(key, value),
         4 | 5 => Ask::Replace(key, value),
-        6 | 7 => Ask::Delete(key),
+        6 => Ask::Delete(key),
+        7 | 8 | 9 | 10 | 11 | 12 => Ask::Run(any_run(dice, key)),
         _ => Ask::Count,
     }
 }

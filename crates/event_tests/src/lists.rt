@@ -10,7 +10,7 @@ use desk_core::{Desk, Event, Outcome};
 use sdbm_addr::{KeyBytes, PageSize};
 use sdbm_files::Image;
 use std::alloc::{AllocError, Global};
-use store_cmd::{Command, Trail};
+use store_cmd::{Command, Program, Trail};
 
 // How many steps stand behind a list.
 const STEPS: usize = 5;
@@ -49,10 +49,14 @@ fn any_list(alloc: Global, dice: &mut Dice, length: usize) -> Result<Vec<Does>, 
     Ok(list)
 }
 
-fn events_of(alloc: Global, list: &[Does]) -> Result<Vec<Event<Global>>, AllocError> {
+fn events_of(
+    alloc: Global,
+    programs: &[Program<Global>],
+    list: &[Does],
+) -> Result<Vec<Event<Global>>, AllocError> {
     let mut events = Vec::new(alloc);
     for does in list {
-        events.push(event_of(alloc, *does)?)?;
+        events.push(event_of(alloc, programs, *does)?)?;
     }
     Ok(events)
 }
@@ -60,11 +64,12 @@ fn events_of(alloc: Global, list: &[Does]) -> Result<Vec<Event<Global>>, AllocEr
 // Plays a list, and gives the first difference, if there is one.
 fn play_both(
     alloc: Global,
+    programs: &[Program<Global>],
     desk: &mut Desk<Global>,
     model: &mut Model,
     list: &[Does],
 ) -> Result<Option<String>, AllocError> {
-    let events = events_of(alloc, list)?;
+    let events = events_of(alloc, programs, list)?;
     let outcomes = play(desk, events.as_slice())?;
     if outcomes.len() != list.len() {
         return Ok(Some(String::from_str(alloc, "not an outcome each")?));
@@ -82,12 +87,13 @@ fn play_both(
 // The same of a step.
 fn step_both(
     alloc: Global,
+    programs: &[Program<Global>],
     desk: &mut Desk<Global>,
     model: &mut Model,
     session: u64,
     ask: Ask,
 ) -> Result<Option<String>, AllocError> {
-    let got = step(desk, session, command_of(alloc, ask)?);
+    let got = step(desk, session, command_of(alloc, programs, ask)?);
     let want = model.steps(session, ask)?;
     if got != want {
         return Ok(Some(format!(in alloc; "step {ask:?}: {got:?}, not {want:?}")?));
@@ -98,6 +104,7 @@ fn step_both(
 // Any steps, while the tickets of a list that was played are still open.
 fn steps_both(
     alloc: Global,
+    programs: &[Program<Global>],
     desk: &mut Desk<Global>,
     model: &mut Model,
     dice: &mut Dice,
@@ -105,7 +112,7 @@ fn steps_both(
     for _ in 0..STEPS {
         let session = dice.roll(3);
         let ask = any_ask(dice);
-        if let Some(difference) = step_both(alloc, desk, model, session, ask)? {
+        if let Some(difference) = step_both(alloc, programs, desk, model, session, ask)? {
             return Ok(Some(difference));
         }
     }
@@ -115,22 +122,27 @@ fn steps_both(
 // The first difference of a list, its steps, and what is left then.
 fn difference(
     alloc: Global,
+    programs: &[Program<Global>],
     desk: &mut Desk<Global>,
     model: &mut Model,
     dice: &mut Dice,
     length: usize,
 ) -> Result<Option<String>, AllocError> {
     let list = any_list(alloc, dice, length)?;
-    if let Some(difference) = play_both(alloc, desk, model, list.as_slice())? {
+    if let Some(difference) = play_both(alloc, programs, desk, model, list.as_slice())? {
         return Ok(Some(difference));
     }
-    if let Some(difference) = steps_both(alloc, desk, model, dice)? {
+    if let Some(difference) = steps_both(alloc, programs, desk, model, dice)? {
         return Ok(Some(difference));
     }
     if !are_pairs(desk.pairs()?.as_slice(), &model.store.values) {
         return Ok(Some(String::from_str(alloc, "other pairs")?));
     }
-    if !are_entries(desk.trail().entries.as_slice(), model.entries.as_slice()) {
+    if !are_entries(
+        desk.trail().entries.as_slice(),
+        programs,
+        model.entries.as_slice(),
+    ) {
         return Ok(Some(String::from_str(alloc, "other entries")?));
     }
     Ok(None)
@@ -152,6 +164,7 @@ enum After {
 
 fn run_list(
     alloc: Global,
+    programs: &[Program<Global>],
     dice: &mut Dice,
     pair: Pair,
     seen: Seen,
@@ -164,7 +177,7 @@ fn run_list(
         return Ok(After::Differs(String::from_str(alloc, "another opening")?));
     }
     let mut model = Model::open(alloc, store, limit, seen);
-    if let Some(difference) = difference(alloc, &mut desk, &mut model, dice, length)? {
+    if let Some(difference) = difference(alloc, programs, &mut desk, &mut model, dice, length)? {
         return Ok(After::Differs(difference));
     }
     let (image, _trail) = close(desk);
@@ -183,28 +196,35 @@ fn agreement(alloc: Global, count: usize, seen: Seen) -> Result<String, AllocErr
     let splits = if seen.splits > 0 { ", with splits" } else { "" };
     let crowded = if seen.crowded > 0 { ", crowded" } else { "" };
     let busy = if seen.busy > 0 { ", busy" } else { "" };
-    format!(in alloc; "{count} lists agree{splits}{crowded}{busy}")
+    let saved = if seen.saved > 0 {
+        ", saved by runs"
+    } else {
+        ""
+    };
+    let deleted = if seen.deleted > 0 {
+        ", deleted by runs"
+    } else {
+        ""
+    };
+    format!(in alloc; "{count} lists agree{splits}{crowded}{busy}{saved}{deleted}")
 }
 
 /// Plays random lists, and says that they agree or how the first of them differs.
 pub fn run_lists(
     alloc: Global,
+    programs: &[Program<Global>],
     seed: u64,
     count: usize,
     length: usize,
 ) -> Result<String, AllocError> {
     let mut dice = Dice { state: seed };
     let mut pair = empty_pair(alloc);
-    let mut seen = Seen {
-        splits: 0,
-        crowded: 0,
-        busy: 0,
-    };
+    let mut seen = Seen::nothing();
     for i in 0..count {
         if dice.roll(8) == 0 {
             pair = empty_pair(alloc);
         }
-        match run_list(alloc, &mut dice, pair, seen, length)? {
+        match run_list(alloc, programs, &mut dice, pair, seen, length)? {
             After::Same(next, more) => {
                 pair = next;
                 seen = more;

@@ -11,11 +11,15 @@ mod comes;
 mod dice;
 mod lists;
 mod model;
+mod programs;
 mod store;
+mod values;
 
 use lists::run_lists;
+use programs::all_programs;
 use std::alloc::{AllocError, Global};
 use std::io;
+use store_cmd::Program;
 
 fn read_lists(line: &str) -> Option<(u64, usize, usize)> {
     let (seed, rest) = line.strip_prefix("lists ")?.split_once(' ')?;
@@ -28,16 +32,19 @@ fn read_lists(line: &str) -> Option<(u64, usize, usize)> {
     ))
 }
 
-fn answer(alloc: Global, line: &str) -> Result<String, AllocError> {
+fn answer(alloc: Global, programs: &[Program<Global>], line: &str) -> Result<String, AllocError> {
     match read_lists(line) {
-        Some((seed, count, length)) => run_lists(alloc, seed, count, length),
+        Some((seed, count, length)) => run_lists(alloc, programs, seed, count, length),
         None => String::from_str(alloc, "a line that cannot be read"),
     }
 }
 
 fn main(rt: HostRuntime) -> io::Result<()> {
+    let Some(programs) = all_programs(rt.alloc()) else {
+        return println!(rt; "a program is refused");
+    };
     for line in rt.lines(rt.alloc()) {
-        let answer = answer(rt.alloc(), line?.as_str())?;
+        let answer = answer(rt.alloc(), programs.as_slice(), line?.as_str())?;
         println!(rt; "{answer}")?;
     }
     Ok(())

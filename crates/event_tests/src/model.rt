@@ -2,7 +2,7 @@
 
 use crate::asks::{Ask, Told};
 use crate::comes::{Comes, Does};
-use crate::store::{Store, is_too_large};
+use crate::store::{Answer, Store, size_fault};
 use desk_core::{AskFault, ConvertFault, FinishFault};
 use std::alloc::{AllocError, Global};
 
@@ -56,6 +56,33 @@ pub struct Seen {
     pub splits: usize,
     pub crowded: usize,
     pub busy: usize,
+    /// Runs that saved or stored a record, and those that deleted one.
+    pub saved: usize,
+    pub deleted: usize,
+}
+
+impl Seen {
+    /// Nothing.
+    pub fn nothing() -> Self {
+        Seen {
+            splits: 0,
+            crowded: 0,
+            busy: 0,
+            saved: 0,
+            deleted: 0,
+        }
+    }
+
+    // Notes what was answered.
+    fn note(&mut self, told: Told, changes: bool) {
+        let count = match told {
+            Told::Crowded => &mut self.crowded,
+            Told::Ran(1, _) => &mut self.saved,
+            Told::Ran(2, _) if changes => &mut self.deleted,
+            _ => return,
+        };
+        *count = count.saturating_add(1);
+    }
 }
 
 /// A desk: tickets that were closed are handed out again, the one that was closed last first.
@@ -74,6 +101,7 @@ fn first_hold(ask: Ask) -> Option<(usize, Mode)> {
     match ask {
         Ask::Fetch(key) => Some((key, Mode::Read)),
         Ask::Insert(key, _) | Ask::Replace(key, _) | Ask::Delete(key) => Some((key, Mode::Update)),
+        Ask::Run(run) => Some((run.key, Mode::Update)),
         Ask::Count => None,
     }
 }
@@ -121,16 +149,19 @@ impl Model {
 
     // Answers a command, which goes into the trail.
     fn commit(&mut self, session: u64, ask: Ask) -> Result<Told, AllocError> {
-        let (told, changes) = self.store.told(ask);
-        if changes {
-            let splits = self.store.apply(ask)?;
+        let Answer { told, change } = self.store.answer(session, ask);
+        if let Some((key, value)) = change {
+            let splits = self.store.change(key, value)?;
             self.seen.splits = self.seen.splits.saturating_add(splits as usize);
         }
-        if told == Told::Crowded {
-            self.seen.crowded = self.seen.crowded.saturating_add(1);
-        }
+        self.seen.note(told, change.is_some());
         self.entries.push(Answered { session, ask, told })?;
         Ok(told)
+    }
+
+    // Whether a session's command comes to a change.
+    fn changes(&self, session: u64, ask: Ask) -> bool {
+        self.store.answer(session, ask).change.is_some()
     }
 
     fn busy(&mut self) -> Comes {
@@ -148,8 +179,8 @@ impl Model {
     }
 
     fn asks(&mut self, session: u64, ask: Ask) -> Result<Comes, AllocError> {
-        if is_too_large(ask) {
-            return Ok(Comes::AskRefused(AskFault::PairTooLarge));
+        if let Some(fault) = size_fault(ask) {
+            return Ok(Comes::AskRefused(fault));
         }
         if self.is_full() {
             return Ok(Comes::AskRefused(AskFault::TrailFull));
@@ -173,15 +204,15 @@ impl Model {
 
     /// What comes of a step.
     pub fn steps(&mut self, session: u64, ask: Ask) -> Result<Comes, AllocError> {
-        if is_too_large(ask) {
-            return Ok(Comes::AskRefused(AskFault::PairTooLarge));
+        if let Some(fault) = size_fault(ask) {
+            return Ok(Comes::AskRefused(fault));
         }
         if self.is_full() {
             return Ok(Comes::AskRefused(AskFault::TrailFull));
         }
         if let Some((key, mode)) = first_hold(ask) {
             let page = self.store.page(key);
-            let changes = self.store.told(ask).1;
+            let changes = self.changes(session, ask);
             if self.bars(page, mode, None) || changes && self.bars(page, Mode::Exclusive, None) {
                 return Ok(self.busy());
             }
@@ -226,7 +257,7 @@ impl Model {
         let Some(open) = slot.open else {
             return Ok(Comes::FinishRefused(FinishFault::NoTicket));
         };
-        if self.store.told(ask).1 && open.mode != Mode::Exclusive {
+        if self.changes(open.session, ask) && open.mode != Mode::Exclusive {
             return Ok(Comes::FinishRefused(FinishFault::NotExclusive));
         }
         self.set(ticket, None, None);

@@ -1,6 +1,9 @@
 //! The model of a database: a value for each key, and the prefixes of hashes that were split.
 
-use crate::asks::{Ask, KEYS, Told, Value};
+use crate::asks::{Ask, KEYS, Run, Told};
+use crate::programs::{End, Given, end_of};
+use crate::values::{Value, same_bytes};
+use desk_core::AskFault;
 use std::alloc::{AllocError, Global};
 
 /// A value for each key, and the prefixes that were split, each as its length and its number.
@@ -37,13 +40,44 @@ fn taken_by(key: usize, value: Value) -> usize {
     length_of(key).saturating_add(value.count).saturating_add(4)
 }
 
-/// Whether a pair is too large for any page.
-pub fn is_too_large(ask: Ask) -> bool {
-    match ask {
-        Ask::Insert(key, value) | Ask::Replace(key, value) => {
-            length_of(key).saturating_add(value.count) > 1008
+fn is_too_large(key: usize, count: usize) -> bool {
+    length_of(key).saturating_add(count) > 1008
+}
+
+/// Why a command is refused for a size: of the pair, where it may store one, before that of the argument.
+pub fn size_fault(ask: Ask) -> Option<AskFault> {
+    let (pair, arg) = match ask {
+        Ask::Insert(key, value) | Ask::Replace(key, value) => (is_too_large(key, value.count), 0),
+        Ask::Run(run) => {
+            let pair = run.blank.is_some_and(|count| is_too_large(run.key, count));
+            (pair, run.arg.count)
         }
-        _ => false,
+        _ => (false, 0),
+    };
+    if pair {
+        return Some(AskFault::PairTooLarge);
+    }
+    if arg > 1024 {
+        return Some(AskFault::ArgTooLong);
+    }
+    None
+}
+
+/// What a command comes to: what is answered, and the change, of one key to a value or to none.
+#[derive(Clone, Copy)]
+pub struct Answer {
+    pub told: Told,
+    pub change: Option<(usize, Option<Value>)>,
+}
+
+fn kept(told: Told) -> Answer {
+    Answer { told, change: None }
+}
+
+fn changed(told: Told, key: usize, value: Option<Value>) -> Answer {
+    Answer {
+        told,
+        change: Some((key, value)),
     }
 }
 
@@ -107,30 +141,58 @@ impl Store {
         None
     }
 
-    fn told_of_store(&self, key: usize, value: Value) -> (Told, bool) {
+    // What comes of a new pair, which is answered so where there is room.
+    fn stored(&self, told: Told, key: usize, value: Value) -> Answer {
         match self.splits_for(key, value) {
-            Some(_) => (Told::Stored, true),
-            None => (Told::Crowded, false),
+            Some(_) => changed(told, key, Some(value)),
+            None => kept(Told::Crowded),
         }
     }
 
-    /// What a command is answered, and whether it changes anything.
-    pub fn told(&self, ask: Ask) -> (Told, bool) {
+    // What comes of a run on a record.
+    fn ran_on(&self, session: u64, run: Run, value: Value, present: bool) -> Answer {
+        let given = Given {
+            value,
+            arg: run.arg,
+            now: run.now,
+            present,
+            who: session,
+        };
+        let End { code, word, value } = end_of(run.program, given);
+        let told = Told::Ran(code, word);
+        match code {
+            1 => self.stored(told, run.key, value),
+            2 if present => changed(told, run.key, None),
+            _ => kept(told),
+        }
+    }
+
+    fn ran(&self, session: u64, run: Run) -> Answer {
+        match (self.value(run.key), run.blank) {
+            (Some(value), _) => self.ran_on(session, run, value, true),
+            (None, Some(count)) => self.ran_on(session, run, same_bytes(0, count), false),
+            (None, None) => kept(Told::Missing),
+        }
+    }
+
+    /// What a session's command comes to.
+    pub fn answer(&self, session: u64, ask: Ask) -> Answer {
         match ask {
             Ask::Fetch(key) => match self.value(key) {
-                Some(value) => (Told::Found(value), false),
-                None => (Told::Missing, false),
+                Some(value) => kept(Told::Found(value)),
+                None => kept(Told::Missing),
             },
             Ask::Insert(key, value) => match self.value(key) {
-                Some(_) => (Told::Exists, false),
-                None => self.told_of_store(key, value),
+                Some(_) => kept(Told::Exists),
+                None => self.stored(Told::Stored, key, value),
             },
-            Ask::Replace(key, value) => self.told_of_store(key, value),
+            Ask::Replace(key, value) => self.stored(Told::Stored, key, value),
             Ask::Delete(key) => match self.value(key) {
-                Some(_) => (Told::Deleted, true),
-                None => (Told::Missing, false),
+                Some(_) => changed(Told::Deleted, key, None),
+                None => kept(Told::Missing),
             },
-            Ask::Count => (Told::Count(self.count()), false),
+            Ask::Run(run) => self.ran(session, run),
+            Ask::Count => kept(Told::Count(self.count())),
         }
     }
 
@@ -151,20 +213,14 @@ impl Store {
         Ok(())
     }
 
-    /// Does a command that changes something, and tells how many prefixes it splits.
-    pub fn apply(&mut self, ask: Ask) -> Result<u32, AllocError> {
-        match ask {
-            Ask::Insert(key, value) | Ask::Replace(key, value) => {
-                let more = self.splits_for(key, value).unwrap_or(0);
-                self.split(key, more)?;
-                self.give(key, Some(value));
-                Ok(more)
-            }
-            Ask::Delete(key) => {
-                self.give(key, None);
-                Ok(0)
-            }
-            _ => Ok(0),
-        }
+    /// Gives a key a value or none, and tells how many prefixes are split for it.
+    pub fn change(&mut self, key: usize, value: Option<Value>) -> Result<u32, AllocError> {
+        let more = match value {
+            Some(value) => self.splits_for(key, value).unwrap_or(0),
+            None => 0,
+        };
+        self.split(key, more)?;
+        self.give(key, value);
+        Ok(more)
     }
 }

@@ -6,7 +6,7 @@ ghost use Rattle.bpf_asm.specs.Mnemonics.{name_of, row_named, is_row};
 use bpf_insn::{Op, Size, Test, Width};
 
 /// What a mnemonic stands for, by the operands that it takes.
-#[derive(Clone, Copy, Debug, PartialEq, Eq)]
+#[derive(Clone, Copy, PartialEq, Eq)]
 pub enum Row {
     /// A register, and a register or a number.
     Arith(Op, Width),

@@ -2,10 +2,10 @@
 
 ghost use Rattle.std.specs.Prelude.{◌≡◌, ◌<◌, ◌≤◌, ℕ, length, slice_set};
 ghost use Rattle.bpf_range.specs.Sets.{In};
-ghost use Rattle.bpf_verify.specs.Kinds.{HoldsKind};
+ghost use Rattle.bpf_verify.specs.Kinds.{Between, HoldsKind};
 ghost use Rattle.bpf_verify.specs.States.{Fits};
 
-use crate::numbers::number_of;
+use crate::numbers::{Span, number_of};
 use crate::state::State;
 use bpf_range::{Kind, Range, hull, join};
 
@@ -30,6 +30,17 @@ fn join_numbers(
     }
 }
 
+// The numbers of both spans, and those between.
+fn hull_of_spans(a: Span, b: Span) -> Span
+    ensures left { (z : _) → Between a.lo a.hi z → Between result.lo result.hi z }
+    ensures right { (z : _) → Between b.lo b.hi z → Between result.lo result.hi z }
+{
+    Span {
+        lo: a.lo.min(b.lo),
+        hi: a.hi.max(b.hi),
+    }
+}
+
 /// What either kind holds; a length counts as its range.
 fn join_kinds(
     a: Kind,
@@ -45,18 +56,27 @@ fn join_kinds(
     match (a, b) {
         (Kind::RecLen, Kind::RecLen) => Kind::RecLen,
         (Kind::ArgLen, Kind::ArgLen) => Kind::ArgLen,
-        (Kind::Rec { lo: a_lo, hi: a_hi }, Kind::Rec { lo: b_lo, hi: b_hi }) => Kind::Rec {
-            lo: a_lo.min(b_lo),
-            hi: a_hi.max(b_hi),
-        },
-        (Kind::Arg { lo: a_lo, hi: a_hi }, Kind::Arg { lo: b_lo, hi: b_hi }) => Kind::Arg {
-            lo: a_lo.min(b_lo),
-            hi: a_hi.max(b_hi),
-        },
-        (Kind::Stack { lo: a_lo, hi: a_hi }, Kind::Stack { lo: b_lo, hi: b_hi }) => Kind::Stack {
-            lo: a_lo.min(b_lo),
-            hi: a_hi.max(b_hi),
-        },
+        (Kind::Rec { lo: a_lo, hi: a_hi }, Kind::Rec { lo: b_lo, hi: b_hi }) => {
+            let both = hull_of_spans(Span { lo: a_lo, hi: a_hi }, Span { lo: b_lo, hi: b_hi });
+            Kind::Rec {
+                lo: both.lo,
+                hi: both.hi,
+            }
+        }
+        (Kind::Arg { lo: a_lo, hi: a_hi }, Kind::Arg { lo: b_lo, hi: b_hi }) => {
+            let both = hull_of_spans(Span { lo: a_lo, hi: a_hi }, Span { lo: b_lo, hi: b_hi });
+            Kind::Arg {
+                lo: both.lo,
+                hi: both.hi,
+            }
+        }
+        (Kind::Stack { lo: a_lo, hi: a_hi }, Kind::Stack { lo: b_lo, hi: b_hi }) => {
+            let both = hull_of_spans(Span { lo: a_lo, hi: a_hi }, Span { lo: b_lo, hi: b_hi });
+            Kind::Stack {
+                lo: both.lo,
+                hi: both.hi,
+            }
+        }
         _ => join_numbers(a, a_bytes, a_argument, b, b_bytes, b_argument),
     }
 }

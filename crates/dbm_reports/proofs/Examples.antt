@@ -1,8 +1,9 @@
--- What the definitions of files and of the lock make of wishes that are written out.
-use Rattle.std.proofs.Common.{◌≡◌, ℕ, List, [], ◌∷◌, Some, None, Bor, true, false, refl, codes}
+-- What the definitions of files make of wishes that are written out.
+use Rattle.std.proofs.Common.{◌≡◌, ℕ, List, [], ◌∷◌, Option, Some, None, Bor, true, false, refl, codes}
 use Rattle.dbm_words.specs.declared.wish.Form.{Form}
 use Rattle.dbm_words.specs.declared.wish.Wish.TheVariants as wish
-use Rattle.dbm_reports.specs.Names.{FileRead, files_read, lock_of}
+use Rattle.dbm_words.specs.Wishes.{writes_files}
+use Rattle.dbm_reports.specs.Names.{FileRead, files_read}
 use Rattle.dbm_reports.specs.declared.names.Part.TheVariants.{Dir, Pag, Program}
 
 abbrev dir : FileRead
@@ -20,11 +21,11 @@ check_reads_both base form h = rw h refl
 pub asm_reads_its_program : (file : Bor (List ℕ)) → file.now ≡ codes "counter.s" → files_read (wish.Asm file) ≡ program ∷ []
 asm_reads_its_program file h = rw h refl
 
-pub script_alone_reads_none : (form : Form) → files_read (wish.Script None form) ≡ []
-script_alone_reads_none form = refl
+pub script_alone_reads_none : (form : Form) (most : Option (Bor (List ℕ))) → files_read (wish.Script None form most) ≡ []
+script_alone_reads_none form most = refl
 
-pub delete_locks_alone : (base key : Bor (List ℕ)) (form : Form) → base.now ≡ codes "db" → lock_of (wish.Delete base form key) ≡ Some (codes "db.lock", true)
-delete_locks_alone base key form h = rw h refl
+pub delete_writes : (base key : Bor (List ℕ)) (form : Form) → writes_files (wish.Delete base form key) ≡ true
+delete_writes base key form = refl
 
-pub fetch_shares_the_lock : (base key : Bor (List ℕ)) (form : Form) → base.now ≡ codes "db" → lock_of (wish.Fetch base form key) ≡ Some (codes "db.lock", false)
-fetch_shares_the_lock base key form h = rw h refl
+pub fetch_writes_nothing : (base key : Bor (List ℕ)) (form : Form) → writes_files (wish.Fetch base form key) ≡ false
+fetch_writes_nothing base key form = refl

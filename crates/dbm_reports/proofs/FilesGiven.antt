@@ -1,5 +1,5 @@
 -- Wishes after which files are written.
-use Rattle.std.proofs.Common.{◌≡◌, ℕ, List, Option, Some, None, is_some, true, inl, inr, refl, ap}
+use Rattle.std.proofs.Common.{◌≡◌, ℕ, List, Option, Some, None, is_some, IsSomeAnd, true, false, inl, inr, refl, ap}
 use Rattle.sdbm_addr.specs.Database.{Database}
 use Rattle.dbm_words.specs.Wishes.{writes_files}
 use Rattle.dbm_words.specs.declared.wish.Wish.{Wish}
@@ -10,7 +10,8 @@ use Rattle.dbm_reports.specs.declared.databases.Given.{Given}
 use Rattle.std.specs.declared.alloc.Global.{Global}
 use Rattle.dbm_script.specs.declared.run_words.RunWords.{RunWords}
 use Rattle.dbm_reports.specs.Databases.{AreFilesToWrite}
-use Rattle.dbm_reports.specs.Reports.{Judges, RunsImage}
+use Rattle.dbm_reports.specs.Options.{output_limit}
+use Rattle.dbm_reports.specs.Reports.{Judges, OnDatabase, PlaysAlone, PlaysOn, RunsImage}
 use Rattle.dbm_reports.specs.Subcommands.{subcommand_for}
 
 -- what is said of an image changes no file
@@ -19,9 +20,14 @@ judged_alone image report (inl h) = h.1.written
 judged_alone image report (inr h) = h.1.1.written
 
 -- after a run there is a database to be written
-ran_on : (before : Database) (words : RunWords Global) (image : List ℕ) (report : Report) → RunsImage before words image report → is_some report.database ≡ true
-ran_on before words image report (inl h) = ap (λ (db : Option Database). is_some db) h.1.1.1.1
-ran_on before words image report (inr h) = ap (λ (db : Option Database). is_some db) h.1.1.written
+ran_on : (before : Database) (words : RunWords Global) (expect : Option ℕ) (image : List ℕ) (report : Report) → RunsImage before words expect image report → is_some report.database ≡ true
+ran_on before words expect image report (inl h) = ap (λ (db : Option Database). is_some db) h.1.1.1.1
+ran_on before words expect image report (inr h) = ap (λ (db : Option Database). is_some db) h.1.1.written
+
+-- what follows from a limit, whichever it is
+on_limit : (limit : Option ℕ) (P : ℕ → Type 0) (Q : Type 0) → ((most : ℕ) → P most → Q) → IsSomeAnd limit P → Q
+on_limit None P Q f h = absurd h
+on_limit (Some most) P Q f h = f most h
 
 -- a subcommand reports a database exactly where its files are written
 pub database_given : (wish : Wish) (given : Given) (input : Option (List ℕ)) (report : Report)
@@ -29,12 +35,14 @@ pub database_given : (wish : Wish) (given : Given) (input : Option (List ℕ)) (
 database_given (wish.Fetch base form key) given input report comes = ap (λ (db : Option Database). is_some db) comes.holds.1.1
 database_given (wish.Store base form key value insert) given input report comes = ap (λ (db : Option Database). is_some db) comes.holds.1.1
 database_given (wish.Delete base form key) given input report comes = ap (λ (db : Option Database). is_some db) comes.holds.1.1
-database_given (wish.Run base form key file arg blank now image) given input report comes = ran_on comes.before comes.words comes.image report comes.runs
+database_given (wish.Run base form key file arg blank now expect image) given input report comes = ran_on comes.before comes.words comes.expect comes.image report comes.runs
 database_given (wish.Batch base form file workers image) given input report comes = absurd comes
 database_given (wish.List base form) given input report comes = ap (λ (db : Option Database). is_some db) comes.1.1.written
 database_given (wish.Check base form) given input report comes = ap (λ (db : Option Database). is_some db) comes.1.1.written
-database_given (wish.Script None form) given input report comes = ap (λ (db : Option Database). is_some db) comes.1.1
-database_given (wish.Script (Some base) form) given input report comes = ap (λ (db : Option Database). is_some db) comes.1.1.1.1
+database_given (wish.Script None form max_output) given input report comes =
+    on_limit (output_limit max_output) (λ most. PlaysAlone form input most report) (is_some report.database ≡ false) (λ most plays. ap (λ (db : Option Database). is_some db) plays.1.1) comes
+database_given (wish.Script (Some base) form max_output) given input report comes =
+    on_limit (output_limit max_output) (λ most. OnDatabase form given (PlaysOn input most report)) (is_some report.database ≡ true) (λ most plays. ap (λ (db : Option Database). is_some db) plays.1.1.1.1) comes
 database_given (wish.Widen base unsigned) given input report comes = ap (λ (db : Option Database). is_some db) comes.1.1.written
 database_given (wish.Asm file) given input report comes = ap (λ (db : Option Database). is_some db) comes.1.written
 database_given (wish.Disasm file) given input report comes = ap (λ (db : Option Database). is_some db) comes.1.written

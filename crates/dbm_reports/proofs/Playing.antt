@@ -1,28 +1,52 @@
 -- Scripts whose bytes were read.
-use Rattle.std.proofs.Common.{◌≡◌, ℕ, List, Option, Some, IfSome, subst, sym}
+use Rattle.std.proofs.Common.{◌≡◌, ◌≤◌, ℕ, List, Option, Some, None, Bor, IfSome, IsSomeAnd, length, subst, sym}
 use Rattle.std.specs.declared.alloc.Global.{Global}
 use Rattle.sdbm_addr.specs.Database.{Database}
-use Rattle.dbm_script.specs.Script.{IsScriptRun}
+use Rattle.dbm_script.specs.Script.{AnswersExceed, IsScriptRun}
 use Rattle.dbm_script.proofs.Runs.{known_read}
 use Rattle.dbm_reports.specs.declared.subcommands.Report.{Report}
-use Rattle.dbm_reports.specs.Reports.{Plays}
+use Rattle.dbm_words.specs.declared.wish.Form.{Form}
+use Rattle.dbm_words.specs.declared.wish.Wish.TheVariants as wish
+use Rattle.dbm_reports.specs.declared.databases.Given.{Given}
+use Rattle.dbm_reports.specs.Options.{output_limit}
+use Rattle.dbm_reports.specs.Causes.{IsOverlong}
+use Rattle.dbm_reports.specs.Reports.{OnDatabase, Plays, PlaysAlone, PlaysOn}
+use Rattle.dbm_reports.specs.Subcommands.{subcommand_for}
 
 -- what was read is what is known
-pub plays_known : (before : Database) (known : Option (List ℕ)) (read : List ℕ) (after : Database) (report : Report)
-    → IfSome known (λ input. read ≡ input) → Plays before (Some read) after report → Plays before known after report
-plays_known before known read after report is plays = record {
+pub plays_known : (before : Database) (known : Option (List ℕ)) (read : List ℕ) (most : ℕ) (after : Database) (report : Report)
+    → IfSome known (λ input. read ≡ input) → Plays before (Some read) most after report → Plays before known most after report
+plays_known before known read most after report is plays = record {
   runs = known_read known read (λ bytes. IsScriptRun Global before bytes report.text.items after) is plays.runs;
+  short = plays.short;
   kind = plays.kind;
   size = plays.size;
   status_is = plays.status_is;
 }
 
 -- the text alone
-pub plays_text : (before : Database) (known : Option (List ℕ)) (after : Database) (report other : Report)
-    → other.text.items ≡ report.text.items → other.status ≡ 0 → Plays before known after report → Plays before known after other
-plays_text before known after report other text status plays = record {
+pub plays_text : (before : Database) (known : Option (List ℕ)) (most : ℕ) (after : Database) (report other : Report)
+    → other.text.items ≡ report.text.items → other.status ≡ 0 → Plays before known most after report → Plays before known most after other
+plays_text before known most after report other text status plays = record {
   runs = subst (λ (t : List ℕ). IfSome known (λ bytes. IsScriptRun Global before bytes t after)) (sym text) plays.runs;
+  short = subst (λ (t : List ℕ). length t ≤ most) (sym text) plays.short;
   kind = plays.kind;
   size = plays.size;
   status_is = status;
 }
+
+-- so are its answers, where they are too long
+pub overlong_known : (before : Database) (known : Option (List ℕ)) (read : List ℕ) (most : ℕ) → IfSome known (λ input. read ≡ input) → IsOverlong before (Some read) most → IsOverlong before known most
+overlong_known before known read most is long = known_read known read (λ bytes. AnswersExceed Global before bytes most) is long
+
+within : (limit : Option ℕ) (most : ℕ) (P : ℕ → Type 0) → limit ≡ Some most → P most → IsSomeAnd limit P
+within limit most P is holds = subst (λ (o : Option ℕ). IsSomeAnd o P) (sym is) holds
+
+-- a limit of a script on an empty database, and on one of files
+pub limited_alone : (form : Form) (max_output : Option (Bor (List ℕ))) (given : Given) (input : Option (List ℕ)) (most : ℕ) (report : Report) → output_limit max_output ≡ Some most
+    → PlaysAlone form input most report → (subcommand_for (wish.Script None form max_output) given input).reports report
+limited_alone form max_output given input most report is plays = within (output_limit max_output) most (λ n. PlaysAlone form input n report) is plays
+
+pub limited_on : (base : Bor (List ℕ)) (form : Form) (max_output : Option (Bor (List ℕ))) (given : Given) (input : Option (List ℕ)) (most : ℕ) (report : Report) → output_limit max_output ≡ Some most
+    → OnDatabase form given (PlaysOn input most report) → (subcommand_for (wish.Script (Some base) form max_output) given input).reports report
+limited_on base form max_output given input most report is plays = within (output_limit max_output) most (λ n. OnDatabase form given (PlaysOn input n report)) is plays

@@ -1,9 +1,9 @@
 -- Why nothing comes of a wish: the causes of each fault.
-use Rattle.std.specs.Prelude.{◌≡◌, ◌≢◌, ℕ, ◌<◌, Bool, true, false, List, Option, Some, None, IfSome, length, ⊤}
+use Rattle.std.specs.Prelude.{◌≡◌, ◌≢◌, ◌⊎◌, ℕ, ◌<◌, Bool, true, false, List, Option, Some, None, IfSome, IsSome, length, ⊤}
 use Rattle.std.specs.declared.alloc.Global.{Global}
 use Rattle.std.specs.Str.{IsUtf8}
 use Rattle.sdbm_files.specs.declared.opening.OpenFault.{OpenFault}
-use Rattle.sdbm_addr.specs.Database.{Database, IsDatabase}
+use Rattle.sdbm_addr.specs.Database.{Database, IsDatabase, empty_database}
 use Rattle.bpf_insn.specs.declared.fault.DecodeFault.{DecodeFault}
 use Rattle.bpf_asm.specs.Denotes.{DenotesNone}
 use Rattle.bpf_asm.specs.Fault.{IsLineOf}
@@ -11,7 +11,10 @@ use Rattle.bpf_asm.specs.declared.fault.AsmFault.{AsmFault}
 use Rattle.bpf_asm.specs.declared.fault.FaultKind.TheVariants as kinds
 use Rattle.prog_registry.specs.Judged.{IsUndecoded}
 use Rattle.dbm_script.specs.Commands.{command_of}
+use Rattle.dbm_script.specs.Script.{AnswersExceed}
 use Rattle.dbm_script.specs.Tasks.{HasBadBytes, HasBadNumber, run_words_of}
+use Rattle.dbm_script.specs.declared.fault.LinesFault.{LinesFault}
+use Rattle.dbm_script.specs.declared.fault.LinesFault.TheVariants as lines
 use Rattle.dbm_script.specs.declared.run_words.RunWords.{RunWords}
 use Rattle.dbm_script.specs.declared.run_words.WordFault.{WordFault}
 use Rattle.dbm_script.specs.declared.run_words.WordFault.TheVariants as meant
@@ -21,8 +24,9 @@ use Rattle.dbm_reports.specs.declared.databases.FilesFault.{FilesFault}
 use Rattle.dbm_reports.specs.declared.databases.FilesFault.TheVariants as made
 use Rattle.dbm_reports.specs.declared.running.RunTexts.{RunTexts}
 use Rattle.dbm_reports.specs.declared.fault.ReportFault.{ReportFault}
-use Rattle.dbm_reports.specs.declared.fault.ReportFault.TheVariants.{BadHex, BadNumber, Open, NotText, Assemble, Decode, Read, TooLong, NoMemory}
-use Rattle.dbm_reports.specs.Databases.{IsShut, IsTooLong, Opens}
+use Rattle.dbm_reports.specs.declared.fault.ReportFault.TheVariants.{BadHex, BadNumber, Open, NotText, Assemble, Decode, Read, TooLong, OutputTooLong, NoMemory}
+use Rattle.dbm_reports.specs.Databases.{IsOpened, IsShut, IsTooLong, Opens, key_bytes_of, page_size_of}
+use Rattle.dbm_reports.specs.Options.{expected_code}
 
 -- the causes for which nothing comes of a wish
 pub record Causes : Type 1 where
@@ -38,6 +42,8 @@ pub record Causes : Type 1 where
   -- standard input could not be read, or is too long
   pub reading : Type 0
   pub long : Type 0
+  -- the answers to a script have too many bytes
+  pub overlong : Type 0
 
 abbrev pub no_causes : Causes
 no_causes = record {
@@ -49,6 +55,7 @@ no_causes = record {
   decoding = λ fault. ⊥;
   reading = ⊥;
   long = ⊥;
+  overlong = ⊥;
 }
 
 -- A fault comes only for its cause. Memory may be wanted at any time.
@@ -61,6 +68,7 @@ IsCaused causes (Assemble fault) = causes.assembling fault
 IsCaused causes (Decode fault) = causes.decoding fault
 IsCaused causes Read = causes.reading
 IsCaused causes TooLong = causes.long
+IsCaused causes OutputTooLong = causes.overlong
 IsCaused causes NoMemory = ⊤
 
 -- files that do not open
@@ -81,13 +89,33 @@ IsLongScript input = IfSome input (λ bytes. 16777216 < length bytes)
 abbrev pub input_causes : Option (List ℕ) → Causes
 input_causes input = record no_causes { reading = ⊤; long = IsLongScript input }
 
+-- the answers to a script on a database have more bytes than so many
+abbrev pub IsOverlong : Database → Option (List ℕ) → ℕ → Type 0
+IsOverlong db input most = IfSome input (λ bytes. AnswersExceed Global db bytes most)
+
+-- a script that was read, on a database that is open
+abbrev pub play_causes : Database → Option (List ℕ) → ℕ → Causes
+play_causes db input most = record no_causes { overlong = IsOverlong db input most }
+
+-- a script on an empty database
+abbrev pub alone_causes : Form → Option (List ℕ) → ℕ → Causes
+alone_causes form input most = record (input_causes input) {
+  overlong = IsOverlong (empty_database (key_bytes_of form.unsigned) (page_size_of form.wide)) input most;
+}
+
 -- a script on the database of the files, which are opened before it is read
-abbrev pub script_causes : Form → Given → Option (List ℕ) → Causes
-script_causes form given input = record no_causes {
+abbrev pub script_causes : Form → Given → Option (List ℕ) → ℕ → Causes
+script_causes form given input most = record no_causes {
   opening = IsShut form given;
   reading = Opens form given;
   long = Opens form given × IsLongScript input;
+  overlong = (db : Database) × (IsOpened form given db × IsOverlong db input most);
 }
+
+-- a number that comes before all else
+abbrev pub numbered_causes : Option ℕ → (ℕ → Causes) → Causes
+numbered_causes None causes = record no_causes { numbers = ⊤ }
+numbered_causes (Some n) causes = causes n
 
 -- the text of no program: the fault has a line, and is not want of memory
 abbrev pub IsUnassembled : List ℕ → AsmFault → Type 0
@@ -106,16 +134,24 @@ file_causes true file = no_causes
 file_causes false file = text_causes file
 
 -- what the words of a run mean
-abbrev pub AreRunWords : RunTexts → RunWords Global → Type 0
-AreRunWords texts words = run_words_of texts.key.now texts.arg.now texts.blank.now texts.now.now ≡ Some words
+abbrev pub run_asked : RunTexts → Option (RunWords Global)
+run_asked texts = run_words_of texts.key.now texts.arg.now texts.blank.now texts.now.now
+
+-- what they mean, and the code with which it is to end
+abbrev pub AreRunWords : RunTexts → RunWords Global → Option ℕ → Type 0
+AreRunWords texts words expect = (run_asked texts ≡ Some words) × (expected_code texts.expect ≡ Some expect)
 
 abbrev pub Means : RunTexts → Type 0
-Means texts = (words : RunWords Global) × AreRunWords texts words
+Means texts = (words : RunWords Global) × ((expect : Option ℕ) × AreRunWords texts words expect)
+
+-- the words mean a run, and the code is no number
+abbrev pub HasBadCode : RunTexts → Type 0
+HasBadCode texts = IsSome (run_asked texts) × (expected_code texts.expect ≡ None)
 
 abbrev pub word_causes : RunTexts → Causes
 word_causes texts = record no_causes {
   words = HasBadBytes texts.key.now texts.arg.now;
-  numbers = HasBadNumber texts.key.now texts.arg.now texts.blank.now texts.now.now;
+  numbers = HasBadNumber texts.key.now texts.arg.now texts.blank.now texts.now.now ⊎ HasBadCode texts;
 }
 
 -- the files of a database, and then a program's file
@@ -150,3 +186,8 @@ abbrev pub word_fault : WordFault → ReportFault
 word_fault meant.BadHex = BadHex
 word_fault meant.BadNumber = BadNumber
 word_fault meant.NoMemory = NoMemory
+
+-- the fault of lines
+abbrev pub lines_fault : LinesFault → ReportFault
+lines_fault lines.OutputTooLong = OutputTooLong
+lines_fault lines.NoMemory = NoMemory

@@ -4,7 +4,7 @@ use Rattle.sdbm_files.specs.FaultText as files
 use Rattle.bpf_insn.specs.Decoding as decoding
 use Rattle.bpf_asm.specs.Fault as assembling
 use Rattle.dbm_reports.specs.declared.fault.ReportFault.{ReportFault}
-use Rattle.dbm_reports.specs.declared.fault.ReportFault.TheVariants.{BadHex, BadNumber, Open, NotText, Assemble, Decode, Read, TooLong, NoMemory}
+use Rattle.dbm_reports.specs.declared.fault.ReportFault.TheVariants.{BadHex, BadNumber, Open, NotText, Assemble, Decode, Read, TooLong, OutputTooLong, NoMemory}
 
 abbrev pub fault_text : ReportFault → List ℕ
 fault_text BadHex = codes "BadHex"
@@ -15,4 +15,5 @@ fault_text (Assemble fault) = assembling.fault_text fault
 fault_text (Decode fault) = decoding.fault_text fault
 fault_text Read = codes "Read"
 fault_text TooLong = codes "TooLong"
+fault_text OutputTooLong = codes "OutputTooLong"
 fault_text NoMemory = codes "NoMemory"

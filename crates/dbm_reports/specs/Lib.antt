@@ -1,5 +1,6 @@
 pub mod Names
 pub mod Databases
+pub mod Options
 pub mod Causes
 pub mod Reports
 pub mod Subcommands

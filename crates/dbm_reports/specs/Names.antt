@@ -1,15 +1,12 @@
 -- The files that a wish is about, each under its name: what is read, what is written, and the lock.
-use Rattle.std.specs.Prelude.{◌≡◌, ℕ, ◌++◌, Bool, true, false, List, [], ◌∷◌, Option, Some, None, codes, option_map, string_bytes}
+use Rattle.std.specs.Prelude.{◌≡◌, ℕ, ◌++◌, Bool, true, false, List, [], ◌∷◌, Option, Some, None, codes, string_bytes}
 use Rattle.std.specs.Global.{Vec}
-use Rattle.dbm_words.specs.Wishes.{base_of, file_of, writes_files}
+use Rattle.dbm_words.specs.Wishes.{base_of, file_of}
 use Rattle.dbm_words.specs.declared.wish.Wish.{Wish}
 use Rattle.dbm_reports.specs.declared.names.Part.{Part}
 use Rattle.dbm_reports.specs.declared.names.Part.TheVariants.{Dir, Pag, Program}
-use Rattle.dbm_reports.specs.declared.names.LockFile.{LockFile}
 use Rattle.dbm_reports.specs.declared.names.Source.{Source}
-use Rattle.dbm_reports.specs.declared.names.Target.{Target}
-use Rattle.dbm_reports.specs.declared.names.Targets.{Targets}
-use Rattle.dbm_reports.specs.declared.databases.Files.{Files}
+use Rattle.dbm_reports.specs.declared.names.Names.{Names}
 use Rattle.dbm_reports.specs.declared.databases.Given.{Given}
 
 -- A file that is read: which it is, its name, how many bytes it has at most, and whether it may be missing.
@@ -54,19 +51,9 @@ with_part Dir bytes given = record given { dir = bytes }
 with_part Pag bytes given = record given { pag = bytes }
 with_part Program bytes given = record given { file = bytes }
 
--- these bytes, to be written under a name, and under another before
-abbrev pub IsTarget : List ℕ → List ℕ → Target → Type 0
-IsTarget name bytes target =
-    (string_bytes target.name ≡ name) × ((string_bytes target.new_name ≡ name ++ codes ".new") × (target.bytes.now ≡ bytes))
-
--- both files of a database under their names, `.pag` first
-abbrev pub AreTargets : List ℕ → Files → Targets → Type 0
-AreTargets base files targets =
-    IsTarget (base ++ codes ".pag") files.pag.bytes targets.first × IsTarget (base ++ codes ".dir") files.dir.bytes targets.last
-
-abbrev pub shown_lock : LockFile → List ℕ × Bool
-shown_lock lock = (string_bytes lock.name, lock.is_exclusive)
-
--- the lock of a wish about a database: the name of its file, and whether no other run may have it
-abbrev pub lock_of : Wish → Option (List ℕ × Bool)
-lock_of wish = option_map (λ base. (base ++ codes ".lock", writes_files wish)) (base_of wish)
+-- the names of the files of a base that are written, and of the one on which its runs wait for each other
+pub record AreNames (base : List ℕ) (names : Names) : Type 0 where
+  pub pages : string_bytes names.pages ≡ base ++ codes ".pag"
+  pub directory : string_bytes names.directory ≡ base ++ codes ".dir"
+  pub redo : string_bytes names.redo ≡ base ++ codes ".redo"
+  pub lock : string_bytes names.lock ≡ base ++ codes ".lock"

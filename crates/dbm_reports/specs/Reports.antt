@@ -1,5 +1,5 @@
 -- What comes of each subcommand: the text that it prints, its status, and the database that is to be written.
-use Rattle.std.specs.Prelude.{◌≡◌, ℕ, ◌/◌, ◌++◌, ◌⊎◌, Bool, true, false, cond, List, [], ◌∷◌, codes, decimal, length, Option, Some, None, IfSome}
+use Rattle.std.specs.Prelude.{◌≡◌, ◌==◌, ℕ, ◌≤◌, ◌/◌, ◌++◌, ◌⊎◌, Bool, true, false, cond, List, [], ◌∷◌, codes, decimal, length, Option, Some, None, IfSome}
 use Rattle.std.specs.FinMap as map
 use Rattle.std.specs.List.{flat_map}
 use Rattle.std.specs.Borrow.{Bor}
@@ -54,26 +54,41 @@ reply_status Deleted = 0
 reply_status (Ran code word) = 0
 reply_status (Count n) = 0
 
-abbrev pub status_of : {A : Type 0} → Answer A → ℕ
-status_of (Replied entry) = reply_status entry.reply
-status_of (Refused fault) = 1
+abbrev pub answer_status : {A : Type 0} → Answer A → ℕ
+answer_status (Replied entry) = reply_status entry.reply
+answer_status (Refused fault) = 1
+
+-- a run ended with this code
+abbrev pub ended_with : {A : Type 0} → ℕ → Reply A → Bool
+ended_with code (Ran ended word) = ended == code
+ended_with code _ = false
+
+-- the status is 1 unless a run ended with this code
+abbrev pub code_status : {A : Type 0} → ℕ → Answer A → ℕ
+code_status code (Replied entry) = cond (ended_with code entry.reply) 0 1
+code_status code (Refused fault) = 1
+
+-- the status that goes with an answer, where a run is to end with a code, or where nothing is asked of it
+abbrev pub status_of : {A : Type 0} → Option ℕ → Answer A → ℕ
+status_of None answer = answer_status answer
+status_of (Some code) answer = code_status code answer
 
 -- a command is answered, by its answer in a line and the status that goes with it
-pub record IsCommandReport (before : Database) (command : Command Global) (after : Database) (report : Report) : Type 0 where
+pub record IsCommandReport (before : Database) (command : Command Global) (expect : Option ℕ) (after : Database) (report : Report) : Type 0 where
   pub answer : Answer Global
   pub answers : IsAnswerTo Global before command answer after
   pub kind : after.kind ≡ before.kind
   pub size : after.size ≡ before.size
   pub text_is : report.text.items ≡ answer_text answer ++ 10 ∷ []
-  pub status_is : report.status ≡ status_of answer
+  pub status_is : report.status ≡ status_of expect answer
 
 -- a command that changes no file
 abbrev pub Looks : Database → Command Global → Report → Type 0
-Looks before command report = (after : Database) × (IsCommandReport before command after report × (report.database ≡ None))
+Looks before command report = (after : Database) × (IsCommandReport before command None after report × (report.database ≡ None))
 
 -- a command after which the files are written
-abbrev pub Changes : Database → Command Global → Report → Type 0
-Changes before command report = (after : Database) × (IsCommandReport before command after report × (report.database ≡ Some after))
+abbrev pub Changes : Database → Command Global → Option ℕ → Report → Type 0
+Changes before command expect report = (after : Database) × (IsCommandReport before command expect after report × (report.database ≡ Some after))
 
 -- the words of a command on the database of the files, of which P holds
 pub record OnCommand (form : Form) (given : Given) (words : List (List ℕ)) (P : Database → Command Global → Type 0) : Type 0 where
@@ -133,21 +148,22 @@ small_form unsigned = record { unsigned = unsigned; wide = false }
 
 -- ---- scripts
 
--- the answers to a script, whose bytes may not be known, and the database after it
-pub record Plays (before : Database) (input : Option (List ℕ)) (after : Database) (report : Report) : Type 0 where
+-- the answers to a script, whose bytes may not be known, and the database after it; the answers have at most so many bytes
+pub record Plays (before : Database) (input : Option (List ℕ)) (most : ℕ) (after : Database) (report : Report) : Type 0 where
   pub runs : IfSome input (λ bytes. IsScriptRun Global before bytes report.text.items after)
+  pub short : length report.text.items ≤ most
   pub kind : after.kind ≡ before.kind
   pub size : after.size ≡ before.size
   pub status_is : report.status ≡ 0
 
 -- on an empty database, which is not kept
-abbrev pub PlaysAlone : Form → Option (List ℕ) → Report → Type 0
-PlaysAlone form input report =
-    (after : Database) × (Plays (empty_database (key_bytes_of form.unsigned) (page_size_of form.wide)) input after report × (report.database ≡ None))
+abbrev pub PlaysAlone : Form → Option (List ℕ) → ℕ → Report → Type 0
+PlaysAlone form input most report =
+    (after : Database) × (Plays (empty_database (key_bytes_of form.unsigned) (page_size_of form.wide)) input most after report × (report.database ≡ None))
 
 -- on a database, which is written after it
-abbrev pub PlaysOn : Option (List ℕ) → Report → Database → Type 0
-PlaysOn input report before = (after : Database) × (Plays before input after report × (report.database ≡ Some after))
+abbrev pub PlaysOn : Option (List ℕ) → ℕ → Report → Database → Type 0
+PlaysOn input most report before = (after : Database) × (Plays before input most after report × (report.database ≡ Some after))
 
 -- ---- programs
 
@@ -200,9 +216,9 @@ Verifies is_image file report = (image : List ℕ) × (IsFileImage is_image file
 
 -- The run of an image's accepted program answers a command, after which the files are written; or the image gets no number in a
 -- registry without programs, and the files are written as they are.
-abbrev pub RunsImage : Database → RunWords Global → List ℕ → Report → Type 0
-RunsImage before words image report =
-    ((p : Accepted) × (IsProgramOf image p × Changes before (Run words.key p.code words.arg words.blank words.now) report))
+abbrev pub RunsImage : Database → RunWords Global → Option ℕ → List ℕ → Report → Type 0
+RunsImage before words expect image report =
+    ((p : Accepted) × (IsProgramOf image p × Changes before (Run words.key p.code words.arg words.blank words.now) expect report))
     ⊎ ((fault : RegFault) × (Denies [] image fault × Refuses fault (Some before) report))
 
 -- what comes of a run by its words, on the database of the files, of the program of a file
@@ -210,10 +226,11 @@ pub record OnRun (form : Form) (given : Given) (texts : RunTexts) (is_image : Bo
   pub before : Database
   pub opened : IsOpened form given before
   pub words : RunWords Global
-  pub are : AreRunWords texts words
+  pub expect : Option ℕ
+  pub are : AreRunWords texts words expect
   pub image : List ℕ
   pub image_is : IsFileImage is_image given.file.items image
-  pub runs : RunsImage before words image report
+  pub runs : RunsImage before words expect image report
 
 -- a text is printed that goes so with the file, and that is all
 abbrev pub PrintsOf : (List ℕ → List ℕ → Type 0) → List ℕ → Report → Type 0

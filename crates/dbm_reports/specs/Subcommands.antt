@@ -1,11 +1,12 @@
 -- Each subcommand: what comes of it, and why nothing does.
-use Rattle.std.specs.Prelude.{ℕ, Bool, true, false, List, Option, Some, None}
+use Rattle.std.specs.Prelude.{ℕ, Bool, true, false, List, Option, Some, None, IsSomeAnd}
 use Rattle.dbm_words.specs.declared.wish.Wish.{Wish}
 use Rattle.dbm_words.specs.declared.wish.Wish.TheVariants as wish
 use Rattle.dbm_reports.specs.declared.subcommands.Report.{Report}
 use Rattle.dbm_reports.specs.declared.databases.Given.{Given}
 use Rattle.dbm_reports.specs.Reports.{OnCommand, OnDatabase, Looks, Changes, Lists, Counts, PlaysAlone, PlaysOn, Widens, PrintsOf, IsAssembled, IsDisassembled, Verifies, OnRun, fetch_words, store_words, delete_words, small_form}
-use Rattle.dbm_reports.specs.Causes.{Causes, no_causes, command_causes, opening_causes, input_causes, script_causes, text_causes, image_causes, file_causes, run_causes}
+use Rattle.dbm_reports.specs.Options.{output_limit}
+use Rattle.dbm_reports.specs.Causes.{Causes, no_causes, command_causes, opening_causes, alone_causes, script_causes, numbered_causes, text_causes, image_causes, file_causes, run_causes}
 
 pub record Subcommand : Type 1 where
   -- what comes of it
@@ -20,16 +21,16 @@ subcommand_for (wish.Fetch base form key) given input = record {
   causes = command_causes form given (fetch_words key);
 }
 subcommand_for (wish.Store base form key value insert) given input = record {
-  reports = λ report. OnCommand form given (store_words key value insert) (λ db command. Changes db command report);
+  reports = λ report. OnCommand form given (store_words key value insert) (λ db command. Changes db command None report);
   causes = command_causes form given (store_words key value insert);
 }
 subcommand_for (wish.Delete base form key) given input = record {
-  reports = λ report. OnCommand form given (delete_words key) (λ db command. Changes db command report);
+  reports = λ report. OnCommand form given (delete_words key) (λ db command. Changes db command None report);
   causes = command_causes form given (delete_words key);
 }
-subcommand_for (wish.Run base form key file arg blank now image) given input = record {
-  reports = OnRun form given (record { key = key; arg = arg; blank = blank; now = now }) image;
-  causes = run_causes form given (record { key = key; arg = arg; blank = blank; now = now }) image;
+subcommand_for (wish.Run base form key file arg blank now expect image) given input = record {
+  reports = OnRun form given (record { key = key; arg = arg; blank = blank; now = now; expect = expect }) image;
+  causes = run_causes form given (record { key = key; arg = arg; blank = blank; now = now; expect = expect }) image;
 }
 subcommand_for (wish.Batch base form file workers image) given input = record {
   reports = λ report. ⊥;
@@ -43,13 +44,13 @@ subcommand_for (wish.Check base form) given input = record {
   reports = λ report. OnDatabase form given (Counts report);
   causes = opening_causes form given;
 }
-subcommand_for (wish.Script None form) given input = record {
-  reports = PlaysAlone form input;
-  causes = input_causes input;
+subcommand_for (wish.Script None form max_output) given input = record {
+  reports = λ report. IsSomeAnd (output_limit max_output) (λ most. PlaysAlone form input most report);
+  causes = numbered_causes (output_limit max_output) (alone_causes form input);
 }
-subcommand_for (wish.Script (Some base) form) given input = record {
-  reports = λ report. OnDatabase form given (PlaysOn input report);
-  causes = script_causes form given input;
+subcommand_for (wish.Script (Some base) form max_output) given input = record {
+  reports = λ report. IsSomeAnd (output_limit max_output) (λ most. OnDatabase form given (PlaysOn input most report));
+  causes = numbered_causes (output_limit max_output) (script_causes form given input);
 }
 subcommand_for (wish.Widen base unsigned) given input = record {
   reports = λ report. OnDatabase (small_form unsigned) given (Widens report);
@@ -70,7 +71,7 @@ subcommand_for (wish.Verify file image) given input = record {
 
 -- the subcommand but a batch that reads standard input
 abbrev pub is_script : Wish → Bool
-is_script (wish.Script base form) = true
+is_script (wish.Script base form max_output) = true
 is_script _ = false
 
 -- the subcommand that is none of these

@@ -4,7 +4,7 @@ ghost use Rattle.dbm_reports.specs.declared.fault.ReportFault.TheVariants.{NoMem
 
 use bpf_asm::AsmFault;
 use bpf_insn::DecodeFault;
-use dbm_script::WordFault;
+use dbm_script::{LinesFault, WordFault};
 use sdbm_files::OpenFault;
 use std::alloc::{AllocError, AllocFailed};
 use std::error::Error;
@@ -15,7 +15,8 @@ use std::fmt;
 pub enum ReportFault {
     /// A key, a value or an argument is no hex and no dot.
     BadHex,
-    /// A blank is neither a dot nor a number below 65,536, a time is no number below 2^64, or a number of workers none below 2^32.
+    /// A blank is neither a dot nor a number below 65,536, a time, a limit or a code is no number below 2^64, or a number of
+    /// workers none below 2^32.
     /// Numbers have no leading zeros.
     BadNumber,
     /// The files are no database.
@@ -30,6 +31,8 @@ pub enum ReportFault {
     Read,
     /// There are more than 16,777,216 bytes on standard input.
     TooLong,
+    /// The answers to a script would have more bytes than `--max-output` allows.
+    OutputTooLong,
     /// No memory is left.
     NoMemory,
 }
@@ -50,6 +53,7 @@ impl fmt::Display for ReportFault {
             ReportFault::Decode(fault) => write!(f, "{fault}"),
             ReportFault::Read => write!(f, "Read"),
             ReportFault::TooLong => write!(f, "TooLong"),
+            ReportFault::OutputTooLong => write!(f, "OutputTooLong"),
             ReportFault::NoMemory => write!(f, "NoMemory"),
         }
     }
@@ -83,6 +87,19 @@ impl From<WordFault> for ReportFault {
             WordFault::BadHex => ReportFault::BadHex,
             WordFault::BadNumber => ReportFault::BadNumber,
             WordFault::NoMemory => ReportFault::NoMemory,
+        }
+    }
+}
+
+impl From<LinesFault> for ReportFault {
+    ghost use Rattle.dbm_reports.specs.Causes.{lines_fault};
+
+    ghost from_gives = { λ reason fault. fault ≡ lines_fault reason };
+
+    fn from(fault: LinesFault) -> ReportFault {
+        match fault {
+            LinesFault::OutputTooLong => ReportFault::OutputTooLong,
+            LinesFault::NoMemory => ReportFault::NoMemory,
         }
     }
 }

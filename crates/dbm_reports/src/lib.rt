@@ -5,6 +5,7 @@ mod databases;
 mod fault;
 mod listing;
 mod names;
+mod options;
 mod programs;
 mod reports;
 mod running;
@@ -12,9 +13,7 @@ mod subcommands;
 
 pub use databases::{Files, FilesFault, Given, PAG_LIMIT, files_to_write};
 pub use fault::ReportFault;
-pub use names::{
-    LockFile, Part, Source, Target, Targets, lock_of, put, sources, target_of, targets_of,
-};
+pub use names::{Names, Part, Source, names_of, put, sources};
 pub use reports::{read_input, report_on};
 pub use running::{RunTexts, database_and_image};
 pub use subcommands::Report;

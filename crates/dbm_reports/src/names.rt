@@ -1,9 +1,9 @@
 //! Which files a wish is about: what is read, what is written, and the lock, each under its name.
-ghost use Rattle.std.specs.Prelude.{◌≡◌, ◌++◌, IfOk, codes, map, option_map, string_bytes};
-ghost use Rattle.dbm_reports.specs.Names.{AreTargets, IsTarget, files_read, shown_lock, shown_source, with_part};
+ghost use Rattle.std.specs.Prelude.{◌≡◌, ◌++◌, IfOk, codes, map, string_bytes};
+ghost use Rattle.dbm_reports.specs.Names.{AreNames, files_read, shown_source, with_part};
 ghost use Rattle.dbm_reports.specs.Names as spec;
 
-use crate::databases::{Files, Given, PAG_LIMIT};
+use crate::databases::{Given, PAG_LIMIT};
 use dbm_words::Wish;
 use std::alloc::{AllocError, Global};
 
@@ -35,28 +35,17 @@ pub struct Source {
     pub may_be_absent: bool,
 }
 
-/// A file that is to be written.
+/// The names of the files of a database that are written, and of its lock.
 #[derive(Drop)]
-pub struct Target<'a> {
-    pub name: String,
-    /// The name under which it is written before it takes its own.
-    pub new_name: String,
-    pub bytes: &'a [u8],
-}
-
-/// Both files of a database that are to be written, in the order in which they take their names.
-#[derive(Drop)]
-pub struct Targets<'a> {
-    pub first: Target<'a>,
-    pub last: Target<'a>,
-}
-
-/// The file on which a run waits for others on the same database.
-#[derive(Drop)]
-pub struct LockFile {
-    pub name: String,
-    /// No other run has the lock at the same time; else none that writes.
-    pub is_exclusive: bool,
+pub struct Names {
+    /// BASE.pag, the pages.
+    pub pages: String,
+    /// BASE.dir, the directory.
+    pub directory: String,
+    /// BASE.redo, which is there while a save is under way.
+    pub redo: String,
+    /// BASE.lock, on which a run waits for others on the same database.
+    pub lock: String,
 }
 
 /// The files that are read for a wish, in this order: BASE.dir and BASE.pag, each of which may be missing, and the program's file. The
@@ -122,46 +111,16 @@ pub fn put(given: &mut Given, part: Part, bytes: Vec<u8>)
     }
 }
 
-/// The files of a database that are to be written: `.pag` takes its name first, and `.dir` last. The error is `AllocError`.
-pub fn targets_of<'a>(
-    alloc: Global,
-    base: &str,
-    files: &'a Files,
-) -> Result<Targets<'a>, AllocError>
-    ensures { IfOk result (AreTargets base.now files.entry.now) }
+/// The names of the files of a base: BASE.pag, BASE.dir, BASE.redo and BASE.lock. The error is `AllocError`.
+pub fn names_of(alloc: Global, base: &str) -> Result<Names, AllocError>
+    ensures { IfOk result (AreNames base.now) }
 {
-    let pag = joined(alloc, base, ".pag")?;
-    let dir = joined(alloc, base, ".dir")?;
-    Ok(Targets {
-        first: target_of(alloc, pag, files.pag.bytes())?,
-        last: target_of(alloc, dir, files.dir.bytes())?,
+    Ok(Names {
+        pages: joined(alloc, base, ".pag")?,
+        directory: joined(alloc, base, ".dir")?,
+        redo: joined(alloc, base, ".redo")?,
+        lock: joined(alloc, base, ".lock")?,
     })
-}
-
-/// Bytes that are to be written under a name, and first under that name with `.new` behind it. The error is `AllocError`.
-pub fn target_of<'a>(alloc: Global, name: String, bytes: &'a [u8]) -> Result<Target<'a>, AllocError>
-    ensures { IfOk result (IsTarget (string_bytes name) bytes.entry.now) }
-{
-    let new_name = joined(alloc, name.as_str(), ".new")?;
-    Ok(Target {
-        name,
-        new_name,
-        bytes,
-    })
-}
-
-/// The lock that a wish takes: BASE.lock, exclusively where it writes the files of the database, and none where it is about no
-/// database. The error is `AllocError`.
-pub fn lock_of(alloc: Global, wish: &Wish<'_>) -> Result<Option<LockFile>, AllocError>
-    ensures { IfOk result (λ lock. option_map shown_lock lock ≡ spec.lock_of wish.now) }
-{
-    let Some(base) = wish.base() else {
-        return Ok(None);
-    };
-    Ok(Some(LockFile {
-        name: joined(alloc, base, ".lock")?,
-        is_exclusive: wish.writes(),
-    }))
 }
 
 // Both texts, one behind the other.

@@ -2,13 +2,14 @@
 ghost use Rattle.std.specs.Prelude.{◌≡◌, ◌≤◌, ◌∷◌, false, length, map, IfOk, IfErr, IfSome, Some};
 ghost use Rattle.dbm_script.specs.Commands.{command_of};
 ghost use Rattle.dbm_words.specs.declared.wish.Wish.TheVariants as wish;
-ghost use Rattle.dbm_reports.specs.Causes.{IsCaused, command_causes, opening_causes, input_causes, script_causes};
+ghost use Rattle.dbm_reports.specs.Causes.{IsCaused, command_causes, alone_causes, opening_causes, input_causes, script_causes};
 ghost use Rattle.dbm_reports.specs.Databases.{IsOpened};
 ghost use Rattle.dbm_reports.specs.Reports.{OnCommand, OnDatabase, Looks, Changes, Lists, Counts, PlaysAlone, PlaysOn, Widens, delete_words, fetch_words, small_form, store_name, store_words};
 ghost use Rattle.dbm_reports.specs.Subcommands.{is_batch, is_script, subcommand_for};
 
 use crate::databases::{Given, key_bytes_of, open, page_size_of};
 use crate::fault::ReportFault;
+use crate::options::output_limit;
 use crate::programs::{assemble_file, disassemble_file, verify_file};
 use crate::running::{RunTexts, report_run};
 use crate::subcommands::{Report, change, check, list, look, play, printed, widen_pages};
@@ -43,7 +44,7 @@ pub fn read_input<R: Read>(alloc: Global, reader: &mut R) -> Result<Vec<u8>, Rep
 /// # Errors
 /// The first that is met, in this order: `BadHex` where a word is no bytes, `BadNumber` where one is no number; `Open` where the
 /// files do not open; `NotText` and `Assemble` where a program's file is no text of one, `Decode` where it is no image; of a script,
-/// those of `read_input`. `NoMemory` may come at any step. The bytes of the files are let go, and nothing else changes.
+/// those of `read_input`, and `OutputTooLong` where its answers have more bytes than they may. `NoMemory` may come at any step. The bytes of the files are let go, and nothing else changes.
 pub fn report_on<R: Read>(
     alloc: Global,
     wish: Wish<'_>,
@@ -71,6 +72,7 @@ pub fn report_on<R: Read>(
             arg,
             blank,
             now,
+            expect,
             image,
             ..
         } => {
@@ -79,12 +81,17 @@ pub fn report_on<R: Read>(
                 arg,
                 blank,
                 now,
+                expect,
             };
             report_run(alloc, given, form, texts, image)
         }
         Wish::List { form, .. } => report_list(alloc, given, form),
         Wish::Check { form, .. } => report_check(alloc, given, form),
-        Wish::Script { base, form } => report_script(alloc, given, base, form, reader),
+        Wish::Script {
+            base,
+            form,
+            max_output,
+        } => report_script(alloc, given, base, form, max_output, reader),
         Wish::Widen { unsigned, .. } => report_widen(alloc, given, unsigned),
         Wish::Asm { .. } => assemble_file(alloc, given.file.as_slice()),
         Wish::Disasm { .. } => disassemble_file(alloc, given.file.as_slice()),
@@ -127,13 +134,13 @@ fn report_store<'a>(
     value: &'a str,
     insert: bool,
 ) -> Result<Report, ReportFault>
-    ensures ok { IfOk result (λ report. OnCommand form given (store_words key.entry value.entry insert) (λ db command. Changes db command report)) }
+    ensures ok { IfOk result (λ report. OnCommand form given (store_words key.entry value.entry insert) (λ db command. Changes db command None report)) }
     ensures fault { IfErr result (IsCaused (command_causes form given (store_words key.entry value.entry insert))) }
 {
     let name = store_name(insert);
     let args = [key.as_bytes(), value.as_bytes()];
     let (image, command) = command_on(alloc, given, form, name, &args)?;
-    Ok(change(alloc, image, command)?)
+    Ok(change(alloc, image, command, None)?)
 }
 
 // The name of the command of a store.
@@ -144,11 +151,11 @@ fn store_name(insert: bool) -> &'static [u8]
 }
 
 fn report_delete(alloc: Global, given: Given, form: Form, key: &str) -> Result<Report, ReportFault>
-    ensures ok { IfOk result (λ report. OnCommand form given (delete_words key.entry) (λ db command. Changes db command report)) }
+    ensures ok { IfOk result (λ report. OnCommand form given (delete_words key.entry) (λ db command. Changes db command None report)) }
     ensures fault { IfErr result (IsCaused (command_causes form given (delete_words key.entry))) }
 {
     let (image, command) = command_on(alloc, given, form, b"delete", &[key.as_bytes()])?;
-    Ok(change(alloc, image, command)?)
+    Ok(change(alloc, image, command, None)?)
 }
 
 fn report_list(alloc: Global, given: Given, form: Form) -> Result<Report, ReportFault>
@@ -172,25 +179,34 @@ fn report_script<R: Read>(
     given: Given,
     base: Option<&str>,
     form: Form,
+    max_output: Option<&str>,
     reader: &mut R,
 ) -> Result<Report, ReportFault>
-    ensures ok { IfOk result (λ report. (subcommand_for (wish.Script base.entry form) given (R.remaining reader.old)).reports report) }
-    ensures fault { IfErr result (IsCaused (subcommand_for (wish.Script base.entry form) given (R.remaining reader.old)).causes) }
+    ensures ok { IfOk result (λ report. (subcommand_for (wish.Script base.entry form max_output.entry) given (R.remaining reader.old)).reports report) }
+    ensures fault { IfErr result (IsCaused (subcommand_for (wish.Script base.entry form max_output.entry) given (R.remaining reader.old)).causes) }
 {
+    let Some(most) = output_limit(max_output) else {
+        return Err(ReportFault::BadNumber);
+    };
     match base {
-        None => report_alone(alloc, form, reader),
-        Some(_) => report_played(alloc, given, form, reader),
+        None => report_alone(alloc, form, most, reader),
+        Some(_) => report_played(alloc, given, form, most, reader),
     }
 }
 
 // A script on an empty database, which is not kept.
-fn report_alone<R: Read>(alloc: Global, form: Form, reader: &mut R) -> Result<Report, ReportFault>
-    ensures ok { IfOk result (PlaysAlone form (R.remaining reader.old)) }
-    ensures fault { IfErr result (IsCaused (input_causes (R.remaining reader.old))) }
+fn report_alone<R: Read>(
+    alloc: Global,
+    form: Form,
+    most: u64,
+    reader: &mut R,
+) -> Result<Report, ReportFault>
+    ensures ok { IfOk result (PlaysAlone form (R.remaining reader.old) most) }
+    ensures fault { IfErr result (IsCaused (alone_causes form (R.remaining reader.old) most)) }
 {
     let image = Image::empty(alloc, key_bytes_of(form), page_size_of(form));
     let script = read_input(alloc, reader)?;
-    let Report { text, .. } = play(alloc, image, script.as_slice())?;
+    let Report { text, .. } = play(alloc, image, script.as_slice(), most)?;
     Ok(printed(text))
 }
 
@@ -199,14 +215,15 @@ fn report_played<R: Read>(
     alloc: Global,
     given: Given,
     form: Form,
+    most: u64,
     reader: &mut R,
 ) -> Result<Report, ReportFault>
-    ensures ok { IfOk result (λ report. OnDatabase form given (PlaysOn (R.remaining reader.old) report)) }
-    ensures fault { IfErr result (IsCaused (script_causes form given (R.remaining reader.old))) }
+    ensures ok { IfOk result (λ report. OnDatabase form given (PlaysOn (R.remaining reader.old) most report)) }
+    ensures fault { IfErr result (IsCaused (script_causes form given (R.remaining reader.old) most)) }
 {
     let image = open(alloc, given, form)?;
     let script = read_input(alloc, reader)?;
-    Ok(play(alloc, image, script.as_slice())?)
+    play(alloc, image, script.as_slice(), most)
 }
 
 fn report_widen(alloc: Global, given: Given, unsigned: bool) -> Result<Report, ReportFault>

@@ -8,6 +8,7 @@ ghost use Rattle.dbm_reports.specs.Reports.{Changes, IsFileImage, OnRun, RunsIma
 
 use crate::databases::{Given, open};
 use crate::fault::ReportFault;
+use crate::options::expected_code;
 use crate::programs::{file_image, refused};
 use crate::subcommands::{Report, change};
 use dbm_script::{RunAsk, RunWords, command_of_run, read_run_words};
@@ -16,13 +17,14 @@ use prog_registry::Registry;
 use sdbm_files::Image;
 use std::alloc::{AllocError, Global};
 
-/// The words of a run as they were given.
+/// The words of a run, and the code with which it is to end, as they were given.
 #[derive(Clone, Copy, Debug, PartialEq, Eq)]
 pub struct RunTexts<'a> {
     pub key: &'a str,
     pub arg: &'a str,
     pub blank: &'a str,
     pub now: &'a str,
+    pub expect: Option<&'a str>,
 }
 
 /// The answer to a run of the program of a file on the database of the files, which is to be written after it; or why the program
@@ -40,19 +42,26 @@ pub fn report_run(
     ensures ok { IfOk result (OnRun form given texts.entry is_image) }
     ensures fault { IfErr result (IsCaused (run_causes form given texts.entry is_image)) }
 {
-    let words = run_words(alloc, texts)?;
+    let (words, expect) = run_words(alloc, texts)?;
     let (database, image) = database_and_image(alloc, given, form, is_image)?;
-    Ok(run_image(alloc, database, image.as_slice(), words)?)
+    Ok(run_image(alloc, database, image.as_slice(), words, expect)?)
 }
 
-// What the words mean, read from left to right.
-fn run_words(alloc: Global, texts: RunTexts<'_>) -> Result<RunWords<Global>, ReportFault>
-    ensures ok { IfOk result (AreRunWords texts.entry) }
+// What the words mean, read from left to right, and then the code.
+fn run_words(
+    alloc: Global,
+    texts: RunTexts<'_>,
+) -> Result<(RunWords<Global>, Option<u64>), ReportFault>
+    ensures ok { IfOk result (λ r. AreRunWords texts.entry r.0 r.1) }
     ensures fault { IfErr result (IsCaused (word_causes texts.entry)) }
 {
     let (key, arg) = (texts.key.as_bytes(), texts.arg.as_bytes());
     let (blank, now) = (texts.blank.as_bytes(), texts.now.as_bytes());
-    Ok(read_run_words(alloc, key, arg, blank, now)?)
+    let words = read_run_words(alloc, key, arg, blank, now)?;
+    match expected_code(texts.expect) {
+        Some(expect) => Ok((words, expect)),
+        None => Err(ReportFault::BadNumber),
+    }
 }
 
 /// The database of the files, and then the image of the program's file.
@@ -85,8 +94,9 @@ fn run_image(
     database: Image<Global>,
     image: &[u8],
     words: RunWords<Global>,
+    expect: Option<u64>,
 ) -> Result<Report, AllocError>
-    ensures { IfOk result (RunsImage database words image.now) }
+    ensures { IfOk result (RunsImage database words expect image.now) }
 {
     let mut registry = Registry::new(alloc)?;
     match registry.submit(image) {
@@ -98,7 +108,7 @@ fn run_image(
                 blank: words.blank,
                 now: words.now,
             };
-            run_program(alloc, database, &registry, run)
+            run_program(alloc, database, &registry, run, expect)
         }
         Err(fault) => refused(alloc, fault, Some(database)),
     }
@@ -110,12 +120,13 @@ fn run_program(
     database: Image<Global>,
     registry: &Registry<Global>,
     run: RunAsk<Global>,
+    expect: Option<u64>,
 ) -> Result<Report, AllocError>
     requires { IsSome (slice_get registry.now.programs run.prog) }
-    ensures { IfOk result (λ report. (p : Accepted) × ((slice_get registry.now.programs run.prog ≡ Some p) × Changes database (command.Run run.key p.code run.arg run.blank run.now) report)) }
+    ensures { IfOk result (λ report. (p : Accepted) × ((slice_get registry.now.programs run.prog ≡ Some p) × Changes database (command.Run run.key p.code run.arg run.blank run.now) expect report)) }
 {
     let Some(command) = command_of_run(registry, run)? else {
         unreachable!()
     };
-    change(alloc, database, command)
+    change(alloc, database, command, expect)
 }

@@ -1,9 +1,11 @@
 //! What comes of each subcommand on a database that is open.
-ghost use Rattle.std.specs.Prelude.{◌≡◌, ◌++◌, ◌∷◌, [], None, Some, IfOk};
+ghost use Rattle.std.specs.Prelude.{◌≡◌, ◌++◌, ◌∷◌, [], None, Some, IfOk, IfErr};
 ghost use Rattle.sdbm_addr.specs.Database.{Database};
 ghost use Rattle.dbm_script.specs.Answers.{IsAnswerTo};
-ghost use Rattle.dbm_reports.specs.Reports.{Looks, Changes, Lists, Counts, Plays, Widens, status_of};
+ghost use Rattle.dbm_reports.specs.Causes.{IsCaused, play_causes};
+ghost use Rattle.dbm_reports.specs.Reports.{Looks, Changes, Lists, Counts, Plays, Widens, answer_status, code_status, ended_with, status_of};
 
+use crate::fault::ReportFault;
 use crate::listing::{list_pairs, show_ok};
 use dbm_script::{Answer, answer_command, run_lines, show_answer};
 use sdbm_files::{Image, widen};
@@ -29,7 +31,7 @@ pub fn look(
 ) -> Result<Report, AllocError>
     ensures { IfOk result (Looks image command) }
 {
-    let Report { text, status, .. } = change(alloc, image, command)?;
+    let Report { text, status, .. } = change(alloc, image, command, None)?;
     Ok(Report {
         text,
         status,
@@ -37,7 +39,7 @@ pub fn look(
     })
 }
 
-/// The answer to a command after which the files are written.
+/// The answer to a command after which the files are written. A run may be one that is to end with a certain code.
 ///
 /// # Errors
 /// `AllocError` where no memory is left.
@@ -45,8 +47,9 @@ pub fn change(
     alloc: Global,
     image: Image<Global>,
     command: Command<Global>,
+    expect: Option<u64>,
 ) -> Result<Report, AllocError>
-    ensures { IfOk result (Changes image command) }
+    ensures { IfOk result (Changes image command expect) }
 {
     let (image, answer) = answer_one(alloc, image, command)?;
     let mut text = Vec::new(alloc);
@@ -54,7 +57,7 @@ pub fn change(
     text.push(b'\n')?;
     Ok(Report {
         text,
-        status: status_of(&answer),
+        status: status_of(&answer, expect),
         database: Some(image),
     })
 }
@@ -74,9 +77,19 @@ fn answer_one(
     Ok((image, answer))
 }
 
-// The status that goes with an answer: 1 where nothing was found, or nothing changed that was to be changed.
-fn status_of(answer: &Answer<Global>) -> u8
-    ensures { result ≡ status_of answer.now }
+// The status that goes with an answer, where a run is to end with a code, or where nothing is asked of it.
+fn status_of(answer: &Answer<Global>, expect: Option<u64>) -> u8
+    ensures { result ≡ status_of expect answer.now }
+{
+    match expect {
+        None => answer_status(answer),
+        Some(code) => code_status(answer, code),
+    }
+}
+
+// The status of an answer of which nothing is asked: 1 where nothing was found, or nothing changed that was to be changed.
+fn answer_status(answer: &Answer<Global>) -> u8
+    ensures { result ≡ answer_status answer.now }
 {
     match answer {
         Answer::Replied(entry) => match entry.reply {
@@ -84,6 +97,26 @@ fn status_of(answer: &Answer<Global>) -> u8
             _ => 0,
         },
         Answer::Refused(_) => 1,
+    }
+}
+
+// The status of a run that is to end with a code: 1 where it did not.
+fn code_status(answer: &Answer<Global>, code: u64) -> u8
+    ensures { result ≡ code_status code answer.now }
+{
+    match answer {
+        Answer::Replied(entry) => { if ended_with(&entry.reply, code) { 0 } else { 1 } }
+        Answer::Refused(_) => 1,
+    }
+}
+
+// Whether a run ended with a code.
+fn ended_with(reply: &Reply<Global>, code: u64) -> bool
+    ensures { result ≡ ended_with code reply.now }
+{
+    match reply {
+        Reply::Ran { code: ended, .. } => *ended == code,
+        _ => false,
     }
 }
 
@@ -109,14 +142,20 @@ pub fn check(alloc: Global, image: &Image<Global>) -> Result<Report, AllocError>
     Ok(printed(show_ok(alloc, image.count())?))
 }
 
-/// The answers to a script, and the database after it, which is to be written.
+/// The answers to a script, which are to have at most so many bytes, and the database after it, which is to be written.
 ///
 /// # Errors
-/// `AllocError` where no memory is left.
-pub fn play(alloc: Global, image: Image<Global>, script: &[u8]) -> Result<Report, AllocError>
-    ensures { IfOk result (λ report. (after : Database) × (Plays image (Some script.now) after report × (report.database ≡ Some after))) }
+/// `OutputTooLong` where the answers have more bytes, and `NoMemory`.
+pub fn play(
+    alloc: Global,
+    image: Image<Global>,
+    script: &[u8],
+    most: u64,
+) -> Result<Report, ReportFault>
+    ensures ok { IfOk result (λ report. (after : Database) × (Plays image (Some script.now) most after report × (report.database ≡ Some after))) }
+    ensures fault { IfErr result (IsCaused (play_causes image (Some script.now) most)) }
 {
-    let (image, text) = run_lines(alloc, image, script)?;
+    let (image, text) = run_lines(alloc, image, script, most)?;
     Ok(Report {
         text,
         status: 0,

@@ -46,6 +46,18 @@ RunsLines-append A s mid s' ((c ∷ cs) ∷ lines) more [] later text added r q 
 RunsLines-append A s mid s' ((c ∷ cs) ∷ lines) more (v ∷ told) later text added r q =
     (r.0, (r.1.0 ++ added, (r.1.1.0, (r.1.1.1.0, (RunsLines-append A r.1.1.0 mid s' lines more told later r.1.0 added r.1.1.1.1.0 q, ap (λ xs. xs ++ added) r.1.1.1.1.1 ∙ append_assoc r.0 (10 ∷ r.1.0) added)))))
 
+-- lines that are done, and one more
+pub one_more : (A : Type 0) (s mid s' : Stage) (done : List (List ℕ)) (line : List ℕ) (told : List (Option Verdict)) (text new : List ℕ)
+    → RunsLines A s done told text mid → (adds : Adds text new (λ added. (later : List (Option Verdict)) × RunsLines A mid (line ∷ []) later added s'))
+    → RunsLines A s (done ++ line ∷ []) (told ++ adds.holds.0) new s'
+one_more A s mid s' done line told text new before adds =
+    subst (λ (t : List ℕ). RunsLines A s (done ++ line ∷ []) (told ++ adds.holds.0) t s') (sym adds.is)
+    (RunsLines-append A s mid s' done (line ∷ []) told adds.holds.0 text adds.added before adds.holds.1)
+
+-- the line that was next is done, and those behind it are left
+pub next_done : (done : List (List ℕ)) (line : List ℕ) (left after all : List (List ℕ)) → done ++ left ≡ all → left ≡ line ∷ after → (done ++ line ∷ []) ++ after ≡ all
+next_done done line left after all is first = append_assoc done (line ∷ []) after ∙ ap (λ (ls : List (List ℕ)). done ++ ls) (sym first) ∙ is
+
 -- one line that is not empty
 pub line_runs : (A : Type 0) (s s' : Stage) (line : List ℕ) (old mid new : List ℕ) → eqb (length line) 0 ≡ false
     → Adds old mid (λ added. (told : Option Verdict) × AnswersLine A s (ask_of (pieces_of 32 line)) told added s') → new ≡ mid ++ 10 ∷ []

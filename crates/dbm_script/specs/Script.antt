@@ -70,6 +70,17 @@ pub record IsScriptRun (A : Type 0) (db : Database) (input text : List ℕ) (db'
   pub runs : RunsScript A db input told text db'
   pub only : (other : List ℕ) (d : Database) → RunsScript A db input told other d → (other ≡ text) × (d ≡ db')
 
+-- The answers to the first lines of a script alone have more bytes than so many.
+pub record AnswersExceed (A : Type 0) (db : Database) (input : List ℕ) (most : ℕ) : Type 0 where
+  pub first : List (List ℕ)
+  pub others : List (List ℕ)
+  pub lines : first ++ others ≡ pieces_of 10 input
+  pub told : List (Option Verdict)
+  pub text : List ℕ
+  pub after : Stage
+  pub ran : RunsLines A (stage db []) first told text after
+  pub long : most < length text
+
 -- new is old and then some bytes, of which P holds
 pub record Adds (old new : List ℕ) (P : List ℕ → Type 0) : Type 0 where
   pub added : List ℕ

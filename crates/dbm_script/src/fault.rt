@@ -1,4 +1,8 @@
 //! Why a script gave no image.
+ghost use Rattle.std.specs.Prelude.{◌≡◌};
+ghost use Rattle.dbm_script.specs.declared.fault.LinesFault.TheVariants.{NoMemory};
+
+use std::alloc::AllocError;
 use std::error::Error;
 use std::fmt;
 
@@ -32,3 +36,20 @@ impl fmt::Display for ScriptFault {
 }
 
 impl Error for ScriptFault {}
+
+/// Why the lines of a script were not all run.
+#[derive(Clone, Copy, Debug, PartialEq, Eq)]
+pub enum LinesFault {
+    /// The answers would have more bytes than they may.
+    OutputTooLong,
+    /// No memory was left.
+    NoMemory,
+}
+
+impl From<AllocError> for LinesFault {
+    ghost from_gives = { λ _ fault. fault ≡ NoMemory };
+
+    fn from(_error: AllocError) -> LinesFault {
+        LinesFault::NoMemory
+    }
+}

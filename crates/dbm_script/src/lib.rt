@@ -16,7 +16,7 @@ mod tasks;
 
 pub use answers::{Answer, show_answer, show_bytes, show_reply};
 pub use commands::{read_bytes, read_command};
-pub use fault::ScriptFault;
+pub use fault::{LinesFault, ScriptFault};
 pub use images::{answer_image, show_refusal};
 pub use lines::{Ask, read_line};
 pub use numbers::{read_blank, read_number};

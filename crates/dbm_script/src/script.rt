@@ -6,10 +6,10 @@ ghost use Rattle.dbm_script.specs.Pieces.{pieces_of};
 ghost use Rattle.dbm_script.specs.Lines.{ask_of};
 ghost use Rattle.dbm_script.specs.Answers.{IsAnswerTo};
 ghost use Rattle.dbm_script.specs.Images.{Verdict};
-ghost use Rattle.dbm_script.specs.Script.{IsScriptRun, RunsLines, AnswersCommand, AnswersLine, Adds, WritesPart, stage};
+ghost use Rattle.dbm_script.specs.Script.{AnswersExceed, IsScriptRun, RunsLines, AnswersCommand, AnswersLine, Adds, WritesPart, stage};
 
 use crate::answers::{Answer, show_answer};
-use crate::fault::ScriptFault;
+use crate::fault::{LinesFault, ScriptFault};
 use crate::images::answer_image;
 use crate::lines::{Ask, read_line};
 use crate::pieces::first_piece;
@@ -46,24 +46,27 @@ pub fn run_script<A: Allocator + Copy, R: Read, W: Write>(
     ensures long { IsErrOf result ScriptFault.TooLong → IfSome (R.remaining reader.old) (λ input. 16777216 < length input) }
 {
     let input = read_all(alloc, reader)?;
-    let Ok((after, text)) = run_lines(alloc, image, input.as_slice()) else {
+    let Ok((after, text)) = run_lines(alloc, image, input.as_slice(), u64::MAX) else {
         return Err(ScriptFault::NoMemory);
     };
     write_all(writer, text.as_slice())?;
     Ok(after)
 }
 
-/// Runs the lines of a script on an image as session 0: the image after them, and the text of their answers. Programs that lines
-/// submit are kept from line to line, and no longer.
+/// Runs the lines of a script on an image as session 0: the image after them, and the text of their answers, which is to have at most
+/// so many bytes. Programs that lines submit are kept from line to line, and no longer.
 ///
 /// # Errors
-/// `AllocError` where there is no memory left. The image is gone then.
+/// `OutputTooLong` at the first line with whose answer there are more bytes, and `NoMemory`. The image is gone then.
 pub fn run_lines<A: Allocator + Copy>(
     alloc: A,
     image: Image<A>,
     input: &[u8],
-) -> Result<(Image<A>, Vec<u8, A>), AllocError>
+    most: u64,
+) -> Result<(Image<A>, Vec<u8, A>), LinesFault>
     ensures runs { IfOk result (λ r. IsScriptRun A image input.now r.1.items r.0) }
+    ensures short { IfOk result (λ r. length r.1.items ≤ most) }
+    ensures long { IsErrOf result LinesFault.OutputTooLong → AnswersExceed A image input.now most }
     ensures kept { IfOk result (λ r. (r.0.kind ≡ image.kind) × (r.0.size ≡ image.size)) }
 {
     let mut image = image;
@@ -73,6 +76,9 @@ pub fn run_lines<A: Allocator + Copy>(
     while let Some(left) = rest {
         let (line, after) = first_piece(b'\n', left);
         answer_line(alloc, &mut image, &mut registry, line, &mut text)?;
+        if text.len() as u64 > most {
+            return Err(LinesFault::OutputTooLong);
+        }
         rest = after;
     }
     Ok((image, text))

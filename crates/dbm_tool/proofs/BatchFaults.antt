@@ -1,7 +1,7 @@
 -- What a batch comes to, and its faults, from those of its steps.
-use Rattle.std.proofs.Common.{◌≡◌, ℕ, List, Bool, Option, Some, IfSome, IsSome, subst, sym}
+use Rattle.std.proofs.Common.{◌≡◌, inl, inr, ℕ, List, Bool, Option, Some, IfSome, IsSome, subst, sym}
 use Rattle.std.specs.FinMap as fin_map
-use Rattle.std.specs.Prelude.{map}
+use Rattle.std.specs.Prelude.{◌⊎◌, map}
 use Rattle.std.specs.Borrow.{Bor}
 use Rattle.std.specs.declared.alloc.Global.{Global}
 use Rattle.sdbm_addr.specs.Database.{Database, map_of}
@@ -13,18 +13,18 @@ use Rattle.store_cmd.specs.History.{History}
 use Rattle.store_shared.specs.Shared.{CallsState, Opened, opened_by}
 use Rattle.store_shared.specs.Closed.{IsRefusedClose}
 use Rattle.store_shared.specs.declared.close.CloseFault.{CloseFault}
-use Rattle.worker_pool.specs.Pool.{AreDone, IsPoolFault}
+use Rattle.worker_pool.specs.Pool.{IsPoolFault}
 use Rattle.worker_pool.specs.declared.task.PoolFault.{PoolFault}
 use Rattle.worker_pool.specs.declared.task.PoolFault.TheVariants as jobs
 use Rattle.worker_pool.specs.declared.task.Task.{Task}
 use Rattle.dbm_tool.specs.declared.batch.Batch.{Batch}
 use Rattle.dbm_tool.specs.declared.fault.ServeFault.{ServeFault}
-use Rattle.dbm_tool.specs.declared.fault.ServeFault.TheVariants.{NotText, ReadFile, FileTooLong, WriteFile, Report, Submit, BadLine, Pool, Close, Write, NoMemory}
+use Rattle.dbm_tool.specs.declared.fault.ServeFault.TheVariants.{NotText, ReadFile, FileTooLong, WriteFile, BadRedo, ReadClock, Report, Submit, BadLine, Pool, Close, Write, NoMemory}
 use Rattle.dbm_script.specs.declared.run_words.RunWords.{RunWords}
 use Rattle.dbm_script.proofs.Runs.{known_read}
 use Rattle.dbm_words.specs.declared.wish.Form.{Form}
 use Rattle.dbm_reports.specs.declared.databases.Given.{Given}
-use Rattle.dbm_tool.specs.Batches.{AreShortTasks, HasBadLine, IsReady, OnTasks, batch_causes, doing_causes, ready_causes, submit_causes, task_causes, task_for, workers_of}
+use Rattle.dbm_tool.specs.Batches.{AreLeft, AreShortTasks, HasBadLine, IsReady, OnTasks, batch_causes, doing_causes, ready_causes, submit_causes, task_causes, task_for, workers_of}
 use Rattle.dbm_reports.specs.declared.fault.ReportFault.{ReportFault}
 use Rattle.dbm_reports.specs.declared.fault.ReportFault.TheVariants as reports
 use Rattle.dbm_reports.specs.Causes.{Causes, IsCaused, input_causes, no_causes, program_causes}
@@ -40,12 +40,12 @@ legal_from store before after entries is legal =
     (subst (λ (o : Opened). History o.size o.kind (fin_map.from_entries {R = key_cmp} o.opening) entries (map_of after)) is legal)
 
 -- a store that does not close
-pub closing_fault : (batch : Batch) (tasks : List (Task Global)) (store : Opened) (replies : List (Reply Global)) (calls : List (CallsState Global)) (fault : ServeFault)
-    → store ≡ opened_by batch.database → AreDone batch.registry.programs tasks batch.workers replies calls
+pub closing_fault : (batch : Batch) (tasks : List (Task Global)) (store : Opened) (calls : List (CallsState Global)) (fault : ServeFault)
+    → store ≡ opened_by batch.database → AreLeft batch tasks calls
     → (reason : CloseFault) × ((fault ≡ Close reason) × IsRefusedClose store calls reason) → HasCause (doing_causes batch tasks) fault
-closing_fault batch tasks store replies calls fault is done bad =
+closing_fault batch tasks store calls fault is left bad =
     subst (λ (f : ServeFault). HasCause (doing_causes batch tasks) f) (sym bad.1.0)
-    (replies, (calls, (done, subst (λ (o : Opened). IsRefusedClose o calls bad.0) is bad.1.1)))
+    (calls, (left, subst (λ (o : Opened). IsRefusedClose o calls bad.0) is bad.1.1))
 
 -- tasks that are not all done
 pub jobs_fault : (batch : Batch) (tasks : List (Task Global)) (calls : List (CallsState Global)) (fault : PoolFault)
@@ -57,6 +57,16 @@ jobs_fault batch tasks calls (jobs.NoThread worker) h = (calls, h)
 jobs_fault batch tasks calls (jobs.Refused task refusal) h = (calls, h)
 jobs_fault batch tasks calls jobs.NoMemory h = tt
 
+-- tasks that are not all done, whose store closes or not
+pub undone_fault : (batch : Batch) (tasks : List (Task Global)) (store : Opened) (calls : List (CallsState Global)) (fault : PoolFault) (result : ServeFault)
+    → store ≡ opened_by batch.database → IsPoolFault batch.database.size batch.registry.programs tasks batch.workers fault calls
+    → (result ≡ pool_fault fault) ⊎ ((reason : CloseFault) × ((result ≡ Close reason) × IsRefusedClose store calls reason)) → HasCause (doing_causes batch tasks) result
+undone_fault batch tasks store calls fault result is h cases =
+    elim cases [
+      | inl of_jobs ↦ subst (λ (f : ServeFault). HasCause (doing_causes batch tasks) f) (sym of_jobs) (jobs_fault batch tasks calls fault h)
+      | inr bad ↦ closing_fault batch tasks store calls result is (inr (fault, h)) bad
+    ]
+
 -- no cause at all
 no_report : (causes : Causes) (fault : ReportFault) → IsReported no_causes fault → IsReported causes fault
 no_report causes reports.BadHex h = absurd h
@@ -67,6 +77,7 @@ no_report causes (reports.Assemble fault) h = absurd h
 no_report causes (reports.Decode fault) h = absurd h
 no_report causes reports.Read h = absurd h
 no_report causes reports.TooLong h = absurd h
+no_report causes reports.OutputTooLong h = absurd h
 no_report causes reports.NoMemory h = absurd h
 
 -- the files and the program's file, behind the number of workers
@@ -80,6 +91,7 @@ files_before form given workers is_image (reports.Assemble fault) number h = (nu
 files_before form given workers is_image (reports.Decode fault) number h = absurd h
 files_before form given workers is_image reports.Read number h = absurd h
 files_before form given workers is_image reports.TooLong number h = absurd h
+files_before form given workers is_image reports.OutputTooLong number h = absurd h
 files_before form given workers is_image reports.NoMemory number h = tt
 
 -- an image whose program gets no number, behind the words and the files
@@ -89,6 +101,8 @@ submitted_fault form given workers is_image image NotText number opens is h = h
 submitted_fault form given workers is_image image ReadFile number opens is h = h
 submitted_fault form given workers is_image image FileTooLong number opens is h = h
 submitted_fault form given workers is_image image WriteFile number opens is h = h
+submitted_fault form given workers is_image image BadRedo number opens is h = h
+submitted_fault form given workers is_image image ReadClock number opens is h = h
 submitted_fault form given workers is_image image (Report fault) number opens is h = no_report (ready_causes form given workers is_image).report fault h
 submitted_fault form given workers is_image image (Submit fault) number opens is h = (number, (opens, (image, (is, h))))
 submitted_fault form given workers is_image image (BadLine number') number opens is h = h
@@ -104,6 +118,8 @@ unready_fault form given workers is_image input NotText h = h
 unready_fault form given workers is_image input ReadFile h = h
 unready_fault form given workers is_image input FileTooLong h = h
 unready_fault form given workers is_image input WriteFile h = h
+unready_fault form given workers is_image input BadRedo h = h
+unready_fault form given workers is_image input ReadClock h = h
 unready_fault form given workers is_image input (Report reports.BadHex) h = h
 unready_fault form given workers is_image input (Report reports.BadNumber) h = h
 unready_fault form given workers is_image input (Report (reports.Open reason)) h = h
@@ -112,6 +128,7 @@ unready_fault form given workers is_image input (Report (reports.Assemble fault)
 unready_fault form given workers is_image input (Report (reports.Decode fault)) h = h
 unready_fault form given workers is_image input (Report reports.Read) h = absurd h
 unready_fault form given workers is_image input (Report reports.TooLong) h = absurd h
+unready_fault form given workers is_image input (Report reports.OutputTooLong) h = absurd h
 unready_fault form given workers is_image input (Report reports.NoMemory) h = absurd h
 unready_fault form given workers is_image input (Submit fault) h = h
 unready_fault form given workers is_image input (BadLine number) h = absurd h
@@ -130,6 +147,8 @@ doing_fault batch input words tasks fault are is h = go fault (subst (λ (ts : L
     go ReadFile h = absurd h
     go FileTooLong h = absurd h
     go WriteFile h = absurd h
+    go BadRedo h = absurd h
+    go ReadClock h = absurd h
     go (Report fault) h = no_report (task_causes batch (Some input)).report fault h
     go (Submit fault) h = absurd h
     go (BadLine number) h = absurd h
@@ -149,6 +168,7 @@ unread_fault form given workers is_image input batch (reports.Assemble fault) re
 unread_fault form given workers is_image input batch (reports.Decode fault) ready h = absurd h
 unread_fault form given workers is_image input batch reports.Read ready h = (batch, (ready, tt))
 unread_fault form given workers is_image input batch reports.TooLong ready h = (batch, (ready, h))
+unread_fault form given workers is_image input batch reports.OutputTooLong ready h = absurd h
 unread_fault form given workers is_image input batch reports.NoMemory ready h = tt
 
 -- what was read is what is known
@@ -164,6 +184,8 @@ ran_fault form given workers is_image known read batch NotText is ready h = absu
 ran_fault form given workers is_image known read batch ReadFile is ready h = absurd h
 ran_fault form given workers is_image known read batch FileTooLong is ready h = absurd h
 ran_fault form given workers is_image known read batch WriteFile is ready h = absurd h
+ran_fault form given workers is_image known read batch BadRedo is ready h = absurd h
+ran_fault form given workers is_image known read batch ReadClock is ready h = absurd h
 ran_fault form given workers is_image known read batch (Report fault) is ready h = no_report (batch_causes form given workers is_image known).report fault h
 ran_fault form given workers is_image known read batch (Submit fault) is ready h = absurd h
 ran_fault form given workers is_image known read batch (BadLine number) is ready h = (batch, (ready, known_read known read (λ bytes. HasBadLine bytes number) is h))

@@ -1,5 +1,5 @@
 -- What comes of a batch: tasks that workers do on a database, each a run of one program.
-use Rattle.std.specs.Prelude.{◌≡◌, ℕ, ◌≤◌, ◌++◌, Bool, List, [], ◌∷◌, length, map, Option, Some, None, IfSome, IsSome, ⊤}
+use Rattle.std.specs.Prelude.{◌≡◌, ◌⊎◌, ℕ, ◌≤◌, ◌++◌, Bool, List, [], ◌∷◌, length, map, Option, Some, None, IfSome, IsSome, ⊤}
 use Rattle.std.specs.List.{All, flat_map}
 use Rattle.std.specs.Borrow.{Bor}
 use Rattle.std.specs.declared.alloc.Global.{Global}
@@ -86,7 +86,7 @@ pub record IsClosedAfter (before : Database) (calls : List (CallsState Global)) 
 -- All tasks are done on a database, each with its reply, and the calls of their workers lead to another.
 pub record LeadTo (batch : Batch) (tasks : List (Task Global)) (replies : List (Reply Global)) (after : Database) : Type 0 where
   pub calls : List (CallsState Global)
-  pub done : AreDone batch.registry.programs tasks batch.workers replies calls
+  pub done : AreDone batch.database.size batch.registry.programs tasks batch.workers replies calls
   pub closed : IsClosedAfter batch.database calls after
 
 -- a reply in a line
@@ -133,12 +133,17 @@ abbrev pub IsUndone : Batch → List (Task Global) → PoolFault → Type 0
 IsUndone batch tasks jobs.NoMemory = ⊥
 IsUndone batch tasks fault = (calls : List (CallsState Global)) × IsPoolFault batch.database.size batch.registry.programs tasks batch.workers fault calls
 
--- the workers' calls, and then that they are what the store's trail has
+-- these are the calls that the workers of a batch leave, whether all tasks are done or not
+abbrev pub AreLeft : Batch → List (Task Global) → List (CallsState Global) → Type 0
+AreLeft batch tasks calls =
+    ((replies : List (Reply Global)) × AreDone batch.database.size batch.registry.programs tasks batch.workers replies calls)
+    ⊎ ((fault : PoolFault) × IsPoolFault batch.database.size batch.registry.programs tasks batch.workers fault calls)
+
+-- the workers' calls, and that they are what the store's trail has
 abbrev pub doing_causes : Batch → List (Task Global) → WishCauses
 doing_causes batch tasks = record no_wish_causes {
   pool = IsUndone batch tasks;
-  closing = λ fault. (replies : List (Reply Global)) × ((calls : List (CallsState Global))
-      × (AreDone batch.registry.programs tasks batch.workers replies calls × IsRefusedClose (opened_by batch.database) calls fault));
+  closing = λ fault. (calls : List (CallsState Global)) × (AreLeft batch tasks calls × IsRefusedClose (opened_by batch.database) calls fault);
 }
 
 -- the lines, and then the tasks

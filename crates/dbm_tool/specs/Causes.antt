@@ -12,8 +12,12 @@ use Rattle.dbm_reports.specs.declared.databases.FilesFault.{FilesFault}
 use Rattle.dbm_reports.specs.declared.databases.FilesFault.TheVariants as made
 use Rattle.dbm_reports.specs.declared.fault.ReportFault.{ReportFault}
 use Rattle.dbm_reports.specs.declared.fault.ReportFault.TheVariants as reports
+use Rattle.sdbm_saves.specs.declared.disk.DiskError.{DiskError}
+use Rattle.sdbm_saves.specs.declared.disk.DiskError.TheVariants as disk
+use Rattle.sdbm_saves.specs.declared.planning.PlanFault.{PlanFault}
+use Rattle.sdbm_saves.specs.declared.planning.PlanFault.TheVariants as planned
 use Rattle.dbm_tool.specs.declared.fault.ServeFault.{ServeFault}
-use Rattle.dbm_tool.specs.declared.fault.ServeFault.TheVariants.{NotText, ReadFile, FileTooLong, WriteFile, Report, Submit, BadLine, Pool, Close, Write, NoMemory}
+use Rattle.dbm_tool.specs.declared.fault.ServeFault.TheVariants.{NotText, ReadFile, FileTooLong, WriteFile, BadRedo, ReadClock, Report, Submit, BadLine, Pool, Close, Write, NoMemory}
 
 -- the causes for which nothing comes of a wish: those of its words, its files and standard input, and those of a batch
 pub record WishCauses : Type 1 where
@@ -50,6 +54,8 @@ HasCause causes NotText = ⊥
 HasCause causes ReadFile = ⊥
 HasCause causes FileTooLong = ⊥
 HasCause causes WriteFile = ⊥
+HasCause causes BadRedo = ⊥
+HasCause causes ReadClock = ⊥
 HasCause causes (Report fault) = IsReported causes.report fault
 HasCause causes (Submit fault) = causes.submitting fault
 HasCause causes (BadLine number) = causes.bad_line number
@@ -88,3 +94,13 @@ pool_fault jobs.NoSession = Pool jobs.NoSession
 pool_fault (jobs.NoThread worker) = Pool (jobs.NoThread worker)
 pool_fault (jobs.Refused task refusal) = Pool (jobs.Refused task refusal)
 pool_fault jobs.NoMemory = NoMemory
+
+-- the fault of a disk
+abbrev pub disk_fault : DiskError → ServeFault
+disk_fault disk.Memory = NoMemory
+disk_fault disk.Failed = WriteFile
+
+-- the fault of a save that has no plan
+abbrev pub plan_fault : PlanFault → ServeFault
+plan_fault planned.TooLong = FileTooLong
+plan_fault planned.NoMemory = NoMemory

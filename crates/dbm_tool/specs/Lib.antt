@@ -3,4 +3,5 @@ pub mod Batches
 pub mod Services
 pub mod Outcomes
 pub mod FaultText
+pub mod Clocks
 pub mod Endings

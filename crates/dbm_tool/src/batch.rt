@@ -1,12 +1,12 @@
 //! The subcommand that runs a program on the records of many keys, by workers side by side.
-ghost use Rattle.std.specs.Prelude.{◌≡◌, ◌≤◌, ◌++◌, length, IfOk, IfErr, OnOk, Some, map};
+ghost use Rattle.std.specs.Prelude.{◌≡◌, ◌⊎◌, ◌≤◌, ◌++◌, length, IfOk, IfErr, OnOk, Some, map};
 ghost use Rattle.std.specs.List.{flat_map};
 ghost use Rattle.sdbm_addr.specs.Database.{Database};
 ghost use Rattle.store_shared.specs.Closed.{IsRefusedClose};
 ghost use Rattle.store_shared.specs.Shared.{opened_by};
 ghost use Rattle.dbm_tool.specs.Batches.{DoesTasks, IsClosedAfter, IsReady, IsSubmitted, LeadTo, OnBatch, OnTasks, batch_causes, doing_causes, ready_causes, reply_line, submit_causes, task_causes, task_for};
 ghost use Rattle.dbm_tool.specs.declared.fault.ServeFault.TheVariants.{Close};
-ghost use Rattle.dbm_tool.specs.Causes.{HasCause};
+ghost use Rattle.dbm_tool.specs.Causes.{HasCause, pool_fault};
 
 use crate::fault::ServeFault;
 use dbm_reports::{Given, Report, ReportFault, database_and_image, read_input};
@@ -19,8 +19,8 @@ use std::io::Read;
 use std::sync::Wait;
 use std::thread::Threads;
 use store_cmd::Reply;
-use store_shared::{CloseFault, NoGate, Store};
-use worker_pool::{Answers, Task, run_jobs};
+use store_shared::{Calls, CloseFault, NoGate, Store};
+use worker_pool::{Answers, PoolFault, Task, run_jobs};
 
 /// A batch has at most this many workers.
 const WORKERS_MOST: u64 = 4_294_967_295;
@@ -169,7 +169,17 @@ fn do_tasks<T: Threads + Wait + Sync>(
     };
     match run_jobs(rt, alloc, &store, &registry, tasks, workers) {
         Ok(answers) => close(store, answers),
-        Err((fault, _calls)) => Err(ServeFault::from(fault)),
+        Err((fault, calls)) => Err(undone(store, fault, calls)),
+    }
+}
+
+// Why not all tasks were done; or why the store does not close with the calls of its workers, as it has to after each fault.
+fn undone(store: Store<Global, NoGate>, fault: PoolFault, calls: Vec<Calls<Global>>) -> ServeFault
+    ensures { (result ≡ pool_fault fault) ⊎ ((reason : CloseFault) × ((result ≡ Close reason) × IsRefusedClose store calls.items reason)) }
+{
+    match store.close(calls) {
+        Ok(_closed) => ServeFault::from(fault),
+        Err((reason, _store, _calls)) => ServeFault::Close(reason),
     }
 }
 

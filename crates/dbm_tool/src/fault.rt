@@ -5,6 +5,7 @@ ghost use Rattle.dbm_tool.specs.declared.fault.ServeFault.TheVariants.{NoMemory}
 use dbm_reports::{FilesFault, ReportFault};
 use dbm_script::TasksFault;
 use prog_registry::RegFault;
+use sdbm_saves::{DiskError, PlanFault};
 use std::alloc::{AllocError, AllocFailed};
 use std::error::Error;
 use std::fmt;
@@ -22,6 +23,10 @@ pub enum ServeFault {
     FileTooLong,
     /// A file could not be written.
     WriteFile,
+    /// The redo file is marked, and is none that a save has left.
+    BadRedo,
+    /// The system does not tell the time of day.
+    ReadClock,
     /// Nothing comes of the words, the files and standard input. The fault within is never `NoMemory`.
     Report(ReportFault),
     /// The program of a batch gets no number. The fault within is never `NoMemory`.
@@ -50,6 +55,8 @@ impl fmt::Display for ServeFault {
             ServeFault::ReadFile => write!(f, "ReadFile"),
             ServeFault::FileTooLong => write!(f, "FileTooLong"),
             ServeFault::WriteFile => write!(f, "WriteFile"),
+            ServeFault::BadRedo => write!(f, "BadRedo"),
+            ServeFault::ReadClock => write!(f, "ReadClock"),
             ServeFault::Report(fault) => write!(f, "{fault}"),
             ServeFault::Submit(fault) => write!(f, "{fault}"),
             ServeFault::BadLine(number) => write!(f, "bad line {number}"),
@@ -144,6 +151,32 @@ impl From<PoolFault> for ServeFault {
             | PoolFault::NoSession
             | PoolFault::NoThread(_)
             | PoolFault::Refused(_, _) => ServeFault::Pool(fault),
+        }
+    }
+}
+
+impl From<DiskError> for ServeFault {
+    ghost use Rattle.dbm_tool.specs.Causes.{disk_fault};
+
+    ghost from_gives = { λ reason fault. fault ≡ disk_fault reason };
+
+    fn from(error: DiskError) -> ServeFault {
+        match error {
+            DiskError::Memory => ServeFault::NoMemory,
+            DiskError::Failed => ServeFault::WriteFile,
+        }
+    }
+}
+
+impl From<PlanFault> for ServeFault {
+    ghost use Rattle.dbm_tool.specs.Causes.{plan_fault};
+
+    ghost from_gives = { λ reason fault. fault ≡ plan_fault reason };
+
+    fn from(fault: PlanFault) -> ServeFault {
+        match fault {
+            PlanFault::TooLong => ServeFault::FileTooLong,
+            PlanFault::NoMemory => ServeFault::NoMemory,
         }
     }
 }

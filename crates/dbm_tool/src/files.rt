@@ -1,49 +1,145 @@
 //! The files that a wish names, read and written.
 use crate::fault::ServeFault;
-use crate::lock::take;
-use dbm_reports::{
-    Files as Written, Given, Source, Target, lock_of, put, sources, target_of, targets_of,
-};
+use crate::host::{RealFiles, forget_redo};
+use crate::links::resolve;
+use crate::lock::{lock_to_read, lock_to_write};
+use crate::saving::{Change, save_change};
+use dbm_reports::{Files as Written, Given, Names, names_of, put, sources};
+use dbm_script::write_all;
 use dbm_words::Wish;
-use std::fs::{File, OpenFile};
+use sdbm_saves::{
+    CallLog, Contents, Found, Recorded, Unknown, is_whole, plan_in, read_through, recover,
+};
+use std::fs;
+use std::fs::File;
 use std::io::{ErrorKind, Read, Write};
 use std::rt::Files;
-use std::{fs, io};
 
-/// What was read for a wish, and the lock of its database where the files are to be written. Others wait until it is dropped.
+/// A redo file of the program has at most this many bytes: those of both files at their limits, in blocks of 1,024 with nine bytes
+/// before each, behind thirteen.
+const REDO_LIMIT: u64 = 1_353_973_773;
+
+/// What was read for a wish, and where it may change its database, what is held for that.
 #[derive(Drop)]
 pub struct Taken {
     pub given: Given,
-    pub lock: Option<File>,
+    pub held: Option<Held>,
 }
 
-/// Reads the files that a wish names, once no run has a lock that keeps it off. A wish that writes keeps its lock, since its files are
-/// those that were read until it has written them.
+/// A database that a wish may change: the names of its files, the bytes of a redo file that is not marked, and its lock. Others wait
+/// until that is dropped.
+#[derive(Drop)]
+pub struct Held {
+    pub names: Names,
+    pub redo: Vec<u8>,
+    pub lock: File,
+}
+
+/// Reads the files that a wish names, once no run has a lock that keeps it off. A save that was cut off is ended first by a wish that
+/// writes; one that reads lays its redo file over what it reads. A wish that writes keeps its lock, since its files are those that
+/// were read until it has written them. The lock and the redo file lie beside the files themselves, whatever links lead there.
 ///
 /// # Errors
-/// `WriteFile` where a wish that writes cannot have its lock, then those of `read_given`.
+/// Those of `resolve`, `WriteFile` where a wish that writes cannot have its lock, or cannot end a save, `ReadFile` where one that reads
+/// cannot have a lock that is there, then those of `read_given`, and `BadRedo` where the redo file is marked and no save has left it.
 pub fn take_files<R: Files<File = File> + AllocGlobal>(
     rt: &R,
     wish: &Wish<'_>,
 ) -> Result<Taken, ServeFault> {
-    let Some(lock_file) = lock_of(rt.alloc(), wish)? else {
+    let Some(base) = wish.base() else {
         let given = read_given(rt, wish)?;
-        return Ok(Taken { given, lock: None });
+        return Ok(Taken { given, held: None });
     };
-    let mut lock = take(rt, &lock_file)?;
-    let mut given = read_given(rt, wish);
+    let base = resolve(rt, base)?;
+    let names = names_of(rt.alloc(), base.as_str())?;
+    if wish.writes() {
+        return take_to_write(rt, wish, names);
+    }
+    let given = read_under_lock(rt, wish, &names)?;
+    Ok(Taken { given, held: None })
+}
+
+// Reads the files of a wish that may change its database, and keeps their lock.
+fn take_to_write<R: Files<File = File> + AllocGlobal>(
+    rt: &R,
+    wish: &Wish<'_>,
+    names: Names,
+) -> Result<Taken, ServeFault> {
+    let lock = lock_to_write(rt, names.lock.as_str(), names.pages.as_str())?;
+    let (given, redo) = read_database(rt, wish, &names, true)?;
+    let held = Some(Held { names, redo, lock });
+    Ok(Taken { given, held })
+}
+
+// Reads the files of a wish that changes nothing, under a lock where there is one.
+fn read_under_lock<R: Files<File = File> + AllocGlobal>(
+    rt: &R,
+    wish: &Wish<'_>,
+    names: &Names,
+) -> Result<Given, ServeFault> {
+    let lock = lock_to_read(rt, names.lock.as_str())?;
+    let read = read_database(rt, wish, names, false);
     if lock.is_none() {
         // The first run that writes may have come in between, and made the lock.
-        lock = take(rt, &lock_file)?;
+        let lock = lock_to_read(rt, names.lock.as_str())?;
         if lock.is_some() {
-            given = read_given(rt, wish);
+            return Ok(read_database(rt, wish, names, false)?.0);
         }
     }
-    if !lock_file.is_exclusive {
-        lock = None;
+    Ok(read?.0)
+}
+
+// The database of a wish, and the bytes of its redo file where that is not marked.
+fn read_database<R: Files<File = File> + AllocGlobal>(
+    rt: &R,
+    wish: &Wish<'_>,
+    names: &Names,
+    may_write: bool,
+) -> Result<(Given, Vec<u8>), ServeFault> {
+    let redo = read_redo(rt, names)?;
+    let given = read_given(rt, wish)?;
+    if plan_in(redo.as_slice()).is_none() {
+        return Ok((given, redo));
     }
-    let given = given?;
-    Ok(Taken { given, lock })
+    if !is_whole(redo.as_slice()) {
+        return Err(ServeFault::BadRedo);
+    }
+    let found = Found {
+        pages: given.pag,
+        directory: given.dir,
+        redo,
+    };
+    if may_write {
+        end_save(rt, names, &found)?;
+        return Ok((read_given(rt, wish)?, Vec::new(rt.alloc())));
+    }
+    let stands = read_through(rt.alloc(), &found)?;
+    let given = Given {
+        dir: stands.directory,
+        pag: stands.pages,
+        file: given.file,
+    };
+    Ok((given, stands.redo))
+}
+
+// Ends a save that was cut off.
+fn end_save<R: Files<File = File> + AllocGlobal>(
+    rt: &R,
+    names: &Names,
+    found: &Found,
+) -> Result<(), ServeFault> {
+    let redo = found.redo.as_slice();
+    if !is_whole(redo) {
+        return Err(ServeFault::BadRedo);
+    }
+    let files = RealFiles::new(rt, names, CallLog::new(rt.alloc())?);
+    let mut disk = Recorded::<RealFiles<'_, R>, Unknown>::new(files, found);
+    Ok(recover(&mut disk, redo)?)
+}
+
+// The bytes of the redo file.
+fn read_redo<R: Files + AllocGlobal>(rt: &R, names: &Names) -> Result<Vec<u8>, ServeFault> {
+    read_file(rt, names.redo.as_str(), REDO_LIMIT, true)
 }
 
 // The bytes of the files that a wish names. The error is the first that is met: `ReadFile`, `FileTooLong` where a file has more bytes
@@ -56,93 +152,84 @@ fn read_given<R: Files + AllocGlobal>(rt: &R, wish: &Wish<'_>) -> Result<Given, 
         file: Vec::new(alloc),
     };
     for source in sources(alloc, wish)? {
-        let bytes = read_file(rt, &source)?;
+        let bytes = read_file(rt, source.name.as_str(), source.limit, source.may_be_absent)?;
         put(&mut given, source.part, bytes);
     }
     Ok(given)
 }
 
 // The bytes of a file.
-fn read_file<R: Files + AllocGlobal>(rt: &R, source: &Source) -> Result<Vec<u8>, ServeFault> {
+fn read_file<R: Files + AllocGlobal>(
+    rt: &R,
+    name: &str,
+    limit: u64,
+    may_be_absent: bool,
+) -> Result<Vec<u8>, ServeFault> {
     let mut bytes = Vec::new(rt.alloc());
-    let file = match fs::open(rt, source.name.as_str()) {
+    let file = match fs::open(rt, name) {
         Ok(file) => file,
-        Err(error) if source.may_be_absent && error.kind() == ErrorKind::NotFound => {
+        Err(error) if may_be_absent && error.kind() == ErrorKind::NotFound => {
             return Ok(bytes);
         }
         Err(_) => return Err(ServeFault::ReadFile),
     };
-    match file
-        .take(source.limit.saturating_add(1))
-        .read_to_end(&mut bytes)
-    {
+    match file.take(limit.saturating_add(1)).read_to_end(&mut bytes) {
         Ok(_) => (),
         Err(error) if error.kind() == ErrorKind::OutOfMemory => return Err(ServeFault::NoMemory),
         Err(_) => return Err(ServeFault::ReadFile),
     }
-    if bytes.len() as u64 > source.limit {
+    if bytes.len() as u64 > limit {
         return Err(ServeFault::FileTooLong);
     }
     Ok(bytes)
 }
 
-/// Writes both files of a database, each first whole under another name beside it, with the permissions of the file that is there. Then
-/// `.pag` takes its name, and `.dir` last. Where a link has the name, the file to which it leads is written.
+/// Saves what a wish has made of a database, and prints its lines. The files are written in place, by a redo file: a crash at any
+/// moment leaves files from which the next run gets the database before the save or after it. Where nothing changed no file is
+/// written, made or touched.
 ///
 /// # Errors
-/// `WriteFile`. Until `.pag` has taken its name the files are as they were, and the new ones are taken away. From then on the new
-/// `.dir` is kept: renaming BASE.dir.new to BASE.dir by hand makes the database whole.
-pub fn write_files<R: Files + AllocGlobal>(
+/// Those of `save_change`, and `BadRedo` where the redo file is marked.
+pub fn save_files<R: Files<File = File> + AllocGlobal, W: Write>(
     rt: &R,
-    base: &str,
-    files: &Written,
+    names: &Names,
+    old: &Found,
+    new: &Written,
+    lines: &[u8],
+    writer: &mut W,
 ) -> Result<(), ServeFault> {
-    let targets = targets_of(rt.alloc(), base, files)?;
-    let first = placed(rt, targets.first)?;
-    let last = placed(rt, targets.last)?;
-    let is_first_there = write_beside(rt, &first).is_ok()
-        && write_beside(rt, &last).is_ok()
-        && take_name(rt, &first).is_ok();
-    if !is_first_there {
-        // What is left under the other names is of no use; that it may not go away changes nothing.
-        let _ = fs::remove_file(rt, first.new_name.as_str());
-        let _ = fs::remove_file(rt, last.new_name.as_str());
-        return Err(ServeFault::WriteFile);
+    let change = Change {
+        before: Contents {
+            pages: old.pages.as_slice(),
+            directory: old.directory.as_slice(),
+        },
+        redo: old.redo.as_slice(),
+        after: Contents {
+            pages: new.pag.bytes(),
+            directory: new.dir.bytes(),
+        },
+    };
+    if change.before.pages == change.after.pages
+        && change.before.directory == change.after.directory
+    {
+        return print(writer, lines);
     }
-    match take_name(rt, &last) {
+    if plan_in(change.redo).is_some() {
+        return Err(ServeFault::BadRedo);
+    }
+    let files = RealFiles::new(rt, names, CallLog::new(rt.alloc())?);
+    let mut disk = Recorded::<RealFiles<'_, R>, Unknown>::new(files, old);
+    let saved = save_change(rt.alloc(), &mut disk, change, lines, writer);
+    if saved.is_err() {
+        forget_redo(rt, names);
+    }
+    saved
+}
+
+// Prints the lines of a wish that changed nothing.
+fn print<W: Write>(writer: &mut W, lines: &[u8]) -> Result<(), ServeFault> {
+    match write_all(writer, lines) {
         Ok(()) => Ok(()),
-        Err(_) => Err(ServeFault::WriteFile),
-    }
-}
-
-// Writes a file under its new name, with the permissions of the old file before it has a byte.
-fn write_beside<R: Files>(rt: &R, target: &Target<'_>) -> io::Result<()> {
-    let mut file = fs::create(rt, target.new_name.as_str())?;
-    match fs::metadata(rt, target.name.as_str()) {
-        Ok(found) => file.set_permissions(found.permissions())?,
-        Err(error) if error.kind() == ErrorKind::NotFound => (),
-        Err(error) => return Err(error),
-    }
-    file.write_all(target.bytes)
-}
-
-// Gives a file that was written its own name.
-fn take_name<R: Files>(rt: &R, target: &Target<'_>) -> io::Result<()> {
-    fs::rename(rt, target.new_name.as_str(), target.name.as_str())
-}
-
-// A file where it is written: under its name, or where the link leads that has the name.
-fn placed<'a, R: Files + AllocGlobal>(
-    rt: &R,
-    target: Target<'a>,
-) -> Result<Target<'a>, ServeFault> {
-    match fs::symlink_metadata(rt, target.name.as_str()) {
-        Ok(found) if found.is_symlink() => (),
-        _ => return Ok(target),
-    }
-    match fs::canonicalize(rt, target.name.as_str()) {
-        Ok(real) => Ok(target_of(rt.alloc(), real.into_string(), target.bytes)?),
-        Err(error) if error.kind() == ErrorKind::OutOfMemory => Err(ServeFault::NoMemory),
-        Err(_) => Err(ServeFault::WriteFile),
+        Err(_) => Err(ServeFault::Write),
     }
 }

@@ -42,8 +42,8 @@ pub version_is_shown : fault_of tool (codes "--version" ∷ []) ≡ DisplayVersi
 unfolding clap_on_literals
 version_is_shown = refl
 
-pub script_keeps_nothing : (form : Form) → writes_files (wish.Script None form) ≡ false
-script_keeps_nothing form = refl
+pub script_keeps_nothing : (form : Form) (most : Option (Bor Text)) → writes_files (wish.Script None form most) ≡ false
+script_keeps_nothing form most = refl
 
-pub script_on_files_writes_them : (base : Bor Text) (form : Form) → writes_files (wish.Script (Some base) form) ≡ true
-script_on_files_writes_them base form = refl
+pub script_on_files_writes_them : (base : Bor Text) (form : Form) (most : Option (Bor Text)) → writes_files (wish.Script (Some base) form most) ≡ true
+script_on_files_writes_them base form most = refl

@@ -35,7 +35,7 @@ abbrev pub delete : Shape
 delete = subcommand (codes "delete") (required_word (codes "BASE") ∷ required_word (codes "KEY") ∷ form_options)
 
 abbrev pub run : Shape
-run = subcommand (codes "run") (required_word (codes "BASE") ∷ required_word (codes "KEY") ∷ required_word (codes "FILE") ∷ required_word (codes "ARG") ∷ required_word (codes "BLANK") ∷ required_word (codes "NOW") ∷ flag (codes "image") ∷ form_options)
+run = subcommand (codes "run") (required_word (codes "BASE") ∷ required_word (codes "KEY") ∷ required_word (codes "FILE") ∷ required_word (codes "ARG") ∷ required_word (codes "BLANK") ∷ required_word (codes "NOW") ∷ valued_option (codes "expect") ∷ flag (codes "image") ∷ form_options)
 
 abbrev pub batch : Shape
 batch = subcommand (codes "batch") (required_word (codes "BASE") ∷ required_word (codes "FILE") ∷ required_word (codes "WORKERS") ∷ flag (codes "image") ∷ form_options)
@@ -47,7 +47,7 @@ abbrev pub check : Shape
 check = subcommand (codes "check") (required_word (codes "BASE") ∷ form_options)
 
 abbrev pub script : Shape
-script = subcommand (codes "script") (valued_option (codes "base") ∷ form_options)
+script = subcommand (codes "script") (valued_option (codes "base") ∷ valued_option (codes "max-output") ∷ form_options)
 
 abbrev pub widen : Shape
 widen = subcommand (codes "widen") (required_word (codes "BASE") ∷ flag (codes "unsigned") ∷ [])

@@ -12,6 +12,8 @@ use Rattle.dbm_words.specs.CommandLine.{tool}
 use Rattle.dbm_words.specs.declared.fault.ToolFault.{ToolFault}
 use Rattle.dbm_words.specs.declared.fault.ToolFault.TheVariants.{Refused, NoMemory, NoWord}
 use Rattle.dbm_words.specs.declared.wish.Form.{Form}
+use Rattle.dbm_words.specs.declared.wish.TimeUnit.{TimeUnit}
+use Rattle.dbm_words.specs.declared.wish.TimeUnit.TheVariants.{Seconds, Milliseconds}
 use Rattle.dbm_words.specs.declared.wish.Wish.{Wish}
 use Rattle.dbm_words.specs.declared.wish.Wish.TheVariants as wish
 
@@ -23,6 +25,10 @@ is_given id rows = option_map_or (λ text. bytes_eq text (codes "true")) (first_
 abbrev pub IsWord : Text → List Row → Bor Text → Type 0
 IsWord id rows text = first_of id rows ≡ Some text.now
 
+-- the text is the value that was given for this option, and there is none where the option was not given
+abbrev pub IsGiven : Text → List Row → Option (Bor Text) → Type 0
+IsGiven id rows value = option_map (λ text. text.now) value ≡ first_of id rows
+
 abbrev pub IsForm : List Row → Form → Type 0
 IsForm rows form =
     (form.unsigned ≡ is_given (codes "unsigned") rows) × (form.wide ≡ is_given (codes "wide") rows)
@@ -32,11 +38,11 @@ abbrev pub base_of : Wish → Option Text
 base_of (wish.Fetch base form key) = Some base.now
 base_of (wish.Store base form key value insert) = Some base.now
 base_of (wish.Delete base form key) = Some base.now
-base_of (wish.Run base form key file arg blank now image) = Some base.now
+base_of (wish.Run base form key file arg blank now expect image) = Some base.now
 base_of (wish.Batch base form file workers image) = Some base.now
 base_of (wish.List base form) = Some base.now
 base_of (wish.Check base form) = Some base.now
-base_of (wish.Script base form) = option_map (λ text. text.now) base
+base_of (wish.Script base form max_output) = option_map (λ text. text.now) base
 base_of (wish.Widen base unsigned) = Some base.now
 base_of (wish.Asm file) = None
 base_of (wish.Disasm file) = None
@@ -44,7 +50,7 @@ base_of (wish.Verify file image) = None
 
 -- the program's file that a wish is about
 abbrev pub file_of : Wish → Option Text
-file_of (wish.Run base form key file arg blank now image) = Some file.now
+file_of (wish.Run base form key file arg blank now expect image) = Some file.now
 file_of (wish.Batch base form file workers image) = Some file.now
 file_of (wish.Asm file) = Some file.now
 file_of (wish.Disasm file) = Some file.now
@@ -56,15 +62,29 @@ abbrev pub writes_files : Wish → Bool
 writes_files (wish.Fetch base form key) = false
 writes_files (wish.Store base form key value insert) = true
 writes_files (wish.Delete base form key) = true
-writes_files (wish.Run base form key file arg blank now image) = true
+writes_files (wish.Run base form key file arg blank now expect image) = true
 writes_files (wish.Batch base form file workers image) = true
 writes_files (wish.List base form) = false
 writes_files (wish.Check base form) = false
-writes_files (wish.Script base form) = is_some base
+writes_files (wish.Script base form max_output) = is_some base
 writes_files (wish.Widen base unsigned) = true
 writes_files (wish.Asm file) = false
 writes_files (wish.Disasm file) = false
 writes_files (wish.Verify file image) = false
+
+-- the unit that a word for the time names, where it asks for the clock's
+abbrev pub unit_named : Text → Option TimeUnit
+unit_named word = if bytes_eq word (codes "now") then Some Seconds else if bytes_eq word (codes "now-ms") then Some Milliseconds else None
+
+-- the unit in which a wish asks for the time of day
+abbrev pub time_asked : Wish → Option TimeUnit
+time_asked (wish.Run base form key file arg blank now expect image) = unit_named now.now
+time_asked _ = None
+
+-- the wish whose run is told the time by this word
+abbrev pub with_time : Bor Text → Wish → Wish
+with_time time (wish.Run base form key file arg blank now expect image) = wish.Run base form key file arg blank time expect image
+with_time time other = other
 
 -- The wish is what the subcommand of this name asks, by the words and options that were given to it.
 abbrev pub SubcommandAsks : Text → List Row → Wish → Type 0
@@ -74,16 +94,16 @@ SubcommandAsks name rows (wish.Store base form key value insert) =
     (name ≡ codes "store") × (IsWord (codes "BASE") rows base × (IsForm rows form × (IsWord (codes "KEY") rows key × (IsWord (codes "VALUE") rows value × (insert ≡ is_given (codes "insert") rows)))))
 SubcommandAsks name rows (wish.Delete base form key) =
     (name ≡ codes "delete") × (IsWord (codes "BASE") rows base × (IsForm rows form × IsWord (codes "KEY") rows key))
-SubcommandAsks name rows (wish.Run base form key file arg blank now image) =
-    (name ≡ codes "run") × (IsWord (codes "BASE") rows base × (IsForm rows form × (IsWord (codes "KEY") rows key × (IsWord (codes "FILE") rows file × (IsWord (codes "ARG") rows arg × (IsWord (codes "BLANK") rows blank × (IsWord (codes "NOW") rows now × (image ≡ is_given (codes "image") rows))))))))
+SubcommandAsks name rows (wish.Run base form key file arg blank now expect image) =
+    (name ≡ codes "run") × (IsWord (codes "BASE") rows base × (IsForm rows form × (IsWord (codes "KEY") rows key × (IsWord (codes "FILE") rows file × (IsWord (codes "ARG") rows arg × (IsWord (codes "BLANK") rows blank × (IsWord (codes "NOW") rows now × (IsGiven (codes "expect") rows expect × (image ≡ is_given (codes "image") rows)))))))))
 SubcommandAsks name rows (wish.Batch base form file workers image) =
     (name ≡ codes "batch") × (IsWord (codes "BASE") rows base × (IsForm rows form × (IsWord (codes "FILE") rows file × (IsWord (codes "WORKERS") rows workers × (image ≡ is_given (codes "image") rows)))))
 SubcommandAsks name rows (wish.List base form) =
     (name ≡ codes "list") × (IsWord (codes "BASE") rows base × IsForm rows form)
 SubcommandAsks name rows (wish.Check base form) =
     (name ≡ codes "check") × (IsWord (codes "BASE") rows base × IsForm rows form)
-SubcommandAsks name rows (wish.Script base form) =
-    (name ≡ codes "script") × ((option_map (λ text. text.now) base ≡ first_of (codes "base") rows) × IsForm rows form)
+SubcommandAsks name rows (wish.Script base form max_output) =
+    (name ≡ codes "script") × (IsGiven (codes "base") rows base × (IsGiven (codes "max-output") rows max_output × IsForm rows form))
 SubcommandAsks name rows (wish.Widen base unsigned) =
     (name ≡ codes "widen") × (IsWord (codes "BASE") rows base × (unsigned ≡ is_given (codes "unsigned") rows))
 SubcommandAsks name rows (wish.Asm file) =

@@ -15,7 +15,7 @@ mod wish;
 pub use crate::fault::ToolFault;
 use crate::matched::asked;
 use crate::subcommands::tool_command;
-pub use crate::wish::{Form, Wish};
+pub use crate::wish::{Form, TimeUnit, Wish};
 use std::alloc::Global;
 
 /// What the words behind the program's name ask.

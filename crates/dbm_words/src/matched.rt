@@ -117,6 +117,7 @@ fn script<'a>(matches: &ArgMatches<'a>) -> Option<Wish<'a>>
 {
     Some(Wish::Script {
         base: word(matches, "base"),
+        max_output: word(matches, "max-output"),
         form: form(matches),
     })
 }
@@ -171,6 +172,7 @@ fn run<'a>(matches: &ArgMatches<'a>) -> Option<Wish<'a>>
         arg: word(matches, "ARG")?,
         blank: word(matches, "BLANK")?,
         now: word(matches, "NOW")?,
+        expect: word(matches, "expect"),
         image: has_flag(matches, "image"),
     })
 }

@@ -143,8 +143,10 @@ fn script_command<'a>(alloc: Global) -> Result<Command<'a>, AllocError>
     ensures { IfOk result (IsSubcommand spec.script) }
 {
     let help = "The database in BASE.dir and BASE.pag; without it, an empty one that is not kept";
+    let limit = "Be refused, with nothing printed or kept, where the answers have more bytes";
     let args = vec![in alloc;
         valued_option(alloc, "base", "BASE", help),
+        valued_option(alloc, "max-output", "BYTES", limit),
         unsigned(alloc),
         wide(alloc),
     ]?;
@@ -153,7 +155,8 @@ fn script_command<'a>(alloc: Global) -> Result<Command<'a>, AllocError>
         "The lines are fetch KEY, insert KEY VALUE, replace KEY VALUE, delete KEY, count, program IMAGE and\n\
          run KEY PROG ARG BLANK NOW. insert answers exists where the key is there, and replace replaces.\n\
          IMAGE is what asm prints, and PROG the number that program answered, from 0. Prints a line of\n\
-         answer to each, bad line to any other that is not empty. All lines together have at most 16 MiB.\n\n\
+         answer to each, bad line to any other that is not empty. All lines together have at most 16 MiB,\n\
+         and their answers up to 2,003 times as much. Where that is more than BYTES, the fault is OutputTooLong.\n\n\
          Example: dbm script --base users < first.script";
     subcommand(alloc, "script", about, notes, args)
 }
@@ -225,7 +228,13 @@ fn run_command<'a>(alloc: Global) -> Result<Command<'a>, AllocError>
         required_word(
             alloc,
             "NOW",
-            "The time that it is told, a number in whatever unit it counts"
+            "The time that it is told: a number in whatever unit it counts, now for the seconds since 1970, or now-ms"
+        ),
+        valued_option(
+            alloc,
+            "expect",
+            "CODE",
+            "Let the status be 1 unless the program ended with this code"
         ),
         image(alloc),
         unsigned(alloc),

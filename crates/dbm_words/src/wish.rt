@@ -1,6 +1,6 @@
 //! What a command line can ask.
 ghost use Rattle.std.specs.Prelude.{◌≡◌, option_map};
-ghost use Rattle.dbm_words.specs.Wishes.{base_of, file_of, writes_files};
+ghost use Rattle.dbm_words.specs.Wishes.{base_of, file_of, time_asked, with_time, writes_files};
 
 /// How the files of a database are read, as the options `--unsigned` and `--wide` say.
 #[derive(Clone, Copy, Debug, PartialEq, Eq)]
@@ -9,6 +9,13 @@ pub struct Form {
     pub unsigned: bool,
     /// Pages have 8,192 bytes.
     pub wide: bool,
+}
+
+/// In which unit the time of day is asked, which is counted from the beginning of 1970 in UTC.
+#[derive(Clone, Copy, Debug, PartialEq, Eq)]
+pub enum TimeUnit {
+    Seconds,
+    Milliseconds,
 }
 
 /// What a command line asks: one subcommand with its words and options, as they were given. No word is read as bytes or as a
@@ -35,7 +42,8 @@ pub enum Wish<'a> {
         form: Form,
         key: &'a str,
     },
-    /// A program is to be run on the record of a key: that of a text, or with `image` that of an image.
+    /// A program is to be run on the record of a key: that of a text, or with `image` that of an image. `expect` is the code with
+    /// which it is to end.
     Run {
         base: &'a str,
         form: Form,
@@ -44,6 +52,7 @@ pub enum Wish<'a> {
         arg: &'a str,
         blank: &'a str,
         now: &'a str,
+        expect: Option<&'a str>,
         image: bool,
     },
     /// A program is to be run on the records of many keys by so many workers, each run as a line on standard input says: the program
@@ -65,10 +74,12 @@ pub enum Wish<'a> {
         base: &'a str,
         form: Form,
     },
-    /// The script on standard input is to be run, without a base on an empty database that is not kept.
+    /// The script on standard input is to be run, without a base on an empty database that is not kept. Its answers are to have at
+    /// most `max_output` bytes.
     Script {
         base: Option<&'a str>,
         form: Form,
+        max_output: Option<&'a str>,
     },
     /// A database of small pages is to be written with wide ones.
     Widen {
@@ -141,6 +152,50 @@ impl<'a> Wish<'a> {
             | Wish::Asm { .. }
             | Wish::Disasm { .. }
             | Wish::Verify { .. } => false,
+        }
+    }
+
+    /// The unit in which the time of day is asked: by `run` with `now` or `now-ms` for its time.
+    pub fn time_asked(&self) -> Option<TimeUnit>
+        ensures { result ≡ time_asked self.now }
+    {
+        match *self {
+            Wish::Run { now, .. } => match now {
+                "now" => Some(TimeUnit::Seconds),
+                "now-ms" => Some(TimeUnit::Milliseconds),
+                _ => None,
+            },
+            _ => None,
+        }
+    }
+
+    /// The same wish, but a run is told the time by this word.
+    pub fn with_time(self, time: &'a str) -> Wish<'a>
+        ensures { result ≡ with_time time.entry self.entry }
+    {
+        match self {
+            Wish::Run {
+                base,
+                form,
+                key,
+                file,
+                arg,
+                blank,
+                expect,
+                image,
+                ..
+            } => Wish::Run {
+                base,
+                form,
+                key,
+                file,
+                arg,
+                blank,
+                now: time,
+                expect,
+                image,
+            },
+            other => other,
         }
     }
 }

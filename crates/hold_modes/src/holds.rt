@@ -1,13 +1,11 @@
 //! The list of holds.
-ghost use Rattle.std.specs.Prelude.{◌≡◌, ◌↔◌, ◌++◌, ◌∷◌, [], IsTrue, OnOk, OnErr, IsErr, false, true, Some, length, ◌<◌};
-ghost use Rattle.std.specs.List.{list_any, position};
-ghost use Rattle.hold_modes.specs.Held.{bars, is_of, is_beside, is_shared, is_updating, held_by, without, made_exclusive, obeys_rule, update_in, exclusive_in};
-ghost use Rattle.hold_modes.specs.declared.modes.Hold.TheVariants.{Update};
+ghost use Rattle.std.specs.Prelude.{◌≡◌, ◌↔◌, ◌++◌, ◌∷◌, [], IsTrue, OnOk, OnErr, IsErr, false, true};
+ghost use Rattle.std.specs.List.{list_any};
+ghost use Rattle.hold_modes.specs.Held.{bars, is_of, is_shared, is_updating, held_by, without, made_exclusive, obeys_rule, update_in, exclusive_in};
 
-use crate::modes::{Hold, Ticket};
-use crate::pages::Pages;
-use crate::taken::Taken;
-use crate::uses::Uses;
+use crate::few::{convert, find, is_barred, release};
+use crate::indexed::{Indexed, make_index};
+use crate::modes::{Held, Hold, Ticket};
 use std::alloc::{AllocError, Allocator, Global};
 use std::marker::Model;
 
@@ -24,37 +22,43 @@ pub enum HoldFault {
     NoMemory,
 }
 
+// How many holds are looked through one after another, which is faster than to find them by an index.
+const FEW: usize = 16;
+
 /// Which pages are held, seen as the list of holds in the order in which they were taken. Each ticket holds once at most, and any
-/// two holds of one page are compatible. Holds are found by ticket and by page, without going over the others.
+/// two holds of one page are compatible. Once there are more than sixteen, holds are found by ticket and by page, without going over
+/// the others.
 #[derive(Drop)]
 pub struct Holds<A: Allocator = Global> {
-    taken: Taken<A>,
-    pages: Pages<A>,
+    alloc: A,
+    // All holds, as long as there was no need of an index.
+    few: Vec<Held, A>,
+    // All holds from then on.
+    many: Option<Indexed<A>>,
 }
 
 impl<A: Allocator> Model for Holds<A> {
     ghost use Rattle.std.specs.Prelude.{List, ◌≡◌, true};
     ghost use Rattle.hold_modes.specs.declared.modes.Held.{Held};
     ghost use Rattle.hold_modes.specs.Held.{obeys_rule};
-    ghost use Rattle.hold_modes.specs.Uses.{IsIndex};
+    ghost use Rattle.hold_modes.specs.Few.{all_of};
 
     ghost Value = { List Held };
 
-    ghost view = { λ s. s.taken };
+    ghost view = { λ s. all_of s.few.items s.many };
 
-    ghost invariant = { λ s. (obeys_rule s.taken ≡ true) × IsIndex s.pages.uses s.taken };
+    ghost invariant = { λ s. obeys_rule (all_of s.few.items s.many) ≡ true };
 }
 
 impl<A: Allocator + Copy> Holds<A> {
-    ghost use Rattle.hold_modes.specs.Uses.{uses_of};
-
     /// No holds. It takes no memory.
     pub fn new(alloc: A) -> Self
         ensures { result ≡ [] }
     {
         Holds {
-            taken: Taken::new(alloc),
-            pages: Pages::new(alloc),
+            alloc,
+            few: Vec::new(alloc),
+            many: None,
         }
     }
 
@@ -69,11 +73,12 @@ impl<A: Allocator + Copy> Holds<A> {
         ensures err { OnErr result (self.new ≡ self.old) }
         ensures rule { obeys_rule self.new ≡ true }
     {
-        let uses = self.pages.at(page);
-        if uses.bar(mode) {
+        // What holds obey is known of them once a field is read.
+        let _few = &self.few;
+        if self.bars(page, mode) {
             return Err(HoldFault::Busy);
         }
-        if self.add(uses, page, mode, ticket).is_err() {
+        if self.take_free(page, mode, ticket).is_err() {
             return Err(HoldFault::NoMemory);
         }
         Ok(())
@@ -90,22 +95,16 @@ impl<A: Allocator + Copy> Holds<A> {
         ensures err { OnErr result (self.new ≡ self.old) }
         ensures rule { obeys_rule self.new ≡ true }
     {
-        let uses = self.pages.at(page);
-        self.add(uses, page, mode, ticket)
-    }
-
-    // The same, where it is known how the page is held.
-    fn add(&mut self, uses: Uses, page: u32, mode: Hold, ticket: Ticket) -> Result<(), AllocError>
-        requires ticket { list_any (is_of ticket) self.old ≡ false }
-        requires free { list_any (bars page mode) self.old ≡ false }
-        requires uses { uses ≡ uses_of page self.old }
-        ensures ok { OnOk result (self.new ≡ self.old ++ record { page = page; mode = mode; ticket = ticket } ∷ []) }
-        ensures err { OnErr result (self.new ≡ self.old) }
-        ensures rule { obeys_rule self.new ≡ true }
-    {
-        self.pages.reserve()?;
-        self.taken.push(page, mode, ticket)?;
-        self.pages.put(page, uses.with(mode));
+        if let Some(many) = &mut self.many {
+            return many.take_free(page, mode, ticket);
+        }
+        if self.few.len() < FEW {
+            self.few.push(Held { page, mode, ticket })?;
+            return Ok(());
+        }
+        let mut many = make_index(self.alloc, self.few.as_slice())?;
+        many.take_free(page, mode, ticket)?;
+        self.many = Some(many);
         Ok(())
     }
 
@@ -113,14 +112,20 @@ impl<A: Allocator + Copy> Holds<A> {
     pub fn bars(&self, page: u32, mode: Hold) -> bool
         ensures { result ≡ list_any (bars page mode) self.now }
     {
-        self.pages.at(page).bar(mode)
+        match &self.many {
+            Some(many) => many.bars(page, mode),
+            None => is_barred(self.few.as_slice(), page, mode),
+        }
     }
 
     /// The page and the mode that the ticket holds.
     pub fn get(&self, ticket: Ticket) -> Option<(u32, Hold)>
         ensures { result ≡ held_by ticket self.now }
     {
-        self.taken.get(ticket)
+        match &self.many {
+            Some(many) => many.get(ticket),
+            None => find(self.few.as_slice(), ticket),
+        }
     }
 
     /// Whether the ticket holds for update.
@@ -155,16 +160,10 @@ impl<A: Allocator + Copy> Holds<A> {
         ensures err { OnErr result (self.new ≡ self.old) }
         ensures rule { obeys_rule self.new ≡ true }
     {
-        let Some((page, _)) = self.taken.get(ticket) else {
-            unreachable!()
-        };
-        let others = self.pages.at(page).without(Hold::Update);
-        if !others.is_none() {
-            return Err(Busy);
+        match &mut self.many {
+            Some(many) => many.convert(ticket),
+            None => convert(self.few.as_mut_slice(), ticket),
         }
-        self.taken.make_exclusive(ticket);
-        self.pages.change(page, others.with(Hold::Exclusive));
-        Ok(())
     }
 
     /// Gives up the ticket's hold and tells what it was, or `None` where it held nothing. It takes no memory.
@@ -173,9 +172,9 @@ impl<A: Allocator + Copy> Holds<A> {
         ensures rest { self.new ≡ without ticket self.old }
         ensures rule { obeys_rule self.new ≡ true }
     {
-        let (page, mode) = self.taken.remove(ticket)?;
-        let others = self.pages.at(page).without(mode);
-        self.pages.change(page, others);
-        Some((page, mode))
+        match &mut self.many {
+            Some(many) => many.release(ticket),
+            None => release(&mut self.few, ticket),
+        }
     }
 }

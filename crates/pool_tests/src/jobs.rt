@@ -11,7 +11,7 @@ use std::mem;
 use std::sync::Wait;
 use std::thread::Threads;
 use store_cmd::Reply;
-use store_shared::{Calls, Closed, Store};
+use store_shared::{Calls, CloseFault, Closed, Store};
 use test_lines::read_bytes;
 use worker_pool::{Answers, PoolFault, Task, run_jobs};
 
@@ -85,8 +85,9 @@ impl<'a> Pool<'a> {
         Some(self.tasks.len())
     }
 
-    /// Lets workers do the tasks that wait. None waits behind that.
+    /// Lets workers do the tasks that wait. None waits behind that. The memory for what `keep` is to take is there then.
     pub fn run<R: Threads + Wait + Sync>(&mut self, rt: &R, workers: usize) -> Option<Outcome> {
+        self.calls.reserve(workers).ok()?;
         let store = self.store.as_ref()?;
         let tasks = self.tasks.as_slice();
         let outcome = match run_jobs(rt, self.alloc, store, &self.registry, tasks, workers) {
@@ -111,11 +112,16 @@ impl<'a> Pool<'a> {
         Some(session.into_calls().number())
     }
 
-    /// Closes the store with the calls that were kept.
-    pub fn close(&mut self) -> Option<&Closed<Global>> {
+    /// Closes the store with the calls that were kept, or tells why it does not close. It is gone behind that.
+    pub fn close(&mut self) -> Option<Result<(), CloseFault>> {
         let store = self.store.take()?;
         let calls = mem::replace(&mut self.calls, Vec::new(self.alloc));
-        self.closed = Some(store.close(calls).ok()?);
-        self.closed.as_ref()
+        match store.close(calls) {
+            Ok(closed) => {
+                self.closed = Some(closed);
+                Some(Ok(()))
+            }
+            Err((fault, _store, _calls)) => Some(Err(fault)),
+        }
     }
 }

@@ -10,11 +10,13 @@
 //! | `task KEY PROG ARG BLANK NOW` | how many tasks wait: a run of the program of this number; `.` as the blank is none |
 //! | `jobs WORKERS` | the replies of the tasks that wait, or the fault; then how many sessions there were, and the times that the calls of each were told, up to the last that has calls |
 //! | `session` | the number of one session more, which makes no calls |
-//! | `close` | `closed`, and the numbers of entries and of pairs: the store takes the calls of all sessions so far |
+//! | `close` | `closed`, and the numbers of entries and of pairs: the store takes the calls of all sessions so far; or `not closed`, and why |
 //! | `order` | the sessions of the entries that were closed last, in their order |
 //! | `meet` | `meet`: from now on, until the next store, each session is kept at work until another is there too, and session 0 until session 1 has finished |
 //! | `met` | how many jobs came to work, and how many sessions waited in vain |
 //! | `# TEXT` | the line itself |
+//!
+//! What cannot be done, for want of memory too, is answered with `cannot`.
 #![tactic(auto)]
 
 mod jobs;

@@ -55,8 +55,9 @@ fn show_jobs<R: Threads + Wait + Sync>(
 ) -> Option<()> {
     let workers = word.parse::<usize>().ok()?;
     let outcome = pool.run(rt, workers)?;
-    show_outcome(out, &outcome).ok()?;
-    pool.keep(outcome.1).ok()
+    let shown = show_outcome(out, &outcome);
+    pool.keep(outcome.1).ok()?;
+    shown.ok()
 }
 
 fn open(pool: &mut Pool<'_>, kind: &str, word: &str) -> Option<()> {
@@ -69,7 +70,10 @@ fn open(pool: &mut Pool<'_>, kind: &str, word: &str) -> Option<()> {
 }
 
 fn show_close(pool: &mut Pool<'_>, out: &mut String) -> Option<()> {
-    let closed = pool.close()?;
+    if let Err(fault) = pool.close()? {
+        return write!(out, "not closed: {fault}").ok();
+    }
+    let closed = pool.closed.as_ref()?;
     let pairs = closed.image.pairs().ok()?.len();
     let entries = closed.trail.entries.len();
     write!(out, "closed, entries {entries}, pairs {pairs}").ok()

@@ -1,6 +1,7 @@
 -- A byte more in a hash: the sum so far counts 65599 times.
-use Rattle.std.proofs.Common.{◌≡◌, ℕ, suc, ◌+◌, ◌*◌, ◌^◌, List, [], ◌∷◌, ◌++◌, length, ap, ◌∙◌, arith, length-append}
-use Rattle.std.proofs.Math.Nat.{pow-suc}
+use Rattle.std.proofs.Common.{◌≡◌, ℕ, suc, ◌+◌, ◌*◌, ◌^◌, List, [], ◌∷◌, ◌++◌, length, sym, ap, ◌∙◌, arith, length-append}
+use Rattle.std.proofs.Math.Nat.{pow-suc, add-mul, mul_assoc}
+use Rattle.std.proofs.lemmas.Nat.{pow-add}
 use Rattle.sdbm_addr.specs.declared.KeyBytes.{KeyBytes}
 use Rattle.sdbm_addr.specs.Hash.{byte_weight, weighted_sum}
 
@@ -18,3 +19,18 @@ weighted_sum-push kind (x ∷ xs) b =
     ap (λ p. byte_weight kind x * p + weighted_sum kind (xs ++ b ∷ [])) more
     ∙ ap (λ s. byte_weight kind x * (65599 ^ length xs * 65599) + s) (weighted_sum-push kind xs b)
     ∙ moved (byte_weight kind x) (65599 ^ length xs) (weighted_sum kind xs) (byte_weight kind b)
+
+-- a part in front of another: its sum counts 65599 times for each byte of the other
+regroup : (w a p s t : ℕ) → w * (a * p) + (s * p + t) ≡ (w * a + s) * p + t
+regroup w a p s t =
+    let both : (w * a + s) * p ≡ w * (a * p) + s * p = add-mul (w * a) s p ∙ ap (λ y. y + s * p) (mul_assoc w a p) in
+    let moved_t : w * (a * p) + (s * p + t) ≡ w * (a * p) + s * p + t = omega arith in
+    moved_t ∙ sym (ap (λ y. y + t) both)
+
+pub weighted_sum-append : (kind : KeyBytes) (xs ys : List ℕ) → weighted_sum kind (xs ++ ys) ≡ weighted_sum kind xs * 65599 ^ length ys + weighted_sum kind ys
+weighted_sum-append kind [] ys = omega arith
+weighted_sum-append kind (x ∷ xs) ys =
+    let more : 65599 ^ length (xs ++ ys) ≡ 65599 ^ length xs * 65599 ^ length ys = ap (λ n. 65599 ^ n) (length-append xs ys) ∙ pow-add 65599 (length xs) (length ys) in
+    ap (λ p. byte_weight kind x * p + weighted_sum kind (xs ++ ys)) more
+    ∙ ap (λ s. byte_weight kind x * (65599 ^ length xs * 65599 ^ length ys) + s) (weighted_sum-append kind xs ys)
+    ∙ regroup (byte_weight kind x) (65599 ^ length xs) (65599 ^ length ys) (weighted_sum kind xs) (weighted_sum kind ys)

@@ -6,3 +6,4 @@ pub mod HashLemmas
 pub mod DirectoryLemmas
 pub mod SplittingLemmas
 mod Examples
+pub mod Summing

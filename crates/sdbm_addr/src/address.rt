@@ -1,18 +1,53 @@
 //! Hashes of keys, and the numbers of directory bits (Yigit, sdbm 1990: hash.c and sdbm.c). Nothing here takes memory.
-ghost use Rattle.std.specs.Prelude.{◌≡◌, ◌<◌, ◌≤◌, ◌^◌, ◌-◌, ◌+◌, ◌*◌, cond};
+ghost use Rattle.std.specs.Prelude.{◌≡◌, ◌<◌, ◌≤◌, ◌^◌, ◌-◌, ◌+◌, ◌*◌, ◌%◌, length, cond};
 ghost use Rattle.sdbm_addr.specs.Hash.{hash_of, byte_weight};
 
 use crate::KeyBytes;
+
+// The powers of 65599 modulo 2^32, from the second to the fourth.
+const SECOND: u32 = 8261505;
+
+const THIRD: u32 = 780587199;
+
+const FOURTH: u32 = 1139564289;
 
 /// The hash of a key: each byte times 65599 to the number of bytes after it, summed modulo 2^32.
 pub fn hash(key: &[u8], kind: KeyBytes) -> u32
     ensures { result ≡ hash_of kind key.now }
 {
-    let mut sum: u32 = 0;
-    for byte in key {
-        sum = sum.wrapping_mul(65599).wrapping_add(weight(kind, *byte));
+    let whole = key.len() / 4 * 4;
+    let mut sum = fours(kind, &key[..whole]);
+    for i in whole..key.len() {
+        sum = sum.wrapping_mul(65599).wrapping_add(weight(kind, key[i]));
     }
     sum
+}
+
+// The hash of some fours of bytes.
+fn fours(kind: KeyBytes, bytes: &[u8]) -> u32
+    requires { length bytes.now % 4 ≡ 0 }
+    ensures { result ≡ hash_of kind bytes.now }
+{
+    let mut sum: u32 = 0;
+    for i in 0..bytes.len() / 4 {
+        let more = four(kind, &bytes[4 * i..4 * i + 4]);
+        sum = sum.wrapping_mul(FOURTH).wrapping_add(more);
+    }
+    sum
+}
+
+// What four bytes in a row add.
+fn four(kind: KeyBytes, bytes: &[u8]) -> u32
+    requires { length bytes.now ≡ 4 }
+    ensures { result ≡ hash_of kind bytes.now }
+{
+    let first = weight(kind, bytes[0]).wrapping_mul(THIRD);
+    let second = weight(kind, bytes[1]).wrapping_mul(SECOND);
+    let third = weight(kind, bytes[2]).wrapping_mul(65599);
+    first
+        .wrapping_add(second)
+        .wrapping_add(third)
+        .wrapping_add(weight(kind, bytes[3]))
 }
 
 /// The number whose lowest bits, as many as the depth, are ones. The depth is 31 at most.

@@ -1,15 +1,16 @@
 //! The two files of a database as one value: the directory of `.dir`, and the pages of `.pag` that have pairs, by number.
 #![tactic(auto)]
 
-ghost use Rattle.std.specs.Prelude.{◌≡◌, ◌≢◌, ◌<◌, ◌≤◌, ◌%◌, ◌^◌, [], length, true, false, IfOk, OnOk, IfErr, OnErr, IfSome};
+ghost use Rattle.std.specs.Prelude.{◌≡◌, ◌≢◌, ◌<◌, ◌≤◌, ◌+◌, ◌%◌, ◌^◌, [], length, true, false, IfOk, OnOk, IfErr, OnErr, IfSome};
 ghost use Rattle.std.specs.Option.{option_map};
 ghost use Rattle.std.specs.FinMap as map;
 ghost use Rattle.sdbm_addr.specs.Hash.{hash_of};
 ghost use Rattle.sdbm_addr.specs.Directory.{IsDepth, hash_prefix, page_of, word_number};
-ghost use Rattle.sdbm_addr.specs.Pairs.{value_at};
+ghost use Rattle.sdbm_addr.specs.Pairs.{value_at, pair_limit};
 ghost use Rattle.sdbm_addr.specs.Database.{pairs_at, map_of, empty_database, Database, IsDatabase};
 ghost use Rattle.sdbm_addr.specs.Files.{SpellsDatabase};
 ghost use Rattle.sdbm_page.specs.Rewritten.{rewritten};
+ghost use Rattle.sdbm_split.specs.InPlace.{MayStore, with_stored};
 ghost use Rattle.sdbm_files.specs.Installed.{installed, content_at, IsInstallable};
 ghost use Rattle.sdbm_files.specs.Opened.{IsOpenFault, SpellsNoDatabase};
 
@@ -24,9 +25,9 @@ pub use opening::OpenFault;
 use opening::{keep_pages, misplaced, read_dir, read_pages};
 use pages::{
     Pages, copy_pairs, count_pairs, grow_all, mark_all, put_page, put_pages, replace_page,
-    sort_pairs, write_record,
+    sort_pairs, store_pair, write_record,
 };
-use sdbm_addr::{Bytes, KeyBytes, PageSize, hash};
+use sdbm_addr::{Bytes, KeyBytes, Mode, PageSize, hash};
 use sdbm_dir::{Dir, Place};
 use sdbm_page::SharedPage;
 use sdbm_split::Plan;
@@ -209,6 +210,20 @@ impl<A: Allocator + Copy> Image<A> {
         ensures kept { result ≡ false → self.new ≡ self.old }
     {
         write_record(&mut self.pages, number, i, value)
+    }
+
+    /// Stores a pair where the page with a number stands, and says whether it did: not where the number has no page, an insert meets
+    /// its key, the pair does not go on the page beside those of other keys, or someone else shares the page. The database is then as
+    /// it was. It takes no memory.
+    pub fn store_pair(&mut self, number: u32, key: &[u8], value: &[u8], mode: Mode) -> bool
+        requires small { length key.now + length value.now ≤ pair_limit self.old.size }
+        requires installable { MayStore mode (content_at self.old number) key.now value.now
+            → IsInstallable self.old number (with_stored (content_at self.old number) key.now value.now) [] [] }
+        ensures may { result ≡ true → MayStore mode (content_at self.old number) key.now value.now }
+        ensures stored { result ≡ true → self.new ≡ installed self.old number (with_stored (content_at self.old number) key.now value.now) [] [] }
+        ensures kept { result ≡ false → self.new ≡ self.old }
+    {
+        store_pair(&mut self.pages, number, key, value, mode)
     }
 
     /// The number of pairs.

@@ -1,5 +1,5 @@
--- A page with another value in one of its pairs.
-use Rattle.std.specs.Prelude.{ℕ, List, slice_set}
+-- A page with another value in one of its pairs, or without one of them.
+use Rattle.std.specs.Prelude.{ℕ, List, slice_set, remove}
 use Rattle.sdbm_addr.specs.Pairs.{Pair, Content, key_at}
 
 -- pairs with another value in pair i
@@ -8,3 +8,7 @@ with_value_in pairs i value = slice_set pairs i (key_at pairs i, value)
 
 abbrev pub rewritten : Content → ℕ → List ℕ → Content
 rewritten content i value = record { size = content.size; pairs = with_value_in content.pairs i value }
+
+-- a page without pair i
+abbrev pub removed : Content → ℕ → Content
+removed content i = record { size = content.size; pairs = remove content.pairs i }

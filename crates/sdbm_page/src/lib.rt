@@ -10,6 +10,7 @@ ghost use Rattle.sdbm_addr.specs.Pairs.{Pair, value_of, key_at, value_at, footpr
 ghost use Rattle.sdbm_page.specs.Fields.{IsLow, IsExtent, IsValueRange, pairs_in};
 ghost use Rattle.sdbm_page.specs.Faults.{IsLayout, IsPageFault, SpellsNone};
 ghost use Rattle.sdbm_page.specs.Lending.{LendsValue};
+ghost use Rattle.sdbm_page.specs.Tails.{IsTail};
 ghost use Rattle.sdbm_page.specs.declared.PageFault.TheVariants.{NoMemory};
 
 mod edits;
@@ -20,6 +21,7 @@ mod layout;
 mod noted;
 mod shared;
 mod sorted;
+mod tails;
 
 use edits::{clear, put_pair, take_pair};
 use fields::{end_at, key_in, key_start, number_at, value_in, value_start};
@@ -29,6 +31,7 @@ use sdbm_addr::PageSize;
 pub use shared::SharedPage;
 use std::alloc::{AllocError, Allocator};
 use std::marker::Model;
+use tails::{is_key, tail_of};
 
 /// Why bytes give no page. The faults are tested in this order.
 #[derive(Clone, Copy, Debug, PartialEq, Eq)]
@@ -163,12 +166,10 @@ impl<A: Allocator> Page<A> {
         ensures found { IfSome result (λ i. IsPlace self.now.pairs key.now i) }
         ensures absent { IfNone result (value_of self.now.pairs key.now ≡ None) }
     {
-        for i in 0..self.len() {
-            if self.key(i) == key {
-                return Some(i);
-            }
+        match tail_of(key) {
+            Some(tail) => self.find_by_tail(key, tail),
+            None => self.find_by_key(key),
         }
-        None
     }
 
     /// Whether a pair of so many bytes more goes on the page: with its two offsets, beside the others and the count.
@@ -217,6 +218,39 @@ impl<A: Allocator> Page<A> {
         let mut copy = Vec::from_slice(alloc, bytes)?;
         clear(copy.as_mut_slice(), 4 * layout.count + 2, layout.low);
         Ok(Page { size, bytes: copy })
+    }
+}
+
+// How a key is found.
+impl<A: Allocator> Page<A> {
+    // The same for a key of eight bytes and more, whose last eight read as `tail`.
+    fn find_by_tail(&self, key: &[u8], tail: u64) -> Option<usize>
+        requires { IsTail key.now tail }
+        ensures found { IfSome result (λ i. IsPlace self.now.pairs key.now i) }
+        ensures absent { IfNone result (value_of self.now.pairs key.now ≡ None) }
+    {
+        let bytes = self.bytes.as_slice();
+        let mut end = bytes.len();
+        for i in 0..self.len() {
+            if is_key(bytes, key_start(bytes, i), end, key, tail) {
+                return Some(i);
+            }
+            end = value_start(bytes, i);
+        }
+        None
+    }
+
+    // The same for any key.
+    fn find_by_key(&self, key: &[u8]) -> Option<usize>
+        ensures found { IfSome result (λ i. IsPlace self.now.pairs key.now i) }
+        ensures absent { IfNone result (value_of self.now.pairs key.now ≡ None) }
+    {
+        for i in 0..self.len() {
+            if self.key(i) == key {
+                return Some(i);
+            }
+        }
+        None
     }
 }
 

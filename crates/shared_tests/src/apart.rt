@@ -9,7 +9,7 @@ use std::fmt::Write;
 use std::sync::Wait;
 use std::thread;
 use std::thread::Threads;
-use store_cmd::{Command, Reply};
+use store_cmd::{Command, Refusal, Reply};
 use store_shared::{Calls, Gate, Session, Store};
 use test_lines::{read_command, show_reply};
 
@@ -19,12 +19,13 @@ const THREADS: usize = 8;
 // Of how many calls each reply is shown.
 const FEW: usize = 8;
 
-// A session, its commands, and its replies, up to the first call that was refused.
+// A session, its commands, and its replies, up to the first call that was refused, with why.
 #[derive(Drop)]
 struct Caller<'s, G: Gate> {
     session: Session<'s, Global, G>,
     commands: Vec<Command<Global>>,
     replies: Vec<Reply<Global>>,
+    refused: Option<Refusal>,
 }
 
 fn read_list(alloc: Global, words: &str) -> Option<Vec<Command<Global>>> {
@@ -58,11 +59,16 @@ fn read_commands(alloc: Global, words: &str, place: u64) -> Option<Vec<Command<G
 // Makes all calls of a session.
 fn make_all<R: Wait, G: Gate>(rt: &R, caller: &mut Caller<'_, G>) {
     for command in caller.commands.iter() {
-        let Ok(reply) = make(rt, &mut caller.session, command) else {
-            return;
-        };
-        if caller.replies.push(reply).is_err() {
-            return;
+        match make(rt, &mut caller.session, command) {
+            Ok(reply) => {
+                if caller.replies.push(reply).is_err() {
+                    return;
+                }
+            }
+            Err(refusal) => {
+                caller.refused = Some(refusal);
+                return;
+            }
         }
     }
 }
@@ -72,8 +78,12 @@ fn run_callers<R: Threads + Wait + Sync, G: Gate>(rt: &R, callers: &mut [Caller<
     thread::for_each_mut(rt, callers, THREADS, &share);
 }
 
-// Writes a session's replies, or how many there are.
-fn show_replies(out: &mut String, replies: &[Reply<Global>]) -> Result<(), AllocError> {
+// Writes a session's replies, or how many there are, and why a call was refused.
+fn show_replies(
+    out: &mut String,
+    replies: &[Reply<Global>],
+    refused: Option<Refusal>,
+) -> Result<(), AllocError> {
     if replies.len() > FEW {
         return writeln!(out, "{} replies", replies.len());
     }
@@ -83,7 +93,11 @@ fn show_replies(out: &mut String, replies: &[Reply<Global>]) -> Result<(), Alloc
         }
         show_reply(out, reply)?;
     }
-    out.push_str("\n")
+    match refused {
+        Some(refusal) if replies.is_empty() => writeln!(out, "refused {refusal:?}"),
+        Some(refusal) => writeln!(out, " / refused {refusal:?}"),
+        None => out.push_str("\n"),
+    }
 }
 
 // Whether the replies that a session was given are those of its calls.
@@ -110,6 +124,7 @@ impl<'h, R: Threads + Wait + Sync> Bench<'h, R, Global> {
                 session: begin(self.rt, store).ok()?,
                 commands: read_commands(self.global, words, place)?,
                 replies: Vec::new(self.global),
+                refused: None,
             };
             callers.push(caller).ok()?;
         }
@@ -121,7 +136,7 @@ impl<'h, R: Threads + Wait + Sync> Bench<'h, R, Global> {
         let mut sessions = Vec::new(self.global);
         let mut replies = Vec::new(self.global);
         for caller in callers {
-            show_replies(&mut self.out, caller.replies.as_slice()).ok()?;
+            show_replies(&mut self.out, caller.replies.as_slice(), caller.refused).ok()?;
             sessions.push(caller.session).ok()?;
             replies.push(caller.replies).ok()?;
         }

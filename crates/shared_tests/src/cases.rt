@@ -20,11 +20,18 @@ pub struct Case<'t> {
     pub closing: Option<&'t str>,
 }
 
-fn read_manner(word: &str) -> Option<Manner> {
+fn read_manner(words: &str) -> Option<Manner> {
+    match words {
+        "free" => return Some(Manner::Free),
+        "refusing" => return Some(Manner::Refusing),
+        "meeting" => return Some(Manner::Meeting),
+        _ => {}
+    }
+    let (word, count) = words.split_once(' ')?;
+    let count = count.parse::<u64>().ok()?;
     match word {
-        "free" => Some(Manner::Free),
-        "refusing" => Some(Manner::Refusing),
-        "meeting" => Some(Manner::Meeting),
+        "keeping" => Some(Manner::Keeping(count)),
+        "dropping" => Some(Manner::Dropping(count)),
         _ => None,
     }
 }

@@ -16,12 +16,18 @@ pub enum Manner {
     Refusing,
     /// It keeps each of two sessions at work until the other is there too, and the first until the second has finished.
     Meeting,
+    /// It keeps the first job of session 0 at work until so many jobs came, and then for a while, so that others come to wait for its
+    /// page, and works it.
+    Keeping(u64),
+    /// It keeps that job as long, and hands it back, as where memory is refused.
+    Dropping(u64),
 }
 
-/// How many jobs came to a gate, how many were finished, and how often it gave up waiting.
+/// Whether session 0 began, how many jobs came to a gate, how many were finished, and how often it gave up waiting.
 #[derive(Drop)]
 pub struct Watch {
     manner: Manner,
+    began: AtomicU64,
     came: AtomicU64,
     finished: AtomicU64,
     gave_up: AtomicU64,
@@ -30,11 +36,15 @@ pub struct Watch {
 // How often a thread looks before it gives up.
 const TURNS: u64 = 1_000_000_000;
 
+// How often it looks again at what it has seen, which takes far longer than another thread needs to come to wait.
+const LINGERED: u64 = 20_000_000;
+
 impl Watch {
     /// A watch that has seen nothing.
     pub fn new(manner: Manner) -> Self {
         Watch {
             manner,
+            began: AtomicU64::new(0),
             came: AtomicU64::new(0),
             finished: AtomicU64::new(0),
             gave_up: AtomicU64::new(0),
@@ -67,6 +77,23 @@ impl Watch {
         self.gave_up.fetch_add(1, Ordering::SeqCst);
     }
 
+    // Keeps the first job of session 0 until so many came, and then for a while. The others wait until it is there. Tells whether the
+    // job was kept.
+    fn keeps(&self, session: u64, wanted: u64) -> bool {
+        if session != 0 {
+            self.wait_for(&self.began, 1);
+            return false;
+        }
+        if self.began.fetch_add(1, Ordering::SeqCst) > 0 {
+            return false;
+        }
+        self.wait_for(&self.came, wanted);
+        for _ in 0..LINGERED {
+            self.came.load(Ordering::SeqCst);
+        }
+        true
+    }
+
     // Notes that a session's job comes, and tells whether it is to be worked.
     fn comes(&self, session: u64) -> bool {
         let before = self.came.fetch_add(1, Ordering::SeqCst);
@@ -80,6 +107,11 @@ impl Watch {
                 }
                 true
             }
+            Manner::Keeping(wanted) => {
+                self.keeps(session, wanted);
+                true
+            }
+            Manner::Dropping(wanted) => !self.keeps(session, wanted),
         }
     }
 }

@@ -8,7 +8,7 @@
 //! | `WHO` | `turns`: the sessions make their calls in turn; `lean`: so too, in memory that runs out; `apart`: each in a thread of its own |
 //! | `FROM` | the store is opened over an `empty` database, or over the one that was `kept` of the last that was closed |
 //! | `LIMIT` | how many entries the trail may have |
-//! | `GATE` | `free` works the jobs, `refusing` hands the first one back, and `meeting` has two sessions at work at once |
+//! | `GATE` | `free` works the jobs, `refusing` hands the first one back, and `meeting` has two sessions at work at once; `keeping COUNT` keeps the first job of session 0 at work until so many jobs came and others wait for its page, and `dropping COUNT` then hands it back |
 //!
 //! The lines that follow make calls, up to `end`.
 //!
@@ -17,7 +17,7 @@
 //! | `sessions COUNT` | how many there are after so many more, or why no more are made |
 //! | `SESSION COMMAND` | the reply, or why the call is refused |
 //! | `watch SESSION COMMAND` | the reply; the session asks again after each call that is refused for want of memory |
-//! | `COUNT calls COMMAND / COMMAND / ..` | in `apart`, of each of so many sessions: its replies, or how many of many |
+//! | `COUNT calls COMMAND / COMMAND / ..` | in `apart`, of each of so many sessions: its replies, or how many of many, and why one was refused, behind which it makes no more |
 //! | `COUNT times CALLS COMMAND` | the same of so many calls of one command |
 //! | `COUNT rolls SEED KEYS CALLS` | the same of so many random calls on so many keys |
 //!

@@ -6,3 +6,4 @@ pub mod Acting
 pub mod Wanting
 pub mod Rewriting
 pub mod Examples
+pub mod Storing

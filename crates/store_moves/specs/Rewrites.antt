@@ -2,6 +2,8 @@
 use Rattle.std.specs.Prelude.{◌≡◌, ℕ, List, Some, ◌≤◌, length, take}
 use Rattle.sdbm_addr.specs.Pairs.{Pair, value_at, IsPlace}
 use Rattle.bpf_helpers.specs.Runs.{Outcome}
+use Rattle.store_cmd.specs.declared.Command.{Command}
+use Rattle.store_cmd.specs.declared.Command.TheVariants.{Run}
 use Rattle.store_moves.specs.declared.runs.RunInput.{RunInput}
 use Rattle.store_moves.specs.declared.in_place.Copied.{Copied}
 use Rattle.store_moves.specs.Worked.{outcome_on}
@@ -16,3 +18,7 @@ pub record IsRunCopied {A : Type 0} (pairs : List Pair) (input : RunInput A) (co
   pub left : take copied.len bytes ≡ outcome.bytes
   pub value_long : length (value_at pairs copied.i) ≡ copied.len
   pub long : copied.len ≤ length bytes
+
+-- the command of a run
+abbrev pub command_of : {A : Type 0} → RunInput A → Command A
+command_of input = Run input.key.now input.program.now.code input.arg.now input.blank input.time

@@ -1,17 +1,23 @@
 //! One command on a database: worked out, put in, or both.
-ghost use Rattle.std.specs.Prelude.{◌≡◌, IfOk, IfErr, IfSome, OnOk, OnErr, is_some, true};
+ghost use Rattle.std.specs.Prelude.{◌≡◌, ◌+◌, ◌≤◌, ℕ, length, IfOk, IfErr, IfSome, IfNone, OnOk, OnErr, is_some, true, false};
 ghost use Rattle.std.specs.Option.{option_map};
 ghost use Rattle.sdbm_addr.specs.Database.{IsDatabase, pairs_at};
+ghost use Rattle.sdbm_addr.specs.Pairs.{pair_limit};
 ghost use Rattle.store_cmd.specs.Command.{IsSmall};
+ghost use Rattle.store_cmd.specs.declared.Command.TheVariants.{Store};
+ghost use Rattle.store_cmd.specs.declared.Reply.TheVariants.{Ran, Stored};
 ghost use Rattle.store_moves.specs.Acts.{Acts, IsPutIn};
 ghost use Rattle.store_moves.specs.Leads.{IsPlaceOf, MayChange, changed_by};
+ghost use Rattle.store_moves.specs.Rewrites.{command_of};
 ghost use Rattle.store_moves.specs.Wants.{WantsMemory};
 ghost use Rattle.store_moves.specs.Worked.{IsWorked, takes_memory};
 ghost use Rattle.store_moves.specs.Works.{works, HasKey, HasEnd, key_of, change_of, pairs_lent, IsRun};
 
-use crate::in_place::run_in_place;
-use crate::runs::ran;
+use crate::in_place::{run_in_place, run_input_in_place, store_in_place, try_store};
+use crate::runs::{RunInput, ran};
 use crate::work::{Worked, work_on};
+use bpf_machine::Ended;
+use sdbm_addr::Mode;
 use sdbm_dir::Place;
 use sdbm_files::Image;
 use sdbm_page::Page;
@@ -49,6 +55,35 @@ pub fn act<A: Allocator + Copy>(
     }
 }
 
+/// Stores a pair as `act` does a store, where that takes no memory, and says whether it did: on a page that has room for the pair and
+/// that nobody else shares, where the store is no insert of a key that is there. Else the database is as it was. The pair is one that
+/// `check_pair` takes for the page size of the database.
+pub fn act_store<A: Allocator + Copy>(
+    image: &mut Image<A>,
+    key: &[u8],
+    value: &[u8],
+    mode: Mode,
+) -> bool
+    requires small { length key.now + length value.now ≤ pair_limit image.old.size }
+    ensures done { result ≡ true → (session : ℕ) → Acts {A = A} image.old (record { session = session; command = Store key.now value.now mode; reply = Stored }) image.new }
+    ensures none { result ≡ false → image.new ≡ image.old }
+{
+    let place = image.place(key);
+    store_in_place(image, place, key, value, mode)
+}
+
+/// Does a run as `act` does it, where that takes no memory, and tells how its program ended: where the key is there with a value of at
+/// most 256 bytes, and the program's number changes nothing, or saves the record on a page that nobody else shares. Else it is `None` and
+/// the database is as it was. The run is one that `check_run` takes for the page size of the database.
+pub fn act_run<A: Allocator + Copy>(image: &mut Image<A>, input: &RunInput<'_, A>) -> Option<Ended>
+    requires small { IsSmall image.old.size (command_of input.now) }
+    ensures done { IfSome result (λ ended. Acts image.old (record { session = input.now.session; command = command_of input.now; reply = Ran ended.code ended.word }) image.new) }
+    ensures none { IfNone result (image.new ≡ image.old) }
+{
+    let place = image.place(input.key);
+    run_input_in_place(image, place, input)
+}
+
 // The reply to a command, which is done.
 fn reply_to<A: Allocator + Copy>(
     alloc: A,
@@ -82,6 +117,9 @@ fn act_on_page<A: Allocator + Copy>(
     ensures err { OnErr result (image.new ≡ image.old) }
 {
     let place = image.place(key_in(command));
+    if try_store(image, place, command) {
+        return Ok(Reply::Stored);
+    }
     work_and_put(alloc, image, place, session, command)
 }
 

@@ -1,19 +1,22 @@
-//! Runs of programs on short records, which are written back where they stand: on a page that nobody else reads, and without a copy
-//! of it.
-ghost use Rattle.std.specs.Prelude.{◌≡◌, ◌≤◌, length, true, IfSome, IfNone};
+//! Stores and runs of programs that are done where the page of their key stands, on a page that nobody else shares, and without a copy
+//! of it: stores that need no split, and runs on short records.
+ghost use Rattle.std.specs.Prelude.{◌≡◌, ◌+◌, ◌≤◌, ℕ, length, true, false, IfSome, IfNone};
 ghost use Rattle.sdbm_addr.specs.Database.{IsDatabase, pairs_at};
+ghost use Rattle.sdbm_addr.specs.Pairs.{pair_limit};
 ghost use Rattle.bpf_helpers.specs.Runs.{argument_limit};
 ghost use Rattle.store_cmd.specs.Command.{IsSmall};
+ghost use Rattle.store_cmd.specs.declared.Command.TheVariants.{Store};
 ghost use Rattle.store_cmd.specs.declared.Reply.TheVariants as Reply;
 ghost use Rattle.store_moves.specs.Leads.{IsPlaceOf};
-ghost use Rattle.store_moves.specs.Works.{key_of, IsRun};
+ghost use Rattle.store_moves.specs.Works.{key_of, HasKey, IsRun};
 ghost use Rattle.store_moves.specs.Acts.{IsPutIn};
-ghost use Rattle.store_moves.specs.Rewrites.{IsRunCopied};
+ghost use Rattle.store_moves.specs.Rewrites.{IsRunCopied, command_of};
 
 use crate::action::page_at;
 use crate::runs::{REMOVED, RunInput, SAVED, env_of};
 use crate::work::{input_of, pair_of};
 use bpf_machine::{Ended, run};
+use sdbm_addr::Mode;
 use sdbm_dir::Place;
 use sdbm_files::Image;
 use std::alloc::Allocator;
@@ -41,10 +44,48 @@ pub fn is_run<A: Allocator>(command: &Command<A>) -> bool
     }
 }
 
-/// Does a session's run without taking memory, and tells how its program ended: where the key is there with a value of at most 256
-/// bytes, and the program's number changes nothing, or saves the record on a page that nobody else shares. Else it is `None` and the
-/// database is as it was; `work_at` and `put_in` do the run then. The command is a run that `check` takes for the page size of the
-/// database, and the place is that to which its key leads (`Image::place`).
+/// Stores a pair without taking memory, and says whether it did: where its place has a page that nobody else shares, on which the pair
+/// goes beside those of other keys, and the store is no insert of a key that is there. Else the database is as it was; `work_at` and
+/// `put_in` do the store then. The pair is small enough for the page size of the database, and the place is that to which its key leads
+/// (`Image::place`).
+pub fn store_in_place<A: Allocator + Copy>(
+    image: &mut Image<A>,
+    place: Place,
+    key: &[u8],
+    value: &[u8],
+    mode: Mode,
+) -> bool
+    requires small { length key.now + length value.now ≤ pair_limit image.old.size }
+    requires place { IsPlaceOf image.old key.now place }
+    requires database { IsDatabase image.old }
+    ensures done { result ≡ true → (session : ℕ) → IsPutIn {A = A} image.old place session (Store key.now value.now mode) Reply.Stored image.new }
+    ensures none { result ≡ false → image.new ≡ image.old }
+{
+    image.store_pair(place.page, key, value, mode)
+}
+
+/// The same for a command, which may be another than a store: nothing is done then.
+pub fn try_store<A: Allocator + Copy>(
+    image: &mut Image<A>,
+    place: Place,
+    command: &Command<A>,
+) -> bool
+    requires small { IsSmall image.old.size command.now }
+    requires place { IsPlaceOf image.old (key_of command.now) place }
+    requires database { IsDatabase image.old }
+    ensures done { result ≡ true → (session : ℕ) → IsPutIn image.old place session command.now Reply.Stored image.new }
+    ensures none { result ≡ false → image.new ≡ image.old }
+{
+    match command {
+        Command::Store { key, value, mode } => {
+            store_in_place(image, place, key.as_slice(), value.as_slice(), *mode)
+        }
+        _ => false,
+    }
+}
+
+/// Does a session's run without taking memory, and tells how its program ended, as `run_input_in_place` does. The command is a run that
+/// `check` takes for the page size of the database.
 pub fn run_in_place<A: Allocator + Copy>(
     image: &mut Image<A>,
     place: Place,
@@ -59,8 +100,26 @@ pub fn run_in_place<A: Allocator + Copy>(
     ensures none { IfNone result (image.new ≡ image.old) }
 {
     let input = input_of(session, command);
+    run_input_in_place(image, place, &input)
+}
+
+/// Does a run without taking memory, and tells how its program ended: where the key is there with a value of at most 256 bytes, and the
+/// program's number changes nothing, or saves the record on a page that nobody else shares. Else it is `None` and the database is as it
+/// was; `work_at` and `put_in` do the run then. The run is one that `check_run` takes for the page size of the database, and the place is
+/// that to which its key leads (`Image::place`).
+pub fn run_input_in_place<A: Allocator + Copy>(
+    image: &mut Image<A>,
+    place: Place,
+    input: &RunInput<'_, A>,
+) -> Option<Ended>
+    requires small { IsSmall image.old.size (command_of input.now) }
+    requires place { IsPlaceOf image.old input.now.key.now place }
+    requires database { IsDatabase image.old }
+    ensures done { IfSome result (λ ended. IsPutIn image.old place input.now.session (command_of input.now) (Reply.Ran ended.code ended.word) image.new) }
+    ensures none { IfNone result (image.new ≡ image.old) }
+{
     let mut bytes = [0; SHORT];
-    let Some(copied) = run_copied(image, place.page, &input, &mut bytes) else {
+    let Some(copied) = run_copied(image, place.page, input, &mut bytes) else {
         return None;
     };
     if copied.ended.code == REMOVED {

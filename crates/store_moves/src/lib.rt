@@ -6,7 +6,7 @@ mod in_place;
 mod runs;
 mod work;
 
-pub use action::{act, key_in, put_in, work_at};
-pub use in_place::{is_run, run_in_place};
-pub use runs::ran;
+pub use action::{act, act_run, act_store, key_in, put_in, work_at};
+pub use in_place::{is_run, run_in_place, try_store};
+pub use runs::{RunInput, ran};
 pub use work::{Worked, work_on};

@@ -1,5 +1,5 @@
 -- What a store was opened with, and the sessions that share it.
-use Rattle.std.specs.Prelude.{◌≡◌, ℕ, ◌++◌, ◌⊎◌, List, [], ◌∷◌}
+use Rattle.std.specs.Prelude.{◌≡◌, ℕ, ◌++◌, ◌⊎◌, List, [], ◌∷◌, Option, Some, None}
 use Rattle.std.specs.FinMap as map
 use Rattle.sdbm_addr.specs.declared.KeyBytes.{KeyBytes}
 use Rattle.sdbm_addr.specs.declared.PageSize.{PageSize}
@@ -16,8 +16,13 @@ use Rattle.store_cmd.specs.Command.{IsSmall, FitsPair, FitsArgument}
 use Rattle.desk_core.specs.declared.Asked.{Asked}
 use Rattle.desk_core.specs.declared.Asked.TheVariants as asked
 use Rattle.desk_core.specs.declared.job.Open.{Open}
+use Rattle.desk_core.specs.declared.Settled.{Settled}
+use Rattle.store_shared.specs.declared.serving.Closing.{Closing}
+use Rattle.store_shared.specs.declared.serving.Closing.TheVariants.{Commit, GiveUp}
 use Rattle.store_moves.specs.Works.{HasKey, HasEnd}
 use Rattle.desk_core.specs.Jobs.{worked}
+use Rattle.desk_core.specs.Desk.{DeskState, ticket_of}
+use Rattle.desk_core.specs.Calls.{Abandons, Finishes}
 
 -- how the keys of a store hash, how large its pages are, and the pairs with which it was opened
 pub record Opened : Type 0 where
@@ -73,6 +78,12 @@ IsReplyTo session command reply = IsWorkedFor session command reply ⊎ IsCounte
 abbrev pub IsAskedFor : {A : Type 0} → ℕ → Command A → Asked A → Type 0
 IsAskedFor session command (asked.Job job) = HasKey command × ((job.asked.session ≡ session) × (job.asked.command ≡ command))
 IsAskedFor session command (asked.Answered reply) = IsCounted command reply
+
+-- What closing a ticket comes to on a desk: what was worked is committed, or the ticket is given up, if it is still open.
+abbrev pub ClosesTicket : {A : Type 0} → Closing A → DeskState A → Option (Settled A) → DeskState A → Type 0
+ClosesTicket (Commit done) s None s' = ⊥
+ClosesTicket (Commit done) s (Some settled) s' = Finishes s done settled.reply s' × (settled.command ≡ done.asked.command)
+ClosesTicket (GiveUp ticket) s settled s' = Abandons s ticket.0 s' ⊎ ((ticket_of s ticket.0 ≡ None) × (s' ≡ s))
 
 -- a refusal of a call that is not for its size
 abbrev pub IsNotForSize : Refusal → Type 0

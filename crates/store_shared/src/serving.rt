@@ -1,17 +1,18 @@
-//! How the desk serves a call of a session. Each function that takes the lock makes one call of the desk while it has it.
+//! How the desk serves a call of a session. A call takes the lock twice: to ask, and to commit what was worked.
 ghost use Rattle.std.specs.Prelude.{◌≡◌, ◌≢◌, IfOk, IfErr, OnOk, ℕ};
 ghost use Rattle.store_cmd.specs.declared.Command.TheVariants as commands;
 ghost use Rattle.store_cmd.specs.declared.Reply.TheVariants as replies;
 ghost use Rattle.desk_core.specs.declared.ConvertFault.TheVariants as faults;
+ghost use Rattle.desk_core.specs.Desk.{DeskState};
 ghost use Rattle.desk_core.specs.Jobs.{worked};
 ghost use Rattle.store_moves.specs.Works.{HasEnd};
-ghost use Rattle.store_shared.specs.Shared.{entry_of, IsReplyTo, IsAskedFor, IsNotForSize};
+ghost use Rattle.store_shared.specs.Shared.{entry_of, ClosesTicket, IsReplyTo, IsAskedFor, IsNotForSize};
 
-use crate::store::{Gate, Store};
-use desk_core::{AskFault, Asked, ConvertFault, Done, FinishFault, Job, Settled, Ticket};
+use crate::store::{Core, Gate, Store};
+use desk_core::{AskFault, Asked, ConvertFault, Desk, Done, FinishFault, Job, Settled, Ticket};
 use std::alloc::Allocator;
 use std::mem;
-use std::sync::Wait;
+use std::sync::{MutexGuard, Wait};
 use store_cmd::{Command, Entry, Refusal, Reply};
 
 /// A call that was answered: its reply, and its entry with a copy of that.
@@ -19,6 +20,13 @@ use store_cmd::{Command, Entry, Refusal, Reply};
 pub(crate) struct Served<A: Allocator> {
     pub(crate) reply: Reply<A>,
     pub(crate) entry: Entry<A>,
+}
+
+/// What becomes of a ticket: what was worked under it is committed, or it is given up.
+#[derive(Drop)]
+pub(crate) enum Closing<A: Allocator> {
+    Commit(Done<A>),
+    GiveUp(Ticket),
 }
 
 /// Asks a session's command, works it and commits it.
@@ -79,8 +87,7 @@ fn ask<R: Wait, A: Allocator + Copy, G: Gate>(
             Err((AskFault::PairTooLarge, _)) => return Err(Refusal::Strayed),
             Err((AskFault::ArgTooLong, _)) => return Err(Refusal::Strayed),
         }
-        core.waited_for = true;
-        core = store.changed.wait(rt, core);
+        core = wait(rt, store, core);
     }
     unreachable!()
 }
@@ -105,9 +112,6 @@ fn serve<R: Wait, A: Allocator + Copy, G: Gate>(
     let Ok(copy) = done.reply().try_clone(alloc) else {
         return Err(give_up(rt, store, ticket, Refusal::NoMemory));
     };
-    if done.changes() {
-        convert(rt, store, ticket)?;
-    }
     let Settled { reply, command } = finish(rt, store, done)?;
     store.gate.after(session);
     let entry = Entry {
@@ -118,43 +122,18 @@ fn serve<R: Wait, A: Allocator + Copy, G: Gate>(
     Ok(Served { reply, entry })
 }
 
-// Makes a ticket's hold exclusive, and waits as long as others read the page.
-fn convert<R: Wait, A: Allocator + Copy, G: Gate>(
+// Waits until a ticket may have been closed, which is noted under the lock.
+fn wait<'s, R: Wait, A: Allocator + Copy, G: Gate>(
     rt: &R,
-    store: &Store<A, G>,
-    ticket: Ticket,
-) -> Result<(), Refusal>
-    ensures { IfErr result IsNotForSize }
-{
-    match convert_once_free(rt, store, ticket) {
-        Ok(()) => Ok(()),
-        Err(ConvertFault::NotUpdating) => Err(give_up(rt, store, ticket, Refusal::Strayed)),
-        Err(_) => Err(Refusal::Strayed),
-    }
+    store: &'s Store<A, G>,
+    core: MutexGuard<'s, Core<A>>,
+) -> MutexGuard<'s, Core<A>> {
+    let mut core = core;
+    core.waited_for = true;
+    store.changed.wait(rt, core)
 }
 
-// The same, and why it could not be: never because others read the page.
-fn convert_once_free<R: Wait, A: Allocator + Copy, G: Gate>(
-    rt: &R,
-    store: &Store<A, G>,
-    ticket: Ticket,
-) -> Result<(), ConvertFault>
-    ensures { IfErr result (λ fault. fault ≢ faults.Busy) }
-{
-    let mut core = store.core.lock(rt);
-    for _ in rt.forever() {
-        match core.desk.convert(ticket) {
-            Ok(()) => return Ok(()),
-            Err(ConvertFault::Busy) => {}
-            Err(fault) => return Err(fault),
-        }
-        core.waited_for = true;
-        core = store.changed.wait(rt, core);
-    }
-    unreachable!()
-}
-
-// Commits what was worked.
+// Commits what was worked. Where that changes the page, the ticket's hold is made exclusive in the same hold of the lock.
 fn finish<R: Wait, A: Allocator + Copy, G: Gate>(
     rt: &R,
     store: &Store<A, G>,
@@ -164,21 +143,46 @@ fn finish<R: Wait, A: Allocator + Copy, G: Gate>(
     ensures command { IfOk result (λ settled. settled.command ≡ done.asked.command) }
     ensures refused { IfErr result IsNotForSize }
 {
+    let ticket = done.ticket();
     let mut core = store.core.lock(rt);
-    let finished = core.desk.settle(done);
-    let waited_for = mem::replace(&mut core.waited_for, false);
-    drop(core);
-    wake(store, waited_for);
-    match finished {
-        Ok(settled) => Ok(settled),
-        Err((FinishFault::NoMemory, done)) => {
-            Err(give_up(rt, store, done.ticket(), Refusal::NoMemory))
-        }
-        Err((FinishFault::NotExclusive, done)) => {
-            Err(give_up(rt, store, done.ticket(), Refusal::Strayed))
-        }
+    if done.changes() {
+        core = match convert_once_free(rt, store, core, ticket) {
+            Ok(core) => core,
+            Err(ConvertFault::NotUpdating) => {
+                return Err(give_up(rt, store, ticket, Refusal::Strayed));
+            }
+            Err(_) => return Err(Refusal::Strayed),
+        };
+    }
+    match close_ticket(store, core, Closing::Commit(done)) {
+        Ok(Some(settled)) => Ok(settled),
+        Ok(None) => unreachable!(),
+        Err((FinishFault::NoMemory, _)) => Err(give_up(rt, store, ticket, Refusal::NoMemory)),
+        Err((FinishFault::NotExclusive, _)) => Err(give_up(rt, store, ticket, Refusal::Strayed)),
         Err(_) => Err(Refusal::Strayed),
     }
+}
+
+// Makes a ticket's hold exclusive under the lock, and waits as long as others read the page. Where it cannot be, it says why, never
+// because others read the page, and gives the lock back.
+fn convert_once_free<'s, R: Wait, A: Allocator + Copy, G: Gate>(
+    rt: &R,
+    store: &'s Store<A, G>,
+    core: MutexGuard<'s, Core<A>>,
+    ticket: Ticket,
+) -> Result<MutexGuard<'s, Core<A>>, ConvertFault>
+    ensures { IfErr result (λ fault. fault ≢ faults.Busy) }
+{
+    let mut core = core;
+    for _ in rt.forever() {
+        match core.desk.convert(ticket) {
+            Ok(()) => return Ok(core),
+            Err(ConvertFault::Busy) => {}
+            Err(fault) => return Err(fault),
+        }
+        core = wait(rt, store, core);
+    }
+    unreachable!()
 }
 
 // Closes a ticket without an entry.
@@ -190,17 +194,44 @@ fn give_up<R: Wait, A: Allocator + Copy, G: Gate>(
 ) -> Refusal
     ensures { result ≡ refusal }
 {
-    let mut core = store.core.lock(rt);
-    let _closed = core.desk.abandon(ticket);
-    let waited_for = mem::replace(&mut core.waited_for, false);
-    drop(core);
-    wake(store, waited_for);
+    let core = store.core.lock(rt);
+    let _closed = close_ticket(store, core, Closing::GiveUp(ticket));
     refusal
 }
 
-// Wakes all who wait, if any do.
-fn wake<A: Allocator + Copy, G: Gate>(store: &Store<A, G>, waited_for: bool) {
+// Closes a ticket, gives the lock back, and wakes all who wait, if any do. No ticket is closed in another way.
+fn close_ticket<'s, A: Allocator + Copy, G: Gate>(
+    store: &'s Store<A, G>,
+    core: MutexGuard<'s, Core<A>>,
+    closing: Closing<A>,
+) -> Result<Option<Settled<A>>, (FinishFault, Done<A>)>
+    ensures { IfOk result (λ settled. (before : DeskState A) × ((after : DeskState A) × ClosesTicket closing before settled after)) }
+{
+    let mut core = core;
+    let closed = close_on(&mut core.desk, closing);
+    let waited_for = mem::replace(&mut core.waited_for, false);
+    drop(core);
     if waited_for {
         store.changed.notify_all();
+    }
+    closed
+}
+
+// Closes a ticket of a desk.
+fn close_on<A: Allocator + Copy>(
+    desk: &mut Desk<A>,
+    closing: Closing<A>,
+) -> Result<Option<Settled<A>>, (FinishFault, Done<A>)>
+    ensures { IfOk result (λ settled. ClosesTicket closing desk.old settled desk.new) }
+{
+    match closing {
+        Closing::Commit(done) => match desk.settle(done) {
+            Ok(settled) => Ok(Some(settled)),
+            Err(refused) => Err(refused),
+        },
+        Closing::GiveUp(ticket) => {
+            let _abandoned = desk.abandon(ticket);
+            Ok(None)
+        }
     }
 }

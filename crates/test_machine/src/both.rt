@@ -15,6 +15,7 @@ pub struct Tally {
 }
 
 impl Tally {
+    /// No runs yet.
     pub fn new() -> Tally {
         Tally {
             alike: 0,

@@ -113,7 +113,7 @@ fn changes_text(alloc: Global, text: &str) -> Option<String> {
     ).ok()
 }
 
-/// The same, or that the text cannot be read.
+/// What comes of the changes of a text's image, or that the text cannot be read.
 pub fn show_changes(alloc: Global, text: &str) -> Result<String, AllocError> {
     match changes_text(alloc, text) {
         Some(said) => Ok(said),

@@ -6,7 +6,7 @@ use bpf_machine::{Ended, run};
 use bpf_verify::{Verified, verify};
 use std::alloc::{AllocError, Global};
 
-/// The program of a text, or why it is refused.
+// The program of a text, or why it is refused.
 fn accepted(alloc: Global, text: &str) -> Result<Result<Verified, String>, AllocError> {
     let code = match assemble(alloc, text) {
         Ok(code) => code,
@@ -28,7 +28,7 @@ pub fn show_verdict(alloc: Global, text: &str) -> Result<String, AllocError> {
     }
 }
 
-/// What a key has: bytes, which may be none, or no value.
+// What a key has: bytes, which may be none, or no value.
 fn show_value(alloc: Global, value: Option<&[u8]>) -> Result<String, AllocError> {
     match value {
         None => String::from_str(alloc, "none"),
@@ -37,7 +37,7 @@ fn show_value(alloc: Global, value: Option<&[u8]>) -> Result<String, AllocError>
     }
 }
 
-/// What comes of a run: what it answers, and what the key has once the code has been obeyed.
+// What comes of a run: what it answers, and what the key has once the code has been obeyed.
 fn show_end(
     alloc: Global,
     end: Ended,

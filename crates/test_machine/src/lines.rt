@@ -21,7 +21,7 @@ pub struct Input {
     pub argument: Vec<u8>,
 }
 
-/// Bytes, with zeros behind them.
+// Bytes, with zeros behind them.
 fn read_bytes(alloc: Global, word: &str) -> Option<Vec<u8>> {
     let (digits, zeros) = match word.split_once('+') {
         Some((digits, zeros)) => (digits, zeros.parse::<u16>().ok()?),
@@ -35,7 +35,7 @@ fn read_bytes(alloc: Global, word: &str) -> Option<Vec<u8>> {
     Some(bytes)
 }
 
-/// What the helpers know, and the words behind.
+// What the helpers know, and the words behind.
 fn read_env(words: &str) -> Option<(Env, &str)> {
     let (now, rest) = words.split_once(' ')?;
     let (key, rest) = rest.split_once(' ')?;
@@ -66,7 +66,7 @@ pub fn read_input(alloc: Global, words: &str) -> Option<(Input, &str)> {
     Some((input, rest))
 }
 
-/// The program of an image or a text.
+// The program of an image or a text.
 fn read_program(alloc: Global, kind: &str, program: &str) -> Option<Code> {
     match kind {
         "image" => {

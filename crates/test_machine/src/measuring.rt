@@ -38,7 +38,7 @@ const ENV: Env = Env {
     who: 3,
 };
 
-/// Runs a program so many times on one record, which starts with zeros.
+// Runs a program so many times on one record, which starts with zeros.
 fn run_rounds(program: &Verified, rounds: u64) -> Total {
     let mut bytes = [0u8; 8];
     let mut total = Total { steps: 0, sum: 0 };
@@ -50,7 +50,7 @@ fn run_rounds(program: &Verified, rounds: u64) -> Total {
     total
 }
 
-/// The same on the machine that tests everything.
+// Runs it as often on the machine that tests everything.
 fn run_rounds_checked(program: &Verified, rounds: u64) -> Total {
     let mut bytes = [0u8; 8];
     let mut total = Total { steps: 0, sum: 0 };
@@ -70,7 +70,7 @@ fn measure(asked: &Measurement) -> Total {
     }
 }
 
-/// The measurement that a line asks for.
+// The measurement that a line asks for.
 fn read_measurement(alloc: Global, line_of: &str) -> Option<Measurement> {
     let (machine, rest) = line_of.split_once(' ')?;
     let (name, rest) = rest.split_once(' ')?;

@@ -20,7 +20,7 @@ pub fn counter(alloc: Global) -> Option<Verified> {
     verify(alloc, code).ok()
 }
 
-/// The text of a straight line.
+// The text of a straight line.
 fn line_text(alloc: Global, length: u32) -> Result<String, AllocError> {
     let mut text = String::from_str(alloc, "mov r6, 1\nmov r7, 3\n")?;
     for i in 0..length.saturating_sub(4) {

@@ -1,7 +1,6 @@
 //! The database's two files.
 
-use sdbm_addr::{KeyBytes, PageSize};
-use sdbm_files::{Image, MemSink};
+use boddurci::{Image, KeyBytes, MemSink, PageSize};
 use std::alloc::Global;
 use std::fs;
 use std::rt::Files;
@@ -21,7 +20,7 @@ pub fn read_image<R: Files + AllocGlobal>(rt: &R) -> Result<Image<Global>, &'sta
     }
 }
 
-/// Writes both files. Whoever must not lose the old ones at a fault writes beside them and renames, as `dbm` does.
+/// Writes both files whole. A service that must not lose them at a crash saves as `dbm` does, by a redo file: `sdbm_saves` has the steps.
 pub fn write_image<R: Files + AllocGlobal>(
     rt: &R,
     image: &Image<Global>,

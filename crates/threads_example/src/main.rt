@@ -5,14 +5,13 @@
 mod files;
 mod visits;
 
+use boddurci::{Closed, Image, NoGate, Store};
 use files::{read_image, write_image};
-use sdbm_files::Image;
 use std::alloc::Global;
 use std::process::ExitCode;
 use std::rt::Runtime;
 use std::sync::Wait;
 use std::thread::Threads;
-use store_shared::{Closed, NoGate, Store};
 use visits::{all_visits, counter};
 
 // Opens a store over the database, lets all threads make their visits, and closes it.

@@ -1,13 +1,10 @@
 //! What the threads do: each has a session of its own, and counts visits by runs of one program.
 
-use bpf_asm::assemble;
-use bpf_verify::verify;
+use boddurci::{Calls, NoGate, Program, Refusal, Session, Store, assemble, verify};
 use std::alloc::Global;
 use std::sync::{Arc, Wait};
 use std::thread;
 use std::thread::Threads;
-use store_cmd::{Program, Refusal};
-use store_shared::{Calls, NoGate, Session, Store};
 
 const THREADS: usize = 4;
 

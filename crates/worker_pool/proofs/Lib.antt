@@ -1,4 +1,4 @@
 pub mod ShareLemmas
-pub mod DoneLemmas
+pub mod TriedLemmas
 pub mod GatherLemmas
 pub mod PoolLemmas

@@ -1,6 +1,8 @@
 -- What workers leave is what comes of the tasks. A worker is known by its session, its replies and the task that it was refused.
-use Rattle.std.proofs.Common.{inl, inr, ◌≡◌, ◌∙◌, sym, ap, ◌∷◌, [], zero, suc, length, ◌<◌, ℕ, ◌++◌, arith, List, refl, subst}
-use Rattle.std.specs.Prelude.{◌%◌, take, drop, map, slice_index_or, Option, Some, None, IfSome}
+use Rattle.std.proofs.Common.{inl, inr, Bool, true, false, ◌≡◌, ◌∙◌, sym, ap, ◌∷◌, [], zero, suc, length, ◌<◌, ℕ, ◌++◌, arith, List, refl, subst}
+use Rattle.std.specs.Prelude.{◌%◌, ◌==◌, ◌&&◌, take, drop, map, slice_index_or, Option, Some, None, is_none, IfSome}
+use Rattle.std.proofs.lemmas.Nat.{mod_below}
+use Rattle.std.proofs.lemmas.Bool.{cases_eq, eqb-true, false_from_ne_true}
 use Rattle.std.specs.List.{All, slice_get}
 use Rattle.std.proofs.lemmas.List.{length-map, get_or-map, take_all, drop_all, append-nil}
 use Rattle.std.proofs.lemmas.List.Elements.{All-get_or, All-map, All-nil, All-push, All-weaker}
@@ -13,10 +15,10 @@ use Rattle.store_cmd.specs.declared.Entry.{Entry}
 use Rattle.store_cmd.specs.declared.Refusal.{Refusal}
 use Rattle.store_shared.specs.Shared.{SessionState, CallsState, calls_left}
 use Rattle.worker_pool.specs.declared.task.Task.{Task}
-use Rattle.worker_pool.specs.Tasks.{run_of, IsTaskRefusal}
-use Rattle.worker_pool.specs.Shares.{share_of, runs_of, HasDone, HasWorked, IsRefusedAt, IsNoLater, IsLowerOf, IsFirstIn, stop_of}
-use Rattle.worker_pool.proofs.ShareLemmas.{some_of, share_length}
-use Rattle.worker_pool.specs.Pool.{AreIdle, MayBegin, AreDone, AreRefused, HasCome, IsShareDone}
+use Rattle.worker_pool.specs.Tasks.{run_of, IsTried}
+use Rattle.worker_pool.specs.Shares.{share_of, ran_of, runs_of, AreRuns, HasWorked, IsFirstOwn, IsFirstRefused, IsNoLater, IsLowerOf, IsFirstIn}
+use Rattle.worker_pool.proofs.ShareLemmas.{some_of, places_same}
+use Rattle.worker_pool.specs.Pool.{AreIdle, MayBegin, AreDone, AreRefused, IsShareDone}
 
 -- what stands in a map of a list, as what stands in the list
 pub record Mapped {X Y : Type 0} (f : X → Y) (xs : List X) (i : ℕ) (y : Y) : Type 0 where
@@ -49,6 +51,10 @@ some_each P (Some x) each = each x refl
 some_at : {X : Type 0} (P : X → Type 0) (o : Option X) (x : X) → o ≡ Some x → IfSome o P → P x
 some_at {X} P o x is h = subst (λ (p : Option X). IfSome p P) is h
 
+and_true : (b : Bool) → (b && true) ≡ b
+and_true true = refl
+and_true false = refl
+
 none_of : (o : Option (ℕ × Refusal)) → IsNoLater None o → o ≡ None
 none_of None h = refl
 none_of (Some r) h = absurd h
@@ -64,53 +70,111 @@ module _ {A W : Type 0} (session : W → SessionState A) (replies : W → List (
   pub no_later : (crew : List W) (first : Option (ℕ × Refusal)) (w : ℕ) (x : W) → IsFirstIn (map refused crew) first → slice_get crew w ≡ Some x → IsNoLater first (refused x)
   no_later crew first w x is here = all_at (IsNoLater first) (map refused crew) w (refused x) (slice_get-map refused crew w ∙ ap (option_map refused) here) is.lowest
 
-  pub pool_done : (crew : List W) (calls : List (CallsState A)) (answers : List (Reply A)) → MayBegin programs tasks k → length crew ≡ k → ((w : ℕ) → IfSome (slice_get crew w) (Worked w))
+  -- why a task was refused, as a worker has it
+  abbrev told_by : (w : ℕ) (o : Option W) → IfSome o (Worked w) → ℕ → Option Refusal
+  told_by w None did at = None
+  told_by w (Some x) did at = did.refusals at
+
+  record Did (w : ℕ) (o : Option W) (all : IfSome o (Worked w)) (x : W) : Type 0 where
+    work : Worked w x
+    same : (at : ℕ) → told_by w o all at ≡ work.refusals at
+
+  did : (w : ℕ) (o : Option W) (all : IfSome o (Worked w)) (x : W) → o ≡ Some x → Did w o all x
+  did w None all x is = absurd (cc)
+  did w (Some y) all x is =
+      let same : y ≡ x = cc in
+      let own : Did w (Some y) all y = record { work = all; same = λ at. refl } in
+      subst (λ (z : W). Did w (Some y) all z) same own
+
+  -- why a task was refused, as its own worker has it
+  abbrev told : (crew : List W) → ((w : ℕ) → IfSome (slice_get crew w) (Worked w)) → ℕ → Option Refusal
+  told crew worked at = told_by (at % k) (slice_get crew (at % k)) (worked (at % k)) at
+
+  -- where none was refused a worker ran its whole share
+  ran_all : (refusals : ℕ → Option Refusal) (w : ℕ) → ((at : ℕ) → at % k ≡ w → refusals at ≡ None) → ran_of k w refusals tasks ≡ share_of k w tasks
+  ran_all refusals w none =
+      places_same (λ at. at % k == w && is_none (refusals at)) (λ at. at % k == w) tasks (λ j below. elim (cases_eq (j % k) w) [
+        | inl its_own ↦ ap (λ (o : Option Refusal). j % k == w && is_none o) (none j its_own) ∙ and_true (j % k == w)
+        | inr other ↦
+            let no : (j % k == w) ≡ false = false_from_ne_true (j % k == w) (λ is. other (eqb-true (j % k) w is)) in
+            ap (λ b. b && is_none (refusals j)) no ∙ sym no
+      ])
+
+  pub pool_done : (size : PageSize) (crew : List W) (calls : List (CallsState A)) (answers : List (Reply A)) → MayBegin programs tasks k → length crew ≡ k → ((w : ℕ) → IfSome (slice_get crew w) (Worked w))
+      → ((w : ℕ) (x : W) → slice_get crew w ≡ Some x → (session x).size ≡ size)
       → IsFirstIn (map refused crew) None → calls ≡ map left_by crew → length answers ≡ length tasks
       → ((w : ℕ) (x : W) → slice_get crew w ≡ Some x → share_of k w answers ≡ replies x)
-      → AreDone programs tasks k answers calls
-  pool_done crew calls answers begun count worked none left one_each shared = record {
+      → AreDone size programs tasks k answers calls
+  pool_done size crew calls answers begun count worked sized none left one_each shared = record {
     begun = begun;
+    small = λ at task here.
+        let w = at % k in
+        let near : w < length crew = let small : w < k = mod_below at k begun.some in omega arith in
+        let x : W = slice_index_or crew w (some_of crew w near) in
+        let is : slice_get crew w ≡ Some x = slice_get-get_or crew w (some_of crew w near) near in
+        let d = some_at (Worked w) (slice_get crew w) x is (worked w) in
+        let to_end : refused x ≡ None = none_of (refused x) (no_later crew None w x none is) in
+        let free : IsFirstRefused (length tasks) k w d.refusals None = subst (λ o. IsFirstRefused (length tasks) k w d.refusals o) to_end d.first in
+        subst (λ (o : Option Refusal). IsTried size (run_of programs task) o) (free at refl) (subst (λ z. IsTried z (run_of programs task) (d.refusals at)) (sized w x is) (d.tried at task here refl));
     one_each = one_each;
     all_workers = ap length left ∙ (length-map crew left_by ∙ count);
     shares = λ w its here.
         let m = mapped left_by crew w its (ap (λ cs. slice_get cs w) (sym left) ∙ here) in
         let x = m.source in
-        let did = some_at (Worked w) (slice_get crew w) x m.here (worked w) in
+        let d = some_at (Worked w) (slice_get crew w) x m.here (worked w) in
         let to_end : refused x ≡ None = none_of (refused x) (no_later crew None w x none m.here) in
-        let done : HasDone programs tasks k w (length tasks) (session x).number (session x).calls = subst (λ o. HasDone programs tasks k w (stop_of (length tasks) o) (session x).number (session x).calls) to_end did.done in
-        subst (λ c. IsShareDone programs tasks k w answers c) m.value (record { done = done; replied = did.replied ∙ sym (shared w x m.here) });
+        let free : IsFirstRefused (length tasks) k w d.refusals None = subst (λ o. IsFirstRefused (length tasks) k w d.refusals o) to_end d.first in
+        let runs : AreRuns programs (share_of k w tasks) (session x).number (session x).calls = subst (λ (ts : List (Task A)). AreRuns programs ts (session x).number (session x).calls) (ran_all d.refusals w free) d.runs in
+        subst (λ c. IsShareDone programs tasks k w answers c) m.value (record { runs = runs; replied = d.replied ∙ sym (shared w x m.here) });
   }
 
-  pub pool_refused : (size : PageSize) (crew : List W) (calls : List (CallsState A)) (r : ℕ × Refusal) → length crew ≡ k → ((w : ℕ) → IfSome (slice_get crew w) (Worked w))
+  -- before the first of all no worker was refused a task
+  free_before : (w : ℕ) (refusals : ℕ → Option Refusal) (o : Option (ℕ × Refusal)) (r : ℕ × Refusal) → IsFirstRefused (length tasks) k w refusals o → IsNoLater (Some r) o → (at : ℕ) → at < r.0 → at % k ≡ w → refusals at ≡ None
+  free_before w refusals None r first later at before its_own = first at its_own
+  free_before w refusals (Some s) r first later at before its_own = first.before at (omega arith) its_own
+
+  pub pool_refused : (size : PageSize) (crew : List W) (calls : List (CallsState A)) (r : ℕ × Refusal) → 0 < k → length crew ≡ k → ((w : ℕ) → IfSome (slice_get crew w) (Worked w))
       → ((w : ℕ) (x : W) → slice_get crew w ≡ Some x → (session x).size ≡ size)
       → IsFirstIn (map refused crew) (Some r) → calls ≡ map left_by crew
       → AreRefused size programs tasks k r.0 r.1 calls
-  pool_refused size crew calls r count worked sized first left =
+  pool_refused size crew calls r some count worked sized first left =
       let m = mapped refused crew first.here.0 (Some r) first.here.1 in
       let x = m.source in
-      let did = some_at (Worked first.here.0) (slice_get crew first.here.0) x m.here (worked first.here.0) in
-      let at : IsRefusedAt (session x).size programs tasks k first.here.0 r.0 r.1 = some_at (λ s. IsRefusedAt (session x).size programs tasks k first.here.0 s.0 s.1) (refused x) r m.value did.refusal in
+      let there = some_at (Worked first.here.0) (slice_get crew first.here.0) x m.here (worked first.here.0) in
+      let own : IsFirstOwn (length tasks) k first.here.0 there.refusals r.0 r.1 = subst (λ o. IsFirstRefused (length tasks) k first.here.0 there.refusals o) m.value there.first in
+      let its = did (r.0 % k) (slice_get crew (r.0 % k)) (worked (r.0 % k)) x (ap (slice_get crew) own.its_own ∙ m.here) in
+      let its_first : IsFirstOwn (length tasks) k (r.0 % k) its.work.refusals r.0 r.1 = subst (λ o. IsFirstRefused (length tasks) k (r.0 % k) its.work.refusals o) m.value its.work.first in
       record {
-        task = at.task;
-        here = at.here;
-        why = subst (λ s. IsTaskRefusal s (run_of programs at.task) r.1) (sized first.here.0 x m.here) at.why;
+        refusals = told crew worked;
+        within = own.within;
+        here = its.same r.0 ∙ its_first.here;
+        before = λ at earlier.
+            let w = at % k in
+            let near : w < length crew = let small : w < k = mod_below at k some in omega arith in
+            let y : W = slice_index_or crew w (some_of crew w near) in
+            let is : slice_get crew w ≡ Some y = slice_get-get_or crew w (some_of crew w near) near in
+            let d = did w (slice_get crew w) (worked w) y is in
+            d.same at ∙ free_before w d.work.refusals (refused y) r d.work.first (no_later crew (Some r) w y first is) at earlier refl;
+        tried = λ at task here.
+            let w = at % k in
+            let near : w < length crew = let small : w < k = mod_below at k some in omega arith in
+            let y : W = slice_index_or crew w (some_of crew w near) in
+            let is : slice_get crew w ≡ Some y = slice_get-get_or crew w (some_of crew w near) near in
+            let d = did w (slice_get crew w) (worked w) y is in
+            subst (λ (o : Option Refusal). IsTried size (run_of programs task) o) (sym (d.same at)) (subst (λ z. IsTried z (run_of programs task) (d.work.refusals at)) (sized w y is) (d.work.tried at task here refl));
         all_workers = ap length left ∙ (length-map crew left_by ∙ count);
-        its_worker = λ its here.
-            let n = mapped left_by crew (r.0 % k) its (ap (λ cs. slice_get cs (r.0 % k)) (sym left) ∙ here) in
-            let same : Some n.source ≡ Some x = sym n.here ∙ (ap (slice_get crew) at.its_own ∙ m.here) in
-            let same_worker : n.source ≡ x = cc in
-            let done : HasDone programs tasks k (r.0 % k) r.0 (session x).number (session x).calls = subst (λ w. HasDone programs tasks k w r.0 (session x).number (session x).calls) (sym at.its_own) (subst (λ o. HasDone programs tasks k first.here.0 (stop_of (length tasks) o) (session x).number (session x).calls) m.value did.done) in
-            subst (λ c. HasDone programs tasks k (r.0 % k) r.0 c.number c.calls) n.value (subst (λ y. HasDone programs tasks k (r.0 % k) r.0 (session y).number (session y).calls) (sym same_worker) done);
-        others = λ w its here.
-            let n = mapped left_by crew w its (ap (λ cs. slice_get cs w) (sym left) ∙ here) in
-            let does = some_at (Worked w) (slice_get crew w) n.source n.here (worked w) in
-            let come : HasCome size programs tasks k w (r.0, r.1) (left_by n.source) = record {
-              refused = refused n.source;
-              later = no_later crew (Some r) w n.source first n.here;
-              done = does.done;
-              why = subst (λ s. IfSome (refused n.source) (λ o. IsRefusedAt s programs tasks k w o.0 o.1)) (sized w n.source n.here) does.refusal;
-            } in
-            subst (λ c. HasCome size programs tasks k w (r.0, r.1) c) n.value come;
+        runs = λ w c here.
+            let n = mapped left_by crew w c (ap (λ cs. slice_get cs w) (sym left) ∙ here) in
+            let d = did w (slice_get crew w) (worked w) n.source n.here in
+            let same : ran_of k w d.work.refusals tasks ≡ ran_of k w (told crew worked) tasks =
+            places_same (λ at. at % k == w && is_none (d.work.refusals at)) (λ at. at % k == w && is_none (told crew worked at)) tasks (λ j below. elim (cases_eq (j % k) w) [
+              | inl its_own ↦
+                  ap (λ (o : Option Refusal). j % k == w && is_none o) (sym (d.same j) ∙ ap (λ v. told_by v (slice_get crew v) (worked v) j) (sym its_own))
+              | inr other ↦
+                  let no : (j % k == w) ≡ false = false_from_ne_true (j % k == w) (λ is. other (eqb-true (j % k) w is)) in
+                  ap (λ b. b && is_none (d.work.refusals j)) no ∙ sym (ap (λ b. b && is_none (told crew worked j)) no)
+            ]) in
+            subst (λ v. AreRuns programs (ran_of k w (told crew worked) tasks) v.number v.calls) n.value (subst (λ (ts : List (Task A)). AreRuns programs ts (session n.source).number (session n.source).calls) same d.work.runs);
       }
 
 -- each worker's session is of the size of all before
@@ -144,13 +208,13 @@ module _ {A W S : Type 0} (session : W → SessionState A) (replies : W → List
       let at : w < length crew = omega arith in
       let x : W = slice_index_or crew w (some_of crew w at) in
       let here : slice_get crew w ≡ Some x = slice_get-get_or crew w (some_of crew w at) at in
-      let did = some_at (Worked session replies refused programs tasks k w) (slice_get crew w) x here (worked w) in
+      let work = some_at (Worked session replies refused programs tasks k w) (slice_get crew w) x here (worked w) in
       let to_end : refused x ≡ None = none_of (refused x) (no_later session replies refused programs tasks k crew None w x none here) in
-      let done : HasDone programs tasks k w (length tasks) (session x).number (session x).calls = subst (λ o. HasDone programs tasks k w (stop_of (length tasks) o) (session x).number (session x).calls) to_end did.done in
-      let runs = runs_of programs tasks in
-      let all_runs : length (take (length tasks) runs) ≡ length tasks = ap length (take_all (length tasks) runs (omega (arith, length-map tasks (run_of programs)))) ∙ length-map tasks (run_of programs) in
-      let its : length (replies x) ≡ length (share_of k w (take (length tasks) runs)) = ap length (sym did.replied) ∙ (length-map (session x).calls (λ (e : Entry A). e.reply) ∙ (sym (length-map (session x).calls (λ (e : Entry A). e.command)) ∙ ap length done.commands)) in
-      ap length (view_at view replies lists crew same w d x here) ∙ (its ∙ (share_length k w (take (length tasks) runs) tasks all_runs ∙ ap (λ n. length (share_of n w tasks)) (omega arith)))
+      let free : IsFirstRefused (length tasks) k w work.refusals None = subst (λ o. IsFirstRefused (length tasks) k w work.refusals o) to_end work.first in
+      let ran : length (ran_of k w work.refusals tasks) ≡ length (share_of k w tasks) = ap length (ran_all session replies refused programs tasks k work.refusals w free) in
+      let run : length (runs_of programs (ran_of k w work.refusals tasks)) ≡ length (ran_of k w work.refusals tasks) = length-map (ran_of k w work.refusals tasks) (λ (t : Task A). run_of programs t) in
+      let its : length (replies x) ≡ length (share_of k w tasks) = ap length (sym work.replied) ∙ (length-map (session x).calls (λ (e : Entry A). e.reply) ∙ (sym (length-map (session x).calls (λ (e : Entry A). e.command)) ∙ (ap length work.runs.commands ∙ (run ∙ ran)))) in
+      ap length (view_at view replies lists crew same w d x here) ∙ (its ∙ ap (λ n. length (share_of n w tasks)) (omega arith))
 
   -- what is taken from the lists is each worker's share
   pub pool_taken : (crew : List W) (lists : List S) (answers : List (Reply A)) → length crew ≡ k → map view lists ≡ map replies crew

@@ -1,116 +1,153 @@
--- Shares of a list that grows, of its map, and their lengths.
-use Rattle.std.proofs.Common.{inl, inr, suc, zero, eq-eqb, ◌≡◌, ◌∙◌, sym, ap, ◌∷◌, [], false, true, length, ◌<◌, ◌≤◌, ◌+◌, ℕ, ◌++◌, arith, List, refl}
+-- What stands at places of a kind, in a list that grows; shares are the places of workers.
+use Rattle.std.proofs.Common.{inl, inr, suc, zero, ◌≡◌, ◌∙◌, sym, ap, ◌∷◌, [], Bool, false, true, length, ◌<◌, ◌≤◌, ◌+◌, ℕ, ◌++◌, arith, List, refl}
 use Rattle.std.specs.Prelude.{◌-◌, take, drop, slice_index_or, ◌==◌, ◌%◌, if◌then◌else◌, map}
 use Rattle.std.specs.List.{filter, enumerate_from}
 use Rattle.std.proofs.lemmas.List.{take-append-drop, length-append, take_more, take_all, append-nil, length-take-le}
 use Rattle.std.proofs.Math.Nat.{mod-add-mod, mod-eq_of_lt, add-mod_left}
 use Rattle.std.proofs.lemmas.Nat.{mod_below}
 use Rattle.std.proofs.lemmas.Bool.{eqb-true, cases_lt, false_from_ne_true}
-use Rattle.worker_pool.specs.Shares.{share_of}
+use Rattle.worker_pool.specs.Shares.{at_places, share_of}
 
 -- an element of a list that isn't empty
 pub some_of : {X : Type 0} (xs : List X) (n : ℕ) → n < length xs → X
 some_of [] n within = absurd (omega arith)
 some_of (x ∷ xs) n within = x
 
--- the same as a share, by recursion, where the first has the place i
-abbrev picked : {X : Type 0} → ℕ → ℕ → ℕ → List X → List X
-picked k w i [] = []
-picked k w i (x ∷ xs) = if i % k == w then x ∷ picked k w (i + 1) xs else picked k w (i + 1) xs
+-- the same as what stands at places, by recursion, where the first has the place i
+abbrev picked : {X : Type 0} → (ℕ → Bool) → ℕ → List X → List X
+picked p i [] = []
+picked p i (x ∷ xs) = if p i then x ∷ picked p (i + 1) xs else picked p (i + 1) xs
 
-filtered : {X : Type 0} (k w i : ℕ) (xs : List X) → map (λ (placed : ℕ × X). placed.1) (filter (λ (placed : ℕ × X). placed.0 % k == w) (enumerate_from i xs)) ≡ picked k w i xs
-filtered k w i [] = refl
-filtered {X} k w i (x ∷ xs) =
-    let rest = filtered k w (i + 1) xs in
+filtered : {X : Type 0} (p : ℕ → Bool) (i : ℕ) (xs : List X) → map (λ (placed : ℕ × X). placed.1) (filter (λ (placed : ℕ × X). p placed.0) (enumerate_from i xs)) ≡ picked p i xs
+filtered p i [] = refl
+filtered {X} p i (x ∷ xs) =
+    let rest = filtered p (i + 1) xs in
     let second : ℕ × X → X = λ placed. placed.1 in
-    let others = filter (λ (placed : ℕ × X). placed.0 % k == w) (enumerate_from (i + 1) xs) in
-    elim (i % k == w) as (λ b. map second (if b then (i, x) ∷ others else others) ≡ (if b then x ∷ picked k w (i + 1) xs else picked k w (i + 1) xs)) [
+    let others = filter (λ (placed : ℕ × X). p placed.0) (enumerate_from (i + 1) xs) in
+    elim (p i) as (λ b. map second (if b then (i, x) ∷ others else others) ≡ (if b then x ∷ picked p (i + 1) xs else picked p (i + 1) xs)) [
       | true ↦ ap (λ ys. x ∷ ys) rest
       | false ↦ rest
     ]
 
-share_is : {X : Type 0} (k w : ℕ) (xs : List X) → share_of k w xs ≡ picked k w 0 xs
-unfolding share_of
-share_is k w xs = filtered k w 0 xs
+places_are : {X : Type 0} (p : ℕ → Bool) (xs : List X) → at_places p xs ≡ picked p 0 xs
+unfolding at_places
+places_are p xs = filtered p 0 xs
 
-picked_push : {X : Type 0} (k w i : ℕ) (xs : List X) (x : X) → picked k w i (xs ++ x ∷ []) ≡ picked k w i xs ++ (if (i + length xs) % k == w then x ∷ [] else [])
-picked_push k w i [] x = let e : i ≡ i + 0 = omega arith in ap (λ n. if n % k == w then x ∷ [] else []) e
-picked_push {X} k w i (y ∷ ys) x =
+picked_push : {X : Type 0} (p : ℕ → Bool) (i : ℕ) (xs : List X) (x : X) → picked p i (xs ++ x ∷ []) ≡ picked p i xs ++ (if p (i + length xs) then x ∷ [] else [])
+picked_push p i [] x = let e : i ≡ i + 0 = omega arith in ap (λ n. if p n then x ∷ [] else []) e
+picked_push {X} p i (y ∷ ys) x =
     let e : (i + 1) + length ys ≡ i + length (y ∷ ys) = omega arith in
-    let rest : picked k w (i + 1) (ys ++ x ∷ []) ≡ picked k w (i + 1) ys ++ (if (i + length (y ∷ ys)) % k == w then x ∷ [] else []) = picked_push k w (i + 1) ys x ∙ ap (λ n. picked k w (i + 1) ys ++ (if n % k == w then x ∷ [] else [])) e in
-    elim (i % k == w) as (λ b. (if b then y ∷ picked k w (i + 1) (ys ++ x ∷ []) else picked k w (i + 1) (ys ++ x ∷ [])) ≡ (if b then y ∷ picked k w (i + 1) ys else picked k w (i + 1) ys) ++ (if (i + length (y ∷ ys)) % k == w then x ∷ [] else [])) [
+    let rest : picked p (i + 1) (ys ++ x ∷ []) ≡ picked p (i + 1) ys ++ (if p (i + length (y ∷ ys)) then x ∷ [] else []) = picked_push p (i + 1) ys x ∙ ap (λ n. picked p (i + 1) ys ++ (if p n then x ∷ [] else [])) e in
+    elim (p i) as (λ b. (if b then y ∷ picked p (i + 1) (ys ++ x ∷ []) else picked p (i + 1) (ys ++ x ∷ [])) ≡ (if b then y ∷ picked p (i + 1) ys else picked p (i + 1) ys) ++ (if p (i + length (y ∷ ys)) then x ∷ [] else [])) [
       | true ↦ ap (λ zs. y ∷ zs) rest
       | false ↦ rest
     ]
 
-picked_map : {X Y : Type 0} (f : X → Y) (k w i : ℕ) (xs : List X) → picked k w i (map f xs) ≡ map f (picked k w i xs)
-picked_map f k w i [] = refl
-picked_map f k w i (x ∷ xs) =
-    let rest = picked_map f k w (i + 1) xs in
-    elim (i % k == w) as (λ b. (if b then f x ∷ picked k w (i + 1) (map f xs) else picked k w (i + 1) (map f xs)) ≡ map f (if b then x ∷ picked k w (i + 1) xs else picked k w (i + 1) xs)) [
-      | true ↦ ap (λ ys. f x ∷ ys) rest
-      | false ↦ rest
-    ]
-
-picked_length : {X Y : Type 0} (k w i : ℕ) (xs : List X) (ys : List Y) → length xs ≡ length ys → length (picked k w i xs) ≡ length (picked k w i ys)
-picked_length k w i [] [] same = refl
-picked_length k w i [] (y ∷ ys) same = absurd (omega arith)
-picked_length k w i (x ∷ xs) [] same = absurd (omega arith)
-picked_length k w i (x ∷ xs) (y ∷ ys) same =
-    let rest = picked_length k w (i + 1) xs ys (omega arith) in
-    elim (i % k == w) as (λ b. length (if b then x ∷ picked k w (i + 1) xs else picked k w (i + 1) xs) ≡ length (if b then y ∷ picked k w (i + 1) ys else picked k w (i + 1) ys)) [
+picked_length : {X Y : Type 0} (p : ℕ → Bool) (i : ℕ) (xs : List X) (ys : List Y) → length xs ≡ length ys → length (picked p i xs) ≡ length (picked p i ys)
+picked_length p i [] [] same = refl
+picked_length p i [] (y ∷ ys) same = absurd (omega arith)
+picked_length p i (x ∷ xs) [] same = absurd (omega arith)
+picked_length p i (x ∷ xs) (y ∷ ys) same =
+    let rest = picked_length p (i + 1) xs ys (omega arith) in
+    elim (p i) as (λ b. length (if b then x ∷ picked p (i + 1) xs else picked p (i + 1) xs) ≡ length (if b then y ∷ picked p (i + 1) ys else picked p (i + 1) ys)) [
       | true ↦ omega arith
       | false ↦ rest
     ]
 
-picked_append : {X : Type 0} (k w i : ℕ) (xs ys : List X) → picked k w i (xs ++ ys) ≡ picked k w i xs ++ picked k w (i + length xs) ys
-picked_append k w i [] ys = let e : i ≡ i + 0 = omega arith in ap (λ n. picked k w n ys) e
-picked_append {X} k w i (x ∷ xs) ys =
+picked_append : {X : Type 0} (p : ℕ → Bool) (i : ℕ) (xs ys : List X) → picked p i (xs ++ ys) ≡ picked p i xs ++ picked p (i + length xs) ys
+picked_append p i [] ys = let e : i ≡ i + 0 = omega arith in ap (λ n. picked p n ys) e
+picked_append {X} p i (x ∷ xs) ys =
     let e : (i + 1) + length xs ≡ i + length (x ∷ xs) = omega arith in
-    let behind = picked k w (i + length (x ∷ xs)) ys in
-    let rest : picked k w (i + 1) (xs ++ ys) ≡ picked k w (i + 1) xs ++ behind = picked_append k w (i + 1) xs ys ∙ ap (λ n. picked k w (i + 1) xs ++ picked k w n ys) e in
-    elim (i % k == w) as (λ b. (if b then x ∷ picked k w (i + 1) (xs ++ ys) else picked k w (i + 1) (xs ++ ys)) ≡ (if b then x ∷ picked k w (i + 1) xs else picked k w (i + 1) xs) ++ behind) [
+    let behind = picked p (i + length (x ∷ xs)) ys in
+    let rest : picked p (i + 1) (xs ++ ys) ≡ picked p (i + 1) xs ++ behind = picked_append p (i + 1) xs ys ∙ ap (λ n. picked p (i + 1) xs ++ picked p n ys) e in
+    elim (p i) as (λ b. (if b then x ∷ picked p (i + 1) (xs ++ ys) else picked p (i + 1) (xs ++ ys)) ≡ (if b then x ∷ picked p (i + 1) xs else picked p (i + 1) xs) ++ behind) [
       | true ↦ ap (λ zs. x ∷ zs) rest
       | false ↦ rest
     ]
 
+picked_same : {X : Type 0} (p q : ℕ → Bool) (i : ℕ) (xs : List X) → ((j : ℕ) → i ≤ j → j < i + length xs → p j ≡ q j) → picked p i xs ≡ picked q i xs
+picked_same p q i [] same = refl
+picked_same p q i (x ∷ xs) same =
+    let rest = picked_same p q (i + 1) xs (λ j low high. same j (omega arith) (omega arith)) in
+    let here : p i ≡ q i = same i (omega arith) (omega arith) in
+    ap (λ b. if b then x ∷ picked p (i + 1) xs else picked p (i + 1) xs) here
+    ∙ elim (q i) as (λ b. (if b then x ∷ picked p (i + 1) xs else picked p (i + 1) xs) ≡ (if b then x ∷ picked q (i + 1) xs else picked q (i + 1) xs)) [
+      | true ↦ ap (λ ys. x ∷ ys) rest
+      | false ↦ rest
+    ]
+
+-- ---- of places
+
+pub places_nil : {X : Type 0} (p : ℕ → Bool) → at_places {X = X} p [] ≡ []
+places_nil {X} p = places_are p []
+
+pub places_push : {X : Type 0} (p : ℕ → Bool) (xs : List X) (x : X) → at_places p (xs ++ x ∷ []) ≡ at_places p xs ++ (if p (length xs) then x ∷ [] else [])
+places_push p xs x = places_are p (xs ++ x ∷ []) ∙ (picked_push p 0 xs x ∙ (ap (λ ys. ys ++ (if p (0 + length xs) then x ∷ [] else [])) (sym (places_are p xs)) ∙ ap (λ n. at_places p xs ++ (if p n then x ∷ [] else [])) (omega arith)))
+
+pub places_same : {X : Type 0} (p q : ℕ → Bool) (xs : List X) → ((j : ℕ) → j < length xs → p j ≡ q j) → at_places p xs ≡ at_places q xs
+places_same p q xs same = places_are p xs ∙ (picked_same p q 0 xs (λ j low high. same j (omega arith)) ∙ sym (places_are q xs))
+
+-- one element more
+pub places_more : {X : Type 0} (p : ℕ → Bool) (xs : List X) (i : ℕ) (d : X) → i < length xs → at_places p (take (i + 1) xs) ≡ at_places p (take i xs) ++ (if p i then slice_index_or xs i d ∷ [] else [])
+places_more p xs i d within =
+    let len : length (take i xs) ≡ i = length-take-le i xs (omega arith) in
+    ap (at_places p) (take_more xs i d within) ∙ (places_push p (take i xs) (slice_index_or xs i d) ∙ ap (λ n. at_places p (take i xs) ++ (if p n then slice_index_or xs i d ∷ [] else [])) len)
+
+-- one element more, at a place of another kind
+pub places_skip : {X : Type 0} (p : ℕ → Bool) (xs : List X) (i : ℕ) → p i ≡ false → at_places p (take (i + 1) xs) ≡ at_places p (take i xs)
+places_skip p xs i other =
+    elim (cases_lt i (length xs)) [
+      | inl within ↦
+          let d = some_of xs i within in
+          places_more p xs i d within ∙ (ap (λ b. at_places p (take i xs) ++ (if b then slice_index_or xs i d ∷ [] else [])) other ∙ append-nil (at_places p (take i xs)))
+      | inr past ↦ ap (at_places p) (take_all (i + 1) xs (omega arith) ∙ sym (take_all i xs past))
+    ]
+
+-- some elements more, all at places of another kind
+pub places_over : {X : Type 0} (p : ℕ → Bool) (xs : List X) (i m : ℕ) → ((j : ℕ) → i ≤ j → j < i + m → p j ≡ false) → at_places p (take (i + m) xs) ≡ at_places p (take i xs)
+places_over p xs i zero other = ap (λ n. at_places p (take n xs)) (omega arith)
+places_over p xs i (suc m) other =
+    let before = places_over p xs i m (λ j low high. other j low (omega arith)) in
+    let next : i + suc m ≡ (i + m) + 1 = omega arith in
+    ap (λ n. at_places p (take n xs)) next ∙ (places_skip p xs (i + m) (other (i + m) (omega arith) (omega arith)) ∙ before)
+
+-- one element more, and then others at places of another kind
+pub places_round : {X : Type 0} (p : ℕ → Bool) (xs : List X) (i k : ℕ) (d : X) → 0 < k → i < length xs → ((j : ℕ) → i < j → j < i + k → p j ≡ false)
+    → at_places p (take (i + k) xs) ≡ at_places p (take i xs) ++ (if p i then slice_index_or xs i d ∷ [] else [])
+places_round p xs i k d some within other =
+    let last : i + k ≡ (i + 1) + (k - 1) = omega arith in
+    ap (λ n. at_places p (take n xs)) last ∙ (places_over p xs (i + 1) (k - 1) (λ j low high. other j (omega arith) (omega arith)) ∙ places_more p xs i d within)
+
 -- ---- of shares
 
 pub share_nil : {X : Type 0} (k w : ℕ) → share_of {X = X} k w [] ≡ []
-share_nil {X} k w = share_is k w []
+share_nil k w = places_nil (λ at. at % k == w)
 
 pub share_push : {X : Type 0} (k w : ℕ) (xs : List X) (x : X) → share_of k w (xs ++ x ∷ []) ≡ share_of k w xs ++ (if length xs % k == w then x ∷ [] else [])
-share_push k w xs x = share_is k w (xs ++ x ∷ []) ∙ (picked_push k w 0 xs x ∙ (ap (λ ys. ys ++ (if (0 + length xs) % k == w then x ∷ [] else [])) (sym (share_is k w xs)) ∙ ap (λ n. share_of k w xs ++ (if n % k == w then x ∷ [] else [])) (omega arith)))
-
-pub share_map : {X Y : Type 0} (f : X → Y) (k w : ℕ) (xs : List X) → share_of k w (map f xs) ≡ map f (share_of k w xs)
-share_map f k w xs = share_is k w (map f xs) ∙ (picked_map f k w 0 xs ∙ ap (map f) (sym (share_is k w xs)))
+share_push k w xs x = places_push (λ at. at % k == w) xs x
 
 pub share_length : {X Y : Type 0} (k w : ℕ) (xs : List X) (ys : List Y) → length xs ≡ length ys → length (share_of k w xs) ≡ length (share_of k w ys)
-share_length k w xs ys same = ap length (share_is k w xs) ∙ (picked_length k w 0 xs ys same ∙ ap length (sym (share_is k w ys)))
+share_length k w xs ys same =
+    let p : ℕ → Bool = λ at. at % k == w in
+    ap length (places_are p xs) ∙ (picked_length p 0 xs ys same ∙ ap length (sym (places_are p ys)))
 
 -- of the first of them the share is no longer
 pub share_front : {X : Type 0} (k w n : ℕ) (xs : List X) → length (share_of k w (take n xs)) ≤ length (share_of k w xs)
 share_front k w n xs =
-    let front = picked k w 0 (take n xs) in
-    let back = picked k w (0 + length (take n xs)) (drop n xs) in
-    let whole : share_of k w xs ≡ front ++ back = share_is k w xs ∙ (ap (picked k w 0) (sym (take-append-drop n xs)) ∙ picked_append k w 0 (take n xs) (drop n xs)) in
-    let first = ap length (share_is k w (take n xs)) in
+    let p : ℕ → Bool = λ at. at % k == w in
+    let front = picked p 0 (take n xs) in
+    let back = picked p (0 + length (take n xs)) (drop n xs) in
+    let whole : share_of k w xs ≡ front ++ back = places_are p xs ∙ (ap (picked p 0) (sym (take-append-drop n xs)) ∙ picked_append p 0 (take n xs) (drop n xs)) in
+    let first = ap length (places_are p (take n xs)) in
     let all : length (share_of k w xs) ≡ length front + length back = ap length whole ∙ length-append front back in
     omega arith
-
--- one element more is not the worker's
-pub share_skip : {X : Type 0} (k w : ℕ) (xs : List X) (i : ℕ) (d : X) → i < length xs → (i % k == w) ≡ false → share_of k w (take (i + 1) xs) ≡ share_of k w (take i xs)
-share_skip k w xs i d within other =
-    let len : length (take i xs) ≡ i = length-take-le i xs (omega arith) in
-    ap (share_of k w) (take_more xs i d within) ∙ (share_push k w (take i xs) (slice_index_or xs i d) ∙ rw (len, other) (append-nil (share_of k w (take i xs))))
 
 -- one element more is the worker's
 pub share_take : {X : Type 0} (k w : ℕ) (xs : List X) (i : ℕ) (d : X) → i < length xs → (i % k == w) ≡ true → share_of k w (take (i + 1) xs) ≡ share_of k w (take i xs) ++ slice_index_or xs i d ∷ []
 share_take k w xs i d within its_own =
-    let len : length (take i xs) ≡ i = length-take-le i xs (omega arith) in
-    ap (share_of k w) (take_more xs i d within) ∙ (share_push k w (take i xs) (slice_index_or xs i d) ∙ rw (len, its_own) refl)
+    places_more (λ at. at % k == w) xs i d within ∙ ap (λ b. share_of k w (take i xs) ++ (if b then slice_index_or xs i d ∷ [] else [])) its_own
 
--- ---- a round on
+-- ---- whose a place is
 
 -- a step shorter than a round leads to another remainder
 other_remainder : (k i s : ℕ) → 0 < s → s < k → (i + s) % k ≡ i % k → ⊥
@@ -126,34 +163,14 @@ other_remainder k i s some short same =
           omega arith
     ]
 
-other_place : (k i s w : ℕ) → 0 < s → s < k → i % k ≡ w → ((i + s) % k == w) ≡ false
-other_place k i s w some short its_own = false_from_ne_true ((i + s) % k == w) (λ is. other_remainder k i s some short (eqb-true ((i + s) % k) w is ∙ sym its_own))
+-- between a place of the worker's and the next no place is its own
+pub others_between : (k w i j : ℕ) → i % k ≡ w → i < j → j < i + k → (j % k == w) ≡ false
+others_between k w i j its_own low high =
+    let step : i + (j - i) ≡ j = omega arith in
+    false_from_ne_true (j % k == w) (λ is. other_remainder k i (j - i) (omega arith) (omega arith) (ap (λ n. n % k) step ∙ (eqb-true (j % k) w is ∙ sym its_own)))
 
--- what stands between two of the worker's is not the worker's
-share_over : {X : Type 0} (k w : ℕ) (xs : List X) (i m : ℕ) (d : X) → i % k ≡ w → m < k → share_of k w (take (i + 1 + m) xs) ≡ share_of k w (take (i + 1) xs)
-share_over k w xs i zero d its_own short = ap (λ n. share_of k w (take n xs)) (omega arith)
-share_over k w xs i (suc m) d its_own short =
-    let before = share_over k w xs i m d its_own (omega arith) in
-    let next : i + 1 + suc m ≡ (i + 1 + m) + 1 = omega arith in
-    ap (λ n. share_of k w (take n xs)) next ∙ (elim (cases_lt (i + 1 + m) (length xs)) [
-      | inl within ↦ share_skip k w xs (i + 1 + m) d within (ap (λ n. n % k == w) (omega arith) ∙ other_place k i (suc m) w (omega arith) short its_own)
-      | inr past ↦ ap (share_of k w) (take_all ((i + 1 + m) + 1) xs (omega arith) ∙ sym (take_all (i + 1 + m) xs past))
-    ] ∙ before)
-
--- a round from one of the worker's
-pub share_round : {X : Type 0} (k w : ℕ) (xs : List X) (i : ℕ) (d : X) → 0 < k → i < length xs → i % k ≡ w → share_of k w (take (i + k) xs) ≡ share_of k w (take i xs) ++ slice_index_or xs i d ∷ []
-share_round k w xs i d some within its_own =
-    let last : i + k ≡ i + 1 + (k - 1) = omega arith in
-    ap (λ n. share_of k w (take n xs)) last ∙ (share_over k w xs i (k - 1) d its_own (omega arith) ∙ share_take k w xs i d within (eq-eqb (i % k) w its_own))
-
--- those before a worker's first are others'
-pub share_first : {X : Type 0} (k w : ℕ) (xs : List X) (m : ℕ) → m ≤ w → w < k → share_of k w (take m xs) ≡ []
-share_first k w xs zero few small = share_nil k w
-share_first k w xs (suc m) few small =
-    let before = share_first k w xs m (omega arith) small in
-    let next : suc m ≡ m + 1 = omega arith in
-    let whole : m % k ≡ m = mod-eq_of_lt (omega arith) in
-    ap (λ n. share_of k w (take n xs)) next ∙ (elim (cases_lt m (length xs)) [
-      | inl within ↦ share_skip k w xs m (some_of xs m within) within (false_from_ne_true (m % k == w) (λ is. let e = eqb-true (m % k) w is in omega arith))
-      | inr past ↦ ap (share_of k w) (take_all (m + 1) xs (omega arith) ∙ sym (take_all m xs past))
-    ] ∙ before)
+-- nor is one before the first
+pub others_before : (k w j : ℕ) → j < w → w < k → (j % k == w) ≡ false
+others_before k w j low small =
+    let whole : j % k ≡ j = mod-eq_of_lt (omega arith) in
+    false_from_ne_true (j % k == w) (λ is. let e = eqb-true (j % k) w is in omega arith)

@@ -1,20 +1,26 @@
 -- The share of a worker, and what the worker has done of it.
-use Rattle.std.specs.Prelude.{◌≡◌, ◌≤◌, ◌⊎◌, ◌%◌, ◌==◌, ℕ, List, [], Option, Some, None, IfSome, length, map, take}
+use Rattle.std.specs.Prelude.{◌≡◌, ◌<◌, ◌≤◌, ◌⊎◌, ◌%◌, ◌==◌, ◌&&◌, ◌++◌, ℕ, List, [], ◌∷◌, Bool, Option, Some, None, IfSome, is_none, length, map}
 use Rattle.std.specs.List.{All, filter, enumerate_from, slice_get}
-use Rattle.sdbm_addr.specs.declared.PageSize.{PageSize}
 use Rattle.bpf_verify.specs.Verified.{Accepted}
 use Rattle.store_cmd.specs.declared.Command.{Command}
 use Rattle.store_cmd.specs.declared.Reply.{Reply}
 use Rattle.store_cmd.specs.declared.Entry.{Entry}
 use Rattle.store_cmd.specs.declared.Refusal.{Refusal}
-use Rattle.store_shared.specs.Shared.{SessionState}
+use Rattle.store_shared.specs.Shared.{SessionState, with_call}
 use Rattle.worker_pool.specs.declared.task.Task.{Task}
-use Rattle.worker_pool.specs.Tasks.{run_of, IsTaskRefusal}
+use Rattle.worker_pool.specs.Tasks.{run_of, IsTried}
 
--- What a worker has of a list of which so many have a share: the elements at places with the worker's number as remainder, in their
--- order.
-unfoldable pub share_of : {X : Type 0} → ℕ → ℕ → List X → List X
-share_of {X} workers worker xs = map (λ (placed : ℕ × X). placed.1) (filter (λ (placed : ℕ × X). placed.0 % workers == worker) (enumerate_from 0 xs))
+-- the elements of a list at places of a kind, in their order
+unfoldable pub at_places : {X : Type 0} → (ℕ → Bool) → List X → List X
+at_places {X} is_one xs = map (λ (placed : ℕ × X). placed.1) (filter (λ (placed : ℕ × X). is_one placed.0) (enumerate_from 0 xs))
+
+-- What a worker has of a list of which so many have a share: the elements at places with the worker's number as remainder.
+abbrev pub share_of : {X : Type 0} → ℕ → ℕ → List X → List X
+share_of workers worker xs = at_places (λ at. at % workers == worker) xs
+
+-- what of its share a worker ran, where the refusals of tasks are known by place: what stands where none was refused
+abbrev pub ran_of : {X : Type 0} → ℕ → ℕ → (ℕ → Option Refusal) → List X → List X
+ran_of workers worker refusals xs = at_places (λ at. at % workers == worker && is_none (refusals at)) xs
 
 abbrev pub runs_of : {A : Type 0} → List Accepted → List (Task A) → List (Command A)
 runs_of {A} programs tasks = map (λ (task : Task A). run_of programs task) tasks
@@ -25,33 +31,47 @@ commands_of {A} calls = map (λ (call : Entry A). call.command) calls
 abbrev pub replies_of : {A : Type 0} → List (Entry A) → List (Reply A)
 replies_of {A} calls = map (λ (call : Entry A). call.reply) calls
 
--- The calls of a worker's session are the runs of its share of the tasks below a place, in their order.
-pub record HasDone {A : Type 0} (programs : List Accepted) (tasks : List (Task A)) (workers worker stop number : ℕ) (calls : List (Entry A)) : Type 0 where
-  pub commands : commands_of calls ≡ share_of workers worker (take stop (runs_of programs tasks))
+-- The calls of a session with this number are the runs of just these tasks, in their order.
+pub record AreRuns {A : Type 0} (programs : List Accepted) (tasks : List (Task A)) (number : ℕ) (calls : List (Entry A)) : Type 0 where
+  pub commands : commands_of calls ≡ runs_of programs tasks
   pub own : All (λ (call : Entry A). call.session ≡ number) calls
-
--- the place at which a worker stopped: of the task that it was refused, or the end
-abbrev pub stop_of : ℕ → Option (ℕ × Refusal) → ℕ
-stop_of end None = end
-stop_of end (Some refused) = refused.0
-
--- a task of a worker's share, and why it is refused
-pub record IsRefusedAt {A : Type 0} (size : PageSize) (programs : List Accepted) (tasks : List (Task A)) (workers worker at : ℕ) (refusal : Refusal) : Type 0 where
-  pub task : Task A
-  pub here : slice_get tasks at ≡ Some task
-  pub its_own : at % workers ≡ worker
-  pub why : IsTaskRefusal size (run_of programs task) refusal
 
 -- a worker that has done nothing
 pub record IsUnused {A : Type 0} (session : SessionState A) (replies : List (Reply A)) : Type 0 where
   pub calls : session.calls ≡ []
   pub replies_are : replies ≡ []
 
--- What a worker has done: its share, or what came before a task that it was refused.
+-- a worker's session has one call more, of this command, and its replies the reply
+pub record IsCalled {A : Type 0} (command : Command A) (session : SessionState A) (replies : List (Reply A)) (session' : SessionState A) (replies' : List (Reply A)) : Type 0 where
+  pub reply : Reply A
+  pub call : session' ≡ with_call session command reply
+  pub added : replies' ≡ replies ++ reply ∷ []
+
+-- the first task that was refused, where one more was tried behind those that are known
+abbrev pub first_with : Option (ℕ × Refusal) → ℕ → Option Refusal → Option (ℕ × Refusal)
+first_with (Some first) at refusal = Some first
+first_with None at None = None
+first_with None at (Some refusal) = Some (at, refusal)
+
+-- this task is the first of a worker's own that was refused, for this
+pub record IsFirstOwn (count workers worker : ℕ) (refusals : ℕ → Option Refusal) (at : ℕ) (refusal : Refusal) : Type 0 where
+  pub within : at < count
+  pub its_own : at % workers ≡ worker
+  pub here : refusals at ≡ Some refusal
+  pub before : (earlier : ℕ) → earlier < at → earlier % workers ≡ worker → refusals earlier ≡ None
+
+-- the first of so many tasks that a worker was refused, with why, or nothing where it was refused none
+abbrev pub IsFirstRefused : ℕ → ℕ → ℕ → (ℕ → Option Refusal) → Option (ℕ × Refusal) → Type 0
+IsFirstRefused count workers worker refusals None = (at : ℕ) → at % workers ≡ worker → refusals at ≡ None
+IsFirstRefused count workers worker refusals (Some first) = IsFirstOwn count workers worker refusals first.0 first.1
+
+-- What a worker has done: it tried each task of its share, and its calls are the runs of those that were not refused.
 pub record HasWorked {A : Type 0} (programs : List Accepted) (tasks : List (Task A)) (workers worker : ℕ) (session : SessionState A) (replies : List (Reply A)) (refused : Option (ℕ × Refusal)) : Type 0 where
-  pub done : HasDone programs tasks workers worker (stop_of (length tasks) refused) session.number session.calls
+  pub refusals : ℕ → Option Refusal
+  pub tried : (at : ℕ) (task : Task A) → slice_get tasks at ≡ Some task → at % workers ≡ worker → IsTried session.size (run_of programs task) (refusals at)
+  pub runs : AreRuns programs (ran_of workers worker refusals tasks) session.number session.calls
   pub replied : replies_of session.calls ≡ replies
-  pub refusal : IfSome refused (λ r. IsRefusedAt session.size programs tasks workers worker r.0 r.1)
+  pub first : IsFirstRefused (length tasks) workers worker refusals refused
 
 -- no later than another, where that is a place at all
 abbrev pub IsNoLater : Option (ℕ × Refusal) → Option (ℕ × Refusal) → Type 0

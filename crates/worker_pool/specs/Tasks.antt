@@ -1,10 +1,11 @@
 -- What a task asks, which programs are there, and why a task is refused.
-use Rattle.std.specs.Prelude.{◌≡◌, ◌<◌, ◌≤◌, ℕ, ◌⊎◌, List, [], length, take, Some}
+use Rattle.std.specs.Prelude.{◌≡◌, ◌<◌, ◌≤◌, ℕ, ◌⊎◌, List, [], length, take, Option, Some, None}
 use Rattle.std.specs.List.{All, slice_get}
 use Rattle.std.specs.Option.{option_map_or}
 use Rattle.sdbm_addr.specs.declared.PageSize.{PageSize}
 use Rattle.bpf_insn.specs.declared.insn.Insn.{Insn}
 use Rattle.bpf_verify.specs.Verified.{Accepted}
+use Rattle.store_cmd.specs.Command.{IsSmall}
 use Rattle.store_cmd.specs.declared.Command.{Command}
 use Rattle.store_cmd.specs.declared.Command.TheVariants as commands
 use Rattle.store_cmd.specs.declared.Refusal.{Refusal}
@@ -37,3 +38,8 @@ pub record IsFirstUnknown {A : Type 0} (programs : List Accepted) (tasks : List 
 -- Why a task is refused: as a session's call for it is, or for want of memory before that is made.
 abbrev pub IsTaskRefusal : {A : Type 0} → PageSize → Command A → Refusal → Type 0
 IsTaskRefusal size command refusal = IsRefusal size command refusal ⊎ (refusal ≡ refusals.NoMemory)
+
+-- What came of a task: it was run, and its command is one that is taken, or it was refused.
+abbrev pub IsTried : {A : Type 0} → PageSize → Command A → Option Refusal → Type 0
+IsTried size command None = IsSmall size command
+IsTried size command (Some refusal) = IsTaskRefusal size command refusal

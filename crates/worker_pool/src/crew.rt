@@ -14,7 +14,7 @@ use std::thread::Threads;
 use store_cmd::{Refusal, Reply};
 use store_shared::{Gate, Session, Store};
 
-/// A worker: its session, the replies that it got, and the task that it was refused, with why.
+/// A worker: its session, the replies that it got, and the first task that it was refused, with why.
 #[derive(Drop)]
 pub(crate) struct Worker<'a, A: Allocator, G: Gate> {
     pub(crate) session: Session<'a, A, G>,

@@ -1,10 +1,10 @@
 //! The pool.
-ghost use Rattle.std.specs.Prelude.{◌≡◌, ◌<◌, ◌↔◌, ◌≤◌, [], IsTrue, IfNone, IfOk, IfErr, IfSome, length, vec_len, vec_capacity};
+ghost use Rattle.std.specs.Prelude.{◌≡◌, ◌↔◌, ◌≤◌, [], IsTrue, IfNone, IfOk, IfErr, IfSome, OnOk, length, vec_len, vec_capacity};
 ghost use Rattle.sdbm_addr.specs.declared.PageSize.{PageSize};
 ghost use Rattle.std.specs.List.{All};
 ghost use Rattle.worker_pool.specs.Tasks.{AreKnown, IsFirstUnknown, IsKnown};
 ghost use Rattle.worker_pool.specs.Shares.{IsUnused};
-ghost use Rattle.worker_pool.specs.Pool.{MayBegin, AreDone, IsPoolFault};
+ghost use Rattle.worker_pool.specs.Pool.{MayBegin, AreDone, IsPoolFault, IsUnfinished, IsUnready};
 
 use crate::crew::{Worker, hire, set_to_work};
 use crate::gather::{Room, dismiss, first_refused, gather};
@@ -16,15 +16,14 @@ use std::thread::Threads;
 use store_shared::{Calls, Gate, Store};
 
 /// Runs tasks by so many workers, each with a new session of the store and in a thread of its own where one can be made. Task `i` is
-/// run by worker `i % workers`, and each worker's tasks in rising order. A worker that is refused a task runs no more, and the others
-/// go on.
+/// run by worker `i % workers`, and each worker's tasks in rising order. A task that is refused is left out, and all others are run.
 ///
 /// # Errors
 /// `NoWorkers` where there are none. Then `NoProgram` with the first task whose program is not in the registry. Then `NoMemory`
 /// where no memory is left for the lists of replies, calls and workers, or `NoSession` where the store makes too few sessions; up to
 /// there no task was run. Then `Refused` with the first task that was refused, and why, which is `NoMemory` too where no memory is
 /// left for one task. With each the calls of the sessions that were made come back, in the order of the workers, so that the store
-/// can be closed.
+/// can be closed; they say which tasks were run.
 pub fn run_jobs<R: Threads + Wait + Sync, A: Allocator + Copy + Send + Sync, G: Gate>(
     rt: &R,
     alloc: A,
@@ -33,21 +32,70 @@ pub fn run_jobs<R: Threads + Wait + Sync, A: Allocator + Copy + Send + Sync, G: 
     tasks: &[Task<A>],
     workers: usize,
 ) -> Result<Answers<A>, (PoolFault, Vec<Calls<A>, A>)>
-    ensures ok { IfOk result (λ answers. AreDone registry.now.programs tasks.now workers answers.replies.items answers.calls.items) }
+    ensures ok { IfOk result (λ answers. AreDone store.now.size registry.now.programs tasks.now workers answers.replies.items answers.calls.items) }
     ensures err { IfErr result (λ refused. IsPoolFault store.now.size registry.now.programs tasks.now workers refused.0 refused.1.items) }
 {
+    match make_ready(alloc, registry, tasks, workers) {
+        Ok(ready) => run_ready(rt, alloc, store, registry, tasks, workers, ready),
+        Err(fault) => Err((fault, Vec::new(alloc))),
+    }
+}
+
+// What is wanted before a session is made: a list for the workers, and those for what they leave.
+#[derive(Drop)]
+struct Ready<'a, A: Allocator, G: Gate> {
+    crew: Vec<Worker<'a, A, G>, A>,
+    room: Room<A>,
+}
+
+// Takes the memory of all lists. It is lent no store, so where it refuses nothing was run.
+fn make_ready<'a, A: Allocator + Copy, G: Gate>(
+    alloc: A,
+    registry: &Registry<A>,
+    tasks: &[Task<A>],
+    workers: usize,
+) -> Result<Ready<'a, A, G>, PoolFault>
+    ensures begun { OnOk result (MayBegin registry.now.programs tasks.now workers) }
+    ensures crew { IfOk result (λ ready. (ready.crew.items ≡ []) × (workers ≤ vec_capacity ready.crew)) }
+    ensures replies { IfOk result (λ ready. (ready.room.replies.items ≡ []) × (length tasks.now ≤ vec_capacity ready.room.replies) × (vec_len ready.room.replies ≡ 0)) }
+    ensures lists { IfOk result (λ ready. (ready.room.lists.items ≡ []) × (workers ≤ vec_capacity ready.room.lists)) }
+    ensures calls { IfOk result (λ ready. (ready.room.calls.items ≡ []) × (workers ≤ vec_capacity ready.room.calls)) }
+    ensures err { IfErr result (IsUnready registry.now.programs tasks.now workers) }
+{
     if workers == 0 {
-        return Err((PoolFault::NoWorkers, Vec::new(alloc)));
+        return Err(PoolFault::NoWorkers);
     }
     if let Some(task) = first_unknown(registry, tasks) {
-        return Err((PoolFault::NoProgram(task), Vec::new(alloc)));
+        return Err(PoolFault::NoProgram(task));
     }
     let Ok(crew) = Vec::with_capacity(alloc, workers) else {
-        return Err((PoolFault::NoMemory, Vec::new(alloc)));
+        return Err(PoolFault::NoMemory);
     };
     let Ok(room) = Room::new(alloc, tasks.len(), workers) else {
-        return Err((PoolFault::NoMemory, Vec::new(alloc)));
+        return Err(PoolFault::NoMemory);
     };
+    Ok(Ready { crew, room })
+}
+
+// Makes the sessions, and lets the workers do the tasks.
+fn run_ready<'a, R: Threads + Wait + Sync, A: Allocator + Copy + Send + Sync, G: Gate>(
+    rt: &R,
+    alloc: A,
+    store: &'a Store<A, G>,
+    registry: &Registry<A>,
+    tasks: &[Task<A>],
+    workers: usize,
+    ready: Ready<'a, A, G>,
+) -> Result<Answers<A>, (PoolFault, Vec<Calls<A>, A>)>
+    requires begun { MayBegin registry.now.programs tasks.now workers }
+    requires crew { (ready.crew.items ≡ []) × (workers ≤ vec_capacity ready.crew) }
+    requires replies { (ready.room.replies.items ≡ []) × (length tasks.now ≤ vec_capacity ready.room.replies) × (vec_len ready.room.replies ≡ 0) }
+    requires lists { (ready.room.lists.items ≡ []) × (workers ≤ vec_capacity ready.room.lists) }
+    requires calls { (ready.room.calls.items ≡ []) × (workers ≤ vec_capacity ready.room.calls) }
+    ensures ok { IfOk result (λ answers. AreDone store.now.size registry.now.programs tasks.now workers answers.replies.items answers.calls.items) }
+    ensures err { IfErr result (λ refused. IsUnfinished store.now.size registry.now.programs tasks.now workers refused.0 refused.1.items) }
+{
+    let Ready { crew, room } = ready;
     match hire(rt, alloc, store, workers, crew) {
         Ok(crew) => run_crew(rt, registry, tasks, crew, room),
         Err(crew) => {
@@ -75,8 +123,8 @@ fn run_crew<R: Threads + Wait + Sync, A: Allocator + Copy + Send + Sync, G: Gate
     requires replies { (room.replies.items ≡ []) × (length tasks.now ≤ vec_capacity room.replies) × (vec_len room.replies ≡ 0) }
     requires lists { (room.lists.items ≡ []) × (length crew.items ≤ vec_capacity room.lists) }
     requires calls { (room.calls.items ≡ []) × (length crew.items ≤ vec_capacity room.calls) }
-    ensures ok { IfOk result (λ answers. AreDone registry.now.programs tasks.now (length crew.entry.items) answers.replies.items answers.calls.items) }
-    ensures err { IfErr result (λ refused. (size : PageSize) → All (λ x. x.session.size ≡ size) crew.entry.items → IsPoolFault size registry.now.programs tasks.now (length crew.entry.items) refused.0 refused.1.items) }
+    ensures ok { IfOk result (λ answers. (size : PageSize) → All (λ x. x.session.size ≡ size) crew.entry.items → AreDone size registry.now.programs tasks.now (length crew.entry.items) answers.replies.items answers.calls.items) }
+    ensures err { IfErr result (λ refused. (size : PageSize) → All (λ x. x.session.size ≡ size) crew.entry.items → IsUnfinished size registry.now.programs tasks.now (length crew.entry.items) refused.0 refused.1.items) }
 {
     let mut crew = crew;
     set_to_work(rt, registry, tasks, crew.as_mut_slice());

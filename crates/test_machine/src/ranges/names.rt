@@ -24,7 +24,7 @@ pub fn read_op(word: &str) -> Option<Op> {
     }
 }
 
-/// An operation whose name ends with a number of bits.
+// An operation whose name ends with a number of bits.
 fn read_sized(word: &str) -> Option<Op> {
     if let Some(bits) = word.strip_prefix("movsx") {
         return Some(Op::MovSx(read_size(bits)?));

@@ -19,7 +19,7 @@ pub fn read_range(word: &str) -> Option<Range> {
     Some(Range { lo, hi })
 }
 
-/// What is known of a number, of the form `LO..HI,VALUE,UNKNOWN`.
+// What is known of a number, of the form `LO..HI,VALUE,UNKNOWN`.
 fn read_known(word: &str) -> Option<Known> {
     let (range, bits) = word.split_once(',')?;
     let (value, unknown) = bits.split_once(',')?;

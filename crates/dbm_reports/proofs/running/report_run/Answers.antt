@@ -5,6 +5,7 @@ returns-clause-ok c = record {
   before = c.in_ok-database.database;
   opened = c.in_ok-database.ensures.ok.0;
   words = c.in_ok-words.words;
+  expect = c.in_ok-words.expect;
   are = c.in_ok-words.ensures.ok;
   image = c.as_slice.result.now;
   image_is = rw c.as_slice.ensures.value c.in_ok-database.ensures.ok.1;

@@ -1,5 +1,24 @@
-use Rattle.std.proofs.Common.{refl}
+use Rattle.std.proofs.Common.{Some, Err, ap, refl}
+use Rattle.dbm_reports.specs.Causes.{IsCaused, play_causes}
+use Rattle.dbm_reports.proofs.Faults.{as_err, lines_caused}
 use Rattle.dbm_reports.proofs.subcommands.play.Goals as goal
 
-pub returns : goal.returns
-returns c = (c.in_ok-image.image, (record { runs = c.in_ok-image.ensures.runs; kind = c.in_ok-image.ensures.kept.0; size = c.in_ok-image.ensures.kept.1; status_is = refl }, refl))
+pub returns-in_err-image-clause-fault : goal.returns-in_err-image-clause-fault
+returns-in_err-image-clause-fault c =
+    as_err (IsCaused (play_causes c.args.image (Some c.args.script.now) c.args.most)) _ c.from_residual.ensures.1
+    (lines_caused c.args.image c.args.script.now c.args.most _ (λ is. c.in_err-image.ensures.long (ap Err is)))
+
+pub returns-clause-ok : goal.returns-clause-ok
+returns-clause-ok c = (
+  c.in_ok-image.image,
+  (
+    record {
+      runs = c.in_ok-image.ensures.runs;
+      short = c.in_ok-image.ensures.short;
+      kind = c.in_ok-image.ensures.kept.0;
+      size = c.in_ok-image.ensures.kept.1;
+      status_is = refl;
+    },
+    refl,
+  ),
+)

@@ -1,8 +1,8 @@
-use Rattle.std.proofs.Common.{◌≡◌, ◌∷◌, ◌++◌, [], List, ℕ, ap, sym, subst, ◌∙◌, append_assoc, refl, rules}
+use Rattle.std.proofs.Common.{◌≡◌, ◌∷◌, ◌++◌, [], List, ℕ, ap, ◌∙◌, refl, rules}
 use Rattle.prog_registry.specs.Registry.{Registered}
 use Rattle.dbm_script.specs.Pieces.{pieces_of, pieces_left}
 use Rattle.dbm_script.specs.Script.{RunsLines, RunsScript, stage}
-use Rattle.dbm_script.proofs.Runs.{RunsLines-append, IsScriptRun-from}
+use Rattle.dbm_script.proofs.Runs.{IsScriptRun-from, next_done, one_more}
 use Rattle.dbm_script.proofs.script.run_lines.Goals as goal
 
 pub loop-rest-init : goal.loop-rest-init
@@ -11,6 +11,7 @@ loop-rest-init g c = record {
   lines = refl;
   told = [];
   ran = (c.new-text.ensures.items, ap (λ (r : Registered). stage c.args.image r.programs) c.in_ok-registry.ensures);
+  short = search rules;
   kind = refl;
   size = refl;
 }
@@ -23,17 +24,32 @@ loop-rest-preserved g c =
     let left : pieces_left 10 c.loop-rest.rest ≡ line ∷ pieces_left 10 after = ap (pieces_left 10) c.in-Some.is ∙ c.first_piece.ensures in
     let kept = c.in_ok-answer_line.ensures.kept in
     let adds = c.in_ok-answer_line.ensures.answer in
-    let first = stage c.args.image [] in
-    let now = stage c.loop-rest.image c.loop-rest.registry.programs in
-    let next = stage c.answer_line.new.image c.answer_line.new.registry.programs in
     record {
       done = before.done ++ line ∷ [];
-      lines = append_assoc before.done (line ∷ []) (pieces_left 10 after) ∙ ap (λ (ls : List (List ℕ)). before.done ++ ls) (sym left) ∙ before.lines;
+      lines = next_done before.done line _ _ _ before.lines left;
       told = before.told ++ adds.holds.0;
-      ran = subst (λ (text : List ℕ). RunsLines g.row.A.Denot first (before.done ++ line ∷ []) (before.told ++ adds.holds.0) text next) (sym adds.is)
-          (RunsLines-append g.row.A.Denot first now next before.done (line ∷ []) before.told adds.holds.0 c.loop-rest.text.items adds.added before.ran adds.holds.1);
+      ran = one_more g.row.A.Denot (stage c.args.image []) _ _ before.done line before.told _ _ before.ran adds;
+      short = search rules;
       kind = kept.0 ∙ before.kind;
       size = kept.1 ∙ before.size;
+    }
+
+pub returns-then-len-most-clause-long : goal.returns-then-len-most-clause-long
+returns-then-len-most-clause-long g c = λ _.
+    let before = c.loop-rest.invariant in
+    let line = c.first_piece.result.0.now in
+    let after = c.first_piece.result.1 in
+    let left : pieces_left 10 c.loop-rest.rest ≡ line ∷ pieces_left 10 after = ap (pieces_left 10) c.in-Some.is ∙ c.first_piece.ensures in
+    let adds = c.in_ok-answer_line.ensures.answer in
+    record {
+      first = before.done ++ line ∷ [];
+      others = pieces_left 10 after;
+      lines = next_done before.done line _ _ _ before.lines left;
+      told = before.told ++ adds.holds.0;
+      text = c.answer_line.new.text.items;
+      after = stage c.answer_line.new.image c.answer_line.new.registry.programs;
+      ran = one_more g.row.A.Denot (stage c.args.image []) _ _ before.done line before.told _ _ before.ran adds;
+      long = search rules;
     }
 
 pub returns-clause-runs : goal.returns-clause-runs

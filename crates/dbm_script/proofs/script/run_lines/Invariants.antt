@@ -1,4 +1,4 @@
-use Rattle.std.proofs.Common.{◌≡◌, ◌++◌, List, [], ℕ, length, Option}
+use Rattle.std.proofs.Common.{◌≡◌, ◌≤◌, ◌++◌, List, [], ℕ, length, Option}
 use Rattle.dbm_script.specs.Pieces.{pieces_of, pieces_left}
 use Rattle.dbm_script.specs.Images.{Verdict}
 use Rattle.dbm_script.specs.Script.{RunsLines, stage}
@@ -11,6 +11,7 @@ invariant-loop-rest g l = record {
   lines : done ++ pieces_left 10 l.rest ≡ pieces_of 10 l.input;
   told : List (Option Verdict);
   ran : RunsLines g.row.A.Denot (stage l.fn.image []) done told l.text.items (stage l.image l.registry.programs);
+  short : length l.text.items ≤ l.most;
   kind : l.image.kind ≡ l.fn.image.kind;
   size : l.image.size ≡ l.fn.image.size;
 }

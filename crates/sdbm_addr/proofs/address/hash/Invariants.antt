@@ -3,5 +3,5 @@ use Rattle.sdbm_addr.specs.Hash.{weighted_sum}
 use Rattle.sdbm_addr.proofs.address.hash.Given as goal
 
 -- the sum so far, under the power that the bytes left give it, and what they add
-abbrev pub invariant-loop-byte : goal.invariant-loop-byte
-invariant-loop-byte l = (l.sum * 65599 ^ length (drop l.byte-index l.key) + weighted_sum l.kind (drop l.byte-index l.key)) % 2 ^ 32 ≡ weighted_sum l.kind l.key % 2 ^ 32
+abbrev pub invariant-loop-i : goal.invariant-loop-i
+invariant-loop-i l = (l.sum * 65599 ^ length (drop l.i l.key) + weighted_sum l.kind (drop l.i l.key)) % 2 ^ 32 ≡ weighted_sum l.kind l.key % 2 ^ 32

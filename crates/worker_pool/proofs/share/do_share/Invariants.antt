@@ -1,13 +1,12 @@
 use Rattle.std.proofs.Common.{◌≡◌, ◌-◌, length}
 use Rattle.std.specs.Prelude.{◌%◌}
-use Rattle.worker_pool.specs.Shares.{HasDone, replies_of}
+use Rattle.worker_pool.proofs.TriedLemmas.{HasTried}
 use Rattle.worker_pool.proofs.share.do_share.Given as goal
 
 abbrev pub invariant-loop-at : goal.invariant-loop-at
 invariant-loop-at g l = record {
   its_own : l.at % l.workers ≡ l.worker;
-  done : HasDone l.registry.programs l.tasks l.workers l.worker l.at l.session.number l.session.calls;
-  replied : replies_of l.session.calls ≡ l.replies.items;
+  tried : HasTried l.registry.programs l.tasks l.workers l.worker l.at l.session l.replies.items l.first;
   size : l.session.size ≡ l.fn.session.size;
 }
 

@@ -1,0 +1,83 @@
+/* How long calls of the library take: N stores, fetches and increments (runs of examples/counter.s) of 16-byte keys and 8-byte values.
+ * cc -O2 -I out/boddurci bindings/c/bench.c out/boddurci/libboddurci.a -pthread -o bench
+ * usage: bench N [wide]     prints how many stores, fetches and runs there were a second, and the milliseconds in which the bytes of
+ * both files were made, and were opened again. */
+#include "boddurci.h"
+#include <stdio.h>
+#include <stdlib.h>
+#include <string.h>
+#include <time.h>
+
+/* examples/counter.s */
+static const uint8_t image[] = {
+    0xa5, 2, 5, 0, 8, 0, 0, 0, 0x79, 0x16, 0, 0, 0, 0, 0, 0,
+    7, 6, 0, 0, 1, 0, 0, 0, 0x7b, 0x61, 0, 0, 0, 0, 0, 0,
+    0xb7, 0, 0, 0, 1, 0, 0, 0, 0x95, 0, 0, 0, 0, 0, 0, 0,
+    0xb7, 0, 0, 0, 0, 0, 0, 0, 0x95, 0, 0, 0, 0, 0, 0, 0,
+};
+
+static double now(void)
+{
+    struct timespec t;
+    clock_gettime(CLOCK_MONOTONIC, &t);
+    return t.tv_sec + t.tv_nsec * 1e-9;
+}
+
+static void name(char *key, unsigned i)
+{
+    snprintf(key, 17, "key%013u", (unsigned)(i * 2654435761u));
+}
+
+#define KEY (const uint8_t *)key, 16
+
+int main(int argc, char **argv)
+{
+    if (argc < 2)
+        return 64;
+    unsigned n = (unsigned)atoi(argv[1]);
+    boddurci db = BODDURCI_CLOSED;
+    char key[32];
+    uint64_t value, sum = 0, end, word;
+    size_t length, unit, dir_length, pag_length;
+    uint8_t text[100], none[2];
+    uint32_t number;
+    if (boddurci_open(&db, BODDURCI_NO_BYTES, BODDURCI_NO_BYTES, argc > 2, 0, text, sizeof text, &length) ||
+        boddurci_submit(&db, image, sizeof image, &number, &unit, text, sizeof text, &length))
+        return 1;
+    double a = now();
+    for (unsigned i = 0; i < n; i++) {
+        name(key, i);
+        value = i;
+        if (boddurci_store(&db, KEY, (uint8_t *)&value, 8, 1))
+            return 2;
+    }
+    double b = now();
+    for (unsigned i = 0; i < n; i++) {
+        name(key, i);
+        if (boddurci_fetch(&db, KEY, (uint8_t *)&value, 8, &length))
+            return 3;
+        sum += value;
+    }
+    double c = now();
+    for (unsigned i = 0; i < n; i++) {
+        name(key, i);
+        if (boddurci_run(&db, number, KEY, BODDURCI_NO_BYTES, 1, 8, 0, &end, &word) || end != 1)
+            return 4;
+    }
+    double d = now();
+    boddurci_files(&db, none, 0, &dir_length, none + 1, 0, &pag_length);
+    uint8_t *dir = malloc(dir_length + 1), *pag = malloc(pag_length + 1);
+    if (boddurci_files(&db, dir, dir_length, &dir_length, pag, pag_length, &pag_length))
+        return 5;
+    double e = now();
+    boddurci_close(&db);
+    double f = now();
+    if (boddurci_open(&db, dir, dir_length, pag, pag_length, argc > 2, 0, text, sizeof text, &length))
+        return 6;
+    double g = now();
+    boddurci_close(&db);
+    if (sum != (uint64_t)n * (n - 1) / 2)
+        return 7;
+    printf("boddurci%s %.0f %.0f %.0f files %.0f ms open %.0f ms\n", argc > 2 ? "_wide" : "", n / (b - a), n / (c - b), n / (d - c), (e - d) * 1e3, (g - f) * 1e3);
+    return 0;
+}

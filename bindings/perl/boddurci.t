@@ -1,0 +1,61 @@
+# Tests of Boddurci.pm, in a folder of their own. BODDURCI_LIBRARY names the shared object.
+use strict;
+use warnings;
+use Cwd qw(abs_path);
+use File::Basename qw(dirname);
+use File::Temp qw(tempdir);
+use Test::More;
+
+my $top;
+BEGIN { $top = abs_path(dirname(abs_path(__FILE__)) . "/../..") }
+use lib "$top/bindings/perl";
+use Boddurci;
+
+my $base = tempdir(CLEANUP => 1) . "/visits";
+
+sub text_of {
+    local (@ARGV, $/) = @_;
+    return <>;
+}
+
+sub dies_with {
+    my ($code, $text) = @_;
+    ok(!eval { $code->(); 1 }, "dies") && like($@, $text);
+}
+
+dies_with(sub { tie my %none, "Boddurci", $base, "w" }, qr/No such file/);
+tie my %db, "Boddurci", $base, "c";
+$db{ab} = "x\0z";
+$db{""} = "";
+is($db{ab}, "x\0z");
+is($db{no}, undef);
+ok(exists $db{""} && !exists $db{no});
+is_deeply([sort keys %db], ["", "ab"]);
+is(delete $db{""}, "");
+is(delete $db{""}, undef);
+dies_with(sub { $db{big} = "x" x 1006 }, qr/too many bytes/);
+dies_with(sub { $db{"\x{263a}"} = 1 }, qr/bytes/);
+dies_with(sub { tie my %other, "Boddurci", $base, "w", no_wait => 1 }, qr/another has the lock/);
+
+my $counter = tied(%db)->program(text_of("$top/examples/counter.s"));
+is_deeply([tied(%db)->run($counter, "hits")], []);
+is_deeply([tied(%db)->run($counter, "hits", blank => 8)], [1, 0]) for 1 .. 300;
+is(unpack("Q<", $db{hits}), 300);
+dies_with(sub { tied(%db)->program("mov r0, 0\nhop\n") }, qr/line 2: Mnemonic/);
+dies_with(sub { tied(%db)->image("\0") }, qr/Decode\(Length\)/);
+dies_with(sub { tied(%db)->run(7, "hits") }, qr/no program/);
+$db{$_} = $_ x 3 for 1 .. 2000;
+is(scalar(keys %db), 2002);
+untie %db;
+
+tie %db, "Boddurci", $base;
+is($db{1999}, "1999" x 3);
+dies_with(sub { $db{a} = 1 }, qr/only read/);
+untie %db;
+
+SKIP: {
+    skip "no SDBM_File", 1 unless eval { require SDBM_File; require Fcntl; 1 };
+    tie my %other, "SDBM_File", $base, Fcntl::O_RDONLY(), 0666 or die;
+    is_deeply([map { $other{$_} } 1 .. 2000], [map { $_ x 3 } 1 .. 2000]);
+}
+done_testing;

@@ -1,0 +1,362 @@
+"""Boddurci for Python: a proved key-value store in the two files of an sdbm database, with small verified programs on its records.
+
+    import boddurci
+    with boddurci.open("visits", "c") as db:
+        db[b"ab"] = b"xyz"
+        counter = db.program(open("examples/counter.s").read())
+        db.run(counter, b"hits", blank=8)
+
+`open` can stand for `dbm.open`: keys and values are bytes, a str counts as its UTF-8. A database is in memory while it is open, under an
+exclusive lock on BASE.lock unless it is only read; `sync` and `close` write its files, and a crash meanwhile leaves the database before or
+after. Threads may share it.
+
+It stands on the shared object that `./dbm --build-library` makes: the file that BODDURCI_LIBRARY names, else libboddurci.so beside this
+file, in out/boddurci of the repository, or where the system finds it.
+"""
+
+import builtins
+import ctypes
+import ctypes.util
+import os
+import pathlib
+import threading
+import time
+from collections.abc import MutableMapping
+from typing import NamedTuple
+
+__all__ = ["Database", "Program", "ProgramError", "Ran", "error", "open"]
+
+# What a status is called: boddurci.h.
+_DONE, _MISSING, _BAD_TEXT, _REFUSED, _NO_MEMORY = 0, 1, 6, 5, 21
+_WORDS = {
+    2: "the key is there",
+    3: "crowded: no room for the pair, however often its page is split",
+    4: "a room is too short",
+    16: "the database is closed",
+    18: "key and value have too many bytes together",
+    19: "the argument has more than 1,024 bytes",
+    20: "no program has the number",
+    21: "no memory",
+}
+
+# boddurci_files.h
+_WIDE, _UNSIGNED_KEYS, _READ_ONLY, _NO_WAIT, _MUST_EXIST, _EMPTY = 1, 2, 4, 8, 16, 32
+
+_VALUE_MOST = 8008
+_IMAGE_MOST = 32768
+
+
+class error(OSError):
+    """What the store refuses, or what the system does to its files."""
+
+
+class ProgramError(error, ValueError):
+    """A program that is refused; `at` is the line of its text or the unit of its image, where it has one."""
+
+    def __init__(self, text, at):
+        super().__init__(text)
+        self.at = at
+
+
+class Ran(NamedTuple):
+    """How a run ended: its number (1 saved the record, 2 deleted it, any other changed nothing) and its reply word."""
+
+    end: int
+    word: int
+
+
+class Program(NamedTuple):
+    """A program that a database accepted."""
+
+    number: int
+
+
+class _Fault(ctypes.Structure):
+    _fields_ = [("status", ctypes.c_uint32), ("system", ctypes.c_int), ("text", ctypes.c_char * 200)]
+
+
+class _Cursor(ctypes.Structure):
+    _fields_ = [("page", ctypes.c_uint32), ("end", ctypes.c_uint32), ("pair", ctypes.c_size_t)]
+
+
+def _path_of_library():
+    here = pathlib.Path(__file__).resolve()
+    for path in (os.environ.get("BODDURCI_LIBRARY"), here.parent / "libboddurci.so", here.parent.parent.parent / "out/boddurci/libboddurci.so"):
+        if path and os.path.exists(path):
+            return str(path)
+    found = ctypes.util.find_library("boddurci")
+    if not found:
+        raise ImportError("libboddurci.so is not there: make it with ./dbm --build-library, and name it in BODDURCI_LIBRARY")
+    return found
+
+
+def _bind():
+    """The calls of the library: those that may wait let other threads go on."""
+    path = _path_of_library()
+    waits, quick = ctypes.CDLL(path), ctypes.PyDLL(path)
+    u32, u64, size = ctypes.c_uint32, ctypes.c_uint64, ctypes.c_size_t
+    text, at = ctypes.c_char_p, ctypes.c_void_p
+    kinds = {
+        "open_files": (waits, at, [text, u32, at]),
+        "save": (waits, u32, [at, at]),
+        "close_files": (waits, None, [at]),
+        "take": (quick, at, [at]),
+        "give": (quick, None, [at]),
+        "fetch": (quick, u32, [at, text, size, at, size, at]),
+        "store": (quick, u32, [at, text, size, text, size, u32]),
+        "delete": (quick, u32, [at, text, size]),
+        "count": (quick, u32, [at, at]),
+        "assemble": (quick, u32, [text, size, at, size, at, at, at, size, at]),
+        "submit": (quick, u32, [at, text, size, at, at, at, size, at]),
+        "run": (quick, u32, [at, u32, text, size, text, size, u32, size, u64, at, at]),
+        "first": (quick, u32, [at, at]),
+        "next": (quick, u32, [at, at, at, size, at, at, size, at]),
+    }
+    for name, (library, result, arguments) in kinds.items():
+        call = getattr(library, f"boddurci_{name}")
+        call.restype, call.argtypes = result, arguments
+        yield name, call
+
+
+_call = type("_Calls", (), {name: staticmethod(call) for name, call in _bind()})
+
+
+def _bytes(value):
+    if isinstance(value, bytes):
+        return value
+    if isinstance(value, str):
+        return value.encode("utf-8")
+    if isinstance(value, (bytearray, memoryview)):
+        return bytes(value)
+    raise TypeError(f"keys and values are bytes or str, not {type(value).__name__}")
+
+
+class Database(MutableMapping):
+    """A database that is open: a mapping from bytes to bytes. `open` makes it."""
+
+    _base = None
+
+    def __init__(self, base, flags):
+        fault = _Fault()
+        opened = _call.open_files(os.fsencode(base), flags, ctypes.byref(fault))
+        if not opened:
+            raise _of_fault(fault)
+        self._base, self._lock = opened, threading.RLock()
+        # Taken and given back once: the lock of this object is what keeps threads apart.
+        self._db = _call.take(opened)
+        _call.give(opened)
+        self._reads = bool(flags & _READ_ONLY)
+        self._room = ctypes.create_string_buffer(_VALUE_MOST)
+        self._key = ctypes.create_string_buffer(_VALUE_MOST)
+        self._length, self._other, self._place = ctypes.c_size_t(), ctypes.c_size_t(), ctypes.c_size_t()
+        self._at = {name: ctypes.byref(getattr(self, name)) for name in ("_length", "_other", "_place")}
+        self._length_at = self._at["_length"]
+
+    def _need_open(self):
+        if self._base is None:
+            raise error(_WORDS[16])
+
+    def _need_writes(self):
+        self._need_open()
+        if self._reads:
+            raise error("the database is opened to be read only")
+
+    def _text(self):
+        return self._room.raw[: self._length.value].decode("utf-8", "replace") if self._length.value <= _VALUE_MOST else ""
+
+    def __getitem__(self, key):
+        name = _bytes(key)
+        with self._lock:
+            self._need_open()
+            status = _call.fetch(self._db, name, len(name), self._room, _VALUE_MOST, self._length_at)
+            if status == _DONE:
+                return ctypes.string_at(self._room, self._length.value)
+        if status == _MISSING:
+            raise KeyError(key)
+        raise error(_WORDS[status])
+
+    def __contains__(self, key):
+        name = _bytes(key)
+        with self._lock:
+            self._need_open()
+            return _call.fetch(self._db, name, len(name), self._room, _VALUE_MOST, self._length_at) != _MISSING
+
+    def __setitem__(self, key, value):
+        name, value = _bytes(key), _bytes(value)
+        with self._lock:
+            self._need_writes()
+            status = _call.store(self._db, name, len(name), value, len(value), 1)
+        if status != _DONE:
+            raise error(_WORDS[status])
+
+    def __delitem__(self, key):
+        name = _bytes(key)
+        with self._lock:
+            self._need_writes()
+            status = _call.delete(self._db, name, len(name))
+        if status == _MISSING:
+            raise KeyError(key)
+        if status != _DONE:
+            raise error(_WORDS[status])
+
+    def __len__(self):
+        with self._lock:
+            self._need_open()
+            _call.count(self._db, self._length_at)
+            return self._length.value
+
+    def _pairs(self):
+        """All pairs, as they stand now."""
+        with self._lock:
+            self._need_open()
+            cursor = _Cursor()
+            where = ctypes.byref(cursor)
+            found = []
+            _call.first(self._db, where)
+            while True:
+                status = _call.next(
+                    self._db, where, self._key, _VALUE_MOST, self._at["_other"], self._room, _VALUE_MOST, self._length_at
+                )
+                if status != _DONE:
+                    return found
+                found.append((ctypes.string_at(self._key, self._other.value), ctypes.string_at(self._room, self._length.value)))
+
+    def keys(self):
+        return [key for key, _ in self._pairs()]
+
+    def values(self):
+        return [value for _, value in self._pairs()]
+
+    def items(self):
+        return self._pairs()
+
+    def __iter__(self):
+        return iter(self.keys())
+
+    def setdefault(self, key, default=b""):
+        """The value of a key, which is given the default where it has none."""
+        with self._lock:
+            if key not in self:
+                self[key] = default
+            return self[key]
+
+    def clear(self):
+        with self._lock:
+            for key in self.keys():
+                del self[key]
+
+    def program(self, source):
+        """Has a program accepted: its text, a str, or its image, bytes. ProgramError says why it is refused, and where."""
+        with self._lock:
+            self._need_open()
+            image = self._assembled(source) if isinstance(source, str) else bytes(source)
+            number = ctypes.c_uint32()
+            status = _call.submit(
+                self._db, image, len(image), ctypes.byref(number), self._at["_place"], self._room, _VALUE_MOST, self._length_at
+            )
+            if status == _REFUSED:
+                unit = self._place.value
+                raise ProgramError(self._text(), None if unit == ctypes.c_size_t(-1).value else unit)
+            if status != _DONE:
+                raise error(_WORDS[status])
+            return Program(number.value)
+
+    def _assembled(self, source):
+        text, image = source.encode("utf-8"), ctypes.create_string_buffer(_IMAGE_MOST)
+        status = _call.assemble(
+            text, len(text), image, _IMAGE_MOST, self._at["_other"], self._at["_place"], self._room, _VALUE_MOST, self._length_at
+        )
+        if status == _BAD_TEXT:
+            raise ProgramError(self._text(), self._place.value or None)
+        if status != _DONE:
+            raise error(_WORDS[status])
+        return ctypes.string_at(image, self._other.value)
+
+    def run(self, program, key, arg=b"", blank=None, now=None):
+        """Runs a program on the record of a key, or on so many zeros where the key is not there and `blank` says how many, as one step.
+        The program is told the time `now`, in seconds, which is the system's where none is given."""
+        name, arg = _bytes(key), _bytes(arg)
+        end, word = ctypes.c_uint64(), ctypes.c_uint64()
+        with self._lock:
+            self._need_writes()
+            status = _call.run(
+                self._db,
+                program.number,
+                name,
+                len(name),
+                arg,
+                len(arg),
+                blank is not None,
+                blank or 0,
+                int(time.time()) if now is None else now,
+                ctypes.byref(end),
+                ctypes.byref(word),
+            )
+        if status == _MISSING:
+            raise KeyError(key)
+        if status != _DONE:
+            raise error(_WORDS[status])
+        return Ran(end.value, word.value)
+
+    def sync(self):
+        """Writes both files, and keeps them on the disk."""
+        fault = _Fault()
+        with self._lock:
+            self._need_open()
+            if self._reads:
+                return
+            if _call.save(self._base, ctypes.byref(fault)) != _DONE:
+                raise _of_fault(fault)
+
+    def close(self):
+        """Writes both files, unless the database is only read, and lets the lock go. A fault of the files leaves it open."""
+        if self._base is None:
+            return
+        with self._lock:
+            if self._base is not None:
+                self.sync()
+                _call.close_files(self._base)
+                self._base = self._db = None
+
+    def __enter__(self):
+        return self
+
+    def __exit__(self, *_):
+        self.close()
+
+    def __del__(self):
+        try:
+            self.close()
+        except Exception:
+            pass
+
+
+def _of_fault(fault):
+    text = fault.text.decode("utf-8", "replace")
+    return error(fault.system, text) if fault.system else error(text)
+
+
+def open(file, flag="r", mode=0o666, *, wide=False, unsigned_keys=False, wait=True):
+    """Opens FILE.dir and FILE.pag, as dbm.open does: 'r' reads only, 'w' writes too, 'c' makes the files where they are missing, 'n'
+    begins with an empty database. `wide` is for pages of 8,192 bytes, `unsigned_keys` for keys that hash by unsigned bytes; the files do
+    not say which. Without `wait` a lock that another has is an error."""
+    if flag not in ("r", "w", "c", "n"):
+        raise ValueError("flag must be 'r', 'w', 'c' or 'n'")
+    name = os.fspath(file)
+    flags = {"r": _READ_ONLY | _MUST_EXIST, "w": _MUST_EXIST, "c": 0, "n": _EMPTY}[flag]
+    flags |= (_WIDE if wide else 0) | (_UNSIGNED_KEYS if unsigned_keys else 0) | (0 if wait else _NO_WAIT)
+    db = Database(name, flags)
+    if flag in ("c", "n"):
+        _make_files(db, os.fsencode(name), mode, flag == "n")
+    return db
+
+
+def _make_files(db, name, mode, always):
+    """Files of a new database, with the permissions that are asked for."""
+    is_new = False
+    for ending in (b".dir", b".pag"):
+        if not os.path.exists(name + ending):
+            with builtins.open(name + ending, "ab", opener=lambda path, how: os.open(path, how, mode)):
+                is_new = True
+    if is_new or always:
+        db.sync()

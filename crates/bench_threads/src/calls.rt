@@ -1,0 +1,138 @@
+//! Calls of a desk and of sessions.
+
+use crate::programs::KEYS;
+use desk_core::Desk;
+use sdbm_addr::{Bytes, Mode};
+use sdbm_files::Image;
+use std::alloc::{AllocError, Global};
+use std::sync::Wait;
+use std::thread;
+use std::thread::Threads;
+use store_cmd::{Command, Program};
+use store_shared::{Calls, NoGate, Session, Store};
+
+/// A call on a key of 8 bytes.
+#[derive(Drop)]
+pub enum Call {
+    Fetch,
+    Store,
+    Run(Program<Global>),
+}
+
+// The most threads at once.
+const THREADS: usize = 4;
+
+const VALUE: [u8; 8] = [7, 0, 0, 0, 0, 0, 0, 0];
+
+fn command(alloc: Global, call: &Call, key: &[u8]) -> Result<Command<Global>, AllocError> {
+    let key = Bytes::from_slice(alloc, key)?;
+    match call {
+        Call::Fetch => Ok(Command::Fetch { key }),
+        Call::Store => Ok(Command::Store {
+            key,
+            value: Bytes::from_slice(alloc, &VALUE)?,
+            mode: Mode::Replace,
+        }),
+        Call::Run(prog) => Ok(Command::Run {
+            key,
+            prog: prog.try_clone()?,
+            arg: Bytes::from_slice(alloc, &[])?,
+            blank: None,
+            now: 0,
+        }),
+    }
+}
+
+/// The entries after so many steps of a desk.
+pub fn by_desk(alloc: Global, image: Image<Global>, call: &Call, count: usize) -> Option<usize> {
+    let Ok(mut desk) = Desk::open(alloc, image, count) else {
+        return None;
+    };
+    for _ in 0..count {
+        let command = command(alloc, call, KEYS[0]).ok()?;
+        let Ok(_) = desk.step(0, command) else {
+            return None;
+        };
+    }
+    Some(desk.trail().entries.len())
+}
+
+// Who calls: a session, its key, and its call.
+#[derive(Drop)]
+struct Caller<'a> {
+    session: Session<'a, Global, NoGate>,
+    key: &'static [u8],
+    call: Call,
+}
+
+// A call once more.
+fn another(call: &Call) -> Option<Call> {
+    match call {
+        Call::Fetch => Some(Call::Fetch),
+        Call::Store => Some(Call::Store),
+        Call::Run(prog) => Some(Call::Run(prog.try_clone().ok()?)),
+    }
+}
+
+// Makes so many calls.
+fn make<R: Wait>(rt: &R, caller: &mut Caller<'_>, count: usize) {
+    let key = caller.key;
+    for _ in 0..count {
+        let answer = match &caller.call {
+            Call::Fetch => caller.session.fetch(rt, key),
+            Call::Store => caller.session.store(rt, key, &VALUE, Mode::Replace),
+            Call::Run(prog) => caller.session.run(rt, key, prog, &[], None, 0),
+        };
+        if answer.is_err() {
+            return;
+        }
+    }
+}
+
+// The calls that sessions have made, each in a thread of its own and on its key.
+fn all_calls<R: Threads + Wait + Sync>(
+    rt: &R,
+    alloc: Global,
+    store: &Store<Global, NoGate>,
+    keys: &[&'static [u8]],
+    call: &Call,
+    each: usize,
+) -> Option<Vec<Calls<Global>>> {
+    let mut callers = Vec::new(alloc);
+    for key in keys {
+        let caller = Caller {
+            session: store.session(rt).ok()?,
+            key: *key,
+            call: another(call)?,
+        };
+        callers.push(caller).ok()?;
+    }
+    let share = move |_at: usize, caller: &mut Caller<'_>| make(rt, caller, each);
+    thread::for_each_mut(rt, callers.as_mut_slice(), THREADS, &share);
+    let mut handed = Vec::new(alloc);
+    for caller in callers {
+        let Caller { session, .. } = caller;
+        handed.push(session.into_calls()).ok()?;
+    }
+    Some(handed)
+}
+
+/// The entries after so many calls in all of sessions, one for each of these keys.
+pub fn by_sessions<R: Threads + Wait + Sync>(
+    rt: &R,
+    alloc: Global,
+    image: Image<Global>,
+    keys: &[&'static [u8]],
+    call: &Call,
+    count: usize,
+) -> Option<usize> {
+    let Ok(store) = Store::open(alloc, image, count, NoGate) else {
+        return None;
+    };
+    let each = count.checked_div(keys.len())?;
+    let handed = all_calls(rt, alloc, &store, keys, call, each)?;
+    match store.close(handed) {
+        Ok(closed) => Some(closed.trail.entries.len()),
+        Err(_) => None,
+    }
+}

@@ -1,0 +1,99 @@
+//! Measurements, and what is said of them.
+
+use crate::calls::{Call, by_desk, by_sessions};
+use crate::programs::{KEYS, counter, four_pages, long};
+use std::alloc::Global;
+use std::io;
+use std::rt::Clock;
+use std::sync::Wait;
+use std::thread::Threads;
+use std::time::Instant;
+
+/// Who calls.
+#[derive(Clone, Copy)]
+enum Callers {
+    Desk,
+    One,
+    Apart,
+    Together,
+}
+
+/// What is asked to be measured.
+#[derive(Drop)]
+struct Measurement {
+    callers: Callers,
+    call: Call,
+    count: usize,
+}
+
+fn read_callers(word: &str) -> Option<Callers> {
+    match word {
+        "desk" => Some(Callers::Desk),
+        "one" => Some(Callers::One),
+        "apart" => Some(Callers::Apart),
+        "together" => Some(Callers::Together),
+        _ => None,
+    }
+}
+
+fn read_call(alloc: Global, word: &str) -> Option<Call> {
+    match word {
+        "fetch" => Some(Call::Fetch),
+        "store" => Some(Call::Store),
+        "run" => Some(Call::Run(counter(alloc)?)),
+        "long" => Some(Call::Run(long(alloc)?)),
+        _ => None,
+    }
+}
+
+// The measurement that a line asks for.
+fn read_measurement(alloc: Global, line: &str) -> Option<Measurement> {
+    let (callers, rest) = line.split_once(' ')?;
+    let (call, count) = rest.split_once(' ')?;
+    let callers = read_callers(callers)?;
+    let call = read_call(alloc, call)?;
+    let count = count.parse::<usize>().ok()?;
+    Some(Measurement {
+        callers,
+        call,
+        count,
+    })
+}
+
+// The entries that the calls leave.
+fn measure<R: Threads + Wait + Sync>(rt: &R, alloc: Global, asked: &Measurement) -> Option<usize> {
+    let image = four_pages(alloc)?;
+    let call = &asked.call;
+    match asked.callers {
+        Callers::Desk => by_desk(alloc, image, call, asked.count),
+        Callers::One => by_sessions(rt, alloc, image, &KEYS[..1], call, asked.count),
+        Callers::Apart => by_sessions(rt, alloc, image, &KEYS, call, asked.count),
+        Callers::Together => by_sessions(rt, alloc, image, &[KEYS[0]; 4], call, asked.count),
+    }
+}
+
+/// The answer to a line.
+pub fn show_line<R: Clock + Threads + Wait + Sync>(
+    rt: &R,
+    alloc: Global,
+    text: &str,
+) -> io::Result<String> {
+    let (timed, rest) = match text.strip_prefix("time ") {
+        Some(rest) => (true, rest),
+        None => (false, text),
+    };
+    let Some(asked) = read_measurement(alloc, rest) else {
+        return Ok(String::from_str(alloc, "a line that cannot be read")?);
+    };
+    let start = Instant::now(rt)?;
+    let Some(entries) = measure(rt, alloc, &asked) else {
+        return Ok(String::from_str(alloc, "a call was refused")?);
+    };
+    let nanos = start.elapsed(rt)?.as_nanos();
+    if !timed || nanos == 0 || asked.count == 0 {
+        return Ok(format!(in alloc; "{rest}: {entries} entries")?);
+    }
+    let speed = (asked.count as u128) * 1_000_000_000 / nanos;
+    let call = nanos / (asked.count as u128);
+    Ok(format!(in alloc; "{rest}: {entries} entries, {speed} calls a second, {call} ns a call")?)
+}

@@ -1,0 +1,30 @@
+use Rattle.std.proofs.Common.{◌∙◌, ap, refl, subst, inl, inr}
+use Rattle.sdbm_files.specs.Opened.{IsOpenFault}
+use Rattle.boddurci_c.specs.Statuses.{code_of}
+use Rattle.boddurci_c.specs.Calls.{IsOpened, kind_for}
+use Rattle.boddurci_c.proofs.CallLemmas.{shut}
+use Rattle.boddurci_c.proofs.boddurci_open.Goals as goal
+
+pub returns-in-Ok-open_at : goal.returns-in-Ok-open_at
+returns-in-Ok-open_at c =
+    let was = c.in-Ok-open_at.ensures.ok in
+    inl (record {
+      db = was.0;
+      code_is = c.code-in-Ok-open_at.ensures;
+      old_is = shut c.args.slot.now.held (λ p. c.if-boddurci_is_open-eq1.false (c.boddurci_is_open.ensures.word ∙ p));
+      new_is = was.1.0;
+      is = subst (λ s. IsOpened (kind_for c.args.unsigned_keys) s c.args.dir.now c.args.pag.now was.0) c.size_of.ensures
+          (subst (λ k. IsOpened k c.size_of.result c.args.dir.now c.args.pag.now was.0) c.kind_of.ensures was.1.1);
+    })
+
+pub returns-in-Err : goal.returns-in-Err
+returns-in-Err c =
+    inr (inl (record {
+      fault = c.in-Err.fault;
+      code_is = c.code-in-Err.ensures ∙ ap code_of c.open_status.ensures;
+      closed = shut c.args.slot.now.held (λ p. c.if-boddurci_is_open-eq1.false (c.boddurci_is_open.ensures.word ∙ p));
+      same = c.in-Err.ensures.err;
+      is = subst (λ s. IsOpenFault (kind_for c.args.unsigned_keys) s c.args.dir.now c.args.pag.now c.in-Err.fault) c.size_of.ensures
+          (subst (λ k. IsOpenFault k c.size_of.result c.args.dir.now c.args.pag.now c.in-Err.fault) c.kind_of.ensures c.in-Err.ensures.fault);
+      text = c.tell.ensures _ refl;
+    }))

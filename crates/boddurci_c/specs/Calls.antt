@@ -1,0 +1,326 @@
+-- What calls do with a handle, which is closed or has an open database with its programs (own).
+use Rattle.std.specs.Prelude.{◌≡◌, ◌==◌, ◌⊎◌, ◌<◌, ◌≤◌, ℕ, cond, length, take, drop, List, [], Option, Some, None, IsSome, Result, Ok, Err, slice_get, unwrap_or}
+use Rattle.std.specs.declared.alloc.Global.{Global}
+use Rattle.std.specs.FinMap as map
+use Rattle.sdbm_addr.specs.declared.Mode.{Mode}
+use Rattle.sdbm_addr.specs.declared.Mode.TheVariants.{Insert, Replace}
+use Rattle.sdbm_addr.specs.declared.KeyBytes.{KeyBytes}
+use Rattle.sdbm_addr.specs.declared.KeyBytes.TheVariants.{Signed, Unsigned}
+use Rattle.sdbm_addr.specs.declared.PageSize.{PageSize}
+use Rattle.sdbm_addr.specs.declared.PageSize.TheVariants.{Small, Wide}
+use Rattle.sdbm_addr.specs.Database.{Database, map_of}
+use Rattle.sdbm_addr.specs.Files.{SpellsDatabase, AreFiles}
+use Rattle.sdbm_files.specs.Opened.{IsOpenFault}
+use Rattle.sdbm_files.specs.FaultText.{fault_text as open_text}
+use Rattle.sdbm_files.specs.declared.opening.OpenFault.{OpenFault}
+use Rattle.sdbm_files.specs.declared.opening.OpenFault.TheVariants as open_faults
+use Rattle.store_cmd.specs.declared.Command.{Command}
+use Rattle.store_cmd.specs.declared.Command.TheVariants as commands
+use Rattle.store_cmd.specs.declared.Reply.{Reply}
+use Rattle.store_cmd.specs.declared.Reply.TheVariants as replies
+use Rattle.store_cmd.specs.declared.SizeFault.TheVariants as sizes
+use Rattle.store_cmd.specs.Command.{IsSmall, IsSizeFault, FitsBlank, IsRunFault}
+use Rattle.bpf_helpers.specs.Runs.{argument_limit}
+use Rattle.store_moves.specs.Acts.{Acts}
+use Rattle.bpf_verify.specs.Verified.{Accepted}
+use Rattle.prog_registry.specs.FaultText.{fault_text}
+use Rattle.prog_registry.specs.Registry.{Registered, Gives, Refuses}
+use Rattle.prog_registry.specs.declared.registry.ProgId.{ProgId}
+use Rattle.prog_registry.specs.declared.fault.RegFault.{RegFault}
+use Rattle.prog_registry.specs.declared.fault.RegFault.TheVariants as faults
+use Rattle.boddurci_c.specs.declared.db.Db.{Db}
+use Rattle.boddurci_c.specs.declared.status.Status.{Status}
+use Rattle.boddurci_c.specs.declared.status.Status.TheVariants.{Done, Missing, Exists, Crowded, ShortRoom, Refused, BadText, BadFiles, Closed, Open, PairTooLarge, ArgTooLong, NoProgram, NoMemory}
+use Rattle.boddurci_c.specs.Statuses.{code_of, status_of}
+use Rattle.boddurci_c.specs.Units.{unit_in, nowhere}
+
+-- ---- a handle before a call and after it
+
+-- It was open and is open, and the database after the call is so beside the one before.
+pub record At (old new : Option Db) (P : Db → Db → Type 0) : Type 0 where
+  pub before : Db
+  pub after : Db
+  pub old_is : old ≡ Some before
+  pub new_is : new ≡ Some after
+  pub is : P before after
+
+-- It was open, and stays as it is; so is its database.
+pub record Shows (old new : Option Db) (P : Db → Type 0) : Type 0 where
+  pub db : Db
+  pub old_is : old ≡ Some db
+  pub same : new ≡ old
+  pub is : P db
+
+-- Why nothing is done: the handle is closed, or its database denies it for a reason of P.
+abbrev pub Why : (Db → Status → Type 0) → Option Db → Status → Type 0
+Why P None status = status ≡ Closed
+Why P (Some d) status = P d status
+
+-- Nothing is done, for a reason that the status names.
+pub record Denies (P : Db → Status → Type 0) (old : Option Db) (code : ℕ) (new : Option Db) : Type 0 where
+  pub status : Status
+  pub code_is : code ≡ code_of status
+  pub same : new ≡ old
+  pub why : Why P old status
+
+-- no call of an open handle is denied
+abbrev pub Never : Db → Status → Type 0
+Never d status = ⊥
+
+-- ---- commands
+
+-- a command is done as session 0, and the programs stay
+pub record Does (d : Db) (command : Command Global) (reply : Reply Global) (d' : Db) : Type 0 where
+  pub acts : Acts d.image (record { session = 0; command = command; reply = reply }) d'.image
+  pub registry : d'.registry ≡ d.registry
+
+-- a command is not taken for its size, or memory ran out for one that is
+abbrev pub DeniesBy : Db → Command Global → Status → Type 0
+DeniesBy d command Done = ⊥
+DeniesBy d command Missing = ⊥
+DeniesBy d command Exists = ⊥
+DeniesBy d command Crowded = ⊥
+DeniesBy d command ShortRoom = ⊥
+DeniesBy d command Refused = ⊥
+DeniesBy d command BadText = ⊥
+DeniesBy d command BadFiles = ⊥
+DeniesBy d command Closed = ⊥
+DeniesBy d command Open = ⊥
+DeniesBy d command PairTooLarge = IsSizeFault d.image.size command sizes.PairTooLarge
+DeniesBy d command ArgTooLong = IsSizeFault d.image.size command sizes.ArgTooLong
+DeniesBy d command NoProgram = ⊥
+DeniesBy d command NoMemory = IsSmall d.image.size command
+
+-- a command is done, and the status is that of its reply
+pub record Answers (command : Command Global) (old : Option Db) (code : ℕ) (new : Option Db) : Type 0 where
+  pub reply : Reply Global
+  pub code_is : code ≡ code_of (status_of reply)
+  pub does : At old new (λ d d'. Does d command reply d')
+
+-- what a call says of a command
+abbrev pub Says : Command Global → Option Db → ℕ → Option Db → Type 0
+Says command old code new = Answers command old code new ⊎ Denies (λ d status. DeniesBy d command status) old code new
+
+-- what a store does where its key is there
+abbrev pub mode_for : ℕ → Mode
+mode_for replace = cond (replace == 0) Insert Replace
+
+-- ---- rooms
+
+-- bytes stand in the first places of a room, and the rest is as it was
+pub record IsFilled (bytes old new : List ℕ) : Type 0 where
+  pub fits : length bytes ≤ length old
+  pub filled : take (length bytes) new ≡ bytes
+  pub rest : drop (length bytes) new ≡ drop (length bytes) old
+
+-- They stand there, or the room is too short and as it was. Their number is told either way.
+abbrev pub IsCopied : List ℕ → List ℕ → List ℕ → ℕ → Status → Type 0
+IsCopied bytes old new len Done = (len ≡ length bytes) × IsFilled bytes old new
+IsCopied bytes old new len Missing = ⊥
+IsCopied bytes old new len Exists = ⊥
+IsCopied bytes old new len Crowded = ⊥
+IsCopied bytes old new len ShortRoom = (len ≡ length bytes) × ((length old < length bytes) × (new ≡ old))
+IsCopied bytes old new len Refused = ⊥
+IsCopied bytes old new len BadText = ⊥
+IsCopied bytes old new len BadFiles = ⊥
+IsCopied bytes old new len Closed = ⊥
+IsCopied bytes old new len Open = ⊥
+IsCopied bytes old new len PairTooLarge = ⊥
+IsCopied bytes old new len ArgTooLong = ⊥
+IsCopied bytes old new len NoProgram = ⊥
+IsCopied bytes old new len NoMemory = ⊥
+
+-- The text of a fault stands in a room, or the room is too short for it, or memory ran out for it and none is told.
+pub record IsTold (text old new : List ℕ) (len : ℕ) : Type 0 where
+  pub status : Status
+  pub told : List ℕ
+  pub told_is : (told ≡ text) ⊎ (told ≡ [])
+  pub copied : IsCopied told old new len status
+
+-- ---- a fetch
+
+-- what a fetch of an open database tells
+abbrev pub FetchesIn : List ℕ → Db → Status → List ℕ → List ℕ → ℕ → Type 0
+FetchesIn key d status room_old room_new len =
+    ((value : List ℕ) × ((map.get (map_of d.image) key ≡ Some value) × IsCopied value room_old room_new len status))
+    ⊎ ((map.get (map_of d.image) key ≡ None) × ((status ≡ Missing) × (room_new ≡ room_old)))
+
+pub record Fetches (key : List ℕ) (old : Option Db) (code : ℕ) (new : Option Db) (room_old room_new : List ℕ) (len : ℕ) : Type 0 where
+  pub status : Status
+  pub code_is : code ≡ code_of status
+  pub told : Shows old new (λ d. FetchesIn key d status room_old room_new len)
+
+-- ---- a count
+
+pub record Counts (old : Option Db) (code : ℕ) (new : Option Db) (count : ℕ) : Type 0 where
+  pub code_is : code ≡ code_of Done
+  pub is : Shows old new (λ d. count ≡ map.len (map_of d.image))
+
+-- ---- programs
+
+-- an image has its number, or is refused for a fault, and the database stays
+abbrev pub Submits : List ℕ → Result ProgId RegFault → Db → Db → Type 0
+Submits image (Ok id) d d' = Gives d.registry image id.0 d'.registry × (d'.image ≡ d.image)
+Submits image (Err fault) d d' = Refuses d.registry image fault d'.registry × (d'.image ≡ d.image)
+
+-- the status of a fault
+abbrev pub status_of_fault : RegFault → Status
+status_of_fault faults.NoMemory = NoMemory
+status_of_fault (faults.Decode fault) = Refused
+status_of_fault (faults.Verify fault) = Refused
+status_of_fault faults.Full = Refused
+
+-- an image has a number
+pub record Numbers (image : List ℕ) (old : Option Db) (code : ℕ) (new : Option Db) (id : ℕ) : Type 0 where
+  pub code_is : code ≡ code_of Done
+  pub submits : At old new (Submits image (Ok (record { 0 = id })))
+
+-- an image is refused; the unit and the text of the fault are told
+pub record Rejects (image : List ℕ) (old : Option Db) (code : ℕ) (new : Option Db) (unit : ℕ) (room_old room_new : List ℕ) (len : ℕ) : Type 0 where
+  pub fault : RegFault
+  pub unit_is : unit ≡ unwrap_or (unit_in fault) nowhere
+  pub code_is : code ≡ code_of (status_of_fault fault)
+  pub submits : At old new (Submits image (Err fault))
+  pub text : IsTold (fault_text fault) room_old room_new len
+
+-- the blank of a run
+abbrev pub blank_for : ℕ → ℕ → Option ℕ
+blank_for has_blank len = cond (has_blank == 0) None (Some len)
+
+-- a run of the program with a number has this reply
+pub record RunsBy (number : ℕ) (key arg : List ℕ) (blank : Option ℕ) (now : ℕ) (reply : Reply Global) (d d' : Db) : Type 0 where
+  pub program : Accepted
+  pub there : slice_get d.registry.programs number ≡ Some program
+  pub does : Does d (commands.Run key program.code arg blank now) reply d'
+
+-- a run is denied: there is no such program, or else it is not taken for its sizes, or memory ran out for one that is
+abbrev pub DeniesRun : ℕ → List ℕ → List ℕ → Option ℕ → Db → Status → Type 0
+DeniesRun number key arg blank d Done = ⊥
+DeniesRun number key arg blank d Missing = ⊥
+DeniesRun number key arg blank d Exists = ⊥
+DeniesRun number key arg blank d Crowded = ⊥
+DeniesRun number key arg blank d ShortRoom = ⊥
+DeniesRun number key arg blank d Refused = ⊥
+DeniesRun number key arg blank d BadText = ⊥
+DeniesRun number key arg blank d BadFiles = ⊥
+DeniesRun number key arg blank d Closed = ⊥
+DeniesRun number key arg blank d Open = ⊥
+DeniesRun number key arg blank d PairTooLarge = IsSome (slice_get d.registry.programs number) × IsRunFault d.image.size key arg blank sizes.PairTooLarge
+DeniesRun number key arg blank d ArgTooLong = IsSome (slice_get d.registry.programs number) × IsRunFault d.image.size key arg blank sizes.ArgTooLong
+DeniesRun number key arg blank d NoProgram = slice_get d.registry.programs number ≡ None
+DeniesRun number key arg blank d NoMemory = IsSome (slice_get d.registry.programs number) × (FitsBlank d.image.size key blank × (length arg ≤ argument_limit))
+
+-- the number with which a run ended, and its word, are told; where it did not run they are zeros
+abbrev pub IsEnd : Reply Global → ℕ → ℕ → Type 0
+IsEnd (replies.Ran c w) code word = (code ≡ c) × (word ≡ w)
+IsEnd (replies.Found value) code word = (code ≡ 0) × (word ≡ 0)
+IsEnd replies.Missing code word = (code ≡ 0) × (word ≡ 0)
+IsEnd replies.Stored code word = (code ≡ 0) × (word ≡ 0)
+IsEnd replies.Exists code word = (code ≡ 0) × (word ≡ 0)
+IsEnd replies.Crowded code word = (code ≡ 0) × (word ≡ 0)
+IsEnd replies.Deleted code word = (code ≡ 0) × (word ≡ 0)
+IsEnd (replies.Count n) code word = (code ≡ 0) × (word ≡ 0)
+
+pub record Runs (number : ℕ) (key arg : List ℕ) (blank : Option ℕ) (now : ℕ) (old : Option Db) (code : ℕ) (new : Option Db) (end word : ℕ) : Type 0 where
+  pub reply : Reply Global
+  pub code_is : code ≡ code_of (status_of reply)
+  pub does : At old new (RunsBy number key arg blank now reply)
+  pub told : IsEnd reply end word
+
+-- ---- files
+
+-- The bytes of both files stand in their rooms, or one room is too short and both are as they were. Their numbers are told either way.
+abbrev pub AreCopied : List ℕ → List ℕ → List ℕ → List ℕ → List ℕ → List ℕ → Status → Type 0
+AreCopied dir pag dir_old dir_new pag_old pag_new Done = IsFilled dir dir_old dir_new × IsFilled pag pag_old pag_new
+AreCopied dir pag dir_old dir_new pag_old pag_new Missing = ⊥
+AreCopied dir pag dir_old dir_new pag_old pag_new Exists = ⊥
+AreCopied dir pag dir_old dir_new pag_old pag_new Crowded = ⊥
+AreCopied dir pag dir_old dir_new pag_old pag_new ShortRoom = ((length dir_old < length dir) ⊎ (length pag_old < length pag)) × ((dir_new ≡ dir_old) × (pag_new ≡ pag_old))
+AreCopied dir pag dir_old dir_new pag_old pag_new Refused = ⊥
+AreCopied dir pag dir_old dir_new pag_old pag_new BadText = ⊥
+AreCopied dir pag dir_old dir_new pag_old pag_new BadFiles = ⊥
+AreCopied dir pag dir_old dir_new pag_old pag_new Closed = ⊥
+AreCopied dir pag dir_old dir_new pag_old pag_new Open = ⊥
+AreCopied dir pag dir_old dir_new pag_old pag_new PairTooLarge = ⊥
+AreCopied dir pag dir_old dir_new pag_old pag_new ArgTooLong = ⊥
+AreCopied dir pag dir_old dir_new pag_old pag_new NoProgram = ⊥
+AreCopied dir pag dir_old dir_new pag_old pag_new NoMemory = ⊥
+
+-- the bytes of both files of a database
+pub record HasFiles (dir pag : List ℕ) (d : Db) : Type 0 where
+  pub files : AreFiles d.image dir pag
+  pub spells : SpellsDatabase d.image dir pag
+
+pub record Writes (old : Option Db) (code : ℕ) (new : Option Db) (dir_old dir_new pag_old pag_new : List ℕ) (dir_len pag_len : ℕ) : Type 0 where
+  pub dir : List ℕ
+  pub pag : List ℕ
+  pub has : Shows old new (HasFiles dir pag)
+  pub dir_len_is : dir_len ≡ length dir
+  pub pag_len_is : pag_len ≡ length pag
+  pub status : Status
+  pub code_is : code ≡ code_of status
+  pub copied : AreCopied dir pag dir_old dir_new pag_old pag_new status
+
+-- memory ran out
+abbrev pub LacksMemory : Db → Status → Type 0
+LacksMemory d status = status ≡ NoMemory
+
+-- ---- opening
+
+-- no programs, and no verdicts
+abbrev pub empty_registry : Registered
+empty_registry = record { programs = []; recent = record { verdicts = []; recalls = 0 } }
+
+-- how keys hash, and how large pages are
+abbrev pub kind_for : ℕ → KeyBytes
+kind_for unsigned_keys = cond (unsigned_keys == 0) Signed Unsigned
+
+abbrev pub size_for : ℕ → PageSize
+size_for wide = cond (wide == 0) Small Wide
+
+-- the one database that the bytes of both files spell, with no programs
+pub record IsOpened (kind : KeyBytes) (size : PageSize) (dir pag : List ℕ) (d : Db) : Type 0 where
+  pub spells : SpellsDatabase d.image dir pag
+  pub kind_is : d.image.kind ≡ kind
+  pub size_is : d.image.size ≡ size
+  pub only : (db : Database) → db.kind ≡ kind → db.size ≡ size → SpellsDatabase db dir pag → db ≡ d.image
+  pub programs : d.registry ≡ empty_registry
+
+-- a closed handle is open
+pub record Opens (kind : KeyBytes) (size : PageSize) (dir pag : List ℕ) (old : Option Db) (code : ℕ) (new : Option Db) : Type 0 where
+  pub db : Db
+  pub code_is : code ≡ code_of Done
+  pub old_is : old ≡ None
+  pub new_is : new ≡ Some db
+  pub is : IsOpened kind size dir pag db
+
+-- the status of a fault of the files
+abbrev pub status_of_open : OpenFault → Status
+status_of_open open_faults.PagLength = BadFiles
+status_of_open (open_faults.Page n fault) = BadFiles
+status_of_open (open_faults.Dir fault) = BadFiles
+status_of_open (open_faults.Misplaced n) = BadFiles
+status_of_open open_faults.NoMemory = NoMemory
+
+-- the bytes have a fault, and its text is told; the handle stays closed
+pub record Faults (kind : KeyBytes) (size : PageSize) (dir pag : List ℕ) (old : Option Db) (code : ℕ) (new : Option Db) (room_old room_new : List ℕ) (len : ℕ) : Type 0 where
+  pub fault : OpenFault
+  pub code_is : code ≡ code_of (status_of_open fault)
+  pub closed : old ≡ None
+  pub same : new ≡ None
+  pub is : IsOpenFault kind size dir pag fault
+  pub text : IsTold (open_text fault) room_old room_new len
+
+-- nothing is opened: memory ran out, or the handle is open already
+pub record OpensNot (old : Option Db) (code : ℕ) (new : Option Db) : Type 0 where
+  pub same : new ≡ old
+  pub why : ((code ≡ code_of NoMemory) × (old ≡ None)) ⊎ ((code ≡ code_of Open) × IsSome old)
+
+abbrev pub OpensOr : KeyBytes → PageSize → List ℕ → List ℕ → Option Db → ℕ → Option Db → List ℕ → List ℕ → ℕ → Type 0
+OpensOr kind size dir pag old code new room_old room_new len =
+    Opens kind size dir pag old code new ⊎ (Faults kind size dir pag old code new room_old room_new len ⊎ OpensNot old code new)
+
+-- whether a handle is open, as a number
+abbrev pub open_word : Option Db → ℕ
+open_word None = 0
+open_word (Some db) = 1

@@ -1,0 +1,18 @@
+-- What a handle owns: nothing where it is null, and else the box of an open database.
+use Rattle.std.specs.Prelude.{Option, Some, None}
+use Rattle.std.specs.Coded.{Coded, coded_option}
+use base.Fml.{Fml, feq}
+use denote.RawPtr.{Ptr, null_ptr}
+use Rattle.std.specs.declared.alloc.Global.{Global}
+use Rattle.std.specs.contracts.impls.GlobalAllocator.TheImpl.{ghosts}
+use Rattle.std.specs.Box.Ownership.{box_owns}
+use Rattle.boddurci_c.specs.contracts.db.Db.{the_row}
+use Rattle.boddurci_c.specs.declared.db.Db.{Db}
+
+abbrev pub held_at : Global → Ptr → Option Db → Fml
+held_at a p None = feq Ptr p null_ptr
+held_at a p (Some db) = box_owns (ghosts.dealloc_token a) the_row p db
+
+-- the code of what is held
+abbrev pub coded_held : Coded (Option Db)
+coded_held = coded_option the_row.coded

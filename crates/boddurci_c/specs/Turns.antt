@@ -1,0 +1,78 @@
+-- Pairs in turn (own): a cursor goes over the pages in the order of their numbers, and over the pairs of each in theirs.
+use Rattle.std.specs.Prelude.{◌≡◌, ◌≢◌, ◌⊎◌, ◌<◌, ◌≤◌, ◌+◌, ℕ, length, List, [], Option}
+use Rattle.sdbm_addr.specs.Pairs.{key_at, value_at}
+use Rattle.sdbm_addr.specs.Database.{Database, pairs_at}
+use Rattle.sdbm_addr.specs.Files.{IsPageCount}
+use Rattle.boddurci_c.specs.declared.turns.Cursor.{Cursor}
+use Rattle.boddurci_c.specs.declared.status.Status.{Status}
+use Rattle.boddurci_c.specs.declared.status.Status.TheVariants.{Done, Missing, ShortRoom}
+use Rattle.boddurci_c.specs.declared.db.Db.{Db}
+use Rattle.boddurci_c.specs.Statuses.{code_of}
+use Rattle.boddurci_c.specs.Calls.{AreCopied, Shows}
+
+-- before the first pair, on the way to the number above all pages that have pairs
+pub record IsStart (db : Database) (cursor : Cursor) : Type 0 where
+  pub page : cursor.page ≡ 0
+  pub pair : cursor.pair ≡ 0
+  pub end : IsPageCount db cursor.end
+
+-- no page of these has pairs
+abbrev pub AreBare : Database → ℕ → ℕ → Type 0
+AreBare db from end = (k : ℕ) → from ≤ k → k < end → pairs_at db k ≡ []
+
+-- the first page of these that has pairs
+pub record IsFirstFrom (db : Database) (from end n : ℕ) : Type 0 where
+  pub low : from ≤ n
+  pub high : n < end
+  pub bare : AreBare db from n
+  pub has : pairs_at db n ≢ []
+
+-- Pair i of page n is the next: the one at the cursor, or where its page has no such, the first of the first page behind it that has
+-- pairs.
+pub record IsNext (db : Database) (cursor : Cursor) (n i : ℕ) : Type 0 where
+  pub before : cursor.page < cursor.end
+  pub there : i < length (pairs_at db n)
+  pub at : ((n ≡ cursor.page) × (i ≡ cursor.pair))
+      ⊎ ((length (pairs_at db cursor.page) ≤ cursor.pair) × ((i ≡ 0) × IsFirstFrom db (cursor.page + 1) cursor.end n))
+
+-- no pair is left
+abbrev pub IsOver : Database → Cursor → Type 0
+IsOver db cursor = (cursor.end ≤ cursor.page) ⊎ ((length (pairs_at db cursor.page) ≤ cursor.pair) × AreBare db (cursor.page + 1) cursor.end)
+
+-- behind pair i of page n
+abbrev pub behind : Cursor → ℕ → ℕ → Cursor
+behind cursor n i = record { page = n; end = cursor.end; pair = i + 1 }
+
+-- the next pair is told, and the cursor stands behind it; or a room is too short, and the cursor stays
+pub record Tells (db : Database) (old new : Cursor) (key_old key_new : List ℕ) (key_len : ℕ) (value_old value_new : List ℕ) (value_len : ℕ) (status : Status) : Type 0 where
+  pub n : ℕ
+  pub i : ℕ
+  pub next : IsNext db old n i
+  pub key_len_is : key_len ≡ length (key_at (pairs_at db n) i)
+  pub value_len_is : value_len ≡ length (value_at (pairs_at db n) i)
+  pub copied : AreCopied (key_at (pairs_at db n) i) (value_at (pairs_at db n) i) key_old key_new value_old value_new status
+  pub moves : status ≡ Done → new ≡ behind old n i
+  pub stays : status ≡ ShortRoom → new ≡ old
+
+-- no pair is left, and nothing is told
+pub record Ends (db : Database) (old new : Cursor) (key_old key_new value_old value_new : List ℕ) (status : Status) : Type 0 where
+  pub over : IsOver db old
+  pub status_is : status ≡ Missing
+  pub same : new ≡ old
+  pub key_same : key_new ≡ key_old
+  pub value_same : value_new ≡ value_old
+
+abbrev pub Turns : Database → Cursor → Cursor → List ℕ → List ℕ → ℕ → List ℕ → List ℕ → ℕ → Status → Type 0
+Turns db old new key_old key_new key_len value_old value_new value_len status =
+    Tells db old new key_old key_new key_len value_old value_new value_len status ⊎ Ends db old new key_old key_new value_old value_new status
+
+-- ---- calls
+
+pub record Begins (old : Option Db) (code : ℕ) (new : Option Db) (cursor : Cursor) : Type 0 where
+  pub code_is : code ≡ code_of Done
+  pub is : Shows old new (λ d. IsStart d.image cursor)
+
+pub record GoesOn (old : Option Db) (code : ℕ) (new : Option Db) (cursor_old cursor_new : Cursor) (key_old key_new : List ℕ) (key_len : ℕ) (value_old value_new : List ℕ) (value_len : ℕ) : Type 0 where
+  pub status : Status
+  pub code_is : code ≡ code_of status
+  pub is : Shows old new (λ d. Turns d.image cursor_old cursor_new key_old key_new key_len value_old value_new value_len status)

@@ -1,0 +1,259 @@
+//! An open database with its programs, and what is done with it.
+ghost use Rattle.std.specs.Prelude.{◌≡◌, IfOk, IfErr, IfSome, IfNone, OnErr};
+ghost use Rattle.std.specs.Option.{option_map};
+ghost use Rattle.std.specs.Arc.{arc_value};
+ghost use Rattle.std.specs.declared.alloc.Global.{Global};
+ghost use Rattle.std.specs.FinMap as map;
+ghost use Rattle.sdbm_addr.specs.Database.{map_of};
+ghost use Rattle.sdbm_files.specs.Opened.{IsOpenFault};
+ghost use Rattle.store_cmd.specs.Command.{IsSmall};
+ghost use Rattle.store_cmd.specs.declared.Command.TheVariants.{Store, Delete, Run};
+ghost use Rattle.store_moves.specs.Acts.{Acts};
+ghost use Rattle.boddurci_c.specs.Calls.{Does, DeniesBy, RunsBy, DeniesRun, Submits, IsEnd, FetchesIn, HasFiles, IsOpened, empty_registry};
+
+use crate::rooms::copy_out;
+use crate::status::Status;
+use bpf_verify::Verified;
+use prog_registry::{ProgId, RegFault, Registry};
+use sdbm_addr::{Bytes, KeyBytes, Mode, PageSize};
+use sdbm_files::{Image, MemSink, OpenFault};
+use std::alloc::{AllocError, Global};
+use std::sync::Arc;
+use store_cmd::{Command, Entry, Program, Reply, check_pair, check_run};
+use store_moves::{RunInput, act, act_run, act_store, ran};
+
+/// An open database with its programs.
+#[derive(Drop)]
+pub struct Db {
+    pub image: Image<Global>,
+    pub registry: Registry<Global>,
+}
+
+/// Does a command whose size is taken.
+fn perform(
+    alloc: Global,
+    db: &mut Db,
+    command: Command<Global>,
+) -> Result<Reply<Global>, AllocError>
+    requires { IsSmall db.old.image.size command }
+    ensures ok { IfOk result (λ reply. Does db.old command reply db.new) }
+    ensures err { OnErr result (db.new ≡ db.old) }
+{
+    match act(alloc, &mut db.image, 0, command) {
+        Ok(entry) => {
+            let Entry { reply, .. } = entry;
+            Ok(reply)
+        }
+        Err(_) => Err(AllocError),
+    }
+}
+
+/// Stores a value for a key.
+pub fn store(
+    alloc: Global,
+    db: &mut Db,
+    key: &[u8],
+    value: &[u8],
+    mode: Mode,
+) -> Result<Reply<Global>, Status>
+    ensures ok { IfOk result (λ reply. Does db.old (Store key.now value.now mode) reply db.new) }
+    ensures err { OnErr result (db.new ≡ db.old) }
+    ensures why { IfErr result (DeniesBy db.old (Store key.now value.now mode)) }
+{
+    if check_pair(key, value.len(), db.image.page_size()).is_err() {
+        return Err(Status::PairTooLarge);
+    }
+    if act_store(&mut db.image, key, value, mode) {
+        return Ok(Reply::Stored);
+    }
+    let Ok(command) = store_command(alloc, key, value, mode) else {
+        return Err(Status::NoMemory);
+    };
+    match perform(alloc, db, command) {
+        Ok(reply) => Ok(reply),
+        Err(_) => Err(Status::NoMemory),
+    }
+}
+
+// The command of a store.
+fn store_command(
+    alloc: Global,
+    key: &[u8],
+    value: &[u8],
+    mode: Mode,
+) -> Result<Command<Global>, AllocError>
+    ensures { IfOk result (λ command. command ≡ Store key.now value.now mode) }
+{
+    Ok(Command::Store {
+        key: Bytes::from_slice(alloc, key)?,
+        value: Bytes::from_slice(alloc, value)?,
+        mode,
+    })
+}
+
+/// Takes a key and its value out.
+pub fn delete(alloc: Global, db: &mut Db, key: &[u8]) -> Result<Reply<Global>, Status>
+    ensures ok { IfOk result (λ reply. Does db.old (Delete key.now) reply db.new) }
+    ensures err { OnErr result (db.new ≡ db.old) }
+    ensures why { IfErr result (DeniesBy db.old (Delete key.now)) }
+{
+    let Ok(key) = Bytes::from_slice(alloc, key) else {
+        return Err(Status::NoMemory);
+    };
+    match perform(alloc, db, Command::Delete { key }) {
+        Ok(reply) => Ok(reply),
+        Err(_) => Err(Status::NoMemory),
+    }
+}
+
+/// The value of a key.
+pub fn find<'a>(db: &'a Db, key: &[u8]) -> Option<&'a [u8]>
+    ensures { option_map (λ v. v.now) result ≡ map.get (map_of db.now.image) key.now }
+{
+    let place = db.image.place(key);
+    let Some(shared) = db.image.page(place.page) else {
+        return None;
+    };
+    let page = shared.page();
+    let Some(i) = page.find(key) else {
+        return None;
+    };
+    Some(page.record(i))
+}
+
+/// Fetches the value of a key into a room, and tells its length, also where it does not fit.
+pub fn fetch(db: &Db, key: &[u8], room: &mut [u8], len: &mut usize) -> Status
+    ensures { FetchesIn key.now db.now result room.old room.new len.new }
+{
+    match find(db, key) {
+        Some(value) => copy_out(value, room, len),
+        None => Status::Missing,
+    }
+}
+
+// The command of a run.
+fn run_command(
+    alloc: Global,
+    program: &Arc<Verified<Global>>,
+    key: &[u8],
+    arg: &[u8],
+    blank: Option<usize>,
+    now: u64,
+) -> Result<Command<Global>, AllocError>
+    ensures { IfOk result (λ command. command ≡ Run key.now (arc_value program.now).code arg.now blank now) }
+{
+    Ok(Command::Run {
+        key: Bytes::from_slice(alloc, key)?,
+        prog: Program::new(Arc::try_clone(program)?),
+        arg: Bytes::from_slice(alloc, arg)?,
+        blank,
+        now,
+    })
+}
+
+// Runs a program on a record where it stands, and tells its reply, where that takes no memory.
+fn run_there(
+    image: &mut Image<Global>,
+    program: &Arc<Verified<Global>>,
+    key: &[u8],
+    arg: &[u8],
+    blank: Option<usize>,
+    now: u64,
+) -> Option<Reply<Global>>
+    requires small { IsSmall {A = Global} image.old.size (Run key.now (arc_value program.now).code arg.now blank now) }
+    ensures done { IfSome result (λ reply. Acts image.old (record { session = 0; command = Run key.now (arc_value program.now).code arg.now blank now; reply = reply }) image.new) }
+    ensures none { IfNone result (image.new ≡ image.old) }
+{
+    let input = RunInput {
+        session: 0,
+        time: now,
+        key,
+        program: &**program,
+        arg,
+        blank,
+    };
+    match act_run(image, &input) {
+        Some(ended) => Some(ran(ended)),
+        None => None,
+    }
+}
+
+/// Runs the program with a number.
+pub fn run(
+    alloc: Global,
+    db: &mut Db,
+    number: u32,
+    key: &[u8],
+    arg: &[u8],
+    blank: Option<usize>,
+    now: u64,
+) -> Result<Reply<Global>, Status>
+    ensures ok { IfOk result (λ reply. RunsBy number key.now arg.now blank now reply db.old db.new) }
+    ensures err { OnErr result (db.new ≡ db.old) }
+    ensures why { IfErr result (DeniesRun number key.now arg.now blank db.old) }
+{
+    let Some(program) = db.registry.get(ProgId(number)) else {
+        return Err(Status::NoProgram);
+    };
+    if let Err(fault) = check_run(key, arg, blank, db.image.page_size()) {
+        return Err(Status::of_size(fault));
+    }
+    if let Some(reply) = run_there(&mut db.image, program, key, arg, blank, now) {
+        return Ok(reply);
+    }
+    let Ok(command) = run_command(alloc, program, key, arg, blank, now) else {
+        return Err(Status::NoMemory);
+    };
+    match perform(alloc, db, command) {
+        Ok(reply) => Ok(reply),
+        Err(_) => Err(Status::NoMemory),
+    }
+}
+
+/// Submits the image of a program.
+pub fn submit(db: &mut Db, image: &[u8]) -> Result<ProgId, RegFault>
+    ensures { Submits image.now result db.old db.new }
+{
+    db.registry.submit(image)
+}
+
+/// The bytes of both files, `.dir` first.
+pub fn files(alloc: Global, db: &Db) -> Result<(MemSink<Global>, MemSink<Global>), AllocError>
+    ensures { IfOk result (λ sinks. HasFiles sinks.0.bytes sinks.1.bytes db.now) }
+{
+    let mut dir = MemSink::new(alloc);
+    let mut pag = MemSink::with_capacity(alloc, db.image.pag_len() as usize)?;
+    match db.image.write(&mut dir, &mut pag) {
+        Ok(()) => Ok((dir, pag)),
+        Err(_) => Err(AllocError),
+    }
+}
+
+/// The database that the bytes of both files spell, with no programs.
+pub fn open(
+    alloc: Global,
+    registry: Registry<Global>,
+    dir: &[u8],
+    pag: &[u8],
+    kind: KeyBytes,
+    size: PageSize,
+) -> Result<Db, OpenFault>
+    requires { registry ≡ empty_registry }
+    ensures ok { IfOk result (IsOpened kind size dir.now pag.now) }
+    ensures err { IfErr result (IsOpenFault kind size dir.now pag.now) }
+{
+    match Image::open(alloc, dir, pag, kind, size) {
+        Ok(image) => Ok(Db { image, registry }),
+        Err(fault) => Err(fault),
+    }
+}
+
+/// The number with which a run ended, and its word, or zeros where it did not run.
+pub fn end_of(reply: &Reply<Global>) -> (u64, u64)
+    ensures { IsEnd reply.now result.0 result.1 }
+{
+    match reply {
+        Reply::Ran { code, word } => (*code, *word),
+        _ => (0, 0),
+    }
+}

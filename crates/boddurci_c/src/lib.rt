@@ -1,0 +1,472 @@
+//! The store for C: handles, and one export for each thing that is done with one. It keeps no global state, takes no lock, starts no
+//! thread, and reads and writes no file.
+#![tactic(auto)]
+
+ghost use Rattle.std.specs.Prelude.{◌≡◌, ◌⊎◌, Option, Some, None, IfOk, IfErr, IfSome, IfNone, OnOk, OnErr};
+ghost use Rattle.store_cmd.specs.declared.Command.TheVariants.{Store, Delete};
+ghost use Rattle.boddurci_c.specs.Calls.{At, Shows, Why, Denies, Never, Does, DeniesBy, Says, Fetches, Counts, Runs, RunsBy, DeniesRun, Submits, Numbers, Rejects, HasFiles, Writes, LacksMemory, IsOpened, OpensOr, open_word, mode_for, blank_for, kind_for, size_for, empty_registry, status_of_fault, status_of_open, AreCopied};
+ghost use Rattle.boddurci_c.specs.Texts.{Assembles, Garbles};
+ghost use Rattle.boddurci_c.specs.Turns.{Begins, GoesOn};
+ghost use Rattle.boddurci_c.specs.declared.db.Db.{Db};
+ghost use Rattle.sdbm_files.specs.Opened.{IsOpenFault};
+
+mod db;
+mod handle;
+mod loose;
+mod rooms;
+mod status;
+mod texts;
+mod turns;
+mod units;
+
+use db::{delete, end_of, fetch, files, open, run, store, submit};
+use handle::Handle;
+use prog_registry::{ProgId, RegFault, Registry};
+use rooms::{copy_both, copy_out, tell};
+use sdbm_addr::{KeyBytes, Mode, PageSize};
+use sdbm_files::{MemSink, OpenFault};
+use status::Status;
+use std::alloc::Global;
+use store_cmd::Reply;
+use texts::image_of;
+use turns::{Cursor, start, turn};
+use units::unit_of;
+
+// What a store does where its key is there.
+fn mode_of(replace: u32) -> Mode
+    ensures { result ≡ mode_for replace }
+{
+    if replace == 0 {
+        Mode::Insert
+    } else {
+        Mode::Replace
+    }
+}
+
+// Stores a value on an open handle.
+fn store_at(
+    alloc: Global,
+    slot: &mut Handle,
+    key: &[u8],
+    value: &[u8],
+    mode: Mode,
+) -> Result<Reply<Global>, Status>
+    ensures ok { IfOk result (λ reply. At slot.old.held slot.new.held (λ d d'. Does d (Store key.now value.now mode) reply d')) }
+    ensures same { OnErr result (slot.new.held ≡ slot.old.held) }
+    ensures why { IfErr result (Why (λ d status. DeniesBy d (Store key.now value.now mode) status) slot.old.held) }
+{
+    let Some(mut db) = slot.take(alloc) else {
+        return Err(Status::Closed);
+    };
+    let done = store(alloc, &mut *db, key, value, mode);
+    slot.put(db);
+    done
+}
+
+/// Stores a value for a key.
+#[unsafe(no_mangle)]
+pub extern "C" fn boddurci_store(
+    alloc: Global,
+    slot: &mut Handle,
+    key: &[u8],
+    value: &[u8],
+    replace: u32,
+) -> u32
+    ensures { Says (Store key.now value.now (mode_for replace)) slot.old.held result slot.new.held }
+{
+    match store_at(alloc, slot, key, value, mode_of(replace)) {
+        Ok(reply) => Status::of_reply(&reply).code(),
+        Err(status) => status.code(),
+    }
+}
+
+// Takes a key and its value out of an open handle's database.
+fn delete_at(alloc: Global, slot: &mut Handle, key: &[u8]) -> Result<Reply<Global>, Status>
+    ensures ok { IfOk result (λ reply. At slot.old.held slot.new.held (λ d d'. Does d (Delete key.now) reply d')) }
+    ensures same { OnErr result (slot.new.held ≡ slot.old.held) }
+    ensures why { IfErr result (Why (λ d status. DeniesBy d (Delete key.now) status) slot.old.held) }
+{
+    let Some(mut db) = slot.take(alloc) else {
+        return Err(Status::Closed);
+    };
+    let done = delete(alloc, &mut *db, key);
+    slot.put(db);
+    done
+}
+
+/// Takes a key and its value out.
+#[unsafe(no_mangle)]
+pub extern "C" fn boddurci_delete(alloc: Global, slot: &mut Handle, key: &[u8]) -> u32
+    ensures { Says (Delete key.now) slot.old.held result slot.new.held }
+{
+    match delete_at(alloc, slot, key) {
+        Ok(reply) => Status::of_reply(&reply).code(),
+        Err(status) => status.code(),
+    }
+}
+
+/// Fetches the value of a key into a room, and tells its length, also where it does not fit.
+#[unsafe(no_mangle)]
+pub extern "C" fn boddurci_fetch(
+    alloc: Global,
+    slot: &mut Handle,
+    key: &[u8],
+    room: &mut [u8],
+    len: &mut usize,
+) -> u32
+    ensures { Fetches key.now slot.old.held result slot.new.held room.old room.new len.new ⊎ Denies Never slot.old.held result slot.new.held }
+{
+    let Some(db) = slot.take(alloc) else {
+        return Status::Closed.code();
+    };
+    let status = fetch(&*db, key, room, len);
+    slot.put(db);
+    status.code()
+}
+
+/// Tells the number of pairs.
+#[unsafe(no_mangle)]
+pub extern "C" fn boddurci_count(alloc: Global, slot: &mut Handle, count: &mut usize) -> u32
+    ensures { Counts slot.old.held result slot.new.held count.new ⊎ Denies Never slot.old.held result slot.new.held }
+{
+    let Some(db) = slot.take(alloc) else {
+        return Status::Closed.code();
+    };
+    *count = db.image.count();
+    slot.put(db);
+    Status::Done.code()
+}
+
+// Submits an image to an open handle.
+fn submit_at(alloc: Global, slot: &mut Handle, image: &[u8]) -> Option<Result<ProgId, RegFault>>
+    ensures some { IfSome result (λ given. At slot.old.held slot.new.held (Submits image.now given)) }
+    ensures none { IfNone result (slot.old.held ≡ None) }
+    ensures same { IfNone result (slot.new.held ≡ slot.old.held) }
+{
+    let mut db = slot.take(alloc)?;
+    let given = submit(&mut *db, image);
+    slot.put(db);
+    Some(given)
+}
+
+// The status of a fault of an image.
+fn fault_status(fault: RegFault) -> Status
+    ensures { result ≡ status_of_fault fault }
+{
+    match fault {
+        RegFault::NoMemory => Status::NoMemory,
+        RegFault::Decode(_) => Status::Refused,
+        RegFault::Verify(_) => Status::Refused,
+        RegFault::Full => Status::Refused,
+    }
+}
+
+/// Submits the image of a program, and tells its number, or the unit at which it is at fault and the text of the fault in a room.
+#[unsafe(no_mangle)]
+pub extern "C" fn boddurci_submit(
+    alloc: Global,
+    slot: &mut Handle,
+    image: &[u8],
+    id: &mut u32,
+    unit: &mut usize,
+    room: &mut [u8],
+    len: &mut usize,
+) -> u32
+    ensures { Numbers image.now slot.old.held result slot.new.held id.new
+        ⊎ (Rejects image.now slot.old.held result slot.new.held unit.new room.old room.new len.new ⊎ Denies Never slot.old.held result slot.new.held) }
+{
+    match submit_at(alloc, slot, image) {
+        None => Status::Closed.code(),
+        Some(Ok(number)) => {
+            *id = number.0;
+            Status::Done.code()
+        }
+        Some(Err(fault)) => {
+            *unit = unit_of(fault);
+            tell(alloc, &fault, room, len);
+            fault_status(fault).code()
+        }
+    }
+}
+
+/// Assembles the text of a program into an image in a room, or tells the line and the text of its fault.
+#[unsafe(no_mangle)]
+pub extern "C" fn boddurci_assemble(
+    alloc: Global,
+    text: &[u8],
+    image: &mut [u8],
+    image_len: &mut usize,
+    line: &mut usize,
+    room: &mut [u8],
+    len: &mut usize,
+) -> u32
+    ensures { Assembles text.now result image.old image.new image_len.new ⊎ Garbles text.now result line.new room.old room.new len.new }
+{
+    match image_of(alloc, text) {
+        Ok(bytes) => copy_out(bytes.as_slice(), image, image_len).code(),
+        Err(fault) => {
+            *line = fault.line();
+            tell(alloc, &fault, room, len);
+            fault.status().code()
+        }
+    }
+}
+
+// Runs a program on an open handle.
+fn run_at(
+    alloc: Global,
+    slot: &mut Handle,
+    number: u32,
+    key: &[u8],
+    arg: &[u8],
+    blank: Option<usize>,
+    now: u64,
+) -> Result<Reply<Global>, Status>
+    ensures ok { IfOk result (λ reply. At slot.old.held slot.new.held (RunsBy number key.now arg.now blank now reply)) }
+    ensures same { OnErr result (slot.new.held ≡ slot.old.held) }
+    ensures why { IfErr result (Why (DeniesRun number key.now arg.now blank) slot.old.held) }
+{
+    let Some(mut db) = slot.take(alloc) else {
+        return Err(Status::Closed);
+    };
+    let done = run(alloc, &mut *db, number, key, arg, blank, now);
+    slot.put(db);
+    done
+}
+
+// The blank of a run.
+fn blank_of(has_blank: u32, blank: usize) -> Option<usize>
+    ensures { result ≡ blank_for has_blank blank }
+{
+    if has_blank == 0 { None } else { Some(blank) }
+}
+
+/// Runs the program with a number on the record of a key, or on so many zeros where the key is not there and there is a blank. It
+/// tells the number with which the program ended, and its word; both are 0 where it did not run.
+#[unsafe(no_mangle)]
+pub extern "C" fn boddurci_run(
+    alloc: Global,
+    slot: &mut Handle,
+    number: u32,
+    key: &[u8],
+    arg: &[u8],
+    has_blank: u32,
+    blank: usize,
+    now: u64,
+    end: &mut u64,
+    word: &mut u64,
+) -> u32
+    ensures { Runs number key.now arg.now (blank_for has_blank blank) now slot.old.held result slot.new.held end.new word.new
+        ⊎ Denies (DeniesRun number key.now arg.now (blank_for has_blank blank)) slot.old.held result slot.new.held }
+{
+    match run_at(
+        alloc,
+        slot,
+        number,
+        key,
+        arg,
+        blank_of(has_blank, blank),
+        now,
+    ) {
+        Ok(reply) => {
+            (*end, *word) = end_of(&reply);
+            Status::of_reply(&reply).code()
+        }
+        Err(status) => status.code(),
+    }
+}
+
+/// Begins a walk over all pairs.
+#[unsafe(no_mangle)]
+pub extern "C" fn boddurci_first(alloc: Global, slot: &mut Handle, cursor: &mut Cursor) -> u32
+    ensures { Begins slot.old.held result slot.new.held cursor.new ⊎ Denies Never slot.old.held result slot.new.held }
+{
+    let Some(db) = slot.take(alloc) else {
+        return Status::Closed.code();
+    };
+    *cursor = start(&db.image);
+    slot.put(db);
+    Status::Done.code()
+}
+
+/// Tells the next pair of a walk in two rooms, where both parts fit, and their lengths either way.
+#[unsafe(no_mangle)]
+pub extern "C" fn boddurci_next(
+    alloc: Global,
+    slot: &mut Handle,
+    cursor: &mut Cursor,
+    key: &mut [u8],
+    key_len: &mut usize,
+    value: &mut [u8],
+    value_len: &mut usize,
+) -> u32
+    ensures { GoesOn slot.old.held result slot.new.held cursor.old cursor.new key.old key.new key_len.new value.old value.new value_len.new
+        ⊎ Denies Never slot.old.held result slot.new.held }
+{
+    let Some(db) = slot.take(alloc) else {
+        return Status::Closed.code();
+    };
+    let status = turn(&db.image, cursor, key, key_len, value, value_len);
+    slot.put(db);
+    status.code()
+}
+
+// The bytes of both files of an open handle's database.
+fn files_at(alloc: Global, slot: &mut Handle) -> Result<(MemSink<Global>, MemSink<Global>), Status>
+    ensures ok { IfOk result (λ sinks. Shows slot.old.held slot.new.held (HasFiles sinks.0.bytes sinks.1.bytes)) }
+    ensures same { slot.new.held ≡ slot.old.held }
+    ensures why { IfErr result (Why LacksMemory slot.old.held) }
+{
+    let Some(db) = slot.take(alloc) else {
+        return Err(Status::Closed);
+    };
+    let done = files(alloc, &*db);
+    slot.put(db);
+    match done {
+        Ok(sinks) => Ok(sinks),
+        Err(_) => Err(Status::NoMemory),
+    }
+}
+
+/// Writes the bytes of both files into rooms, where both fit, and tells how many they are.
+#[unsafe(no_mangle)]
+pub extern "C" fn boddurci_files(
+    alloc: Global,
+    slot: &mut Handle,
+    dir: &mut [u8],
+    dir_len: &mut usize,
+    pag: &mut [u8],
+    pag_len: &mut usize,
+) -> u32
+    ensures { Writes slot.old.held result slot.new.held dir.old dir.new pag.old pag.new dir_len.new pag_len.new
+        ⊎ Denies LacksMemory slot.old.held result slot.new.held }
+{
+    match files_at(alloc, slot) {
+        Ok((dir_sink, pag_sink)) => {
+            *dir_len = dir_sink.bytes().len();
+            *pag_len = pag_sink.bytes().len();
+            copy_both(dir_sink.bytes(), pag_sink.bytes(), dir, pag).code()
+        }
+        Err(status) => status.code(),
+    }
+}
+
+// How keys hash.
+fn kind_of(unsigned_keys: u32) -> KeyBytes
+    ensures { result ≡ kind_for unsigned_keys }
+{
+    if unsigned_keys == 0 {
+        KeyBytes::Signed
+    } else {
+        KeyBytes::Unsigned
+    }
+}
+
+// How large pages are.
+fn size_of(wide: u32) -> PageSize
+    ensures { result ≡ size_for wide }
+{
+    if wide == 0 {
+        PageSize::Small
+    } else {
+        PageSize::Wide
+    }
+}
+
+/// Whether a handle is open, as 1 or 0.
+#[unsafe(no_mangle)]
+pub extern "C" fn boddurci_is_open(alloc: Global, slot: &mut Handle) -> u32
+    ensures same { slot.new.held ≡ slot.old.held }
+    ensures word { result ≡ open_word slot.old.held }
+{
+    let Some(db) = slot.take(alloc) else {
+        return 0;
+    };
+    slot.put(db);
+    1
+}
+
+// Opens a handle that is closed.
+fn open_at(
+    alloc: Global,
+    slot: &mut Handle,
+    registry: Registry<Global>,
+    dir: &[u8],
+    pag: &[u8],
+    kind: KeyBytes,
+    size: PageSize,
+) -> Result<(), OpenFault>
+    requires closed { slot.old.held ≡ None }
+    requires empty { registry ≡ empty_registry }
+    ensures ok { OnOk result ((d : Db) × ((slot.new.held ≡ Some d) × IsOpened kind size dir.now pag.now d)) }
+    ensures err { OnErr result (slot.new.held ≡ None) }
+    ensures fault { IfErr result (IsOpenFault kind size dir.now pag.now) }
+{
+    let db = open(alloc, registry, dir, pag, kind, size)?;
+    match Box::new(alloc, db) {
+        Ok(owned) => {
+            slot.put(owned);
+            Ok(())
+        }
+        Err(_) => Err(OpenFault::NoMemory),
+    }
+}
+
+// The status of a fault of files.
+fn open_status(fault: OpenFault) -> Status
+    ensures { result ≡ status_of_open fault }
+{
+    match fault {
+        OpenFault::PagLength => Status::BadFiles,
+        OpenFault::Page(_, _) => Status::BadFiles,
+        OpenFault::Dir(_) => Status::BadFiles,
+        OpenFault::Misplaced(_) => Status::BadFiles,
+        OpenFault::NoMemory => Status::NoMemory,
+    }
+}
+
+/// Opens a closed handle on the database that the bytes of its files spell, or tells the text of their fault in a room. No bytes are
+/// an empty database.
+#[unsafe(no_mangle)]
+pub extern "C" fn boddurci_open(
+    alloc: Global,
+    slot: &mut Handle,
+    dir: &[u8],
+    pag: &[u8],
+    wide: u32,
+    unsigned_keys: u32,
+    room: &mut [u8],
+    len: &mut usize,
+) -> u32
+    ensures { OpensOr (kind_for unsigned_keys) (size_for wide) dir.now pag.now slot.old.held result slot.new.held room.old room.new len.new }
+{
+    if boddurci_is_open(alloc, slot) == 1 {
+        return Status::Open.code();
+    }
+    let Ok(registry) = Registry::new(alloc) else {
+        return Status::NoMemory.code();
+    };
+    match open_at(
+        alloc,
+        slot,
+        registry,
+        dir,
+        pag,
+        kind_of(unsigned_keys),
+        size_of(wide),
+    ) {
+        Ok(()) => Status::Done.code(),
+        Err(fault) => {
+            tell(alloc, &fault, room, len);
+            open_status(fault).code()
+        }
+    }
+}
+
+/// Closes a handle, and lets go what it holds.
+#[unsafe(no_mangle)]
+pub extern "C" fn boddurci_close(alloc: Global, slot: &mut Handle)
+    ensures { slot.new.held ≡ None }
+{
+    let _ = slot.take(alloc);
+}

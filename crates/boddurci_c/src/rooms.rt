@@ -1,0 +1,44 @@
+//! Rooms that a caller lends for bytes.
+ghost use Rattle.std.specs.Prelude.{◌≡◌, ℕ, List, Some};
+ghost use Rattle.boddurci_c.specs.Calls.{IsCopied, IsTold, AreCopied};
+
+use crate::status::Status;
+use std::alloc::Global;
+use std::fmt::Display;
+
+/// Writes bytes in the first places of a room where they fit, and tells how many they are.
+pub fn copy_out(bytes: &[u8], room: &mut [u8], len: &mut usize) -> Status
+    ensures { IsCopied bytes.now room.old room.new len.new result }
+{
+    *len = bytes.len();
+    if bytes.len() > room.len() {
+        return Status::ShortRoom;
+    }
+    room[..bytes.len()].copy_from_slice(bytes);
+    Status::Done
+}
+
+/// Writes the text of a fault in the first places of a room, as `copy_out` does; no text where memory runs out.
+pub fn tell<T: Display>(alloc: Global, fault: &T, room: &mut [u8], len: &mut usize)
+    ensures { (text : List ℕ) → T.output fault.now ≡ Some text → IsTold text room.old room.new len.new }
+{
+    match fault.to_string(alloc) {
+        Ok(text) => copy_out(text.as_bytes(), room, len),
+        Err(_) => copy_out(&[], room, len),
+    };
+}
+
+/// Writes the bytes of two files in the first places of two rooms where both fit, and else none.
+pub fn copy_both(dir: &[u8], pag: &[u8], dir_room: &mut [u8], pag_room: &mut [u8]) -> Status
+    ensures { AreCopied dir.now pag.now dir_room.old dir_room.new pag_room.old pag_room.new result }
+{
+    if dir.len() > dir_room.len() {
+        return Status::ShortRoom;
+    }
+    if pag.len() > pag_room.len() {
+        return Status::ShortRoom;
+    }
+    dir_room[..dir.len()].copy_from_slice(dir);
+    pag_room[..pag.len()].copy_from_slice(pag);
+    Status::Done
+}

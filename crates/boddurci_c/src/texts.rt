@@ -1,0 +1,75 @@
+//! Programs from their texts.
+ghost use Rattle.std.specs.Prelude.{◌≡◌, IfOk, IfErr};
+ghost use Rattle.boddurci_c.specs.Texts.{IsTextImage, IsTextFault, status_of_text, line_of};
+
+use crate::status::Status;
+use bpf_asm::{AsmFault, FaultKind, assemble};
+use bpf_insn::encode;
+use std::alloc::Global;
+use std::fmt;
+
+/// Why a text has no image. It prints as the fault of `assemble`, or as `NotText`.
+#[derive(Clone, Copy, Debug, PartialEq, Eq)]
+pub enum TextFault {
+    /// It is not UTF-8.
+    NotText,
+    /// It denotes no program, or memory ran out.
+    Line(AsmFault),
+}
+
+/// The image of the program that a text denotes.
+pub fn image_of(alloc: Global, text: &[u8]) -> Result<Vec<u8>, TextFault>
+    ensures ok { IfOk result (λ image. IsTextImage text.now image.items) }
+    ensures err { IfErr result (IsTextFault text.now) }
+{
+    let Ok(text) = str::from_utf8(text) else {
+        return Err(TextFault::NotText);
+    };
+    let code = match assemble(alloc, text) {
+        Ok(code) => code,
+        Err(fault) => return Err(TextFault::Line(fault)),
+    };
+    match encode(alloc, &code) {
+        Ok(image) => Ok(image),
+        Err(error) => Err(TextFault::Line(AsmFault::from(error))),
+    }
+}
+
+impl TextFault {
+    /// The status of the fault.
+    pub fn status(&self) -> Status
+        ensures { result ≡ status_of_text self.now }
+    {
+        match self {
+            TextFault::NotText => Status::BadText,
+            TextFault::Line(fault) => match fault.kind {
+                FaultKind::NoMemory => Status::NoMemory,
+                _ => Status::BadText,
+            },
+        }
+    }
+
+    /// The line of the fault, counted from 1, or 0 where it has none.
+    pub fn line(&self) -> usize
+        ensures { result ≡ line_of self.now }
+    {
+        match self {
+            TextFault::NotText => 0,
+            TextFault::Line(fault) => fault.line,
+        }
+    }
+}
+
+impl fmt::Display for TextFault {
+    ghost use Rattle.std.specs.Prelude.{Some};
+    ghost use Rattle.boddurci_c.specs.Texts.{text_of};
+
+    ghost output = { λ fault. Some (text_of fault) };
+
+    fn fmt<W: fmt::Write>(&self, f: &mut fmt::Formatter<W>) -> fmt::Result {
+        match self {
+            TextFault::NotText => write!(f, "NotText"),
+            TextFault::Line(fault) => write!(f, "{fault}"),
+        }
+    }
+}

@@ -1,0 +1,141 @@
+//! Pairs in turn: a cursor goes over the pages in the order of their numbers, and over the pairs of each in theirs.
+ghost use Rattle.std.specs.Prelude.{◌≡◌, ◌↔◌, ◌<◌, ◌≤◌, ◌+◌, ◌^◌, [], length, IsTrue, IfSome, IfNone};
+ghost use Rattle.sdbm_addr.specs.Database.{IsDatabase, pairs_at};
+ghost use Rattle.sdbm_addr.specs.Files.{IsPageCount};
+ghost use Rattle.sdbm_addr.specs.Pairs.{key_at, value_at};
+ghost use Rattle.boddurci_c.specs.Turns.{IsStart, IsFirstFrom, AreBare, IsNext, IsOver, Turns};
+
+use crate::rooms::copy_both;
+use crate::status::Status;
+use sdbm_files::Image;
+use std::alloc::Global;
+
+/// Where a walk over all pairs stands: at a page, with so many of its pairs behind it, on the way to the number above all pages.
+#[repr(C)]
+#[derive(Clone, Copy)]
+pub struct Cursor {
+    pub page: u32,
+    pub end: u32,
+    pub pair: usize,
+}
+
+// A pair, and how many pairs of its page are then behind.
+#[derive(Clone, Copy)]
+struct Met<'a> {
+    key: &'a [u8],
+    value: &'a [u8],
+    behind: usize,
+}
+
+// The number above all pages that have pairs.
+fn page_count(image: &Image<Global>) -> u64
+    ensures count { IsPageCount image.now result }
+    ensures few { result ≤ 2 ^ 31 }
+{
+    image.pag_len() / image.page_size().bytes() as u64
+}
+
+/// The start of a walk.
+pub fn start(image: &Image<Global>) -> Cursor
+    ensures { IsStart image.now result }
+{
+    Cursor {
+        page: 0,
+        end: page_count(image) as u32,
+        pair: 0,
+    }
+}
+
+// Whether a page has no pairs.
+fn is_bare(image: &Image<Global>, number: u32) -> bool
+    ensures { IsTrue result ↔ (pairs_at image.now number ≡ []) }
+{
+    match image.page(number) {
+        Some(shared) => shared.page().is_empty(),
+        None => true,
+    }
+}
+
+// Whether a page has a pair with a number.
+fn has_pair(image: &Image<Global>, number: u32, i: usize) -> bool
+    ensures { IsTrue result ↔ (i < length (pairs_at image.now number)) }
+{
+    match image.page(number) {
+        Some(shared) => i < shared.page().len(),
+        None => false,
+    }
+}
+
+// The first page from a number on, and below another, that has pairs.
+fn next_page(image: &Image<Global>, from: u32, end: u32) -> Option<u32>
+    ensures some { IfSome result (IsFirstFrom image.now from end) }
+    ensures none { IfNone result (AreBare image.now from end) }
+{
+    for number in from..end {
+        if !is_bare(image, number) {
+            return Some(number);
+        }
+    }
+    None
+}
+
+// The page and the number of the next pair.
+fn seek(image: &Image<Global>, cursor: Cursor) -> Option<(u32, usize)>
+    ensures some { IfSome result (λ at. IsNext image.now cursor at.0 at.1) }
+    ensures none { IfNone result (IsOver image.now cursor) }
+{
+    if cursor.page >= cursor.end {
+        return None;
+    }
+    if has_pair(image, cursor.page, cursor.pair) {
+        return Some((cursor.page, cursor.pair));
+    }
+    match next_page(image, cursor.page + 1, cursor.end) {
+        Some(number) => Some((number, 0)),
+        None => None,
+    }
+}
+
+// Pair i of a page.
+fn pair_at(image: &Image<Global>, number: u32, i: usize) -> Met<'_>
+    requires { i < length (pairs_at image.now number) }
+    ensures key { result.key.now ≡ key_at (pairs_at image.now number) i }
+    ensures value { result.value.now ≡ value_at (pairs_at image.now number) i }
+    ensures behind { result.behind ≡ i + 1 }
+{
+    let Some(shared) = image.page(number) else {
+        unreachable!()
+    };
+    let page = shared.page();
+    let _count = page.len();
+    Met {
+        key: page.key(i),
+        value: page.record(i),
+        behind: i + 1,
+    }
+}
+
+/// Writes the next pair into two rooms, where both parts fit, and moves the cursor past it; the lengths are told either way.
+pub fn turn(
+    image: &Image<Global>,
+    cursor: &mut Cursor,
+    key: &mut [u8],
+    key_len: &mut usize,
+    value: &mut [u8],
+    value_len: &mut usize,
+) -> Status
+    ensures { Turns image.now cursor.old cursor.new key.old key.new key_len.new value.old value.new value_len.new result }
+{
+    let Some((number, i)) = seek(image, *cursor) else {
+        return Status::Missing;
+    };
+    let pair = pair_at(image, number, i);
+    *key_len = pair.key.len();
+    *value_len = pair.value.len();
+    let status = copy_both(pair.key, pair.value, key, value);
+    if status == Status::Done {
+        cursor.page = number;
+        cursor.pair = pair.behind;
+    }
+    status
+}

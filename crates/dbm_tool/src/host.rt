@@ -1,0 +1,213 @@
+//! The three files of a database, as a save writes them.
+ghost use Rattle.std.specs.Prelude.{◌≡◌, IfErr};
+ghost use Rattle.sdbm_saves.specs.declared.disk.DiskError.TheVariants.{Failed};
+
+use dbm_reports::Names;
+use sdbm_saves::{CallLog, DiskError, File as Part, Host};
+use std::fs::{self, File, OpenFile, OpenOptions};
+use std::io::{self, ErrorKind};
+use std::os::unix::fs::{FileExt, MetadataExt, OpenOptionsExt, fchown};
+use std::rt::Files;
+
+// The name of one of the files.
+fn name_of(names: &Names, part: Part) -> &str {
+    match part {
+        Part::Pages => names.pages.as_str(),
+        Part::Directory => names.directory.as_str(),
+        Part::Redo => names.redo.as_str(),
+    }
+}
+
+// The folder in which a file lies.
+fn folder_of(name: &str) -> &str {
+    match name.rsplit_once('/') {
+        Some(("", _)) => "/",
+        Some((folder, _)) => folder,
+        None => ".",
+    }
+}
+
+// The files of a database, each opened when it is first written, made where it is not there, and kept open. They are written in place,
+// so they keep owner, permissions and links.
+#[derive(Drop)]
+struct OpenFiles<'a, R: Files<File = File>> {
+    rt: &'a R,
+    names: &'a Names,
+    pages: Option<File>,
+    directory: Option<File>,
+    redo: Option<File>,
+    // This run has synced the folder, and has made no file since. Names that an earlier run made are not taken to be kept.
+    is_folder_kept: bool,
+}
+
+impl<'a, R: Files<File = File>> OpenFiles<'a, R> {
+    fn slot(&mut self, part: Part) -> &mut Option<File> {
+        match part {
+            Part::Pages => &mut self.pages,
+            Part::Directory => &mut self.directory,
+            Part::Redo => &mut self.redo,
+        }
+    }
+
+    // Opens a file to write it, where it is not open, and makes it where it is not there.
+    fn open(&mut self, part: Part) -> io::Result<&mut File> {
+        if self.slot(part).is_none() {
+            let name = name_of(self.names, part);
+            let file = match open_both_ways(self.rt, name) {
+                Err(error) if error.kind() == ErrorKind::NotFound => {
+                    self.is_folder_kept = false;
+                    make(self.rt, self.names, part)?
+                }
+                opened => opened?,
+            };
+            *self.slot(part) = Some(file);
+        }
+        match self.slot(part) {
+            Some(file) => Ok(file),
+            None => Err(io::Error::from(ErrorKind::NotFound)),
+        }
+    }
+
+    fn write_in(&mut self, part: Part, at: usize, bytes: &[u8]) -> io::Result<()> {
+        self.open(part)?.write_all_at(bytes, at as u64)
+    }
+
+    fn set_len(&mut self, part: Part, len: usize) -> io::Result<()> {
+        let file = self.open(part)?;
+        if file.metadata()?.len() == len as u64 {
+            return Ok(());
+        }
+        file.set_len(len as u64)
+    }
+
+    // Syncs a file, and the folder with its name. A file that this run has not written is synced too: an earlier run may have been
+    // killed behind a write. One that is not there has nothing to sync, and one that may not be written fails here and not in the
+    // midst of a commit.
+    fn keep(&mut self, part: Part) -> io::Result<()> {
+        match self.slot(part) {
+            Some(file) => file.sync_data()?,
+            None => match open_both_ways(self.rt, name_of(self.names, part)) {
+                Ok(file) => file.sync_data()?,
+                Err(error) if error.kind() == ErrorKind::NotFound => (),
+                Err(error) => return Err(error),
+            },
+        }
+        if !self.is_folder_kept {
+            fs::open(self.rt, folder_of(name_of(self.names, part)))?.sync_all()?;
+            self.is_folder_kept = true;
+        }
+        Ok(())
+    }
+
+    fn remove_redo(&mut self) -> io::Result<()> {
+        self.redo = None;
+        match fs::remove_file(self.rt, self.names.redo.as_str()) {
+            Err(error) if error.kind() != ErrorKind::NotFound => Err(error),
+            _ => Ok(()),
+        }
+    }
+}
+
+// Opens a file that is there to be written.
+fn open_both_ways<R: Files<File = File>>(rt: &R, name: &str) -> io::Result<File> {
+    OpenOptions::new().read(true).write(true).open(rt, name)
+}
+
+// Makes a file. A redo file has the records of the database in it, so nobody else may read it before it is like `.pag`.
+fn make<R: Files<File = File>>(rt: &R, names: &Names, part: Part) -> io::Result<File> {
+    let mut options = OpenOptions::new();
+    options.read(true).write(true).create(true);
+    if part == Part::Redo {
+        options.mode(0o600);
+    }
+    let file = options.open(rt, name_of(names, part))?;
+    if part == Part::Redo {
+        be_like(rt, &file, names.pages.as_str())?;
+    }
+    Ok(file)
+}
+
+/// Gives a file that this run has made the owner, the group and the permissions of another, where that one is there. Where the system
+/// does not let the file be given away, it stays that of this run's user.
+pub fn be_like<R: Files<File = File>>(rt: &R, file: &File, name: &str) -> io::Result<()> {
+    let other = match fs::metadata(rt, name) {
+        Ok(other) => other,
+        Err(error) if error.kind() == ErrorKind::NotFound => return Ok(()),
+        Err(error) => return Err(error),
+    };
+    let own = file.metadata()?;
+    if own.uid() != other.uid() || own.gid() != other.gid() {
+        let _ = fchown(file, Some(other.uid()), Some(other.gid()));
+    }
+    file.set_permissions(other.permissions())
+}
+
+/// The files of a database on the system's disk, with a log of what was called.
+#[derive(Drop)]
+pub struct RealFiles<'a, R: Files<File = File>> {
+    files: OpenFiles<'a, R>,
+    log: CallLog,
+}
+
+impl<'a, R: Files<File = File>> RealFiles<'a, R> {
+    ghost use Rattle.sdbm_saves.specs.CallLog.{acts};
+
+    /// The files with these names. None is opened yet.
+    pub fn new(rt: &'a R, names: &'a Names, log: CallLog) -> Self
+        ensures { result.log ≡ log }
+    {
+        RealFiles {
+            files: OpenFiles {
+                rt,
+                names,
+                pages: None,
+                directory: None,
+                redo: None,
+                is_folder_kept: false,
+            },
+            log,
+        }
+    }
+}
+
+// What a call of the system has come to.
+fn told(outcome: io::Result<()>) -> Result<(), DiskError>
+    ensures { IfErr result (λ error. error ≡ Failed) }
+{
+    match outcome {
+        Ok(()) => Ok(()),
+        Err(_) => Err(DiskError::Failed),
+    }
+}
+
+// Each call is noted before it is made, and a sync once it is done.
+impl<'a, R: Files<File = File>> Host for RealFiles<'a, R> {
+    ghost use Rattle.sdbm_saves.specs.CallLog.{acts};
+
+    ghost calls = { λ files. acts files.log };
+
+    fn write_at(&mut self, file: Part, at: usize, bytes: &[u8]) -> Result<(), DiskError> {
+        self.log.note_write(file, at, bytes)?;
+        told(self.files.write_in(file, at, bytes))
+    }
+
+    fn resize(&mut self, file: Part, len: usize) -> Result<(), DiskError> {
+        self.log.note_resize(file, len)?;
+        told(self.files.set_len(file, len))
+    }
+
+    fn sync(&mut self, file: Part) -> Result<(), DiskError> {
+        told(self.files.keep(file))?;
+        Ok(self.log.note_sync(file)?)
+    }
+
+    fn clear(&mut self) -> Result<(), DiskError> {
+        self.log.note_clear()?;
+        told(self.files.remove_redo())
+    }
+}
+
+/// Takes a redo file away that was not committed. That it may stay changes nothing: the next save takes it away.
+pub fn forget_redo<R: Files<File = File>>(rt: &R, names: &Names) {
+    let _ = fs::remove_file(rt, names.redo.as_str());
+}

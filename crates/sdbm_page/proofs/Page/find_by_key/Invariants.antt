@@ -1,0 +1,7 @@
+use Rattle.std.proofs.Common.{◌≡◌, drop}
+use Rattle.sdbm_addr.specs.Pairs.{value_of}
+use Rattle.sdbm_page.proofs.Page.find_by_key.Given as goal
+
+-- the key is not in front of place i
+abbrev pub invariant-loop-i : goal.invariant-loop-i
+invariant-loop-i g l = value_of (drop l.i l.self.pairs) l.key ≡ value_of l.self.pairs l.key

@@ -1,0 +1,32 @@
+//! The last eight bytes of a key, by which most others are told from it at once.
+ghost use Rattle.std.specs.Prelude.{◌≡◌, ◌≤◌, length, slice_range, IfSome};
+ghost use Rattle.std.specs.Str.{bytes_eq};
+ghost use Rattle.sdbm_page.specs.Tails.{IsTail};
+
+use byteorder::{ByteOrder, LittleEndian};
+
+/// The number in the last eight bytes of a key, or none where it has fewer.
+pub fn tail_of(key: &[u8]) -> Option<u64>
+    ensures { IfSome result (IsTail key.now) }
+{
+    if key.len() < 8 {
+        return None;
+    }
+    Some(LittleEndian::read_u64(&key[key.len() - 8..]))
+}
+
+/// Whether the bytes from a place to another are those of a key, whose last eight read as `tail`.
+pub fn is_key(bytes: &[u8], start: usize, end: usize, key: &[u8], tail: u64) -> bool
+    requires tail { IsTail key.now tail }
+    requires order { start ≤ end }
+    requires inside { end ≤ length bytes.now }
+    ensures { result ≡ bytes_eq (slice_range bytes.now start end) key.now }
+{
+    if end - start != key.len() {
+        return false;
+    }
+    if LittleEndian::read_u64(&bytes[end - 8..end]) != tail {
+        return false;
+    }
+    &bytes[start..end] == key
+}

@@ -1,0 +1,245 @@
+-- A plan that is made change by change.
+use Rattle.std.proofs.Common.{◌≡◌, ◌≢◌, ⊎_elim, ℕ, zero, suc, ◌+◌, ◌-◌, ◌<◌, ◌≤◌, ◌^◌, List, ◌++◌, length, take, drop, get_or, refl, sym, ◌∙◌, ap, subst, arith, length-append, length-drop}
+use Rattle.std.proofs.lemmas.List.{get_or_append_left, get_or-append_right, get_or-take, get_or-drop, take_all, drop_all, take-append-le, drop-append-le, append-nil, length-take-le, ext_get_or}
+use Rattle.std.proofs.lemmas.Bool.{cases_lt}
+use Rattle.sdbm_saves.specs.declared.disk.File.{File}
+use Rattle.sdbm_saves.specs.declared.disk.File.TheVariants.{Pages, Directory, Redo}
+use Rattle.sdbm_saves.specs.Disk.{written, resized}
+use Rattle.sdbm_saves.specs.Redo.{number_at, data_file, file_of, offset_of, size_of, data_of, rest_of, rest_after, effect, replayed, new_length, count_of, renewed, IsPlan}
+use Rattle.sdbm_saves.specs.Drafts.{change_bytes, plan_bytes, length_in, FitsIn, AreChanges}
+use Rattle.sdbm_saves.proofs.Lists.{length-written, written_before, written_inside, written_after}
+use Rattle.sdbm_saves.proofs.Replay.{rest_next, replayed_next}
+
+number_append : (xs ys : List ℕ) (at : ℕ) → at + 4 ≤ length xs → number_at (xs ++ ys) at ≡ number_at xs at
+unfolding number_at
+number_append xs ys at inside =
+    let first = get_or_append_left xs ys 0 at (omega (arith, inside)) in
+    let second = get_or_append_left xs ys 0 (at + 1) (omega (arith, inside)) in
+    let third = get_or_append_left xs ys 0 (at + 2) (omega (arith, inside)) in
+    let fourth = get_or_append_left xs ys 0 (at + 3) (omega (arith, inside)) in
+    omega (arith, first, second, third, fourth)
+
+effect_same : (touched file : File) (xs zs x : List ℕ) → offset_of zs ≡ offset_of xs → data_of zs ≡ data_of xs → effect touched file zs x ≡ effect touched file xs x
+effect_same Pages Pages xs zs x offsets datas = λ i. written (offsets i) (datas i) x
+effect_same Pages Directory xs zs x offsets datas = refl
+effect_same Pages Redo xs zs x offsets datas = refl
+effect_same Directory Pages xs zs x offsets datas = refl
+effect_same Directory Directory xs zs x offsets datas = λ i. written (offsets i) (datas i) x
+effect_same Directory Redo xs zs x offsets datas = refl
+effect_same Redo Pages xs zs x offsets datas = refl
+effect_same Redo Directory xs zs x offsets datas = refl
+effect_same Redo Redo xs zs x offsets datas = refl
+
+-- what stands behind a change does not touch it
+module _ (xs ys : List ℕ) (whole : 9 + size_of xs ≤ length xs) where
+  size_append : size_of (xs ++ ys) ≡ size_of xs
+  size_append = number_append xs ys 5 (omega (arith, whole))
+
+  offset_append : offset_of (xs ++ ys) ≡ offset_of xs
+  offset_append = number_append xs ys 1 (omega (arith, whole))
+
+  file_append : file_of (xs ++ ys) ≡ file_of xs
+  file_append = ap (λ n. data_file n) (get_or_append_left xs ys 0 0 (omega (arith, whole)))
+
+  data_append : data_of (xs ++ ys) ≡ data_of xs
+  data_append = ap (λ n. take n (drop 9 (xs ++ ys))) size_append
+      ∙ ap (λ (l : List ℕ). take (size_of xs) l) (drop-append-le 9 xs ys (omega (arith, whole)))
+      ∙ take-append-le (size_of xs) (drop 9 xs) ys (omega (arith, whole, length-drop 9 xs))
+
+  rest_append : rest_of (xs ++ ys) ≡ rest_of xs ++ ys
+  rest_append = ap (λ n. drop (9 + n) (xs ++ ys)) size_append ∙ drop-append-le (9 + size_of xs) xs ys whole
+
+  effect_append : (file : File) (x : List ℕ) → effect (file_of (xs ++ ys)) file (xs ++ ys) x ≡ effect (file_of xs) file xs x
+  effect_append file x = ap (λ t. effect t file (xs ++ ys) x) file_append ∙ effect_same (file_of xs) file xs (xs ++ ys) x offset_append data_append
+
+module _ (pages directory : ℕ) where
+  first_fits : (n : ℕ) (xs : List ℕ) → AreChanges pages directory (suc n) xs → FitsIn pages directory xs
+  first_fits n xs are = are.fits 0 (omega arith)
+
+  next : (n : ℕ) (xs : List ℕ) → AreChanges pages directory (suc n) xs → AreChanges pages directory n (rest_of xs)
+  next n xs are = record { fits = λ k lt. are.fits (suc k) (omega (arith, lt)); ends = are.ends }
+
+  rest_behind : (n : ℕ) (xs ys : List ℕ) → AreChanges pages directory n xs → rest_after n (xs ++ ys) ≡ ys
+  rest_behind zero xs ys are = ap (λ (l : List ℕ). l ++ ys) are.ends
+  rest_behind (suc n) xs ys are =
+      ap (λ (l : List ℕ). rest_after n l) (rest_append xs ys (first_fits n xs are).whole) ∙ rest_behind n (rest_of xs) ys (next n xs are)
+
+  replayed_behind : (file : File) (n : ℕ) (xs ys x : List ℕ) → AreChanges pages directory n xs → replayed file n (xs ++ ys) x ≡ replayed file n xs x
+  replayed_behind file zero xs ys x are = refl
+  replayed_behind file (suc n) xs ys x are =
+      let whole = (first_fits n xs are).whole in
+      ap (λ (l : List ℕ). replayed file n l (effect (file_of (xs ++ ys)) file (xs ++ ys) x)) (rest_append xs ys whole)
+      ∙ ap (λ (l : List ℕ). replayed file n (rest_of xs ++ ys) l) (effect_append xs ys whole file x)
+      ∙ replayed_behind file n (rest_of xs) ys (effect (file_of xs) file xs x) (next n xs are)
+
+  fits_append : (xs ys : List ℕ) → FitsIn pages directory xs → FitsIn pages directory (xs ++ ys)
+  fits_append xs ys fit = record {
+    whole = omega (arith, fit.whole, size_append xs ys fit.whole, length-append xs ys);
+    inside = subst (λ f. offset_of (xs ++ ys) + size_of (xs ++ ys) ≤ length_in pages directory f) (sym (file_append xs ys fit.whole))
+        (omega (arith, fit.inside, size_append xs ys fit.whole, offset_append xs ys fit.whole));
+  }
+
+  fits_behind : (n : ℕ) (xs ys : List ℕ) → AreChanges pages directory n xs → (k : ℕ) → k < n → FitsIn pages directory (rest_after k (xs ++ ys))
+  fits_behind zero xs ys are k lt = absurd (omega (arith, lt))
+  fits_behind (suc n) xs ys are zero lt = fits_append xs ys (first_fits n xs are)
+  fits_behind (suc n) xs ys are (suc k) lt =
+      subst (λ (l : List ℕ). FitsIn pages directory (rest_after k l)) (sym (rest_append xs ys (first_fits n xs are).whole))
+      (fits_behind n (rest_of xs) ys (next n xs are) k (omega (arith, lt)))
+
+  -- one change more
+  pub one_more : (n : ℕ) (xs ys : List ℕ) → AreChanges pages directory n xs → FitsIn pages directory ys → length ys ≡ 9 + size_of ys → AreChanges pages directory (n + 1) (xs ++ ys)
+  one_more n xs ys are fit long = record {
+    fits = λ k lt. ⊎_elim
+        (λ below. fits_behind n xs ys are k below)
+        (λ le. let is : n ≡ k = omega (arith, le, lt) in
+        subst (λ j. FitsIn pages directory (rest_after j (xs ++ ys))) is (subst (λ (l : List ℕ). FitsIn pages directory l) (sym (rest_behind n xs ys are)) fit))
+        (cases_lt k n);
+    ends = rest_next n (xs ++ ys) ∙ ap (λ (l : List ℕ). rest_of l) (rest_behind n xs ys are) ∙ drop_all (9 + size_of ys) ys (omega (arith, long));
+  }
+
+  pub replayed_one_more : (file : File) (n : ℕ) (xs ys x : List ℕ) → AreChanges pages directory n xs → replayed file (n + 1) (xs ++ ys) x ≡ effect (file_of ys) file ys (replayed file n xs x)
+  replayed_one_more file n xs ys x are =
+      replayed_next file n (xs ++ ys) x
+      ∙ ap (λ (l : List ℕ). effect (file_of l) file l (replayed file n (xs ++ ys) x)) (rest_behind n xs ys are)
+      ∙ ap (λ (l : List ℕ). effect (file_of ys) file ys l) (replayed_behind file n xs ys x are)
+
+-- a change that was spelled
+module _ (file : File) (at : ℕ) (bytes : List ℕ) (near : at < 2 ^ 32) (short : length bytes < 2 ^ 32) where
+  pub offset_spelled : offset_of (change_bytes file at bytes) ≡ at
+  unfolding number_at
+  offset_spelled = omega (arith, near)
+
+  pub size_spelled : size_of (change_bytes file at bytes) ≡ length bytes
+  unfolding number_at
+  size_spelled = omega (arith, short)
+
+  pub data_spelled : data_of (change_bytes file at bytes) ≡ bytes
+  data_spelled = ap (λ n. take n bytes) size_spelled ∙ take_all (length bytes) bytes (omega arith)
+
+  pub length_spelled : length (change_bytes file at bytes) ≡ 9 + size_of (change_bytes file at bytes)
+  length_spelled = omega (arith, size_spelled)
+
+pub file_spelled : (file : File) (at : ℕ) (bytes : List ℕ) → file ≢ Redo → file_of (change_bytes file at bytes) ≡ file
+file_spelled Pages at bytes is_data = refl
+file_spelled Directory at bytes is_data = refl
+file_spelled Redo at bytes is_data = absurd (is_data refl)
+
+-- a spelled change on its own file, and on another
+pub effect_own : (file : File) (at : ℕ) (bytes x : List ℕ) → at < 2 ^ 32 → length bytes < 2 ^ 32 → file ≢ Redo → effect (file_of (change_bytes file at bytes)) file (change_bytes file at bytes) x ≡ written at bytes x
+effect_own Pages at bytes x near short is_data = λ i. written (offset_spelled Pages at bytes near short i) (data_spelled Pages at bytes near short i) x
+effect_own Directory at bytes x near short is_data = λ i. written (offset_spelled Directory at bytes near short i) (data_spelled Directory at bytes near short i) x
+effect_own Redo at bytes x near short is_data = absurd (is_data refl)
+
+pub effect_other : (file g : File) (at : ℕ) (bytes x : List ℕ) → file ≢ Redo → g ≢ file → effect (file_of (change_bytes file at bytes)) g (change_bytes file at bytes) x ≡ x
+effect_other Pages Pages at bytes x is_data other = absurd (other refl)
+effect_other Pages Directory at bytes x is_data other = refl
+effect_other Pages Redo at bytes x is_data other = refl
+effect_other Directory Pages at bytes x is_data other = refl
+effect_other Directory Directory at bytes x is_data other = absurd (other refl)
+effect_other Directory Redo at bytes x is_data other = refl
+effect_other Redo g at bytes x is_data other = absurd (is_data refl)
+
+-- bytes that stand there already
+pub written_same : (at : ℕ) (block x : List ℕ) → at + length block ≤ length x → ((i : ℕ) → i < length block → get_or block i 0 ≡ get_or x (at + i) 0) → x ≡ written at block x
+written_same at block x inside same = ext_get_or 0 x (written at block x) (sym (length-written at block x inside))
+    (λ i below. ⊎_elim
+    (λ lt. sym (written_before at block x i (omega (arith, inside)) lt))
+    (λ le. ⊎_elim
+    (λ lt. let on : at + (i - at) ≡ i = omega (arith, le) in
+    ap (λ k. get_or x k 0) (sym on) ∙ sym (same (i - at) (omega (arith, lt, le))) ∙ sym (written_inside at block x i (omega (arith, inside)) le lt))
+    (λ past. sym (written_after at block x i (omega (arith, inside)) past))
+    (cases_lt i (at + length block)))
+    (cases_lt i at))
+
+-- a part of a file
+module _ (at n : ℕ) (file : List ℕ) (inside : at + n ≤ length file) where
+  pub length_part : length (take n (drop at file)) ≡ n
+  length_part = length-take-le n (drop at file) (omega (arith, inside, length-drop at file))
+
+  pub part_reads : (i : ℕ) → i < length (take n (drop at file)) → get_or (take n (drop at file)) i 0 ≡ get_or file (at + i) 0
+  part_reads i lt = get_or-take n (drop at file) i 0 (omega (arith, lt, length_part)) ∙ get_or-drop at file i 0
+
+  pub block_reads : (block : List ℕ) → length block ≡ n → take n (drop at file) ≡ block → (i : ℕ) → i < length block → get_or block i 0 ≡ get_or file (at + i) 0
+  block_reads block long is i lt = ap (λ (l : List ℕ). get_or l i 0) (sym is) ∙ part_reads i (omega (arith, lt, long, length_part))
+
+  pub block_read : (block : List ℕ) → length block ≡ n → ((i : ℕ) → i < length block → get_or block i 0 ≡ get_or file (at + i) 0) → take n (drop at file) ≡ block
+  block_read block long same = ext_get_or 0 (take n (drop at file)) block (length_part ∙ sym long)
+      (λ i below. part_reads i below ∙ sym (same i (omega (arith, below, long, length_part))))
+
+-- the first bytes of a file renewed
+abbrev pub partly : ℕ → List ℕ → List ℕ → List ℕ
+partly at new old = take at new ++ drop at old
+
+module _ (at : ℕ) (new old : List ℕ) (inside : at ≤ length new) (same_length : length old ≡ length new) where
+  front : length (take at new) ≡ at
+  front = length-take-le at new inside
+
+  pub length_partly : length (partly at new old) ≡ length new
+  length_partly = omega (arith, front, same_length, inside, length-append (take at new) (drop at old), length-drop at old)
+
+  partly_new : (i : ℕ) → i < at → get_or (partly at new old) i 0 ≡ get_or new i 0
+  partly_new i lt = get_or_append_left (take at new) (drop at old) 0 i (omega (arith, front, lt)) ∙ get_or-take at new i 0 lt
+
+  pub partly_old : (i : ℕ) → at ≤ i → get_or (partly at new old) i 0 ≡ get_or old i 0
+  partly_old i le =
+      let on : at + (i - at) ≡ i = omega (arith, le) in
+      get_or-append_right (take at new) (drop at old) at i 0 front le ∙ get_or-drop at old (i - at) 0 ∙ ap (λ k. get_or old k 0) on
+
+pub partly_all : (n : ℕ) (new old : List ℕ) → n ≡ length new → length old ≡ length new → partly n new old ≡ new
+partly_all n new old all same_length =
+    ap (λ (l : List ℕ). take n new ++ l) (drop_all n old (omega (arith, all, same_length))) ∙ append-nil (take n new) ∙ take_all n new (omega (arith, all))
+
+-- a further block renewed
+module _ (at next : ℕ) (new old block : List ℕ) (inside : next ≤ length new) (same_length : length old ≡ length new) (length_is : at + length block ≡ next) (block_is : (i : ℕ) → i < length block → get_or block i 0 ≡ get_or new (at + i) 0) where
+  start : at ≤ length new
+  start = omega (arith, inside, length_is)
+
+  fits : at + length block ≤ length (partly at new old)
+  fits = omega (arith, inside, length_is, length_partly at new old start same_length)
+
+  pub block_written : written at block (partly at new old) ≡ partly next new old
+  block_written = ext_get_or 0 (written at block (partly at new old)) (partly next new old)
+      (length-written at block (partly at new old) fits ∙ length_partly at new old start same_length ∙ sym (length_partly next new old inside same_length))
+      (λ i below. ⊎_elim
+      (λ lt. written_before at block (partly at new old) i (omega (arith, fits)) lt ∙ partly_new at new old start same_length i lt ∙ sym (partly_new next new old inside same_length i (omega (arith, lt, length_is))))
+      (λ le. ⊎_elim
+      (λ lt. let on : at + (i - at) ≡ i = omega (arith, le) in
+      written_inside at block (partly at new old) i (omega (arith, fits)) le (omega (arith, lt, length_is)) ∙ block_is (i - at) (omega (arith, lt, le, length_is)) ∙ ap (λ k. get_or new k 0) on ∙ sym (partly_new next new old inside same_length i lt))
+      (λ past. written_after at block (partly at new old) i (omega (arith, fits)) (omega (arith, past, length_is)) ∙ partly_old at new old start same_length i le ∙ sym (partly_old next new old inside same_length i past))
+      (cases_lt i next))
+      (cases_lt i at))
+
+-- the bytes of a plan
+module _ (pages directory count : ℕ) (changes : List ℕ) (pages_small : pages < 2 ^ 32) (directory_small : directory < 2 ^ 32) (count_small : count < 2 ^ 32) where
+  pages_planned : new_length Pages (plan_bytes pages directory count changes) ≡ pages
+  unfolding number_at
+  pages_planned = omega (arith, pages_small)
+
+  directory_planned : new_length Directory (plan_bytes pages directory count changes) ≡ directory
+  unfolding number_at
+  directory_planned = omega (arith, directory_small)
+
+  count_planned : count_of (plan_bytes pages directory count changes) ≡ count
+  unfolding number_at
+  count_planned = omega (arith, count_small)
+
+  length_planned : (file : File) → length_in pages directory file ≡ new_length file (plan_bytes pages directory count changes)
+  length_planned Pages = sym pages_planned
+  length_planned Directory = sym directory_planned
+  length_planned Redo = refl
+
+  pub is_planned : AreChanges pages directory count changes → IsPlan (plan_bytes pages directory count changes)
+  is_planned are = record {
+    header = omega arith;
+    signed = refl;
+    ends = ap (λ n. rest_after n changes) count_planned ∙ are.ends;
+    fits = λ k lt. let fit = are.fits k (omega (arith, lt, count_planned)) in record {
+      whole = fit.whole;
+      inside = omega (arith, fit.inside, length_planned (file_of (rest_after k changes)));
+    };
+  }
+
+  pub renewed_planned : (file : File) (n : ℕ) (old : List ℕ) → length_in pages directory file ≡ n → renewed file (plan_bytes pages directory count changes) old ≡ replayed file count changes (resized n old)
+  renewed_planned file n old is =
+      let long : new_length file (plan_bytes pages directory count changes) ≡ n = sym (length_planned file) ∙ is in
+      λ i. replayed file (count_planned i) changes (resized (long i) old)

@@ -1,0 +1,6 @@
+pub mod Drafts
+pub mod Lists
+pub mod Marks
+pub mod Moments
+pub mod Recording
+pub mod Replay

@@ -1,0 +1,30 @@
+use Rattle.std.proofs.Common.{◌≡◌, ◌<◌, ◌∙◌, List, ℕ, length, sym, ap, subst, arith}
+use Rattle.sdbm_saves.specs.Disk.{resized}
+use Rattle.sdbm_saves.specs.Redo.{file_of, rest_of, rest_after, changes_of, count_of, new_length, effect, Fits}
+use Rattle.sdbm_saves.proofs.Lists.{length-resized}
+use Rattle.sdbm_saves.proofs.Replay.{rest_next, replayed_next, length-replayed}
+use Rattle.sdbm_saves.proofs.overlay.lay_over.Goals as goal
+
+pub lay_change-requires-clause-inside : goal.lay_change-requires-clause-inside
+lay_change-requires-clause-inside g c = λ is.
+    let plan = c.args.plan.now in
+    let kept = c.loop-index.invariant in
+    let lt : c.loop-index.index < count_of plan = omega (arith, c.loop-index-test.true, c.number-count.ensures.value) in
+    let fit : Fits plan c.loop-index.rest.now = subst (λ r. Fits plan r) (sym kept.rest) (c.requires.plan.fits c.loop-index.index lt) in
+    let long : length c.loop-index.laid.items ≡ new_length c.args.file plan =
+    ap (λ (l : List ℕ). length l) kept.laid
+    ∙ length-replayed c.args.file plan c.loop-index.index (changes_of plan) (resized (new_length c.args.file plan) c.args.old.now) (λ k below. c.requires.plan.fits k (omega (arith, below, lt))) (length-resized _ _) in
+    omega (arith, fit.inside, ap (λ f. new_length f plan) is, long)
+
+pub loop-index-preserved : goal.loop-index-preserved
+loop-index-preserved g c =
+    let plan = c.args.plan.now in
+    let kept = c.loop-index.invariant in
+    let here = rest_after c.loop-index.index (changes_of plan) in
+    record {
+      rest = c.rest_of-rest.ensures ∙ ap rest_of kept.rest ∙ sym (rest_next c.loop-index.index (changes_of plan));
+      laid = c.lay_change.ensures
+          ∙ ap (λ (r : List ℕ). effect (file_of r) c.args.file r c.loop-index.laid.items) kept.rest
+          ∙ ap (λ (l : List ℕ). effect (file_of here) c.args.file here l) kept.laid
+          ∙ sym (replayed_next c.args.file c.loop-index.index (changes_of plan) (resized (new_length c.args.file plan) c.args.old.now));
+    }

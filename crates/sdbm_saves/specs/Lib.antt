@@ -1,0 +1,6 @@
+pub mod Acts
+pub mod CallLog
+pub mod Disk
+pub mod Drafts
+pub mod Recording
+pub mod Redo

@@ -1,0 +1,128 @@
+// A log of calls that a system's files keep.
+ghost use Rattle.std.specs.Prelude.{◌≡◌, ◌++◌, ◌∷◌, [], length, OnOk, IfOk, OnErr};
+ghost use Rattle.sdbm_saves.specs.Acts.{write, resize, sync, clear};
+
+use crate::File;
+use std::alloc::{AllocError, Global};
+use std::mem;
+
+/// The calls of a save before its mark and with it, and of a recovery without a plan.
+const FIRST_CALLS: usize = 16;
+
+// A call that was begun, or for a sync, that was done.
+#[derive(Drop)]
+pub enum Call {
+    Write {
+        file: File,
+        at: usize,
+        bytes: Vec<u8>,
+    },
+    Resize {
+        file: File,
+        len: usize,
+    },
+    Sync {
+        file: File,
+    },
+    Clear,
+}
+
+/// A log of calls for a `Host` to keep. The room for the first of them is there from the start, and for one write of one byte, so
+/// that a save does not run out of memory between what it prints and its mark.
+#[derive(Drop)]
+pub struct CallLog {
+    alloc: Global,
+    calls: Vec<Call>,
+    room: Vec<u8>,
+}
+
+impl CallLog {
+    ghost use Rattle.sdbm_saves.specs.CallLog.{acts};
+
+    /// An empty log.
+    ///
+    /// # Errors
+    ///
+    /// `AllocError` where memory runs out.
+    pub fn new(alloc: Global) -> Result<CallLog, AllocError>
+        ensures { IfOk result (λ log. acts log ≡ []) }
+    {
+        Ok(CallLog {
+            alloc,
+            calls: Vec::with_capacity(alloc, FIRST_CALLS)?,
+            room: Vec::with_capacity(alloc, 1)?,
+        })
+    }
+
+    /// Notes a write.
+    ///
+    /// # Errors
+    ///
+    /// `AllocError` where memory runs out. The log is as it was.
+    pub fn note_write(&mut self, file: File, at: usize, bytes: &[u8]) -> Result<(), AllocError>
+        ensures ok { OnOk result (acts self.new ≡ acts self.old ++ write file at bytes.now ∷ []) }
+        ensures err { OnErr result (acts self.new ≡ acts self.old) }
+    {
+        let bytes = copy_of(self.alloc, &mut self.room, bytes)?;
+        self.note(Call::Write { file, at, bytes })
+    }
+
+    /// Notes a new length.
+    ///
+    /// # Errors
+    ///
+    /// `AllocError` where memory runs out. The log is as it was.
+    pub fn note_resize(&mut self, file: File, len: usize) -> Result<(), AllocError>
+        ensures ok { OnOk result (acts self.new ≡ acts self.old ++ resize file len ∷ []) }
+        ensures err { OnErr result (acts self.new ≡ acts self.old) }
+    {
+        self.note(Call::Resize { file, len })
+    }
+
+    /// Notes a sync.
+    ///
+    /// # Errors
+    ///
+    /// `AllocError` where memory runs out. The log is as it was.
+    pub fn note_sync(&mut self, file: File) -> Result<(), AllocError>
+        ensures ok { OnOk result (acts self.new ≡ acts self.old ++ sync file ∷ []) }
+        ensures err { OnErr result (acts self.new ≡ acts self.old) }
+    {
+        self.note(Call::Sync { file })
+    }
+
+    /// Notes that the redo file was taken away.
+    ///
+    /// # Errors
+    ///
+    /// `AllocError` where memory runs out. The log is as it was.
+    pub fn note_clear(&mut self) -> Result<(), AllocError>
+        ensures ok { OnOk result (acts self.new ≡ acts self.old ++ clear ∷ []) }
+        ensures err { OnErr result (acts self.new ≡ acts self.old) }
+    {
+        self.note(Call::Clear)
+    }
+
+    fn note(&mut self, call: Call) -> Result<(), AllocError>
+        ensures ok { OnOk result (self.new.calls.items ≡ self.old.calls.items ++ call ∷ []) }
+        ensures err { OnErr result (self.new.calls.items ≡ self.old.calls.items) }
+    {
+        match self.calls.push(call) {
+            Ok(()) => Ok(()),
+            Err(e) => Err(e.into()),
+        }
+    }
+}
+
+// A copy of bytes, which takes no memory where there is one byte and room for it.
+fn copy_of(alloc: Global, room: &mut Vec<u8>, bytes: &[u8]) -> Result<Vec<u8>, AllocError>
+    ensures { IfOk result (λ copy. copy.items ≡ bytes.now) }
+{
+    if bytes.len() != 1 {
+        return bytes.to_vec(alloc);
+    }
+    let mut copy = mem::replace(room, Vec::new(alloc));
+    copy.clear();
+    copy.extend_from_slice(bytes)?;
+    Ok(copy)
+}

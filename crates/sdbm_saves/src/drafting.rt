@@ -1,0 +1,74 @@
+// The changes of a plan, gathered one after the other.
+ghost use Rattle.std.specs.Prelude.{◌≡◌, ◌<◌, ◌≤◌, ◌^◌, ◌+◌, ◌++◌, length, IfOk, OnOk};
+ghost use Rattle.sdbm_saves.specs.Drafts.{spelled, change_bytes, plan_bytes};
+
+use crate::File;
+use crate::plan::SIGNATURE;
+use std::alloc::{AllocError, Allocator};
+
+/// A plan that is being made: the new lengths of both files, the changes so far, and how many they are.
+#[derive(Drop)]
+pub(crate) struct Draft<A: Allocator> {
+    pub(crate) pages: usize,
+    pub(crate) directory: usize,
+    pub(crate) changes: Vec<u8, A>,
+    pub(crate) count: usize,
+}
+
+// A number as four bytes, the low one first.
+fn spelled(number: usize) -> [u8; 4]
+    requires { number < 2 ^ 32 }
+    ensures { result ≡ spelled number }
+{
+    [
+        (number % 256) as u8,
+        (number / 256 % 256) as u8,
+        (number / 65536 % 256) as u8,
+        (number / 16777216 % 256) as u8,
+    ]
+}
+
+// Puts a change behind the others. Where memory runs out, a part of it may stand there, and the draft is of no use.
+pub(crate) fn push<A: Allocator>(
+    draft: &mut Draft<A>,
+    file: File,
+    at: usize,
+    bytes: &[u8],
+) -> Result<(), AllocError>
+    requires at { at < 2 ^ 32 }
+    requires size { length bytes.now < 2 ^ 32 }
+    requires count { draft.old.count < 2 ^ 32 }
+
+    ensures changes { OnOk result (draft.new.changes.items ≡ draft.old.changes.items ++ change_bytes file at bytes.now) }
+    ensures count { OnOk result (draft.new.count ≡ draft.old.count + 1) }
+    ensures pages { draft.new.pages ≡ draft.old.pages }
+    ensures directory { draft.new.directory ≡ draft.old.directory }
+{
+    let code = match file {
+        File::Pages => 0,
+        File::Directory | File::Redo => 1,
+    };
+    draft.changes.extend_from_slice(&[code])?;
+    draft.changes.extend_from_slice(&spelled(at))?;
+    draft.changes.extend_from_slice(&spelled(bytes.len()))?;
+    draft.changes.extend_from_slice(bytes)?;
+    draft.count += 1;
+    Ok(())
+}
+
+// The plan that a draft has come to.
+pub(crate) fn assemble<A: Allocator>(alloc: A, draft: &Draft<A>) -> Result<Vec<u8, A>, AllocError>
+    requires pages { draft.now.pages < 2 ^ 32 }
+    requires directory { draft.now.directory < 2 ^ 32 }
+    requires count { draft.now.count < 2 ^ 32 }
+
+    ensures { IfOk result (λ plan. plan.items ≡ plan_bytes draft.now.pages draft.now.directory draft.now.count draft.now.changes.items) }
+{
+    let mut plan = Vec::new(alloc);
+    plan.extend_from_slice(&SIGNATURE)?;
+    plan.extend_from_slice(&spelled(draft.pages))?;
+    plan.extend_from_slice(&spelled(draft.directory))?;
+    plan.extend_from_slice(&spelled(draft.count))?;
+    plan.extend_from_slice(draft.changes.as_slice())?;
+    Ok(plan)
+}

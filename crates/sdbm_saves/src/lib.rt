@@ -1,0 +1,20 @@
+//! Saves of a database that a crash cannot break: what a save changes is written to a redo file first, and a mark on that
+//! file is the commit (write-ahead logging, a redo log: Gray and Reuter, Transaction Processing 1993, chapter 9).
+#![tactic(auto)]
+
+mod call_log;
+mod disk;
+mod drafting;
+mod overlay;
+mod plan;
+mod planning;
+mod recorded;
+mod redo;
+
+pub use call_log::CallLog;
+pub use disk::{Disk, DiskError, File};
+pub use overlay::read_through;
+pub use plan::{is_plan, is_whole, plan_in};
+pub use planning::{Contents, PlanFault, rewriting};
+pub use recorded::{Found, Host, Past, Recorded, Unknown};
+pub use redo::{commit, finish, recover, stage};

@@ -1,0 +1,98 @@
+// What the files of a save that was cut off stand for, where they may not be written.
+ghost use Rattle.std.specs.Prelude.{◌≡◌, ◌≢◌, ◌≤◌, ◌+◌, length, IfOk};
+ghost use Rattle.sdbm_saves.specs.Disk.{resized, written};
+ghost use Rattle.sdbm_saves.specs.Redo.{file_of, offset_of, size_of, data_of, effect, renewed, files, stands_for, IsPlan, IsWhole};
+ghost use Rattle.sdbm_saves.specs.Recording.{image_of};
+ghost use Rattle.sdbm_saves.specs.declared.disk.File.TheVariants.{Redo};
+
+use crate::plan::{file_of, number, plan_in, rest_of};
+use crate::{File, Found};
+use std::alloc::{AllocError, Allocator, Global};
+
+/// What three files stand for, in memory, for a reader that may not write them: where a save was cut off behind its mark, the data files
+/// with its plan laid over them, else copies of them. There is no redo file in it. It takes memory for both data files.
+///
+/// # Errors
+///
+/// `AllocError` where memory runs out.
+pub fn read_through(alloc: Global, found: &Found) -> Result<Found, AllocError>
+    requires whole { IsWhole found.now.redo.items }
+    ensures { IfOk result (λ laid. files (image_of laid) ≡ stands_for (image_of found.now)) }
+{
+    let (pages, directory) = match plan_in(found.redo.as_slice()) {
+        Some(plan) => (
+            lay_over(alloc, plan, File::Pages, found.pages.as_slice())?,
+            lay_over(alloc, plan, File::Directory, found.directory.as_slice())?,
+        ),
+        None => (
+            found.pages.as_slice().to_vec(alloc)?,
+            found.directory.as_slice().to_vec(alloc)?,
+        ),
+    };
+    let redo = Vec::new(alloc);
+    Ok(Found {
+        pages,
+        directory,
+        redo,
+    })
+}
+
+// The bytes of a data file with a plan laid over them.
+fn lay_over<A: Allocator>(
+    alloc: A,
+    plan: &[u8],
+    file: File,
+    old: &[u8],
+) -> Result<Vec<u8, A>, AllocError>
+    requires plan { IsPlan plan.now }
+    requires data { file ≢ Redo }
+    ensures { IfOk result (λ laid. laid.items ≡ renewed file plan.now old.now) }
+{
+    let len = match file {
+        File::Pages => number(plan, 8),
+        File::Directory | File::Redo => number(plan, 12),
+    };
+    let mut laid = resized(alloc, old, len)?;
+    let count = number(plan, 16);
+    let mut rest = &plan[20..];
+    for index in 0..count {
+        lay_change(&mut laid, file, rest);
+        rest = rest_of(rest);
+    }
+    Ok(laid)
+}
+
+// The bytes cut to a length, or made longer by zeros.
+fn resized<A: Allocator>(alloc: A, old: &[u8], len: usize) -> Result<Vec<u8, A>, AllocError>
+    ensures { IfOk result (λ next. next.items ≡ resized len old.now) }
+{
+    if len <= old.len() {
+        return Ok(old[..len].to_vec(alloc)?);
+    }
+    let mut next = old.to_vec(alloc)?;
+    next.resize(len, 0)?;
+    Ok(next)
+}
+
+// Does a change, where it is one of this file.
+fn lay_change<A: Allocator>(laid: &mut Vec<u8, A>, file: File, change: &[u8])
+    requires data { file ≢ Redo }
+    requires whole { 9 + size_of change.now ≤ length change.now }
+    requires inside { file_of change.now ≡ file → offset_of change.now + size_of change.now ≤ length laid.old.items }
+
+    ensures { laid.new.items ≡ effect (file_of change.now) file change.now laid.old.items }
+{
+    if file_of(change) == file {
+        let at = number(change, 1);
+        let size = number(change, 5);
+        write_in(laid.as_mut_slice(), at, &change[9..9 + size]);
+    }
+}
+
+// Writes bytes over those that are there.
+fn write_in(file: &mut [u8], at: usize, bytes: &[u8])
+    requires { at + length bytes.now ≤ length file.old }
+    ensures { file.new ≡ written at bytes.now file.old }
+{
+    file[at..at + bytes.len()].copy_from_slice(bytes);
+}

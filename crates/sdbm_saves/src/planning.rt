@@ -1,0 +1,162 @@
+// The plan that makes the files of a database those of another.
+ghost use Rattle.std.specs.Prelude.{◌≡◌, ◌≢◌, ◌<◌, ◌≤◌, ◌⊎◌, ◌^◌, ◌+◌, ◌↔◌, ℕ, List, length, get_or, IsTrue, IfOk, IfErr, OnOk};
+ghost use Rattle.sdbm_saves.specs.declared.disk.File.{File};
+ghost use Rattle.sdbm_saves.specs.declared.disk.File.TheVariants.{Pages, Directory, Redo};
+ghost use Rattle.sdbm_saves.specs.declared.planning.PlanFault.TheVariants.{NoMemory, TooLong};
+ghost use Rattle.sdbm_saves.specs.Disk.{resized};
+ghost use Rattle.sdbm_saves.specs.Redo.{replayed};
+ghost use Rattle.sdbm_saves.specs.Drafts.{AreChanges, IsRewriting, RenewsBlock, length_in};
+
+use crate::File;
+use crate::drafting::{Draft, assemble, push};
+use std::alloc::{AllocError, Allocator};
+
+/// What is compared and written at once, in bytes: a page of the classic size.
+const BLOCK: usize = 1024;
+
+/// A file has fewer bytes than this, so that its offsets stand in four bytes.
+const LIMIT: usize = 4294967296;
+
+/// Why there is no plan.
+#[derive(Clone, Copy, Debug, PartialEq, Eq)]
+pub enum PlanFault {
+    /// A file would have 2^32 bytes or more.
+    TooLong,
+    /// No memory is left.
+    NoMemory,
+}
+
+impl From<AllocError> for PlanFault {
+    ghost from_gives = { λ _ fault. fault ≡ NoMemory };
+
+    fn from(_error: AllocError) -> PlanFault {
+        PlanFault::NoMemory
+    }
+}
+
+/// The bytes of both data files of a database.
+#[derive(Clone, Copy)]
+pub struct Contents<'a> {
+    /// The bytes of `.pag`.
+    pub pages: &'a [u8],
+    /// The bytes of `.dir`.
+    pub directory: &'a [u8],
+}
+
+/// The plan that makes the old files the new ones. It has the blocks of 1,024 bytes in which they differ, where a byte past the end
+/// of a file counts as zero; so a page of zeros is not written into a hole. It takes memory for the plan.
+///
+/// # Errors
+///
+/// `TooLong` where a new file has 2^32 bytes or more, and `NoMemory`.
+pub fn rewriting<A: Allocator + Copy>(
+    alloc: A,
+    old: Contents<'_>,
+    new: Contents<'_>,
+) -> Result<Vec<u8, A>, PlanFault>
+    ensures plan { IfOk result (λ plan. IsRewriting plan.items old.entry.pages.now old.entry.directory.now new.entry.pages.now new.entry.directory.now) }
+    ensures too_long { IfErr result (λ fault. fault ≡ TooLong → (2 ^ 32 ≤ length new.entry.pages.now) ⊎ (2 ^ 32 ≤ length new.entry.directory.now)) }
+{
+    if new.pages.len() >= LIMIT || new.directory.len() >= LIMIT {
+        return Err(PlanFault::TooLong);
+    }
+    let mut draft = Draft {
+        pages: new.pages.len(),
+        directory: new.directory.len(),
+        changes: Vec::new(alloc),
+        count: 0,
+    };
+    draft_file(&mut draft, File::Pages, old.pages, new.pages)?;
+    draft_file(&mut draft, File::Directory, old.directory, new.directory)?;
+    Ok(assemble(alloc, &draft)?)
+}
+
+// The changes that make one file the new one, behind those of a draft that does not touch it.
+fn draft_file<A: Allocator>(
+    draft: &mut Draft<A>,
+    file: File,
+    old: &[u8],
+    new: &[u8],
+) -> Result<(), AllocError>
+    requires data { file ≢ Redo }
+    requires short { length new.now < 2 ^ 32 }
+    requires few { draft.old.count ≤ 2 ^ 23 }
+    requires fits { length new.now ≤ length_in draft.old.pages draft.old.directory file }
+    requires changes { AreChanges draft.old.pages draft.old.directory draft.old.count draft.old.changes.items }
+    requires untouched { (x : List ℕ) → replayed file draft.old.count draft.old.changes.items x ≡ x }
+
+    ensures changes { OnOk result (AreChanges draft.new.pages draft.new.directory draft.new.count draft.new.changes.items) }
+    ensures file { OnOk result (replayed file draft.new.count draft.new.changes.items (resized (length new.now) old.now) ≡ new.now) }
+    ensures others { OnOk result ((g : File) → g ≢ file → (x : List ℕ) → replayed g draft.new.count draft.new.changes.items x ≡ replayed g draft.old.count draft.old.changes.items x) }
+    ensures few { OnOk result (draft.new.count ≤ draft.old.count + 2 ^ 22) }
+    ensures pages { OnOk result (draft.new.pages ≡ draft.old.pages) }
+    ensures directory { OnOk result (draft.new.directory ≡ draft.old.directory) }
+{
+    let blocks = new.len().div_ceil(BLOCK);
+    for index in 0..blocks {
+        let at = index * BLOCK;
+        let end = new.len().min(at + BLOCK);
+        draft_block(draft, file, old, at, &new[at..end])?;
+    }
+    Ok(())
+}
+
+// The change that makes one block of a file the new one, where it does not read so.
+fn draft_block<A: Allocator>(
+    draft: &mut Draft<A>,
+    file: File,
+    old: &[u8],
+    at: usize,
+    block: &[u8],
+) -> Result<(), AllocError>
+    requires data { file ≢ Redo }
+    requires near { at + length block.now < 2 ^ 32 }
+    requires few { draft.old.count < 2 ^ 32 }
+    requires fits { at + length block.now ≤ length_in draft.old.pages draft.old.directory file }
+    requires changes { AreChanges draft.old.pages draft.old.directory draft.old.count draft.old.changes.items }
+
+    ensures changes { OnOk result (AreChanges draft.new.pages draft.new.directory draft.new.count draft.new.changes.items) }
+    ensures file { OnOk result ((x : List ℕ) → RenewsBlock at old.now block.now (replayed file draft.old.count draft.old.changes.items x) (replayed file draft.new.count draft.new.changes.items x)) }
+    ensures others { OnOk result ((g : File) → g ≢ file → (x : List ℕ) → replayed g draft.new.count draft.new.changes.items x ≡ replayed g draft.old.count draft.old.changes.items x) }
+    ensures few { OnOk result (draft.new.count ≤ draft.old.count + 1) }
+    ensures pages { OnOk result (draft.new.pages ≡ draft.old.pages) }
+    ensures directory { OnOk result (draft.new.directory ≡ draft.old.directory) }
+{
+    if reads_as(old, at, block) {
+        return Ok(());
+    }
+    push(draft, file, at, block)?;
+    Ok(())
+}
+
+// Whether a file reads so from an offset on. A byte past its end counts as zero.
+fn reads_as(old: &[u8], at: usize, block: &[u8]) -> bool
+    requires { at + length block.now < 2 ^ 63 }
+    ensures { IsTrue result ↔ ((i : ℕ) → i < length block.now → get_or block.now i 0 ≡ get_or old.now (at + i) 0) }
+{
+    if at + block.len() <= old.len() {
+        return is_same(&old[at..at + block.len()], block);
+    }
+    let start = at.min(old.len());
+    is_padded(&old[start..], block)
+}
+
+// Whether two lists of bytes are the same.
+fn is_same(one: &[u8], other: &[u8]) -> bool
+    ensures { IsTrue result ↔ one.now ≡ other.now }
+{
+    one == other
+}
+
+// Whether these bytes and zeros behind them are a block.
+fn is_padded(kept: &[u8], block: &[u8]) -> bool
+    ensures { IsTrue result ↔ ((i : ℕ) → i < length block.now → get_or block.now i 0 ≡ get_or kept.now i 0) }
+{
+    for index in 0..block.len() {
+        let byte = if index < kept.len() { kept[index] } else { 0 };
+        if block[index] != byte {
+            return false;
+        }
+    }
+    true
+}

@@ -1,0 +1,149 @@
+// A disk that is three files of a system. What their calls do is trusted, so there is a record of them, and what the files hold
+// and what a crash may leave of them is told by the record.
+ghost use Rattle.std.specs.Prelude.{◌≡◌, ◌++◌, ◌∷◌, List, [], length, ◌↔◌, IsTrue, IsErrOf, MatchResult};
+ghost use Rattle.sdbm_saves.specs.declared.disk.DiskError.TheVariants.{Failed};
+ghost use Rattle.sdbm_saves.specs.Disk.{Image};
+ghost use Rattle.sdbm_saves.specs.Acts.{Act, write, resize, sync, clear, Notes};
+
+use crate::{Disk, DiskError, File};
+use std::marker::PhantomData;
+
+/// The bytes of the three files as they were read.
+#[derive(Drop)]
+pub struct Found {
+    /// The bytes of `.pag`.
+    pub pages: Vec<u8>,
+    /// The bytes of `.dir`.
+    pub directory: Vec<u8>,
+    /// The bytes of the redo file.
+    pub redo: Vec<u8>,
+}
+
+/// The calls of a system on the three files, with a record of those that were begun, and of the syncs that were done. No contract
+/// says what a call does to a file, so it is trusted: each does what the call of `Disk` with its name says. `CallLog` keeps such a
+/// record.
+pub trait Host {
+    /// The record, in order.
+    ghost calls: { Self → List Act };
+
+    /// Writes these bytes at this offset.
+    fn write_at(&mut self, file: File, at: usize, bytes: &[u8]) -> Result<(), DiskError>
+        ensures { Notes (write file at bytes.now) (calls self.old) (calls self.new) result };
+
+    /// Cuts a file to a length, or makes it longer by zeros.
+    fn resize(&mut self, file: File, len: usize) -> Result<(), DiskError>
+        ensures { Notes (resize file len) (calls self.old) (calls self.new) result };
+
+    /// Keeps what is in a file, and its name, whatever happens from now on.
+    fn sync(&mut self, file: File) -> Result<(), DiskError>
+        ensures { MatchResult result (λ _. calls self.new ≡ calls self.old ++ sync file ∷ []) (λ _. calls self.new ≡ calls self.old) };
+
+    /// Takes the redo file away.
+    fn clear(&mut self) -> Result<(), DiskError>
+        ensures { Notes clear (calls self.old) (calls self.new) result };
+}
+
+/// What a crash might have left of the files before a run opened them. No code can know it, so a function over every `Past` is proved
+/// whatever it was.
+pub trait Past {
+    ghost may_leave: { Image → Type 0 };
+}
+
+/// For a program to name: at this type nothing is known of what a crash might have left.
+pub struct Unknown;
+
+impl Past for Unknown {
+    ghost may_leave = { λ c. c ≡ c };
+}
+
+/// A disk over a system's files. After a call at which the system has failed it makes no more.
+#[derive(Drop)]
+pub struct Recorded<'a, H: Host, P: Past> {
+    host: H,
+    found: &'a Found,
+    failed: bool,
+    past: PhantomData<P>,
+}
+
+impl<'a, H: Host, P: Past> Recorded<'a, H, P> {
+    ghost use Rattle.sdbm_saves.specs.Recording.{image_of};
+
+    /// A disk over three files that were read, of which a crash might have left what `P` says. `recover` settles them.
+    pub fn new(host: H, found: &'a Found) -> Self
+        requires { H.calls host ≡ [] }
+        ensures seen { (⟦<Recorded<'a, H, P> as Disk>⟧).seen result ≡ image_of found.now }
+        ensures past { (c : Image) → (⟦<Recorded<'a, H, P> as Disk>⟧).may_leave result c → P.may_leave c }
+    {
+        Recorded {
+            host,
+            found,
+            failed: false,
+            past: PhantomData,
+        }
+    }
+}
+
+// Whether the system has failed.
+fn has_failed(outcome: &Result<(), DiskError>) -> bool
+    ensures { IsTrue result ↔ IsErrOf outcome.now Failed }
+{
+    match outcome {
+        Err(DiskError::Failed) => true,
+        Ok(()) | Err(DiskError::Memory) => false,
+    }
+}
+
+impl<'a, H: Host, P: Past> Disk for Recorded<'a, H, P> {
+    ghost use Rattle.sdbm_saves.specs.Recording.{image_of};
+    ghost use Rattle.sdbm_saves.specs.Acts.{seen_after, LeftAfter, LeftSince, now_counts, only_the_last};
+
+    ghost seen = { λ disk. seen_after (H.calls disk.host) (image_of disk.found.now) };
+
+    ghost may_leave = { λ disk c. LeftAfter (H.calls disk.host) (image_of disk.found.now) P.may_leave c };
+
+    ghost moment = { λ disk. length (H.calls disk.host) };
+
+    ghost left_since = { λ disk t c. LeftSince (H.calls disk.host) (image_of disk.found.now) P.may_leave t c };
+
+    ghost has_failed = { λ disk. IsTrue disk.failed };
+
+    ghost counts_now = { λ disk t c later left. now_counts (H.calls disk.host) (image_of disk.found.now) P.may_leave t c later left };
+
+    ghost only_now = { λ disk c left. only_the_last (H.calls disk.host) (image_of disk.found.now) P.may_leave c left };
+
+    fn write_at(&mut self, file: File, at: usize, bytes: &[u8]) -> Result<(), DiskError> {
+        if self.failed {
+            return Err(DiskError::Failed);
+        }
+        let outcome = self.host.write_at(file, at, bytes);
+        self.failed = has_failed(&outcome);
+        outcome
+    }
+
+    fn resize(&mut self, file: File, len: usize) -> Result<(), DiskError> {
+        if self.failed {
+            return Err(DiskError::Failed);
+        }
+        let outcome = self.host.resize(file, len);
+        self.failed = has_failed(&outcome);
+        outcome
+    }
+
+    fn sync(&mut self, file: File) -> Result<(), DiskError> {
+        if self.failed {
+            return Err(DiskError::Failed);
+        }
+        let outcome = self.host.sync(file);
+        self.failed = has_failed(&outcome);
+        outcome
+    }
+
+    fn clear(&mut self) -> Result<(), DiskError> {
+        if self.failed {
+            return Err(DiskError::Failed);
+        }
+        let outcome = self.host.clear();
+        self.failed = has_failed(&outcome);
+        outcome
+    }
+}

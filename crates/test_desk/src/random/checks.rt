@@ -1,0 +1,49 @@
+//! Whether desks are what the model says.
+
+use crate::random::asks::{is_asked, key_of, said_by};
+use crate::random::model::Answered;
+use crate::random::values::{Value, is_value};
+use sdbm_addr::Bytes;
+use std::alloc::Global;
+use store_cmd::{Entry, Program};
+
+fn is_pair(pair: &(Bytes<Global>, Bytes<Global>), key: usize, value: Value) -> bool {
+    pair.0.as_slice() == key_of(key) && is_value(pair.1.as_slice(), value)
+}
+
+/// Whether pairs are those of the keys that have values, in the order of the keys.
+pub fn are_pairs(pairs: &[(Bytes<Global>, Bytes<Global>)], values: &[Option<Value>]) -> bool {
+    let mut rest = pairs.iter();
+    for (key, value) in values.iter().enumerate() {
+        if let Some(value) = value {
+            match rest.next() {
+                Some(pair) if is_pair(pair, key, *value) => (),
+                _ => return false,
+            }
+        }
+    }
+    rest.next().is_none()
+}
+
+fn is_entry(entry: &Entry<Global>, programs: &[Program<Global>], own: &Answered) -> bool {
+    entry.session == own.session
+        && is_asked(&entry.command, programs, own.ask)
+        && said_by(&entry.reply) == own.told
+}
+
+/// Whether the entries of a trail are those of the model.
+pub fn are_entries(
+    entries: &[Entry<Global>],
+    programs: &[Program<Global>],
+    own: &[Answered],
+) -> bool {
+    if entries.len() != own.len() {
+        return false;
+    }
+    for (entry, one) in entries.iter().zip(own) {
+        if !is_entry(entry, programs, one) {
+            return false;
+        }
+    }
+    true
+}

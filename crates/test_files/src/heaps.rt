@@ -1,0 +1,155 @@
+//! Files that are read and written in heaps of each size.
+
+use crate::bench::Known;
+use crate::files::{Files, files_of, open_known, opened_text, same_files, write_both};
+use crate::parse::{bytes_of, cut, number};
+use linked_list_allocator::LocalHeap;
+use sdbm_files::{Image, MemSink, OpenFault, Sink, WriteFault};
+use std::alloc::{Allocator, Global};
+use std::fmt::Write;
+use test_lines::show_bytes;
+
+/// What comes of files in a heap of so many bytes, and how much of it is taken afterwards.
+pub fn within_text(global: Global, known: &Known, count: &str) -> Option<String> {
+    let heap = LocalHeap::new(global, number(count)).ok()?;
+    let opened = open_known(&heap, known);
+    let text = opened_text(global, &opened)?;
+    drop(opened);
+    format!(in global; "{text} used {}", heap.used()).ok()
+}
+
+// What comes of files in memory: whether it is enough, or nothing where it is and what is written differs, or the fault is
+// another.
+fn opens<A: Allocator + Copy>(
+    global: Global,
+    alloc: A,
+    known: &Known,
+    files: &Files,
+) -> Option<bool> {
+    match open_known(alloc, known) {
+        Ok(image) => {
+            if !same_files(&files_of(global, &image)?, files) {
+                return None;
+            }
+            Some(true)
+        }
+        Err(OpenFault::NoMemory) => Some(false),
+        Err(_) => None,
+    }
+}
+
+// Opens known files in a heap of so many bytes, which has to be empty afterwards.
+fn opens_in(global: Global, size: usize, known: &Known, files: &Files) -> Option<bool> {
+    let heap = LocalHeap::new(global, size).ok()?;
+    let enough = opens(global, &heap, known, files)?;
+    if heap.used() != 0 {
+        return None;
+    }
+    Some(enough)
+}
+
+// Whether sinks have what a write that came to an end leaves: whole files where it was not refused, and else whole pages, and
+// the mark where the refusal was.
+fn are_written<A: Allocator>(
+    ended: Result<(), WriteFault>,
+    dir: &MemSink<A>,
+    pag: &MemSink<A>,
+    files: &Files,
+) -> bool {
+    if pag.has_failed() != (ended == Err(WriteFault::Pag)) {
+        return false;
+    }
+    if dir.has_failed() != (ended == Err(WriteFault::Dir)) {
+        return false;
+    }
+    if !files.pag.bytes().starts_with(pag.bytes()) {
+        return false;
+    }
+    if ended.is_ok() {
+        return pag.bytes() == files.pag.bytes() && dir.bytes() == files.dir.bytes();
+    }
+    let is_whole = pag.bytes().len() == files.pag.bytes().len();
+    dir.bytes().is_empty() && pag.bytes().len() % 1024 == 0 && is_whole == dir.has_failed()
+}
+
+// Whether memory is enough for what is written of a database, or nothing where sinks have something else.
+fn writes<A: Allocator + Copy>(alloc: A, image: &Image<Global>, files: &Files) -> Option<bool> {
+    let mut dir = MemSink::new(alloc);
+    let mut pag = MemSink::new(alloc);
+    let result = write_both(image, &mut dir, &mut pag);
+    if !are_written(result, &dir, &pag, files) {
+        return None;
+    }
+    Some(result.is_ok())
+}
+
+fn writes_in(global: Global, size: usize, image: &Image<Global>, files: &Files) -> Option<bool> {
+    let heap = LocalHeap::new(global, size).ok()?;
+    writes(&heap, image, files)
+}
+
+// The bytes of the first heap of 128, 144 and so on that is large enough.
+fn least_heap(global: Global, known: &Known, is_opened: bool) -> Option<usize> {
+    let image = open_known(global, known).ok()?;
+    let files = files_of(global, &image)?;
+    for blocks in 8..800 {
+        let size = 16 * blocks;
+        let enough = if is_opened {
+            opens_in(global, size, known, &files)?
+        } else {
+            writes_in(global, size, &image, &files)?
+        };
+        if enough {
+            return Some(size);
+        }
+    }
+    None
+}
+
+/// Whether smaller heaps refuse a database, and a larger one does not.
+pub fn heaps_text(global: Global, known: &Known, rest: &str) -> Option<String> {
+    let (word, count) = cut(rest);
+    let count = number(count);
+    let least = least_heap(global, known, word == "open")?;
+    let text = if least > count {
+        "refused in each heap up to a larger one"
+    } else {
+        "not refused in a heap of so many bytes"
+    };
+    String::from_str(global, text).ok()
+}
+
+// Puts bytes in a sink, and writes what it says and then has.
+fn show_put<S: Allocator>(out: &mut String, sink: &mut MemSink<S>, bytes: &[u8]) -> Option<()> {
+    match sink.put(bytes) {
+        Ok(count) => write!(out, " / {count} ").ok()?,
+        Err(_) => out.push_str(" / refused ").ok()?,
+    }
+    show_bytes(out, sink.bytes()).ok()?;
+    if sink.has_failed() {
+        out.push_str(" failed").ok()?;
+    }
+    Some(())
+}
+
+fn show_puts<A: Allocator>(
+    global: Global,
+    out: &mut String,
+    sink: &mut MemSink<A>,
+    words: &str,
+) -> Option<()> {
+    for word in words.split(' ') {
+        show_put(out, sink, bytes_of(global, word).as_slice())?;
+    }
+    Some(())
+}
+
+/// What a sink in a heap of so many bytes takes.
+pub fn sink_text(global: Global, rest: &str) -> Option<String> {
+    let (count, words) = cut(rest);
+    let heap = LocalHeap::new(global, number(count)).ok()?;
+    let mut sink = MemSink::new(&heap);
+    let mut out = String::from_str(global, "sink").ok()?;
+    show_puts(global, &mut out, &mut sink, words)?;
+    Some(out)
+}

@@ -1,0 +1,13 @@
+//! Tests of the crates of programs that lines cannot say: codes and texts up to their limits, and memory that runs out.
+#![tactic(auto)]
+
+#[cfg(test)]
+mod decoding;
+#[cfg(test)]
+mod submitting;
+#[cfg(test)]
+mod texts;
+#[cfg(test)]
+mod texts_in_heaps;
+#[cfg(test)]
+mod verifying;

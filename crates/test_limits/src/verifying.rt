@@ -1,0 +1,105 @@
+//! Memory that runs out, what states take, and programs that are compared.
+
+use bpf_asm::assemble;
+use bpf_insn::Code;
+use bpf_verify::{VerifyFault, verify};
+use linked_list_allocator::LocalHeap;
+use std::alloc::{AllocError, Global};
+use std::process::Abort;
+use std::test::Fail;
+
+// Adds one to the record's first eight bytes.
+const COUNTER: &str =
+    "jlt r2, 8, +5\nldxdw r6, [r1+0]\nadd r6, 1\nstxdw [r1+0], r6\nmov r0, 1\nexit\nmov r0, 0\nexit";
+
+// A program of one jump over so many instructions.
+fn jump_over(alloc: Global, count: usize) -> Result<String, AllocError> {
+    let mut text = format!(in alloc; "mov r0, 0\nja +{count}\n")?;
+    for _ in 0..count {
+        text.push_str("mov r0, 0\n")?;
+    }
+    text.push_str("exit")?;
+    Ok(text)
+}
+
+// A growth that is refused gives the program back, and leaves nothing behind.
+#[test]
+fn each_growth_refused(rt: HostRuntime) -> Result<(), Fail> {
+    let want = assemble(rt.alloc(), COUNTER)?;
+    let mut was_refused = false;
+    for blocks in 8..600usize {
+        let heap = LocalHeap::new(rt.alloc(), 16 * blocks)?;
+        let Ok(code) = assemble(&heap, COUNTER) else {
+            continue;
+        };
+        let taken = heap.used();
+        match verify(&heap, code) {
+            Ok(verified) => {
+                assert_eq!(rt; verified.code().len(), want.len());
+                assert!(rt; heap.used() < 8192);
+                assert!(rt; was_refused);
+                return Ok(());
+            }
+            Err((fault, back)) => {
+                assert_eq!(rt; fault, VerifyFault::NoMemory);
+                assert_eq!(rt; back.len(), want.len());
+                assert_eq!(rt; heap.used(), taken);
+                was_refused = true;
+            }
+        }
+    }
+    Err(Fail::from("no heap is large enough"))
+}
+
+// What nothing reaches has no state. All of them would take 2 MB. Each unit takes 8 bytes for its own, 16
+// for its ready form and 24 for where its state would be: an `Option`'s tag, a box, and the allocator in the box.
+#[test]
+fn unreached_units_take_little(rt: HostRuntime) -> Result<(), Fail> {
+    let text = jump_over(rt.alloc(), 4093)?;
+    let heap = LocalHeap::new(rt.alloc(), 1 << 20)?;
+    let code = assemble(&heap, text.as_str())?;
+    let before = heap.used();
+    let Ok(verified) = verify(&heap, code) else {
+        return Err(Fail::from("it is refused"));
+    };
+    assert_eq!(rt; verified.code().len(), 4096usize);
+    assert!(rt; heap.used().saturating_sub(before) < 199_000);
+    Ok(())
+}
+
+// A program that is refused comes back.
+#[test]
+fn a_refused_program_comes_back(rt: HostRuntime) -> Result<(), Fail> {
+    let code = assemble(rt.alloc(), "mov r0, r1\nexit")?;
+    let same = assemble(rt.alloc(), "mov r0, r1\nexit")?;
+    match verify(rt.alloc(), code) {
+        Ok(_verified) => Err(Fail::from("it is accepted")),
+        Err((fault, back)) => {
+            assert_eq!(rt; fault, VerifyFault::ExitNotNumber(1));
+            assert!(rt; back == same);
+            Ok(())
+        }
+    }
+}
+
+// Whether two texts are accepted and the same.
+fn are_same(alloc: Global, one: &str, other: &str) -> Result<bool, Fail> {
+    let one: Code = assemble(alloc, one)?;
+    let other: Code = assemble(alloc, other)?;
+    let Ok(one) = verify(alloc, one) else {
+        return Err(Fail::from("the first is refused"));
+    };
+    let Ok(other) = verify(alloc, other) else {
+        return Err(Fail::from("the second is refused"));
+    };
+    Ok(one == other)
+}
+
+// Accepted programs are the same where their instructions are.
+#[test]
+fn equal_programs(rt: HostRuntime) -> Result<(), Fail> {
+    assert!(rt; are_same(rt.alloc(), COUNTER, COUNTER)?);
+    assert!(rt; !are_same(rt.alloc(), "mov r0, 0\nexit", "mov r0, 1\nexit")?);
+    assert!(rt; !are_same(rt.alloc(), "mov r0, 0\nexit", "mov r0, 0\nmov r0, 0\nexit")?);
+    Ok(())
+}

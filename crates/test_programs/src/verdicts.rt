@@ -1,0 +1,114 @@
+//! Verdicts, and what is known of registers.
+
+use bpf_asm::assemble;
+use bpf_range::Kind;
+use bpf_verify::{Verified, verify};
+use std::alloc::{AllocError, Global};
+use std::fmt::Write;
+
+// A program that was written on one line.
+fn accepted(alloc: Global, text: &str) -> Result<Result<Verified, String>, AllocError> {
+    let text = if text == "." { "" } else { text };
+    let lines = text.replace(alloc, " / ", "\n")?;
+    let code = match assemble(alloc, lines.as_str()) {
+        Ok(code) => code,
+        Err(fault) => return Ok(Err(format!(in alloc; "no program: {fault}")?)),
+    };
+    match verify(alloc, code) {
+        Ok(verified) => Ok(Ok(verified)),
+        Err((fault, _code)) => Ok(Err(format!(in alloc; "{fault}")?)),
+    }
+}
+
+fn show_verdict(alloc: Global, text: &str) -> Result<String, AllocError> {
+    match accepted(alloc, text)? {
+        Ok(_verified) => String::from_str(alloc, "accepted"),
+        Err(fault) => Ok(fault),
+    }
+}
+
+// The verdict of a text behind which 0 is answered.
+fn show_ended(alloc: Global, text: &str) -> Result<String, AllocError> {
+    let text = format!(in alloc; "{text} / mov r0, 0 / exit")?;
+    show_verdict(alloc, text.as_str())
+}
+
+// The verdict of a text in which a mark stands for so many instructions.
+fn show_filled(alloc: Global, words: &str) -> Result<String, AllocError> {
+    let Some((count, text)) = words.split_once(' ') else {
+        return String::from_str(alloc, "a line without a text");
+    };
+    let Ok(count) = count.parse::<usize>() else {
+        return String::from_str(alloc, "a count that is no number");
+    };
+    let mut filling = String::from_str(alloc, "mov r0, 0")?;
+    for _ in 1..count {
+        filling.push_str(" / mov r0, 0")?;
+    }
+    let text = text.replace(alloc, "*", filling.as_str())?;
+    show_verdict(alloc, text.as_str())
+}
+
+// What is known of a register.
+fn push_kind(out: &mut String, kind: Kind) -> Result<(), AllocError> {
+    match kind {
+        Kind::Unset => write!(out, "unset"),
+        Kind::RecLen => write!(out, "record's length"),
+        Kind::ArgLen => write!(out, "argument's length"),
+        Kind::Rec { lo, hi } => write!(out, "record {lo}..{hi}"),
+        Kind::Arg { lo, hi } => write!(out, "argument {lo}..{hi}"),
+        Kind::Stack { lo, hi } => write!(out, "stack {lo}..{hi}"),
+        Kind::Num(known) => {
+            let range = known.range();
+            let bits = known.bits();
+            write!(
+                out,
+                "{}..{},{},{}",
+                range.lo, range.hi, bits.value, bits.unknown
+            )
+        }
+    }
+}
+
+// What is known of the registers at a unit.
+fn push_kinds(out: &mut String, verified: &Verified, at: usize) -> Result<(), AllocError> {
+    for register in 0..11usize {
+        match verified.kind(at, register) {
+            None => return out.push_str("nothing"),
+            Some(Kind::Unset) => {}
+            Some(kind) => {
+                let mark = if out.is_empty() { "" } else { "; " };
+                write!(out, "{mark}r{register} ")?;
+                push_kind(out, kind)?;
+            }
+        }
+    }
+    Ok(())
+}
+
+fn show_kinds(alloc: Global, words: &str) -> Result<String, AllocError> {
+    let Some((unit, text)) = words.split_once(' ') else {
+        return String::from_str(alloc, "a line without a text");
+    };
+    let Ok(unit) = unit.parse::<usize>() else {
+        return String::from_str(alloc, "a unit that is no number");
+    };
+    match accepted(alloc, text)? {
+        Ok(verified) => {
+            let mut out = String::new(alloc);
+            push_kinds(&mut out, &verified, unit)?;
+            Ok(out)
+        }
+        Err(fault) => Ok(fault),
+    }
+}
+
+/// The answer to a line, by its word and the words behind.
+pub fn show_verified(alloc: Global, word: &str, rest: &str) -> Result<String, AllocError> {
+    match word {
+        "program" => show_verdict(alloc, rest),
+        "ends" => show_ended(alloc, rest),
+        "filled" => show_filled(alloc, rest),
+        _ => show_kinds(alloc, rest),
+    }
+}

@@ -1,0 +1,108 @@
+//! What command lines ask, why they are refused, and what help prints.
+
+use dbm_words::{TimeUnit, ToolFault, Wish, read_words};
+use std::alloc::{AllocError, Global};
+use std::fmt::Write;
+
+/// A text that was written on one line.
+pub fn unescaped(global: Global, text: &str) -> Result<String, AllocError> {
+    let text = text.replace(global, "\\n", "\n")?;
+    let text = text.as_str().replace(global, "\\r", "\r")?;
+    text.as_str().replace(global, "\\t", "\t")
+}
+
+// The words of a line, none where it is empty.
+fn words_of(global: Global, line: &str) -> Option<Vec<&str>> {
+    let mut words = Vec::new(global);
+    if line.is_empty() {
+        return Some(words);
+    }
+    for word in line.split(' ') {
+        words.push(word).ok()?;
+    }
+    Some(words)
+}
+
+fn asked<'a>(global: Global, words: &'a [&'a str]) -> Result<Wish<'a>, ToolFault> {
+    read_words(global, words)
+}
+
+fn wish_text(global: Global, wish: &Wish<'_>) -> Option<String> {
+    let mut out = format!(in global; "{wish:?}").ok()?;
+    write!(
+        out,
+        " base {:?} file {:?} writes {}",
+        wish.base(),
+        wish.file(),
+        wish.writes()
+    )
+    .ok()?;
+    Some(out)
+}
+
+fn refused_text(global: Global, fault: &ToolFault) -> Option<String> {
+    if fault.is_answer() {
+        return String::from_str(global, "answered").ok();
+    }
+    match fault {
+        ToolFault::Refused(error) => format!(in global; "refused {:?}", error.kind()).ok(),
+        _ => format!(in global; "refused {fault}").ok(),
+    }
+}
+
+fn words_text(global: Global, rest: &str) -> Option<String> {
+    let words = words_of(global, rest)?;
+    match asked(global, words.as_slice()) {
+        Ok(wish) => wish_text(global, &wish),
+        Err(fault) => refused_text(global, &fault),
+    }
+}
+
+// The text that answers a request for help or the version.
+fn help_text(global: Global, rest: &str) -> Option<String> {
+    let words = words_of(global, rest)?;
+    match asked(global, words.as_slice()) {
+        Err(fault) if fault.is_answer() => format!(in global; "{fault}").ok(),
+        _ => String::from_str(global, "none").ok(),
+    }
+}
+
+fn part_text(global: Global, rest: &str) -> Option<String> {
+    let (part, words) = rest.split_once(" | ")?;
+    let part = unescaped(global, part).ok()?;
+    let help = help_text(global, words)?;
+    let is_there = help.as_str().contains(part.as_str());
+    String::from_str(global, if is_there { "there" } else { "not there" }).ok()
+}
+
+// The wish with a time, where it asks it in a unit.
+fn time_text(global: Global, rest: &str) -> Option<String> {
+    let (unit, words) = rest.split_once(' ')?;
+    let words = words_of(global, words)?;
+    let wish = asked(global, words.as_slice()).ok()?;
+    match wish.time_asked() {
+        Some(TimeUnit::Seconds) if unit == "seconds" => (),
+        Some(TimeUnit::Milliseconds) if unit == "milliseconds" => (),
+        _ => return String::from_str(global, "none").ok(),
+    }
+    wish_text(global, &wish.with_time("1700000000"))
+}
+
+fn faults_text(global: Global) -> Option<String> {
+    let memory = ToolFault::NoMemory;
+    let word = ToolFault::NoWord;
+    let answers = (memory.is_answer(), word.is_answer());
+    format!(in global; "{memory} {} {word} {}", answers.0, answers.1).ok()
+}
+
+/// The answer to a line, where it is one of these.
+pub fn word_line(global: Global, word: &str, rest: &str) -> Option<String> {
+    match word {
+        "words" => words_text(global, rest),
+        "help" => help_text(global, rest),
+        "part" => part_text(global, rest),
+        "time" => time_text(global, rest),
+        "faults" => faults_text(global),
+        _ => None,
+    }
+}

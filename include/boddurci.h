@@ -1,0 +1,175 @@
+/* Boddurci for C: a proved key-value store in the two files of an sdbm database, and small verified programs on its records.
+ *
+ *     #include <boddurci.h>
+ *     #include <stdio.h>
+ *     #include <string.h>
+ *
+ *     int main(void)
+ *     {
+ *         boddurci db = BODDURCI_CLOSED;
+ *         uint8_t value[BODDURCI_VALUE_MOST];
+ *         size_t length;
+ *         uint32_t status = boddurci_open(&db, BODDURCI_NO_BYTES, BODDURCI_NO_BYTES, 0, 0, value, sizeof value, &length);
+ *         if (status == BODDURCI_DONE)
+ *             status = boddurci_store(&db, (const uint8_t *)"ab", 2, (const uint8_t *)"xyz", 3, 1);
+ *         if (status == BODDURCI_DONE)
+ *             status = boddurci_fetch(&db, (const uint8_t *)"ab", 2, value, sizeof value, &length);
+ *         if (status != BODDURCI_DONE)
+ *             return fprintf(stderr, "boddurci: %s\n", boddurci_text(status)), 1;
+ *         printf("%.*s\n", (int)length, (const char *)value);
+ *         boddurci_close(&db);
+ *         return 0;
+ *     }
+ *
+ * A handle is one database in memory with its programs. The library keeps no global state, takes no lock, starts no thread, and
+ * reads and writes no file: you read both files before boddurci_open, and write them after boddurci_files.
+ *
+ * Handles. Begin with BODDURCI_CLOSED, and never copy, compare or write what is in a handle. Give it to one call at a time. It may go
+ * from thread to thread, so several may share one under a mutex of yours; two handles are nothing to each other. Neither a signal
+ * handler nor the forked child of a process with threads may call the library.
+ *
+ * Long programs. A run is one call, so it takes your mutex as long as its program runs: mostly less than a microsecond, some 60 for the
+ * longest. Where that is too long, let each thread run programs on a handle of its own: fetch the record under the mutex; store it in
+ * the own handle, run there, and fetch what is left; then fetch again under the mutex, and where the record is as it was store what was
+ * left, or delete the key. Where it is another, begin anew. A key that is not there is a record too.
+ *
+ * Bytes. A key, a value, an argument and an image are a pointer and a length. The pointer must not be NULL, also where the length is
+ * 0: BODDURCI_NO_BYTES stands for no bytes. What a call only reads may overlap; what it writes (rooms, lengths, numbers, the handle)
+ * must not overlap anything else that the call is given.
+ *
+ * Rooms. A room is where a call writes bytes. It writes them where all fit, and tells their number in *length either way; where they
+ * do not fit, the room stays as it was. A text has no zero at its end.
+ *
+ * Refusals. Each call returns a status. From BODDURCI_IS_CLOSED on nothing was done, the handle is as it was, and so is everything
+ * that the call was to write, unless it says otherwise.
+ *
+ * Memory comes from malloc. Each call that wants some may return BODDURCI_NO_MEMORY. */
+#ifndef BODDURCI_H
+#define BODDURCI_H
+#include <stddef.h>
+#include <stdint.h>
+#ifdef __cplusplus
+extern "C" {
+#endif
+
+typedef struct boddurci {
+    void *at;
+} boddurci;
+
+/* Where a walk over all pairs stands. */
+typedef struct boddurci_cursor {
+    uint32_t page;
+    uint32_t end;
+    size_t pair;
+} boddurci_cursor;
+
+#define BODDURCI_CLOSED { NULL }
+#define BODDURCI_START { 0, 0, 0 }
+#define BODDURCI_NO_BYTES ((const uint8_t *)""), 0
+
+enum boddurci_status {
+    BODDURCI_DONE = 0,           /* it is done: found, stored, deleted, counted, run, numbered, opened or written */
+    BODDURCI_MISSING = 1,        /* the key is not there */
+    BODDURCI_EXISTS = 2,         /* the key is there, so that nothing was inserted */
+    BODDURCI_CROWDED = 3,        /* there is no room for the pair, however often its page is split; nothing changed */
+    BODDURCI_SHORT_ROOM = 4,     /* a room is too short; the lengths are told */
+    BODDURCI_REFUSED = 5,        /* the image is no accepted program, or there are 4,096; the text says why */
+    BODDURCI_BAD_TEXT = 6,       /* the text is no program; the line and the text of the fault are told */
+    BODDURCI_BAD_FILES = 7,      /* the bytes are no database; the text says why; the handle stays closed */
+    BODDURCI_IS_CLOSED = 16,     /* the handle is closed */
+    BODDURCI_IS_OPEN = 17,       /* the handle is open already */
+    BODDURCI_PAIR_TOO_LARGE = 18,/* key and value, or key and blank, have more than BODDURCI_PAIR_MOST(wide) bytes together */
+    BODDURCI_ARG_TOO_LONG = 19,  /* the argument has more than BODDURCI_ARG_MOST bytes */
+    BODDURCI_NO_PROGRAM = 20,    /* no program has the number */
+    BODDURCI_NO_MEMORY = 21      /* memory ran out */
+};
+
+#define BODDURCI_PAIR_MOST(wide) ((wide) ? 8008 : 1008)
+#define BODDURCI_VALUE_MOST 8008
+#define BODDURCI_ARG_MOST 1024
+#define BODDURCI_IMAGE_MOST 32768
+#define BODDURCI_NOWHERE SIZE_MAX
+
+/* The name of a status, in words. */
+static inline const char *boddurci_text(uint32_t status)
+{
+    switch (status) {
+    case BODDURCI_DONE: return "done";
+    case BODDURCI_MISSING: return "missing";
+    case BODDURCI_EXISTS: return "exists";
+    case BODDURCI_CROWDED: return "crowded";
+    case BODDURCI_SHORT_ROOM: return "room too short";
+    case BODDURCI_REFUSED: return "program refused";
+    case BODDURCI_BAD_TEXT: return "text is no program";
+    case BODDURCI_BAD_FILES: return "bad files";
+    case BODDURCI_IS_CLOSED: return "handle closed";
+    case BODDURCI_IS_OPEN: return "handle open already";
+    case BODDURCI_PAIR_TOO_LARGE: return "pair too large";
+    case BODDURCI_ARG_TOO_LONG: return "argument too long";
+    case BODDURCI_NO_PROGRAM: return "no such program";
+    case BODDURCI_NO_MEMORY: return "no memory";
+    default: return "no status";
+    }
+}
+
+/* Opens a closed handle on the database that the bytes of both files are; no bytes are an empty one. Pages have 8,192 bytes where
+ * wide is not 0, and else 1,024; keys hash by signed bytes, as on x86-64, unless unsigned_keys is not 0. The files do not say which.
+ * IS_OPEN, NO_MEMORY; BAD_FILES with a text, as in "Page(3, Offsets)". After NO_MEMORY too a text may be told. */
+uint32_t boddurci_open(boddurci *db, const uint8_t *dir, size_t dir_length, const uint8_t *pag, size_t pag_length, uint32_t wide,
+                       uint32_t unsigned_keys, uint8_t *text, size_t text_room, size_t *text_length);
+
+/* 1 where the handle is open, and else 0. */
+uint32_t boddurci_is_open(boddurci *db);
+
+/* Closes the handle, which may be closed, and frees what it has. Nothing is saved. */
+void boddurci_close(boddurci *db);
+
+/* The value of a key, of any length. MISSING, SHORT_ROOM, IS_CLOSED. It takes no memory. */
+uint32_t boddurci_fetch(boddurci *db, const uint8_t *key, size_t key_length, uint8_t *value, size_t value_room, size_t *value_length);
+
+/* Gives a key a value; where it has one, that is replaced, or kept (EXISTS) where replace is 0. CROWDED, PAIR_TOO_LARGE, IS_CLOSED,
+ * NO_MEMORY. */
+uint32_t boddurci_store(boddurci *db, const uint8_t *key, size_t key_length, const uint8_t *value, size_t value_length,
+                        uint32_t replace);
+
+/* Takes a key out, with its value. MISSING, IS_CLOSED, NO_MEMORY. */
+uint32_t boddurci_delete(boddurci *db, const uint8_t *key, size_t key_length);
+
+/* How many pairs there are. It goes through all pages. IS_CLOSED. */
+uint32_t boddurci_count(boddurci *db, size_t *count);
+
+/* The image of the program that a text denotes (docs/ASSEMBLER.md). It wants no handle. SHORT_ROOM, NO_MEMORY; BAD_TEXT with the line,
+ * counted from 1, and a text, as in "line 3: Operand"; the line is 0 of a text that is not UTF-8. */
+uint32_t boddurci_assemble(const uint8_t *source, size_t source_length, uint8_t *image, size_t image_room, size_t *image_length,
+                           size_t *line, uint8_t *text, size_t text_room, size_t *text_length);
+
+/* Verifies the image of a program, 8 bytes a unit, and gives it a number, from 0, that it keeps until the handle is closed. The same
+ * image has the same number. IS_CLOSED, NO_MEMORY; REFUSED with a text, as in "Verify(OutOfRecord(3))", and the unit at which it is
+ * refused, here 3, or BODDURCI_NOWHERE. After NO_MEMORY too a text may be told. */
+uint32_t boddurci_submit(boddurci *db, const uint8_t *image, size_t image_length, uint32_t *number, size_t *unit, uint8_t *text,
+                         size_t text_room, size_t *text_length);
+
+/* Runs the program with a number on the record of a key, as one step; where the key is not there, on `blank` zeros if has_blank is
+ * not 0. The program is told the time `now`, and is lent the argument. *end is the number with which it ended: 1 saves the record, 2
+ * deletes the pair, any other changes nothing. *word is its reply word. Both are 0 where it did not run, or its record found no room.
+ * MISSING where there is neither key nor blank; CROWDED; NO_PROGRAM, then PAIR_TOO_LARGE, then ARG_TOO_LONG; IS_CLOSED, NO_MEMORY. */
+uint32_t boddurci_run(boddurci *db, uint32_t number, const uint8_t *key, size_t key_length, const uint8_t *arg, size_t arg_length,
+                      uint32_t has_blank, size_t blank, uint64_t now, uint64_t *end, uint64_t *word);
+
+/* Every pair in turn, in an order that stays while nothing is stored, deleted or run; after a change begin anew. A cursor is yours, and
+ * any number of them may be on the way. boddurci_first sets it before the first pair: IS_CLOSED. boddurci_next tells the next pair and
+ * moves the cursor behind it: MISSING where none is left; SHORT_ROOM where key or value does not fit, and then the cursor stays;
+ * IS_CLOSED. */
+uint32_t boddurci_first(boddurci *db, boddurci_cursor *cursor);
+uint32_t boddurci_next(boddurci *db, boddurci_cursor *cursor, uint8_t *key, size_t key_room, size_t *key_length, uint8_t *value,
+                       size_t value_room, size_t *value_length);
+
+/* The bytes of both files, as they are to be written. SHORT_ROOM where one of them does not fit, and then neither is written: ask
+ * with rooms of length 0 first. IS_CLOSED, NO_MEMORY. */
+uint32_t boddurci_files(boddurci *db, uint8_t *dir, size_t dir_room, size_t *dir_length, uint8_t *pag, size_t pag_room,
+                        size_t *pag_length);
+
+#ifdef __cplusplus
+}
+#endif
+#endif

@@ -1,0 +1,93 @@
+/* Saves from C, as tests/c_crashes cuts them off.
+ *
+ *     c_saves list BASE      prints all pairs, in hex, of a base that is read only
+ *     c_saves change BASE    does the lines of standard input, `replace KEY VALUE` and `delete KEY` in hex, saves, and prints `saved`
+ *     c_saves insist BASE    the same, but where the save fails it saves once more */
+#include "boddurci_files.h"
+#include <stdio.h>
+#include <string.h>
+
+static boddurci_fault fault;
+
+static int fail(void)
+{
+    fprintf(stderr, "c_saves: %s\n", fault.text);
+    return 2;
+}
+
+static void print_hex(const uint8_t *bytes, size_t length, const char *end)
+{
+    for (size_t i = 0; i < length; i++)
+        printf("%02x", bytes[i]);
+    fputs(end, stdout);
+}
+
+static int list(const char *name)
+{
+    static uint8_t key[BODDURCI_VALUE_MOST], value[BODDURCI_VALUE_MOST];
+    size_t key_length, value_length;
+    boddurci_cursor cursor = BODDURCI_START;
+    boddurci_base *base = boddurci_open_files(name, BODDURCI_READ_ONLY, &fault);
+    if (base == NULL)
+        return fail();
+    boddurci *db = boddurci_take(base);
+    boddurci_first(db, &cursor);
+    while (boddurci_next(db, &cursor, key, sizeof key, &key_length, value, sizeof value, &value_length) == BODDURCI_DONE) {
+        print_hex(key, key_length, " ");
+        print_hex(value, value_length, "\n");
+    }
+    boddurci_give(base);
+    boddurci_close_files(base);
+    return 0;
+}
+
+static size_t read_hex(const char *text, uint8_t *bytes)
+{
+    size_t length = 0;
+    unsigned byte;
+    while (sscanf(text + 2 * length, "%2x", &byte) == 1)
+        bytes[length++] = (uint8_t)byte;
+    return length;
+}
+
+/* Does a line; whether it was one. */
+static int change(boddurci *db, const char *line)
+{
+    static char words[2][4100];
+    static uint8_t key[2050], value[2050];
+    int count = sscanf(line, "replace %4095s %4095s", words[0], words[1]);
+    if (count == 2)
+        return boddurci_store(db, key, read_hex(words[0], key), value, read_hex(words[1], value), 1) == BODDURCI_DONE;
+    return sscanf(line, "delete %4095s", words[0]) == 1 && boddurci_delete(db, key, read_hex(words[0], key)) <= BODDURCI_MISSING;
+}
+
+static int change_all(const char *name, int insists)
+{
+    static char line[8300];
+    boddurci_base *base = boddurci_open_files(name, 0, &fault);
+    if (base == NULL)
+        return fail();
+    int status = 0;
+    while (status == 0 && fgets(line, sizeof line, stdin) != NULL) {
+        status = change(boddurci_take(base), line) ? 0 : 3;
+        boddurci_give(base);
+    }
+    if (status == 0 && boddurci_save(base, &fault) != BODDURCI_DONE)
+        status = insists && boddurci_save(base, &fault) == BODDURCI_DONE ? 0 : fail();
+    if (status == 0)
+        puts("saved");
+    fflush(stdout);
+    boddurci_close_files(base);
+    return status;
+}
+
+int main(int argc, char **argv)
+{
+    if (argc == 3 && strcmp(argv[1], "list") == 0)
+        return list(argv[2]);
+    if (argc == 3 && strcmp(argv[1], "change") == 0)
+        return change_all(argv[2], 0);
+    if (argc == 3 && strcmp(argv[1], "insist") == 0)
+        return change_all(argv[2], 1);
+    return 4;
+}

@@ -1,0 +1,171 @@
+/* A library in front of the C library's: it cuts a run off at its Nth call that writes, syncs, cuts, removes or renames a file, or notes
+ * these calls. CUT_CALL is N; with none no call is cut off. CUT_FAULT is the errno with which the call fails; 0 is a kill. CUT_TOLD is a
+ * file that is made once a call has failed. CUT_LOG is one in which calls are noted, once they are done: pwrite, ftruncate, syncs and
+ * unlink, in a line each, with bytes in hex. */
+#define _GNU_SOURCE
+#include <dlfcn.h>
+#include <errno.h>
+#include <fcntl.h>
+#include <signal.h>
+#include <stdarg.h>
+#include <stdatomic.h>
+#include <stdio.h>
+#include <stdlib.h>
+#include <sys/stat.h>
+#include <sys/uio.h>
+#include <unistd.h>
+
+static atomic_long calls;
+static long chosen;
+static int fault;
+static const char *log_name;
+
+static const char *told(const char *name, const char *otherwise)
+{
+    const char *value = getenv(name);
+    return value != NULL ? value : otherwise;
+}
+
+__attribute__((constructor)) static void begin(void)
+{
+    chosen = atol(told("CUT_CALL", "0"));
+    fault = atoi(told("CUT_FAULT", "0"));
+    log_name = getenv("CUT_LOG");
+    calls = 0;
+}
+
+static int is_file(int fd)
+{
+    struct stat found;
+    return fstat(fd, &found) == 0 && (S_ISREG(found.st_mode) || S_ISDIR(found.st_mode));
+}
+
+static int is_next_cut(void)
+{
+    return chosen != 0 && atomic_load(&calls) + 1 == chosen;
+}
+
+/* Whether this call is the one at which the run is cut off. A kill does not come back. */
+static int is_cut(void)
+{
+    if (!chosen || atomic_fetch_add(&calls, 1) + 1 != chosen)
+        return 0;
+    if (!fault)
+        kill(getpid(), SIGKILL);
+    close(open(told("CUT_TOLD", "/dev/null"), O_CREAT | O_WRONLY, 0600));
+    errno = fault;
+    return 1;
+}
+
+#define REAL(name) ((__typeof__(name) *)dlsym(RTLD_NEXT, #name))
+
+/* ---- the log */
+
+static void note(const char *call, const char *name, long long number, const unsigned char *bytes, size_t count)
+{
+    FILE *file = log_name != NULL ? fopen(log_name, "a") : NULL;
+    if (file == NULL)
+        return;
+    fprintf(file, "%s %s %lld ", call, name, number);
+    for (size_t i = 0; i < count; i++)
+        fprintf(file, "%02x", bytes[i]);
+    fputs("\n", file);
+    fclose(file);
+}
+
+static void note_opened(const char *call, int fd, long long number, const void *bytes, size_t count)
+{
+    char link[64], name[4096];
+    if (log_name == NULL)
+        return;
+    int system = errno;
+    snprintf(link, sizeof link, "/proc/self/fd/%d", fd);
+    ssize_t length = readlink(link, name, sizeof name - 1);
+    name[length < 0 ? 0 : length] = 0;
+    note(call, name, number, bytes, count);
+    errno = system;
+}
+
+/* ---- the calls. A write that is cut off has written half of its bytes. */
+
+ssize_t write(int fd, const void *bytes, size_t count)
+{
+    if (log_name != NULL || !is_file(fd))
+        return REAL(write)(fd, bytes, count);
+    if (is_next_cut() && count > 1)
+        REAL(write)(fd, bytes, count / 2);
+    return is_cut() ? -1 : REAL(write)(fd, bytes, count);
+}
+
+ssize_t pwrite(int fd, const void *bytes, size_t count, off_t at)
+{
+    if (is_file(fd) && is_next_cut() && count > 1)
+        REAL(pwrite)(fd, bytes, count / 2, at);
+    ssize_t put = is_file(fd) && is_cut() ? -1 : REAL(pwrite)(fd, bytes, count, at);
+    if (put > 0)
+        note_opened("pwrite", fd, at, bytes, (size_t)put);
+    return put;
+}
+
+ssize_t pwrite64(int fd, const void *bytes, size_t count, off64_t at)
+{
+    return pwrite(fd, bytes, count, at);
+}
+
+ssize_t writev(int fd, const struct iovec *parts, int count)
+{
+    return is_file(fd) && is_cut() ? -1 : REAL(writev)(fd, parts, count);
+}
+
+int fsync(int fd)
+{
+    int status = is_cut() ? -1 : REAL(fsync)(fd);
+    note_opened("sync", fd, 0, NULL, 0);
+    return status;
+}
+
+int fdatasync(int fd)
+{
+    int status = is_cut() ? -1 : REAL(fdatasync)(fd);
+    note_opened("sync", fd, 0, NULL, 0);
+    return status;
+}
+
+int ftruncate(int fd, off_t length)
+{
+    int status = is_cut() ? -1 : REAL(ftruncate)(fd, length);
+    note_opened("ftruncate", fd, length, NULL, 0);
+    return status;
+}
+
+int ftruncate64(int fd, off64_t length)
+{
+    return ftruncate(fd, length);
+}
+
+int unlink(const char *name)
+{
+    int status = is_cut() ? -1 : REAL(unlink)(name);
+    note("unlink", name, 0, NULL, 0);
+    return status;
+}
+
+int unlinkat(int folder, const char *name, int how)
+{
+    return is_cut() ? -1 : REAL(unlinkat)(folder, name, how);
+}
+
+int rename(const char *from, const char *to)
+{
+    return is_cut() ? -1 : REAL(rename)(from, to);
+}
+
+int fchmod(int fd, mode_t mode)
+{
+    return is_cut() ? -1 : REAL(fchmod)(fd, mode);
+}
+
+int fchown(int fd, uid_t user, gid_t group)
+{
+    return is_cut() ? -1 : REAL(fchown)(fd, user, group);
+}

@@ -8,7 +8,6 @@ use Rattle.sdbm_addr.specs.Database.{Database, map_of}
 use Rattle.sdbm_addr.specs.Pairs.{Map, key_cmp}
 use Rattle.sdbm_addr.proofs.MapLemmas.{from_entries-entries}
 use Rattle.store_cmd.specs.declared.Entry.{Entry}
-use Rattle.store_cmd.specs.declared.Reply.{Reply}
 use Rattle.store_cmd.specs.History.{History}
 use Rattle.store_shared.specs.Shared.{CallsState, Opened, opened_by}
 use Rattle.store_shared.specs.Closed.{IsRefusedClose}

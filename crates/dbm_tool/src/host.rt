@@ -18,8 +18,8 @@ fn name_of(names: &Names, part: Part) -> &str {
     }
 }
 
-// The folder in which a file lies.
-fn folder_of(name: &str) -> &str {
+/// The folder in which a file lies.
+pub fn folder_of(name: &str) -> &str {
     match name.rsplit_once('/') {
         Some(("", _)) => "/",
         Some((folder, _)) => folder,

@@ -3,27 +3,33 @@
 
 ghost use Rattle.dbm_tool.specs.Endings.{IsTold};
 
+mod advice;
 mod batch;
 mod clock;
 mod ending;
 mod fault;
 mod files;
 mod host;
+mod kept;
 mod links;
 mod lock;
+mod reasons;
 mod saving;
 mod serve;
 
+use advice::{advise, note_absent, note_object};
 use clock::read_clock;
 use dbm_reports::Given;
-use dbm_words::{Wish, read_words};
+use dbm_words::{ToolFault, Wish, read_words};
 use ending::{Ending, ending_of, exit_status};
 use fault::ServeFault;
 use files::{Held, Taken, save_files, take_files};
+use kept::{Kept, note_bad_lines};
+use reasons::reads_nothing;
 use sdbm_saves::Found;
 use serve::serve;
 use std::fs::File;
-use std::io::ErrorKind;
+use std::io::{ErrorKind, Read};
 use std::process::ExitCode;
 use std::rt::{Files, Runtime};
 use std::sync::Wait;
@@ -32,11 +38,10 @@ use std::{env, fs, io};
 
 fn main(rt: HostRuntime) -> ExitCode {
     let _standard = hold_standard(&rt);
-    let ending = match run(&rt) {
-        Ok(ending) => ending,
-        Err(fault) => Ending::Failed(fault),
+    let ending = match read_args(&rt) {
+        Ok(args) => run(&rt, args.as_slice()),
+        Err(fault) => tell(&rt, None, Ending::Failed(fault)),
     };
-    let ending = tell(&rt, ending);
     ExitCode::from(exit_status(&ending))
 }
 
@@ -46,73 +51,106 @@ fn hold_standard<R: Files>(rt: &R) -> [io::Result<R::File>; 3] {
     [fs::open(rt, "/"), fs::open(rt, "/"), fs::open(rt, "/")]
 }
 
-// Reads the words behind the program's name, and serves what they ask.
+// The words of the command line, and before them the program's name.
+fn read_args<R: Runtime + AllocGlobal>(rt: &R) -> Result<Vec<String>, ServeFault> {
+    match env::args(rt) {
+        Ok(args) => Ok(args.collect(rt.alloc())?),
+        Err(error) if error.kind() == ErrorKind::OutOfMemory => Err(ServeFault::NoMemory),
+        Err(_) => Err(ServeFault::NotText),
+    }
+}
+
+// Reads the words behind the program's name, serves what they ask, and tells what went wrong.
 fn run<R: Runtime<File = File> + AllocGlobal + Threads + Wait + Sync>(
     rt: &R,
-) -> Result<Ending, ServeFault> {
+    args: &[String],
+) -> Ending {
     let alloc = rt.alloc();
-    let args = match env::args(rt) {
-        Ok(args) => args,
-        Err(error) if error.kind() == ErrorKind::OutOfMemory => return Err(ServeFault::NoMemory),
-        Err(_) => return Err(ServeFault::NotText),
-    };
-    let args: Vec<String> = args.collect(alloc)?;
     let mut words: Vec<&str> = Vec::new(alloc);
     for arg in args.iter().skip(1) {
-        words.push(arg.as_str())?;
+        if words.push(arg.as_str()).is_err() {
+            return tell(rt, None, Ending::Failed(ServeFault::NoMemory));
+        }
     }
     match read_words(alloc, words.as_slice()) {
-        Ok(wish) => serve_files(rt, wish),
-        Err(fault) => Ok(Ending::Refused(fault)),
+        Ok(wish) => {
+            let mut reader = Kept::new(alloc, rt.reader());
+            let ending = match serve_files(rt, wish, &mut reader) {
+                Ok(ending) => ending,
+                Err(fault) => Ending::Failed(fault),
+            };
+            note(rt, &wish, &ending, reader.text());
+            tell(rt, Some(&wish), ending)
+        }
+        Err(ToolFault::NoMemory) => tell(rt, None, Ending::Failed(ServeFault::NoMemory)),
+        Err(fault) => tell(rt, None, Ending::Refused(fault)),
+    }
+}
+
+// Says what stands behind an answer that may not be what was meant: files that are not there, an object in place of an image, and the
+// lines of a script that ask nothing.
+fn note<R: Runtime<File = File> + AllocGlobal>(
+    rt: &R,
+    wish: &Wish<'_>,
+    ending: &Ending,
+    input: &[u8],
+) {
+    if !matches!(ending, Ending::Served(_)) {
+        return;
+    }
+    if reads_nothing(rt, wish) {
+        note_absent(rt, wish);
+    }
+    if matches!(ending, Ending::Served(1)) {
+        note_object(rt, wish);
+    }
+    if matches!(wish, Wish::Script { .. }) {
+        note_bad_lines(rt, input);
     }
 }
 
 // Serves a wish on the files that it names. The lock, where there is one, is held to the end. Where the time of day is asked, the clock
 // is read once, and after the wait for the lock.
-fn serve_files<R: Runtime<File = File> + AllocGlobal + Threads + Wait + Sync>(
+fn serve_files<R: Runtime<File = File> + AllocGlobal + Threads + Wait + Sync, I: Read>(
     rt: &R,
     wish: Wish<'_>,
+    reader: &mut I,
 ) -> Result<Ending, ServeFault> {
     let taken = take_files(rt, &wish)?;
     match wish.time_asked() {
         Some(unit) => {
             let time = read_clock(rt, rt.alloc(), unit)?;
-            serve_taken(rt, wish.with_time(time.as_str()), taken)
+            serve_taken(rt, wish.with_time(time.as_str()), taken, reader)
         }
-        None => serve_taken(rt, wish, taken),
+        None => serve_taken(rt, wish, taken, reader),
     }
 }
 
 // Serves a wish on its files, which were taken.
-fn serve_taken<R: Runtime<File = File> + AllocGlobal + Threads + Wait + Sync>(
+fn serve_taken<R: Runtime<File = File> + AllocGlobal + Threads + Wait + Sync, I: Read>(
     rt: &R,
     wish: Wish<'_>,
     taken: Taken,
+    reader: &mut I,
 ) -> Result<Ending, ServeFault> {
     let Taken { given, held } = taken;
     match held {
-        Some(held) => serve_change(rt, wish, given, held),
+        Some(held) => serve_change(rt, wish, given, held, reader),
         None => {
             let alloc = rt.alloc();
-            let outcome = serve(
-                rt,
-                alloc,
-                wish,
-                given,
-                &mut rt.reader(),
-                &mut io::writer(rt),
-            );
+            let outcome = serve(rt, alloc, wish, given, reader, &mut io::writer(rt));
             Ok(ending_of(&outcome))
         }
     }
 }
 
 // Serves a wish that may change its database. Its lines are printed once the plan of the save is kept.
-fn serve_change<R: Runtime<File = File> + AllocGlobal + Threads + Wait + Sync>(
+fn serve_change<R: Runtime<File = File> + AllocGlobal + Threads + Wait + Sync, I: Read>(
     rt: &R,
     wish: Wish<'_>,
     given: Given,
     held: Held,
+    reader: &mut I,
 ) -> Result<Ending, ServeFault> {
     let alloc = rt.alloc();
     let Held {
@@ -126,7 +164,7 @@ fn serve_change<R: Runtime<File = File> + AllocGlobal + Threads + Wait + Sync>(
         redo,
     };
     let mut lines = Vec::new(alloc);
-    let outcome = serve(rt, alloc, wish, given, &mut rt.reader(), &mut lines);
+    let outcome = serve(rt, alloc, wish, given, reader, &mut lines);
     if let Some(new) = &outcome.files {
         let writer = &mut io::writer(rt);
         save_files(rt, &names, &old, new, lines.as_slice(), writer)?;
@@ -138,9 +176,13 @@ fn serve_change<R: Runtime<File = File> + AllocGlobal + Threads + Wait + Sync>(
     }
 }
 
-// Prints why the words ask nothing, or the help or the version that they ask for, or the fault. Where standard output takes no help,
-// that is the fault; where standard error fails, the status alone says it.
-fn tell<R: Runtime>(rt: &R, ending: Ending) -> Ending
+// Prints why the words ask nothing, or the help or the version that they ask for, or the fault and what to do. Where standard output
+// takes no help, that is the fault; where standard error fails, the status alone says it.
+fn tell<R: Runtime<File = File> + AllocGlobal>(
+    rt: &R,
+    wish: Option<&Wish<'_>>,
+    ending: Ending,
+) -> Ending
     ensures { IsTold ending result }
 {
     let ending = match ending {
@@ -151,6 +193,7 @@ fn tell<R: Runtime>(rt: &R, ending: Ending) -> Ending
     };
     if let Ending::Failed(fault) = &ending {
         let _ = eprintln!(rt; "dbm: {fault}");
+        advise(rt, wish, *fault);
     }
     ending
 }

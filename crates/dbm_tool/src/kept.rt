@@ -1,0 +1,71 @@
+//! Lines of a script that ask nothing, found once it was answered.
+
+use dbm_script::read_line;
+use std::alloc::Global;
+use std::io::{self, Read};
+use std::rt::Runtime;
+
+/// A reader that keeps what it gives, as far as there is memory for it.
+#[derive(Drop)]
+pub struct Kept<R: Read> {
+    reader: R,
+    text: Vec<u8>,
+}
+
+impl<R: Read> Kept<R> {
+    /// The reader, of which nothing was read.
+    pub fn new(alloc: Global, reader: R) -> Self {
+        Kept {
+            reader,
+            text: Vec::new(alloc),
+        }
+    }
+
+    /// What was read.
+    pub fn text(&self) -> &[u8] {
+        self.text.as_slice()
+    }
+}
+
+impl<R: Read> Read for Kept<R> {
+    ghost remaining = { λ kept. R.remaining kept.reader };
+
+    fn read(&mut self, buf: &mut [u8]) -> io::Result<usize> {
+        let count = self.reader.read(buf)?;
+        let _ = self.text.extend_from_slice(&buf[..count]);
+        Ok(count)
+    }
+}
+
+/// Says which line of a script is the first that asks nothing, and how many more there are.
+pub fn note_bad_lines<R: Runtime + AllocGlobal>(rt: &R, script: &[u8]) {
+    let mut first = 0;
+    let mut count = 0usize;
+    for (at, line) in script.split(|byte| *byte == b'\n').enumerate() {
+        if is_bad(rt.alloc(), line) {
+            if count == 0 {
+                first = at;
+            }
+            count = count.saturating_add(1);
+        }
+    }
+    let _ = match count {
+        0 => return,
+        1 => eprintln!(rt;
+            "dbm: note: line {} of the script is a bad line",
+            first.saturating_add(1)
+        ),
+        _ => {
+            eprintln!(rt;
+                "dbm: note: line {} of the script is a bad line, and so are {} more",
+                first.saturating_add(1),
+                count - 1
+            )
+        }
+    };
+}
+
+// Whether a line asks nothing. An empty one is skipped.
+fn is_bad(alloc: Global, line: &[u8]) -> bool {
+    !line.is_empty() && matches!(read_line(alloc, line), Ok(None))
+}

@@ -29,7 +29,7 @@
 //! | `close PLACE PLACE ..` | `closed` with the calls at these places, and how many entries stand behind how many pairs in the trail; or the fault |
 //! | `order`, `pairs` | of the store that was closed, the sessions of its trail's entries, and its pairs |
 //!
-//! A trail is played on a plain map, which has to give the same replies and pairs. Its keys have one or two bytes, and a run on it is
+//! A trail is played on a plain map, which has to give the same replies and pairs. Its keys have up to two bytes, and a run on it is
 //! one of the counter, which adds 1 to the number in the first 8 bytes of the record, and replies it, and leaves a shorter record.
 //!
 //! In a `lean` case each call has all memory of a heap taken but for some, with 16 bytes more each time until there is enough, which

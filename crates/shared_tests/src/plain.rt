@@ -1,12 +1,12 @@
-//! A plain map, on which a trail is played: it has a value for each key of one or two bytes, and none for any other.
+//! A plain map, on which a trail is played: it has a value for each key of up to two bytes, and none for any other.
 
 use sdbm_addr::{Bytes, Mode};
 use sdbm_files::Image;
 use std::alloc::{AllocError, Allocator, Global};
 use store_cmd::{Command, Entry, Reply, Trail};
 
-// How many keys of one or two bytes there are.
-const KEYS: usize = 65792;
+// How many keys of up to two bytes there are.
+const KEYS: usize = 65793;
 
 #[derive(Drop)]
 struct Plain<A: Allocator> {
@@ -20,6 +20,7 @@ fn number_of(key: &[u8]) -> usize {
     match key {
         [low, high] => usize::from(u16::from_le_bytes([*low, *high])),
         [byte] => 65536 + usize::from(*byte),
+        [] => 65792,
         _ => KEYS,
     }
 }

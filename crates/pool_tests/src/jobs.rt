@@ -46,7 +46,7 @@ impl<'a> Pool<'a> {
 
     /// Opens a store. No calls were made, and nobody has to meet.
     pub fn open(&mut self, image: Image<Global>, limit: usize) -> Option<()> {
-        self.meeting.want(false);
+        self.meeting.want(0);
         let gate = MeetingGate {
             meeting: self.meeting,
         };

@@ -12,7 +12,7 @@
 //! | `session` | the number of one session more, which makes no calls |
 //! | `close` | `closed`, and the numbers of entries and of pairs: the store takes the calls of all sessions so far; or `not closed`, and why |
 //! | `order` | the sessions of the entries that were closed last, in their order |
-//! | `meet` | `meet`: from now on, until the next store, each session is kept at work until another is there too, and session 0 until session 1 has finished |
+//! | `meet COUNT` | the line itself: from now on, until the next store, each session is kept at work until so many are there, and session 0 until session 1 has finished |
 //! | `met` | how many jobs came to work, and how many sessions waited in vain |
 //! | `# TEXT` | the line itself |
 //!

@@ -1,4 +1,4 @@
-//! A gate at which two sessions meet.
+//! A gate at which sessions meet.
 ghost use Rattle.std.specs.Prelude.{◌≡◌, IfOk, IfErr};
 
 use desk_core::{Done, Job};
@@ -9,7 +9,7 @@ use store_shared::Gate;
 // How often a thread looks before it gives up.
 const TURNS: u64 = 1_000_000_000;
 
-/// Where two sessions meet at work: whether they have to, how many jobs came, how often session 1 was done, and who waited in vain.
+/// Where sessions meet at work: how many have to, how many jobs came, how often session 1 was done, and who waited in vain.
 #[derive(Drop)]
 pub struct Meeting {
     wanted: AtomicU64,
@@ -28,12 +28,12 @@ impl Meeting {
         }
     }
 
-    /// From now on sessions have to meet, or they do no longer. Nobody came so far.
-    pub fn want(&self, is_wanted: bool) {
+    /// From now on so many sessions have to meet, or none. Nobody came so far.
+    pub fn want(&self, wanted: u64) {
         for count in [&self.came, &self.done, &self.vain] {
             count.store(0, Ordering::SeqCst);
         }
-        self.wanted.store(u64::from(is_wanted), Ordering::SeqCst);
+        self.wanted.store(wanted, Ordering::SeqCst);
     }
 
     /// How many jobs came, and how many sessions waited in vain.
@@ -57,10 +57,11 @@ impl Meeting {
     // A session is at work.
     fn come(&self, session: u64) {
         self.came.fetch_add(1, Ordering::SeqCst);
-        if self.wanted.load(Ordering::SeqCst) == 0 {
+        let wanted = self.wanted.load(Ordering::SeqCst);
+        if wanted == 0 {
             return;
         }
-        self.wait_for(&self.came, 2);
+        self.wait_for(&self.came, wanted);
         if session == 0 {
             self.wait_for(&self.done, 1);
         }

@@ -111,6 +111,10 @@ fn show_words<R: Threads + Wait + Sync>(
             write!(out, "tasks {count}").ok()
         }
         "jobs" => show_jobs(rt, pool, out, rest),
+        "meet" => {
+            pool.meeting.want(rest.parse::<u64>().ok()?);
+            write!(out, "meet {rest}").ok()
+        }
         "#" => write!(out, "# {rest}").ok(),
         _ => None,
     }
@@ -125,10 +129,6 @@ fn show_word<R: Wait>(rt: &R, pool: &mut Pool<'_>, out: &mut String, kind: &str)
         }
         "close" => show_close(pool, out),
         "order" => show_order(pool, out),
-        "meet" => {
-            pool.meeting.want(true);
-            out.push_str("meet").ok()
-        }
         "met" => {
             let (came, vain) = pool.meeting.counts();
             write!(out, "came {came}, in vain {vain}").ok()

@@ -18,7 +18,7 @@ use Rattle.worker_pool.specs.declared.task.PoolFault.TheVariants as jobs
 use Rattle.worker_pool.specs.declared.task.Task.{Task}
 use Rattle.dbm_tool.specs.declared.batch.Batch.{Batch}
 use Rattle.dbm_tool.specs.declared.fault.ServeFault.{ServeFault}
-use Rattle.dbm_tool.specs.declared.fault.ServeFault.TheVariants.{NotText, ReadFile, FileTooLong, WriteFile, BadRedo, ReadClock, Report, Submit, BadLine, Pool, Close, Write, NoMemory}
+use Rattle.dbm_tool.specs.declared.fault.ServeFault.TheVariants.{NotText, ReadFile, FileTooLong, WriteFile, BadRedo, ReadClock, BadBase, Absent, Locked, Report, Submit, BadLine, Pool, Close, Write, NoMemory}
 use Rattle.dbm_script.specs.declared.run_words.RunWords.{RunWords}
 use Rattle.dbm_script.proofs.Runs.{known_read}
 use Rattle.dbm_words.specs.declared.wish.Form.{Form}
@@ -102,6 +102,9 @@ submitted_fault form given workers is_image image FileTooLong number opens is h 
 submitted_fault form given workers is_image image WriteFile number opens is h = h
 submitted_fault form given workers is_image image BadRedo number opens is h = h
 submitted_fault form given workers is_image image ReadClock number opens is h = h
+submitted_fault form given workers is_image image BadBase number opens is h = h
+submitted_fault form given workers is_image image Absent number opens is h = h
+submitted_fault form given workers is_image image Locked number opens is h = h
 submitted_fault form given workers is_image image (Report fault) number opens is h = no_report (ready_causes form given workers is_image).report fault h
 submitted_fault form given workers is_image image (Submit fault) number opens is h = (number, (opens, (image, (is, h))))
 submitted_fault form given workers is_image image (BadLine number') number opens is h = h
@@ -119,6 +122,9 @@ unready_fault form given workers is_image input FileTooLong h = h
 unready_fault form given workers is_image input WriteFile h = h
 unready_fault form given workers is_image input BadRedo h = h
 unready_fault form given workers is_image input ReadClock h = h
+unready_fault form given workers is_image input BadBase h = h
+unready_fault form given workers is_image input Absent h = h
+unready_fault form given workers is_image input Locked h = h
 unready_fault form given workers is_image input (Report reports.BadHex) h = h
 unready_fault form given workers is_image input (Report reports.BadNumber) h = h
 unready_fault form given workers is_image input (Report (reports.Open reason)) h = h
@@ -148,6 +154,9 @@ doing_fault batch input words tasks fault are is h = go fault (subst (λ (ts : L
     go WriteFile h = absurd h
     go BadRedo h = absurd h
     go ReadClock h = absurd h
+    go BadBase h = absurd h
+    go Absent h = absurd h
+    go Locked h = absurd h
     go (Report fault) h = no_report (task_causes batch (Some input)).report fault h
     go (Submit fault) h = absurd h
     go (BadLine number) h = absurd h
@@ -185,6 +194,9 @@ ran_fault form given workers is_image known read batch FileTooLong is ready h = 
 ran_fault form given workers is_image known read batch WriteFile is ready h = absurd h
 ran_fault form given workers is_image known read batch BadRedo is ready h = absurd h
 ran_fault form given workers is_image known read batch ReadClock is ready h = absurd h
+ran_fault form given workers is_image known read batch BadBase is ready h = absurd h
+ran_fault form given workers is_image known read batch Absent is ready h = absurd h
+ran_fault form given workers is_image known read batch Locked is ready h = absurd h
 ran_fault form given workers is_image known read batch (Report fault) is ready h = no_report (batch_causes form given workers is_image known).report fault h
 ran_fault form given workers is_image known read batch (Submit fault) is ready h = absurd h
 ran_fault form given workers is_image known read batch (BadLine number) is ready h = (batch, (ready, known_read known read (λ bytes. HasBadLine bytes number) is h))

@@ -17,7 +17,7 @@ use Rattle.sdbm_saves.specs.declared.disk.DiskError.TheVariants as disk
 use Rattle.sdbm_saves.specs.declared.planning.PlanFault.{PlanFault}
 use Rattle.sdbm_saves.specs.declared.planning.PlanFault.TheVariants as planned
 use Rattle.dbm_tool.specs.declared.fault.ServeFault.{ServeFault}
-use Rattle.dbm_tool.specs.declared.fault.ServeFault.TheVariants.{NotText, ReadFile, FileTooLong, WriteFile, BadRedo, ReadClock, Report, Submit, BadLine, Pool, Close, Write, NoMemory}
+use Rattle.dbm_tool.specs.declared.fault.ServeFault.TheVariants.{NotText, ReadFile, FileTooLong, WriteFile, BadRedo, ReadClock, BadBase, Absent, Locked, Report, Submit, BadLine, Pool, Close, Write, NoMemory}
 
 -- the causes for which nothing comes of a wish: those of its words, its files and standard input, and those of a batch
 pub record WishCauses : Type 1 where
@@ -56,6 +56,9 @@ HasCause causes FileTooLong = ⊥
 HasCause causes WriteFile = ⊥
 HasCause causes BadRedo = ⊥
 HasCause causes ReadClock = ⊥
+HasCause causes BadBase = ⊥
+HasCause causes Absent = ⊥
+HasCause causes Locked = ⊥
 HasCause causes (Report fault) = IsReported causes.report fault
 HasCause causes (Submit fault) = causes.submitting fault
 HasCause causes (BadLine number) = causes.bad_line number

@@ -5,7 +5,7 @@ use Rattle.store_shared.specs.FaultText as closing
 use Rattle.worker_pool.specs.FaultText as pool
 use Rattle.dbm_reports.specs.FaultText as reports
 use Rattle.dbm_tool.specs.declared.fault.ServeFault.{ServeFault}
-use Rattle.dbm_tool.specs.declared.fault.ServeFault.TheVariants.{NotText, ReadFile, FileTooLong, WriteFile, BadRedo, ReadClock, Report, Submit, BadLine, Pool, Close, Write, NoMemory}
+use Rattle.dbm_tool.specs.declared.fault.ServeFault.TheVariants.{NotText, ReadFile, FileTooLong, WriteFile, BadRedo, ReadClock, BadBase, Absent, Locked, Report, Submit, BadLine, Pool, Close, Write, NoMemory}
 
 abbrev pub fault_text : ServeFault → List ℕ
 fault_text NotText = codes "NotText"
@@ -14,6 +14,9 @@ fault_text FileTooLong = codes "FileTooLong"
 fault_text WriteFile = codes "WriteFile"
 fault_text BadRedo = codes "BadRedo"
 fault_text ReadClock = codes "ReadClock"
+fault_text BadBase = codes "BadBase"
+fault_text Absent = codes "Absent"
+fault_text Locked = codes "Locked"
 fault_text (Report fault) = reports.fault_text fault
 fault_text (Submit fault) = registry.fault_text fault
 fault_text (BadLine number) = codes "bad line " ++ decimal number

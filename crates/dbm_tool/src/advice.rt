@@ -6,7 +6,7 @@ use bpf_asm::{AsmFault, FaultKind};
 use bpf_insn::DecodeFault;
 use dbm_reports::ReportFault;
 use dbm_script::{read_blank, read_bytes, read_number};
-use dbm_words::{Form, Wish};
+use dbm_words::{Form, Request, Wish};
 use prog_registry::RegFault;
 use sdbm_files::OpenFault;
 use std::fs::File;
@@ -17,10 +17,10 @@ use worker_pool::PoolFault;
 /// Says in a line what a fault is about, and what to do.
 pub fn advise<R: Runtime<File = File> + AllocGlobal>(
     rt: &R,
-    wish: Option<&Wish<'_>>,
+    request: Option<&Request<'_>>,
     fault: ServeFault,
 ) {
-    match (wish, fault) {
+    match (request, fault) {
         (_, ServeFault::Write) => {
             let _ = eprintln!(rt;
                 "  Standard output is closed or cannot be written, as where a disk is full; nothing was changed."
@@ -30,10 +30,12 @@ pub fn advise<R: Runtime<File = File> + AllocGlobal>(
         (None, _) => {
             let _ = eprintln!(rt; "  A word of the command line is not UTF-8.");
         }
-        (Some(wish), ServeFault::Report(fault)) => advise_report(rt, wish, fault),
-        (Some(wish), ServeFault::Submit(fault)) => advise_submit(rt, wish, fault),
+        (Some(request), ServeFault::Report(ReportFault::BadNumber)) => advise_number(rt, request),
+        (Some(request), ServeFault::Report(fault)) => advise_report(rt, &request.wish, fault),
+        (Some(request), ServeFault::Submit(fault)) => advise_submit(rt, &request.wish, fault),
         (Some(_), ServeFault::Pool(fault)) => advise_pool(rt, fault),
-        (Some(wish), fault) => advise_files(rt, wish, fault),
+        (Some(request), ServeFault::Locked) => advise_locked(rt, request),
+        (Some(request), fault) => advise_files(rt, &request.wish, fault),
     }
 }
 
@@ -67,6 +69,21 @@ fn advise_rest<R: Runtime>(rt: &R, wish: &Wish<'_>, fault: ServeFault) {
                 "  {base}.redo says that a save was committed, but no save of dbm leaves such a file. Move it away to have {base}.pag and {base}.dir as they are."
             )
         }
+        ServeFault::BadBase if base.is_empty() => {
+            eprintln!(rt;
+                "  BASE is empty, which names no files: give the name of a database, without .dir or .pag."
+            )
+        }
+        ServeFault::BadBase => {
+            eprintln!(rt;
+                "  BASE is {base:?}, a folder: give the name of a database in it, without .dir or .pag."
+            )
+        }
+        ServeFault::Absent => {
+            eprintln!(rt;
+                "  Neither {base}.dir nor {base}.pag is there. Leave --must-exist out to make the database."
+            )
+        }
         ServeFault::ReadClock => {
             eprintln!(rt; "  The system does not tell the time of day: give NOW as a number.")
         }
@@ -81,6 +98,22 @@ fn advise_rest<R: Runtime>(rt: &R, wish: &Wish<'_>, fault: ServeFault) {
             )
         }
         _ => eprintln!(rt; "  A word of the command line is not UTF-8."),
+    };
+}
+
+fn advise_locked<R: Runtime>(rt: &R, request: &Request<'_>) {
+    let base = base_of(&request.wish);
+    let _ = match request.access.timeout {
+        Some("0") => {
+            eprintln!(rt;
+                "  Another run holds {base}.lock. Without --timeout 0 this one waits for it."
+            )
+        }
+        _ => {
+            eprintln!(rt;
+                "  Another run has held {base}.lock all the time. Without --timeout this one waits for it."
+            )
+        }
     };
 }
 
@@ -101,7 +134,6 @@ fn advise_report<R: Runtime<File = File> + AllocGlobal>(
     let file = file_of(wish);
     match fault {
         ReportFault::BadHex => advise_hex(rt, wish),
-        ReportFault::BadNumber => advise_number(rt, wish),
         ReportFault::Open(fault) => advise_open(rt, wish, fault),
         ReportFault::NotText | ReportFault::Assemble(_) | ReportFault::Decode(_)
             if is_object(rt, file) => { tell_object(rt, file) }
@@ -191,8 +223,13 @@ fn tell_word<R: Runtime>(rt: &R, name: &str, word: &str, wrong: &str) {
 }
 
 // Of the words that are to be numbers, the first that is none.
-fn advise_number<R: Runtime>(rt: &R, wish: &Wish<'_>) {
-    match *wish {
+fn advise_number<R: Runtime>(rt: &R, request: &Request<'_>) {
+    if let Some(seconds) = request.access.timeout
+        && read_number(seconds.as_bytes(), u64::MAX).is_none()
+    {
+        return tell_word(rt, "--timeout", seconds, BELOW);
+    }
+    match request.wish {
         Wish::Run {
             blank,
             now,

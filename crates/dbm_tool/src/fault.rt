@@ -27,6 +27,12 @@ pub enum ServeFault {
     BadRedo,
     /// The system does not tell the time of day.
     ReadClock,
+    /// The base is empty, `.` or `..`, or ends in `/`, so it names no file.
+    BadBase,
+    /// Neither file of the database is there, which has to be.
+    Absent,
+    /// Another run has had the lock for as long as this one was to wait.
+    Locked,
     /// Nothing comes of the words, the files and standard input. The fault within is never `NoMemory`.
     Report(ReportFault),
     /// The program of a batch gets no number. The fault within is never `NoMemory`.
@@ -57,6 +63,9 @@ impl fmt::Display for ServeFault {
             ServeFault::WriteFile => write!(f, "WriteFile"),
             ServeFault::BadRedo => write!(f, "BadRedo"),
             ServeFault::ReadClock => write!(f, "ReadClock"),
+            ServeFault::BadBase => write!(f, "BadBase"),
+            ServeFault::Absent => write!(f, "Absent"),
+            ServeFault::Locked => write!(f, "Locked"),
             ServeFault::Report(fault) => write!(f, "{fault}"),
             ServeFault::Submit(fault) => write!(f, "{fault}"),
             ServeFault::BadLine(number) => write!(f, "bad line {number}"),

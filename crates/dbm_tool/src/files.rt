@@ -14,6 +14,7 @@ use std::fs;
 use std::fs::File;
 use std::io::{ErrorKind, Read, Write};
 use std::rt::Files;
+use std::time::{Clock, Duration};
 
 /// A redo file of the program has at most this many bytes: those of both files at their limits, in blocks of 1,024 with nine bytes
 /// before each, behind thirteen.
@@ -40,11 +41,12 @@ pub struct Held {
 /// were read until it has written them. The lock and the redo file lie beside the files themselves, whatever links lead there.
 ///
 /// # Errors
-/// Those of `resolve`, `WriteFile` where a wish that writes cannot have its lock, or cannot end a save, `ReadFile` where one that reads
+/// Those of `resolve`, `Locked` where others hold the lock for longer than the patience, `WriteFile` where a wish that writes cannot have its lock, or cannot end a save, `ReadFile` where one that reads
 /// cannot have a lock that is there, then those of `read_given`, and `BadRedo` where the redo file is marked and no save has left it.
-pub fn take_files<R: Files<File = File> + AllocGlobal>(
+pub fn take_files<R: Files<File = File> + Clock + AllocGlobal>(
     rt: &R,
     wish: &Wish<'_>,
+    patience: Option<Duration>,
 ) -> Result<Taken, ServeFault> {
     let Some(base) = wish.base() else {
         let given = read_given(rt, wish)?;
@@ -53,35 +55,37 @@ pub fn take_files<R: Files<File = File> + AllocGlobal>(
     let base = resolve(rt, base)?;
     let names = names_of(rt.alloc(), base.as_str())?;
     if wish.writes() {
-        return take_to_write(rt, wish, names);
+        return take_to_write(rt, wish, names, patience);
     }
-    let given = read_under_lock(rt, wish, &names)?;
+    let given = read_under_lock(rt, wish, &names, patience)?;
     Ok(Taken { given, held: None })
 }
 
 // Reads the files of a wish that may change its database, and keeps their lock.
-fn take_to_write<R: Files<File = File> + AllocGlobal>(
+fn take_to_write<R: Files<File = File> + Clock + AllocGlobal>(
     rt: &R,
     wish: &Wish<'_>,
     names: Names,
+    patience: Option<Duration>,
 ) -> Result<Taken, ServeFault> {
-    let lock = lock_to_write(rt, names.lock.as_str(), names.pages.as_str())?;
+    let lock = lock_to_write(rt, names.lock.as_str(), names.pages.as_str(), patience)?;
     let (given, redo) = read_database(rt, wish, &names, true)?;
     let held = Some(Held { names, redo, lock });
     Ok(Taken { given, held })
 }
 
 // Reads the files of a wish that changes nothing, under a lock where there is one.
-fn read_under_lock<R: Files<File = File> + AllocGlobal>(
+fn read_under_lock<R: Files<File = File> + Clock + AllocGlobal>(
     rt: &R,
     wish: &Wish<'_>,
     names: &Names,
+    patience: Option<Duration>,
 ) -> Result<Given, ServeFault> {
-    let lock = lock_to_read(rt, names.lock.as_str())?;
+    let lock = lock_to_read(rt, names.lock.as_str(), patience)?;
     let read = read_database(rt, wish, names, false);
     if lock.is_none() {
         // The first run that writes may have come in between, and made the lock.
-        let lock = lock_to_read(rt, names.lock.as_str())?;
+        let lock = lock_to_read(rt, names.lock.as_str(), patience)?;
         if lock.is_some() {
             return Ok(read_database(rt, wish, names, false)?.0);
         }

@@ -19,13 +19,14 @@ mod serve;
 
 use advice::{advise, note_absent, note_object};
 use clock::read_clock;
-use dbm_reports::Given;
-use dbm_words::{ToolFault, Wish, read_words};
+use dbm_reports::{Given, ReportFault};
+use dbm_script::read_number;
+use dbm_words::{Request, ToolFault, Wish, read_words};
 use ending::{Ending, ending_of, exit_status};
 use fault::ServeFault;
 use files::{Held, Taken, save_files, take_files};
 use kept::{Kept, note_bad_lines};
-use reasons::reads_nothing;
+use reasons::has_no_files;
 use sdbm_saves::Found;
 use serve::serve;
 use std::fs::File;
@@ -34,6 +35,7 @@ use std::process::ExitCode;
 use std::rt::{Files, Runtime};
 use std::sync::Wait;
 use std::thread::Threads;
+use std::time::Duration;
 use std::{env, fs, io};
 
 fn main(rt: HostRuntime) -> ExitCode {
@@ -73,14 +75,14 @@ fn run<R: Runtime<File = File> + AllocGlobal + Threads + Wait + Sync>(
         }
     }
     match read_words(alloc, words.as_slice()) {
-        Ok(wish) => {
+        Ok(request) => {
             let mut reader = Kept::new(alloc, rt.reader());
-            let ending = match serve_files(rt, wish, &mut reader) {
+            let ending = match serve_request(rt, request, &mut reader) {
                 Ok(ending) => ending,
                 Err(fault) => Ending::Failed(fault),
             };
-            note(rt, &wish, &ending, reader.text());
-            tell(rt, Some(&wish), ending)
+            note(rt, &request.wish, &ending, reader.text());
+            tell(rt, Some(&request), ending)
         }
         Err(ToolFault::NoMemory) => tell(rt, None, Ending::Failed(ServeFault::NoMemory)),
         Err(fault) => tell(rt, None, Ending::Refused(fault)),
@@ -98,7 +100,7 @@ fn note<R: Runtime<File = File> + AllocGlobal>(
     if !matches!(ending, Ending::Served(_)) {
         return;
     }
-    if reads_nothing(rt, wish) {
+    if !wish.writes() && has_no_files(rt, wish) {
         note_absent(rt, wish);
     }
     if matches!(ending, Ending::Served(1)) {
@@ -109,14 +111,54 @@ fn note<R: Runtime<File = File> + AllocGlobal>(
     }
 }
 
+// Serves what is asked once it is plain that its base is a name, for how long it waits, and that its files are there where they have to be.
+fn serve_request<R: Runtime<File = File> + AllocGlobal + Threads + Wait + Sync, I: Read>(
+    rt: &R,
+    request: Request<'_>,
+    reader: &mut I,
+) -> Result<Ending, ServeFault> {
+    let Request { wish, access } = request;
+    if let Some(base) = wish.base()
+        && !is_name(base)
+    {
+        return Err(ServeFault::BadBase);
+    }
+    let patience = patience_of(access.timeout)?;
+    if access.must_exist && has_no_files(rt, &wish) {
+        return Err(ServeFault::Absent);
+    }
+    serve_files(rt, wish, patience, reader)
+}
+
+// Whether the files of a base have names of their own: those of a folder, as of `users/`, would be `users/.dir` and `users/.pag`.
+fn is_name(base: &str) -> bool {
+    let last = match base.rsplit_once('/') {
+        Some((_, last)) => last,
+        None => base,
+    };
+    !matches!(last, "" | "." | "..")
+}
+
+// For how long a run waits for the lock, where that has an end.
+fn patience_of(timeout: Option<&str>) -> Result<Option<Duration>, ServeFault> {
+    let Some(word) = timeout else {
+        return Ok(None);
+    };
+    match read_number(word.as_bytes(), u64::MAX) {
+        Some(seconds) => Ok(Some(Duration::from_secs(seconds))),
+        None => Err(ServeFault::Report(ReportFault::BadNumber)),
+    }
+}
+
 // Serves a wish on the files that it names. The lock, where there is one, is held to the end. Where the time of day is asked, the clock
 // is read once, and after the wait for the lock.
 fn serve_files<R: Runtime<File = File> + AllocGlobal + Threads + Wait + Sync, I: Read>(
     rt: &R,
     wish: Wish<'_>,
+    patience: Option<Duration>,
     reader: &mut I,
 ) -> Result<Ending, ServeFault> {
-    let taken = take_files(rt, &wish)?;
+    let taken = take_files(rt, &wish, patience)?;
     match wish.time_asked() {
         Some(unit) => {
             let time = read_clock(rt, rt.alloc(), unit)?;
@@ -180,7 +222,7 @@ fn serve_change<R: Runtime<File = File> + AllocGlobal + Threads + Wait + Sync, I
 // takes no help, that is the fault; where standard error fails, the status alone says it.
 fn tell<R: Runtime<File = File> + AllocGlobal>(
     rt: &R,
-    wish: Option<&Wish<'_>>,
+    request: Option<&Request<'_>>,
     ending: Ending,
 ) -> Ending
     ensures { IsTold ending result }
@@ -193,7 +235,7 @@ fn tell<R: Runtime<File = File> + AllocGlobal>(
     };
     if let Ending::Failed(fault) = &ending {
         let _ = eprintln!(rt; "dbm: {fault}");
-        advise(rt, wish, *fault);
+        advise(rt, request, *fault);
     }
     ending
 }

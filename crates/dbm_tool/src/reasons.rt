@@ -189,14 +189,11 @@ pub fn tell_too_long<R: Runtime<File = File> + AllocGlobal>(
     Ok(())
 }
 
-/// Whether a wish reads a database of which neither file is there.
-pub fn reads_nothing<R: Runtime<File = File> + AllocGlobal>(rt: &R, wish: &Wish<'_>) -> bool {
+/// Whether a wish is about a database of which neither file is there, nor the redo file of a save.
+pub fn has_no_files<R: Runtime<File = File> + AllocGlobal>(rt: &R, wish: &Wish<'_>) -> bool {
     let Some(base) = wish.base() else {
         return false;
     };
-    if wish.writes() {
-        return false;
-    }
     match names_of(rt.alloc(), base) {
         Ok(names) => {
             is_absent(rt, names.pages.as_str())

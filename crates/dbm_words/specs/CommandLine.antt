@@ -21,36 +21,46 @@ valued_option id = record (new_rule id) { long = Some id; value_names = 1 }
 abbrev pub subcommand : Text → List Rule → Shape
 subcommand name rules = record (new_shape name) { rules = rules }
 
--- how the files of a database are read
-abbrev pub form_options : List Rule
-form_options = flag (codes "unsigned") ∷ flag (codes "wide") ∷ []
+-- how long a run waits for the lock, and for one that writes, whether the files have to be there
+abbrev pub reading_access : List Rule
+reading_access = valued_option (codes "timeout") ∷ []
+
+abbrev pub writing_access : List Rule
+writing_access = flag (codes "must-exist") ∷ reading_access
+
+-- how the files of a database are read, and how it is come by
+abbrev pub reading_options : List Rule
+reading_options = flag (codes "unsigned") ∷ flag (codes "wide") ∷ reading_access
+
+abbrev pub writing_options : List Rule
+writing_options = flag (codes "unsigned") ∷ flag (codes "wide") ∷ writing_access
 
 abbrev pub fetch : Shape
-fetch = subcommand (codes "fetch") (required_word (codes "BASE") ∷ required_word (codes "KEY") ∷ form_options)
+fetch = subcommand (codes "fetch") (required_word (codes "BASE") ∷ required_word (codes "KEY") ∷ reading_options)
 
 abbrev pub store : Shape
-store = subcommand (codes "store") (required_word (codes "BASE") ∷ required_word (codes "KEY") ∷ required_word (codes "VALUE") ∷ flag (codes "insert") ∷ form_options)
+store = subcommand (codes "store") (required_word (codes "BASE") ∷ required_word (codes "KEY") ∷ required_word (codes "VALUE") ∷ flag (codes "insert") ∷ writing_options)
 
 abbrev pub delete : Shape
-delete = subcommand (codes "delete") (required_word (codes "BASE") ∷ required_word (codes "KEY") ∷ form_options)
+delete = subcommand (codes "delete") (required_word (codes "BASE") ∷ required_word (codes "KEY") ∷ writing_options)
 
 abbrev pub run : Shape
-run = subcommand (codes "run") (required_word (codes "BASE") ∷ required_word (codes "KEY") ∷ required_word (codes "FILE") ∷ required_word (codes "ARG") ∷ required_word (codes "BLANK") ∷ required_word (codes "NOW") ∷ valued_option (codes "expect") ∷ flag (codes "image") ∷ form_options)
+run = subcommand (codes "run") (required_word (codes "BASE") ∷ required_word (codes "KEY") ∷ required_word (codes "FILE") ∷ required_word (codes "ARG") ∷ required_word (codes "BLANK") ∷ required_word (codes "NOW") ∷ valued_option (codes "expect") ∷ flag (codes "image") ∷ writing_options)
 
 abbrev pub batch : Shape
-batch = subcommand (codes "batch") (required_word (codes "BASE") ∷ required_word (codes "FILE") ∷ required_word (codes "WORKERS") ∷ flag (codes "image") ∷ form_options)
+batch = subcommand (codes "batch") (required_word (codes "BASE") ∷ required_word (codes "FILE") ∷ required_word (codes "WORKERS") ∷ flag (codes "image") ∷ writing_options)
 
 abbrev pub list : Shape
-list = subcommand (codes "list") (required_word (codes "BASE") ∷ form_options)
+list = subcommand (codes "list") (required_word (codes "BASE") ∷ reading_options)
 
 abbrev pub check : Shape
-check = subcommand (codes "check") (required_word (codes "BASE") ∷ form_options)
+check = subcommand (codes "check") (required_word (codes "BASE") ∷ reading_options)
 
 abbrev pub script : Shape
-script = subcommand (codes "script") (valued_option (codes "base") ∷ valued_option (codes "max-output") ∷ form_options)
+script = subcommand (codes "script") (valued_option (codes "base") ∷ valued_option (codes "max-output") ∷ writing_options)
 
 abbrev pub widen : Shape
-widen = subcommand (codes "widen") (required_word (codes "BASE") ∷ flag (codes "unsigned") ∷ [])
+widen = subcommand (codes "widen") (required_word (codes "BASE") ∷ flag (codes "unsigned") ∷ writing_access)
 
 abbrev pub asm : Shape
 asm = subcommand (codes "asm") (required_word (codes "FILE") ∷ [])

@@ -11,6 +11,7 @@ use Rattle.clap.specs.declared.error.Error.{Error}
 use Rattle.dbm_words.specs.CommandLine.{tool}
 use Rattle.dbm_words.specs.declared.fault.ToolFault.{ToolFault}
 use Rattle.dbm_words.specs.declared.fault.ToolFault.TheVariants.{Refused, NoMemory, NoWord}
+use Rattle.dbm_words.specs.declared.wish.Access.{Access}
 use Rattle.dbm_words.specs.declared.wish.Form.{Form}
 use Rattle.dbm_words.specs.declared.wish.TimeUnit.{TimeUnit}
 use Rattle.dbm_words.specs.declared.wish.TimeUnit.TheVariants.{Seconds, Milliseconds}
@@ -117,6 +118,16 @@ SubcommandAsks name rows (wish.Verify file image) =
 abbrev pub IsAsked : Option (Text × List Row) → Wish → Type 0
 IsAsked None wish = ⊥
 IsAsked (Some matches) wish = SubcommandAsks matches.0 matches.1 wish
+
+-- the options by which a database is come by
+abbrev pub IsAccess : List Row → Access → Type 0
+IsAccess rows access =
+    IsGiven (codes "timeout") rows access.timeout × (access.must_exist ≡ is_given (codes "must-exist") rows)
+
+-- the matches name a subcommand, and these are its options by which a database is come by
+abbrev pub IsAccessGiven : Option (Text × List Row) → Access → Type 0
+IsAccessGiven None access = ⊥
+IsAccessGiven (Some matches) access = IsAccess matches.1 access
 
 -- each word that has to be there is there
 abbrev pub has_words : List Rule → List Row → Bool

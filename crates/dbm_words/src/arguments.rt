@@ -76,6 +76,31 @@ pub fn wide<'a>(alloc: Global) -> Arg<'a>
     flag(alloc, "wide", "The pages have 8,192 bytes, not 1,024")
 }
 
+/// The option for the longest wait for the lock.
+pub fn timeout<'a>(alloc: Global) -> Arg<'a>
+    ensures rule { rule_of result ≡ spec.valued_option (codes "timeout") }
+    ensures local { result.global ≡ false }
+{
+    valued_option(
+        alloc,
+        "timeout",
+        "SECONDS",
+        "Wait no longer for other runs on the database, 0 for not at all; the fault is then Locked",
+    )
+}
+
+/// The option for a database that has to be there.
+pub fn must_exist<'a>(alloc: Global) -> Arg<'a>
+    ensures rule { rule_of result ≡ spec.flag (codes "must-exist") }
+    ensures local { result.global ≡ false }
+{
+    flag(
+        alloc,
+        "must-exist",
+        "Make no database where neither file is there; the fault is then Absent",
+    )
+}
+
 /// The option for a program's file that is an image.
 pub fn image<'a>(alloc: Global) -> Arg<'a>
     ensures rule { rule_of result ≡ spec.flag (codes "image") }

@@ -4,7 +4,7 @@
 ghost use Rattle.std.specs.Prelude.{◌≡◌, IfOk, IfErr, IsErrOf, true, false, [], map};
 ghost use Rattle.clap.specs.Words.{fault_of, subcommand_of};
 ghost use Rattle.dbm_words.specs.CommandLine.{tool};
-ghost use Rattle.dbm_words.specs.Wishes.{IsAsked, IsRefusedFor, lacks_word};
+ghost use Rattle.dbm_words.specs.Wishes.{IsAccessGiven, IsAsked, IsRefusedFor, lacks_word};
 
 mod arguments;
 mod fault;
@@ -13,18 +13,19 @@ mod subcommands;
 mod wish;
 
 pub use crate::fault::ToolFault;
-use crate::matched::asked;
+use crate::matched::{access, asked};
 use crate::subcommands::tool_command;
-pub use crate::wish::{Form, TimeUnit, Wish};
+pub use crate::wish::{Access, Form, Request, TimeUnit, Wish};
 use std::alloc::Global;
 
-/// What the words behind the program's name ask.
+/// What the words behind the program's name ask, and how its database is come by.
 ///
 /// # Errors
 /// `Refused` where they are no words of the command line, or ask for help or the version; the error in it has the text for the
 /// user. `NoWord` only where a word is missing that the subcommand has to have. `NoMemory` where no memory was left.
-pub fn read_words<'a>(alloc: Global, words: &'a [&'a str]) -> Result<Wish<'a>, ToolFault>
-    ensures wish { IfOk result (IsAsked (subcommand_of tool (map (λ word. word.now) words.now))) }
+pub fn read_words<'a>(alloc: Global, words: &'a [&'a str]) -> Result<Request<'a>, ToolFault>
+    ensures wish { IfOk result (λ request. IsAsked (subcommand_of tool (map (λ word. word.now) words.now)) request.wish) }
+    ensures access { IfOk result (λ request. IsAccessGiven (subcommand_of tool (map (λ word. word.now) words.now)) request.access) }
     ensures accepted { IfOk result (λ _. fault_of tool (map (λ word. word.now) words.now) ≡ []) }
     ensures refused { IfErr result (IsRefusedFor (fault_of tool (map (λ word. word.now) words.now))) }
     ensures no_word { IsErrOf result ToolFault.NoWord → lacks_word (subcommand_of tool (map (λ word. word.now) words.now)) ≡ true }
@@ -35,7 +36,10 @@ pub fn read_words<'a>(alloc: Global, words: &'a [&'a str]) -> Result<Wish<'a>, T
         return Err(ToolFault::NoWord);
     };
     match asked(name, inner) {
-        Some(wish) => Ok(wish),
+        Some(wish) => Ok(Request {
+            wish,
+            access: access(inner),
+        }),
         None => Err(ToolFault::NoWord),
     }
 }

@@ -2,9 +2,9 @@
 ghost use Rattle.std.specs.Prelude.{◌≡◌, IfSome, IsNone, Some, true, false, codes, option_map};
 ghost use Rattle.clap.specs.Words.{first_of, found_of, rows_of};
 ghost use Rattle.dbm_words.specs.CommandLine as spec;
-ghost use Rattle.dbm_words.specs.Wishes.{SubcommandAsks, IsForm, has_words, is_given, lacks_word};
+ghost use Rattle.dbm_words.specs.Wishes.{SubcommandAsks, IsAccess, IsForm, has_words, is_given, lacks_word};
 
-use crate::wish::{Form, Wish};
+use crate::wish::{Access, Form, Wish};
 use clap::ArgMatches;
 
 /// What the subcommand of this name asks by its matches. There is none where they lack a word that it has to have, or where no
@@ -53,6 +53,16 @@ fn form(matches: &ArgMatches<'_>) -> Form
     Form {
         unsigned: has_flag(matches, "unsigned"),
         wide: has_flag(matches, "wide"),
+    }
+}
+
+/// How the database of a subcommand is come by.
+pub fn access<'a>(matches: &ArgMatches<'a>) -> Access<'a>
+    ensures { IsAccess (rows_of (found_of matches.now)) result }
+{
+    Access {
+        timeout: word(matches, "timeout"),
+        must_exist: has_flag(matches, "must-exist"),
     }
 }
 

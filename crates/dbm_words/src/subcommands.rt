@@ -6,7 +6,7 @@ ghost use Rattle.dbm_words.specs.CommandLine.{IsCommand, IsSubcommand, tool};
 ghost use Rattle.dbm_words.specs.CommandLine as spec;
 
 use crate::arguments::{
-    base, file, flag, image, key, required_word, unsigned, valued_option, wide,
+    base, file, flag, image, key, must_exist, required_word, timeout, unsigned, valued_option, wide,
 };
 use clap::{Arg, Command};
 use std::alloc::{AllocError, Global};
@@ -77,7 +77,13 @@ fn subcommand<'a>(
 fn fetch_command<'a>(alloc: Global) -> Result<Command<'a>, AllocError>
     ensures { IfOk result (IsSubcommand spec.fetch) }
 {
-    let args = vec![in alloc; base(alloc), key(alloc), unsigned(alloc), wide(alloc)]?;
+    let args = vec![in alloc;
+        base(alloc),
+        key(alloc),
+        unsigned(alloc),
+        wide(alloc),
+        timeout(alloc),
+    ]?;
     let about = "Print the value of a key";
     let notes = "Prints found VALUE, or missing with status 1.\n\nExample: dbm fetch users 6162";
     subcommand(alloc, "fetch", about, notes, args)
@@ -99,6 +105,8 @@ fn store_command<'a>(alloc: Global) -> Result<Command<'a>, AllocError>
         insert,
         unsigned(alloc),
         wide(alloc),
+        must_exist(alloc),
+        timeout(alloc),
     ]?;
     let about = "Store a pair, in place of the key's old value";
     let notes =
@@ -111,7 +119,14 @@ fn store_command<'a>(alloc: Global) -> Result<Command<'a>, AllocError>
 fn delete_command<'a>(alloc: Global) -> Result<Command<'a>, AllocError>
     ensures { IfOk result (IsSubcommand spec.delete) }
 {
-    let args = vec![in alloc; base(alloc), key(alloc), unsigned(alloc), wide(alloc)]?;
+    let args = vec![in alloc;
+        base(alloc),
+        key(alloc),
+        unsigned(alloc),
+        wide(alloc),
+        must_exist(alloc),
+        timeout(alloc),
+    ]?;
     let about = "Delete the pair of a key";
     let notes = "Prints deleted, or missing with status 1.\n\nExample: dbm delete users 6162";
     subcommand(alloc, "delete", about, notes, args)
@@ -120,7 +135,7 @@ fn delete_command<'a>(alloc: Global) -> Result<Command<'a>, AllocError>
 fn list_command<'a>(alloc: Global) -> Result<Command<'a>, AllocError>
     ensures { IfOk result (IsSubcommand spec.list) }
 {
-    let args = vec![in alloc; base(alloc), unsigned(alloc), wide(alloc)]?;
+    let args = vec![in alloc; base(alloc), unsigned(alloc), wide(alloc), timeout(alloc)]?;
     let about = "Print all pairs, sorted by the bytes of their keys";
     let notes = "Prints KEY VALUE for each pair, both in hex, or . for no bytes.\n\n\
          Example: dbm list users";
@@ -130,7 +145,7 @@ fn list_command<'a>(alloc: Global) -> Result<Command<'a>, AllocError>
 fn check_command<'a>(alloc: Global) -> Result<Command<'a>, AllocError>
     ensures { IfOk result (IsSubcommand spec.check) }
 {
-    let args = vec![in alloc; base(alloc), unsigned(alloc), wide(alloc)]?;
+    let args = vec![in alloc; base(alloc), unsigned(alloc), wide(alloc), timeout(alloc)]?;
     let about = "Check that the files are a database";
     let notes =
         "Prints ok N for a database of N pairs. Where the files are none, standard error names\n\
@@ -149,6 +164,8 @@ fn script_command<'a>(alloc: Global) -> Result<Command<'a>, AllocError>
         valued_option(alloc, "max-output", "BYTES", limit),
         unsigned(alloc),
         wide(alloc),
+        must_exist(alloc),
+        timeout(alloc),
     ]?;
     let about = "Run the commands on standard input, a line each";
     let notes =
@@ -164,7 +181,12 @@ fn script_command<'a>(alloc: Global) -> Result<Command<'a>, AllocError>
 fn widen_command<'a>(alloc: Global) -> Result<Command<'a>, AllocError>
     ensures { IfOk result (IsSubcommand spec.widen) }
 {
-    let args = vec![in alloc; base(alloc), unsigned(alloc)]?;
+    let args = vec![in alloc;
+        base(alloc),
+        unsigned(alloc),
+        must_exist(alloc),
+        timeout(alloc),
+    ]?;
     let about = "Write a database anew, with pages of 8,192 bytes for those of 1,024";
     let notes =
         "Prints ok N for a database of N pairs. From then on it is opened with --wide, and no other program\n\
@@ -239,6 +261,8 @@ fn run_command<'a>(alloc: Global) -> Result<Command<'a>, AllocError>
         image(alloc),
         unsigned(alloc),
         wide(alloc),
+        must_exist(alloc),
+        timeout(alloc),
     ]?;
     let about = "Run a program on the record of a key";
     let notes =
@@ -263,6 +287,8 @@ fn batch_command<'a>(alloc: Global) -> Result<Command<'a>, AllocError>
         image(alloc),
         unsigned(alloc),
         wide(alloc),
+        must_exist(alloc),
+        timeout(alloc),
     ]?;
     let about = "Run a program on the records of many keys, by workers side by side";
     let notes =

@@ -11,6 +11,15 @@ pub struct Form {
     pub wide: bool,
 }
 
+/// How a database is come by, as the options `--timeout` and `--must-exist` say.
+#[derive(Clone, Copy, Debug, PartialEq, Eq)]
+pub struct Access<'a> {
+    /// For how many seconds the run waits for the lock; without it, for as long as others hold it.
+    pub timeout: Option<&'a str>,
+    /// The run makes no database where none is.
+    pub must_exist: bool,
+}
+
 /// In which unit the time of day is asked, which is counted from the beginning of 1970 in UTC.
 #[derive(Clone, Copy, Debug, PartialEq, Eq)]
 pub enum TimeUnit {
@@ -99,6 +108,13 @@ pub enum Wish<'a> {
         file: &'a str,
         image: bool,
     },
+}
+
+/// What a command line asks, and how its database is come by.
+#[derive(Clone, Copy, Debug, PartialEq, Eq)]
+pub struct Request<'a> {
+    pub wish: Wish<'a>,
+    pub access: Access<'a>,
 }
 
 impl<'a> Wish<'a> {

@@ -1,6 +1,6 @@
 //! What command lines ask, why they are refused, and what help prints.
 
-use dbm_words::{TimeUnit, ToolFault, Wish, read_words};
+use dbm_words::{Access, Request, TimeUnit, ToolFault, Wish, read_words};
 use std::alloc::{AllocError, Global};
 use std::fmt::Write;
 
@@ -23,7 +23,7 @@ fn words_of(global: Global, line: &str) -> Option<Vec<&str>> {
     Some(words)
 }
 
-fn asked<'a>(global: Global, words: &'a [&'a str]) -> Result<Wish<'a>, ToolFault> {
+fn asked<'a>(global: Global, words: &'a [&'a str]) -> Result<Request<'a>, ToolFault> {
     read_words(global, words)
 }
 
@@ -40,6 +40,22 @@ fn wish_text(global: Global, wish: &Wish<'_>) -> Option<String> {
     Some(out)
 }
 
+// The wish, and how its database is come by where the words say so.
+fn request_text(global: Global, request: &Request<'_>) -> Option<String> {
+    let mut out = wish_text(global, &request.wish)?;
+    let Access {
+        timeout,
+        must_exist,
+    } = request.access;
+    if let Some(seconds) = timeout {
+        write!(out, " timeout {seconds}").ok()?;
+    }
+    if must_exist {
+        out.push_str(" must exist").ok()?;
+    }
+    Some(out)
+}
+
 fn refused_text(global: Global, fault: &ToolFault) -> Option<String> {
     if fault.is_answer() {
         return String::from_str(global, "answered").ok();
@@ -53,7 +69,7 @@ fn refused_text(global: Global, fault: &ToolFault) -> Option<String> {
 fn words_text(global: Global, rest: &str) -> Option<String> {
     let words = words_of(global, rest)?;
     match asked(global, words.as_slice()) {
-        Ok(wish) => wish_text(global, &wish),
+        Ok(request) => request_text(global, &request),
         Err(fault) => refused_text(global, &fault),
     }
 }
@@ -79,7 +95,7 @@ fn part_text(global: Global, rest: &str) -> Option<String> {
 fn time_text(global: Global, rest: &str) -> Option<String> {
     let (unit, words) = rest.split_once(' ')?;
     let words = words_of(global, words)?;
-    let wish = asked(global, words.as_slice()).ok()?;
+    let wish = asked(global, words.as_slice()).ok()?.wish;
     match wish.time_asked() {
         Some(TimeUnit::Seconds) if unit == "seconds" => (),
         Some(TimeUnit::Milliseconds) if unit == "milliseconds" => (),

@@ -1,6 +1,6 @@
-use Rattle.std.proofs.Common.{◌≡◌, ℕ, List, Some, refl, sym, subst}
+use Rattle.std.proofs.Common.{◌≡◌, Some, refl, sym, subst}
 use Rattle.std.specs.Option.{IsSome}
-use Rattle.sdbm_addr.specs.Pairs.{Pair, Content, HasDistinctKeys}
+use Rattle.sdbm_addr.specs.Pairs.{Content, HasDistinctKeys}
 use Rattle.sdbm_files.proofs.InstallLemmas.{HasAt, pairs_found, pages_of-stored, pages_of-kept}
 use Rattle.sdbm_files.proofs.pages.store_pair.Goals as goal
 

@@ -2,5 +2,6 @@ pub mod Drafts
 pub mod Lists
 pub mod Marks
 pub mod Moments
+pub mod PageDrafts
 pub mod Recording
 pub mod Replay

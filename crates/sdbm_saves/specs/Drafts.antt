@@ -3,7 +3,7 @@ use Rattle.std.specs.Prelude.{◌≡◌, ◌<◌, ◌≤◌, ℕ, ◌+◌, ◌/�
 use Rattle.sdbm_saves.specs.declared.disk.File.{File}
 use Rattle.sdbm_saves.specs.declared.disk.File.TheVariants.{Pages, Directory, Redo}
 use Rattle.sdbm_saves.specs.Disk.{written}
-use Rattle.sdbm_saves.specs.Redo.{file_of, offset_of, size_of, rest_after, renewed, signature, IsPlan}
+use Rattle.sdbm_saves.specs.Redo.{file_of, offset_of, size_of, rest_after, signature}
 
 -- a number below 2^32 as four bytes, the low one first
 abbrev pub spelled : ℕ → List ℕ
@@ -39,9 +39,3 @@ pub record AreChanges (pages directory count : ℕ) (changes : List ℕ) : Type 
 -- a block is written over bytes that read as the old ones did
 abbrev pub RenewsBlock : ℕ → List ℕ → List ℕ → List ℕ → List ℕ → Type 0
 RenewsBlock at old block before after = at + length block ≤ length before → ((i : ℕ) → i < length block → get_or before (at + i) 0 ≡ get_or old (at + i) 0) → after ≡ written at block before
-
--- a plan that makes the old files the new ones
-pub record IsRewriting (plan old_pages old_directory new_pages new_directory : List ℕ) : Type 0 where
-  pub whole : IsPlan plan
-  pub pages : renewed Pages plan old_pages ≡ new_pages
-  pub directory : renewed Directory plan old_directory ≡ new_directory

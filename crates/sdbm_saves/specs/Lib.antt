@@ -4,3 +4,4 @@ pub mod Disk
 pub mod Drafts
 pub mod Recording
 pub mod Redo
+pub mod Saves

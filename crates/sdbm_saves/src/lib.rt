@@ -15,6 +15,6 @@ pub use call_log::CallLog;
 pub use disk::{Disk, DiskError, File};
 pub use overlay::read_through;
 pub use plan::{is_plan, is_whole, plan_in};
-pub use planning::{Contents, PlanFault, rewriting};
+pub use planning::{Contents, PlanFault, plan_save};
 pub use recorded::{Found, Host, Past, Recorded, Unknown};
 pub use redo::{commit, finish, recover, stage};

@@ -1,17 +1,22 @@
 // The plan that makes the files of a database those of another.
-ghost use Rattle.std.specs.Prelude.{◌≡◌, ◌≢◌, ◌<◌, ◌≤◌, ◌⊎◌, ◌^◌, ◌+◌, ◌↔◌, ℕ, List, length, get_or, IsTrue, IfOk, IfErr, OnOk};
+ghost use Rattle.std.specs.Prelude.{◌≡◌, ◌≢◌, ◌<◌, ◌≤◌, ◌^◌, ◌+◌, ◌*◌, ◌↔◌, ℕ, List, length, get_or, IsTrue, IfOk, IfErr, IfSome, IsNone, OnOk};
 ghost use Rattle.sdbm_saves.specs.declared.disk.File.{File};
 ghost use Rattle.sdbm_saves.specs.declared.disk.File.TheVariants.{Pages, Directory, Redo};
 ghost use Rattle.sdbm_saves.specs.declared.planning.PlanFault.TheVariants.{NoMemory, TooLong};
 ghost use Rattle.sdbm_saves.specs.Disk.{resized};
 ghost use Rattle.sdbm_saves.specs.Redo.{replayed};
-ghost use Rattle.sdbm_saves.specs.Drafts.{AreChanges, IsRewriting, RenewsBlock, length_in};
+ghost use Rattle.sdbm_saves.specs.Drafts.{AreChanges, RenewsBlock, length_in};
+ghost use Rattle.sdbm_saves.specs.Saves.{AreFilesFor, IsSaving, HasLongFile};
+ghost use Rattle.sdbm_addr.specs.Pairs.{page_bytes};
+ghost use Rattle.sdbm_addr.specs.Database.{IsDatabase};
+ghost use Rattle.sdbm_addr.specs.Files.{IsPageCount, first_pages};
 
 use crate::File;
 use crate::drafting::{Draft, assemble, push};
+use sdbm_files::Image;
 use std::alloc::{AllocError, Allocator};
 
-/// What is compared and written at once, in bytes: a page of the classic size.
+/// What is compared and written of the directory at once, in bytes.
 const BLOCK: usize = 1024;
 
 /// A file has fewer bytes than this, so that its offsets stand in four bytes.
@@ -43,32 +48,77 @@ pub struct Contents<'a> {
     pub directory: &'a [u8],
 }
 
-/// The plan that makes the old files the new ones. It has the blocks of 1,024 bytes in which they differ, where a byte past the end
-/// of a file counts as zero; so a page of zeros is not written into a hole. It takes memory for the plan.
+/// The plan that makes the old files those of a database: those that `Image::write` writes for it. It has the pages, and the blocks of
+/// 1,024 bytes of the directory, in which they differ, where a byte past the end of a file counts as zero; so a page of zeros is not
+/// written into a hole. `None` where the old files are those of the database already. It takes memory for the plan.
 ///
 /// # Errors
 ///
-/// `TooLong` where a new file has 2^32 bytes or more, and `NoMemory`.
-pub fn rewriting<A: Allocator + Copy>(
+/// `TooLong` where a file of the database has 2^32 bytes or more, and `NoMemory`.
+pub fn plan_save<A: Allocator + Copy>(
     alloc: A,
     old: Contents<'_>,
-    new: Contents<'_>,
-) -> Result<Vec<u8, A>, PlanFault>
-    ensures plan { IfOk result (λ plan. IsRewriting plan.items old.entry.pages.now old.entry.directory.now new.entry.pages.now new.entry.directory.now) }
-    ensures too_long { IfErr result (λ fault. fault ≡ TooLong → (2 ^ 32 ≤ length new.entry.pages.now) ⊎ (2 ^ 32 ≤ length new.entry.directory.now)) }
+    image: &Image<A>,
+) -> Result<Option<Vec<u8, A>>, PlanFault>
+    ensures plan { IfOk result (λ plan. IfSome plan (λ plan. IsSaving image.now plan.items old.entry.pages.now old.entry.directory.now)) }
+    ensures none { IfOk result (λ plan. IsNone plan → AreFilesFor image.now old.entry.pages.now old.entry.directory.now) }
+    ensures too_long { IfErr result (λ fault. fault ≡ TooLong → HasLongFile image.now) }
 {
-    if new.pages.len() >= LIMIT || new.directory.len() >= LIMIT {
+    let count = image.page_count();
+    let pages = count as usize * image.page_size().bytes();
+    let directory = image.directory_bytes();
+    if pages >= LIMIT || directory.len() >= LIMIT {
         return Err(PlanFault::TooLong);
     }
     let mut draft = Draft {
-        pages: new.pages.len(),
-        directory: new.directory.len(),
+        pages,
+        directory: directory.len(),
         changes: Vec::new(alloc),
         count: 0,
     };
-    draft_file(&mut draft, File::Pages, old.pages, new.pages)?;
-    draft_file(&mut draft, File::Directory, old.directory, new.directory)?;
-    Ok(assemble(alloc, &draft)?)
+    draft_pages(&mut draft, old.pages, image, count)?;
+    draft_file(&mut draft, File::Directory, old.directory, directory)?;
+    if draft.count == 0 && are_long(old, pages, directory.len()) {
+        return Ok(None);
+    }
+    Ok(Some(assemble(alloc, &draft)?))
+}
+
+// Whether both files have these lengths.
+fn are_long(files: Contents<'_>, pages: usize, directory: usize) -> bool
+    ensures { IsTrue result ↔ (pages ≡ length files.entry.pages.now) × (directory ≡ length files.entry.directory.now) }
+{
+    files.pages.len() == pages && files.directory.len() == directory
+}
+
+// The changes that make the pages those of a database, so many, behind those of a draft that does not touch them.
+fn draft_pages<A: Allocator + Copy>(
+    draft: &mut Draft<A>,
+    old: &[u8],
+    image: &Image<A>,
+    count: u64,
+) -> Result<(), AllocError>
+    requires counted { IsPageCount image.now count }
+    requires database { IsDatabase image.now }
+    requires long { count * page_bytes image.now.size ≡ draft.old.pages }
+    requires short { draft.old.pages < 2 ^ 32 }
+    requires few { draft.old.count ≤ 2 ^ 23 }
+    requires changes { AreChanges draft.old.pages draft.old.directory draft.old.count draft.old.changes.items }
+    requires untouched { (x : List ℕ) → replayed Pages draft.old.count draft.old.changes.items x ≡ x }
+
+    ensures changes { OnOk result (AreChanges draft.new.pages draft.new.directory draft.new.count draft.new.changes.items) }
+    ensures file { OnOk result (replayed Pages draft.new.count draft.new.changes.items (resized draft.old.pages old.now) ≡ first_pages image.now count) }
+    ensures others { OnOk result ((g : File) → g ≢ Pages → (x : List ℕ) → replayed g draft.new.count draft.new.changes.items x ≡ replayed g draft.old.count draft.old.changes.items x) }
+    ensures few { OnOk result (draft.new.count ≤ draft.old.count + 2 ^ 22) }
+    ensures pages { OnOk result (draft.new.pages ≡ draft.old.pages) }
+    ensures directory { OnOk result (draft.new.directory ≡ draft.old.directory) }
+{
+    let size = image.page_size().bytes();
+    for number in 0..count {
+        let page = image.page_bytes(number as u32);
+        draft_block(draft, File::Pages, old, number as usize * size, page)?;
+    }
+    Ok(())
 }
 
 // The changes that make one file the new one, behind those of a draft that does not touch it.

@@ -1,0 +1,32 @@
+-- What a save makes of the files of a database.
+use Rattle.std.specs.Prelude.{◌≡◌, ◌⊎◌, ◌≤◌, ◌^◌, ℕ, List, length}
+use Rattle.sdbm_addr.specs.Database.{Database}
+use Rattle.sdbm_addr.specs.Files.{AreFiles, SpellsDatabase}
+use Rattle.sdbm_saves.specs.declared.disk.File.TheVariants.{Pages, Directory}
+use Rattle.sdbm_saves.specs.Disk.{Image}
+use Rattle.sdbm_saves.specs.Redo.{renewed, stands_for, IsPlan}
+
+-- these are the bytes of `.pag` and of `.dir` that are written for a database, and they spell it
+pub record AreFilesFor (db : Database) (pages directory : List ℕ) : Type 0 where
+  pub written : AreFiles db directory pages
+  pub spelled : SpellsDatabase db directory pages
+
+-- a plan that makes the old files those of a database
+pub record IsSaving (db : Database) (plan old_pages old_directory : List ℕ) : Type 0 where
+  pub whole : IsPlan plan
+  pub files : AreFilesFor db (renewed Pages plan old_pages) (renewed Directory plan old_directory)
+
+-- a file that is written for a database has 2^32 bytes or more
+pub record HasLongFile (db : Database) : Type 0 where
+  pub pages : List ℕ
+  pub directory : List ℕ
+  pub written : AreFiles db directory pages
+  pub long : (2 ^ 32 ≤ length pages) ⊎ (2 ^ 32 ≤ length directory)
+
+-- what an image stands for are the files of a database
+abbrev pub HoldsDatabase : Database → Image → Type 0
+HoldsDatabase db image = AreFilesFor db (stands_for image).0 (stands_for image).1
+
+-- an image stands for the old files, or for those of a database
+abbrev pub IsOldOrSaved : List ℕ × List ℕ → Database → Image → Type 0
+IsOldOrSaved old db image = (stands_for image ≡ old) ⊎ HoldsDatabase db image

@@ -1,5 +1,5 @@
 -- What the definitions of files make of wishes that are written out.
-use Rattle.std.proofs.Common.{◌≡◌, ℕ, List, [], ◌∷◌, Option, Some, None, Bor, true, false, refl, codes}
+use Rattle.std.proofs.Common.{◌≡◌, ℕ, List, [], ◌∷◌, Option, None, Bor, true, false, refl, codes}
 use Rattle.dbm_words.specs.declared.wish.Form.{Form}
 use Rattle.dbm_words.specs.declared.wish.Wish.TheVariants as wish
 use Rattle.dbm_words.specs.Wishes.{writes_files}

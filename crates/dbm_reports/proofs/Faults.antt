@@ -11,15 +11,36 @@ use Rattle.dbm_words.specs.declared.wish.Wish.TheVariants as wish
 use Rattle.dbm_reports.specs.declared.databases.Given.{Given}
 use Rattle.dbm_reports.specs.declared.fault.ReportFault.{ReportFault}
 use Rattle.dbm_reports.specs.declared.fault.ReportFault.TheVariants.{BadHex, BadNumber, Open, NotText, Assemble, Decode, Read, TooLong, OutputTooLong, NoMemory}
-use Rattle.dbm_reports.specs.Databases.{Opens}
+use Rattle.sdbm_addr.specs.declared.KeyBytes.{KeyBytes}
+use Rattle.sdbm_addr.specs.declared.PageSize.{PageSize}
+use Rattle.sdbm_files.specs.Opened.{IsOpenFault}
+use Rattle.sdbm_files.specs.declared.opening.OpenFault.{OpenFault}
+use Rattle.sdbm_files.specs.declared.opening.OpenFault.TheVariants as opening
+use Rattle.dbm_reports.specs.Databases.{Opens, key_bytes_of, page_size_of}
 use Rattle.dbm_reports.specs.Options.{output_limit}
-use Rattle.dbm_reports.specs.Causes.{Causes, IsCaused, IsOverlong, alone_causes, input_causes, lines_fault, numbered_causes, play_causes, script_causes}
+use Rattle.dbm_reports.specs.Causes.{Causes, IsCaused, IsOverlong, alone_causes, input_causes, lines_fault, numbered_causes, open_fault, opening_causes, play_causes, script_causes}
 use Rattle.dbm_reports.specs.Subcommands.{subcommand_for}
 
 -- the fault is this one, of which Q holds
 pub as_err : {T E : Type 0} (Q : E → Type 0) {e : E} (r : Result T E) → IsErrAnd r (λ fault. fault ≡ e) → Q e → IfErr r Q
 as_err Q (Ok x) is q = tt
 as_err Q (Err fault) is q = subst Q (sym is) q
+
+-- files that do not open
+pub shut_fault : (form : Form) (given : Given) (kind : KeyBytes) (size : PageSize) (dir pag : List ℕ) (fault : OpenFault) → kind ≡ key_bytes_of form.unsigned → size ≡ page_size_of form.wide
+    → dir ≡ given.dir.items → pag ≡ given.pag.items → IsOpenFault kind size dir pag fault → IsCaused (opening_causes form given) (open_fault fault)
+shut_fault form given kind size dir pag fault kinds sizes dirs pags is = of fault
+    (subst (λ (l : List ℕ). IsOpenFault (key_bytes_of form.unsigned) (page_size_of form.wide) given.dir.items l fault) pags
+    (subst (λ (l : List ℕ). IsOpenFault (key_bytes_of form.unsigned) (page_size_of form.wide) l pag fault) dirs
+    (subst (λ (z : PageSize). IsOpenFault (key_bytes_of form.unsigned) z dir pag fault) sizes
+    (subst (λ (k : KeyBytes). IsOpenFault k size dir pag fault) kinds is))))
+  where
+    of : (fault : OpenFault) → IsOpenFault (key_bytes_of form.unsigned) (page_size_of form.wide) given.dir.items given.pag.items fault → IsCaused (opening_causes form given) (open_fault fault)
+    of opening.NoMemory h = tt
+    of opening.PagLength h = h
+    of (opening.Page number reason) h = h
+    of (opening.Dir reason) h = h
+    of (opening.Misplaced number) h = h
 
 -- standard input is read behind the opening
 pub input_fault : (form : Form) (given : Given) (input : Option (List ℕ)) (most : ℕ) (fault : ReportFault) → Opens form given → IsCaused (input_causes input) fault → IsCaused (script_causes form given input most) fault

@@ -1,15 +1,13 @@
 -- Wishes after which files are written.
-use Rattle.std.proofs.Common.{◌≡◌, ℕ, List, Option, Some, None, is_some, IsSomeAnd, true, false, inl, inr, refl, ap}
+use Rattle.std.proofs.Common.{◌≡◌, ℕ, List, Option, Some, None, is_some, IsSomeAnd, true, false, inl, inr, ap}
 use Rattle.sdbm_addr.specs.Database.{Database}
 use Rattle.dbm_words.specs.Wishes.{writes_files}
 use Rattle.dbm_words.specs.declared.wish.Wish.{Wish}
 use Rattle.dbm_words.specs.declared.wish.Wish.TheVariants as wish
-use Rattle.dbm_reports.specs.declared.databases.Files.{Files}
 use Rattle.dbm_reports.specs.declared.subcommands.Report.{Report}
 use Rattle.dbm_reports.specs.declared.databases.Given.{Given}
 use Rattle.std.specs.declared.alloc.Global.{Global}
 use Rattle.dbm_script.specs.declared.run_words.RunWords.{RunWords}
-use Rattle.dbm_reports.specs.Databases.{AreFilesToWrite}
 use Rattle.dbm_reports.specs.Options.{output_limit}
 use Rattle.dbm_reports.specs.Reports.{Judges, OnDatabase, PlaysAlone, PlaysOn, RunsImage}
 use Rattle.dbm_reports.specs.Subcommands.{subcommand_for}
@@ -47,9 +45,3 @@ database_given (wish.Widen base unsigned) given input report comes = ap (λ (db 
 database_given (wish.Asm file) given input report comes = ap (λ (db : Option Database). is_some db) comes.1.written
 database_given (wish.Disasm file) given input report comes = ap (λ (db : Option Database). is_some db) comes.1.written
 database_given (wish.Verify file image) given input report comes = ap (λ (db : Option Database). is_some db) (judged_alone comes.0 report comes.1.1)
-
-pub files_given : (database : Option Database) (files : Option Files) → AreFilesToWrite database files → is_some files ≡ is_some database
-files_given None None are = refl
-files_given None (Some files) are = absurd are
-files_given (Some db) None are = absurd are
-files_given (Some db) (Some files) are = refl

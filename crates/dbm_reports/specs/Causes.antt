@@ -3,7 +3,8 @@ use Rattle.std.specs.Prelude.{◌≡◌, ◌≢◌, ◌⊎◌, ℕ, ◌<◌, Boo
 use Rattle.std.specs.declared.alloc.Global.{Global}
 use Rattle.std.specs.Str.{IsUtf8}
 use Rattle.sdbm_files.specs.declared.opening.OpenFault.{OpenFault}
-use Rattle.sdbm_addr.specs.Database.{Database, IsDatabase, empty_database}
+use Rattle.sdbm_files.specs.declared.opening.OpenFault.TheVariants as opening
+use Rattle.sdbm_addr.specs.Database.{Database, empty_database}
 use Rattle.bpf_insn.specs.declared.fault.DecodeFault.{DecodeFault}
 use Rattle.bpf_asm.specs.Denotes.{DenotesNone}
 use Rattle.bpf_asm.specs.Fault.{IsLineOf}
@@ -20,12 +21,10 @@ use Rattle.dbm_script.specs.declared.run_words.WordFault.{WordFault}
 use Rattle.dbm_script.specs.declared.run_words.WordFault.TheVariants as meant
 use Rattle.dbm_words.specs.declared.wish.Form.{Form}
 use Rattle.dbm_reports.specs.declared.databases.Given.{Given}
-use Rattle.dbm_reports.specs.declared.databases.FilesFault.{FilesFault}
-use Rattle.dbm_reports.specs.declared.databases.FilesFault.TheVariants as made
 use Rattle.dbm_reports.specs.declared.running.RunTexts.{RunTexts}
 use Rattle.dbm_reports.specs.declared.fault.ReportFault.{ReportFault}
 use Rattle.dbm_reports.specs.declared.fault.ReportFault.TheVariants.{BadHex, BadNumber, Open, NotText, Assemble, Decode, Read, TooLong, OutputTooLong, NoMemory}
-use Rattle.dbm_reports.specs.Databases.{IsOpened, IsShut, IsTooLong, Opens, key_bytes_of, page_size_of}
+use Rattle.dbm_reports.specs.Databases.{IsOpened, IsShut, Opens, key_bytes_of, page_size_of}
 use Rattle.dbm_reports.specs.Options.{expected_code}
 
 -- the causes for which nothing comes of a wish
@@ -176,10 +175,10 @@ run_causes form given texts is_image = record no_causes {
 abbrev pub image_causes : List ℕ → Causes
 image_causes file = record no_causes { decoding = IsUndecoded file }
 
--- why the files of a database are not made
-abbrev pub IsFilesFault : Database → FilesFault → Type 0
-IsFilesFault db made.TooLong = IsDatabase db × IsTooLong db
-IsFilesFault db made.NoMemory = ⊤
+-- the fault of files that do not open
+abbrev pub open_fault : OpenFault → ReportFault
+open_fault opening.NoMemory = NoMemory
+open_fault reason = Open reason
 
 -- the fault of words
 abbrev pub word_fault : WordFault → ReportFault

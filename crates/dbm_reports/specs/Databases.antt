@@ -1,5 +1,5 @@
--- Databases from files and to files.
-use Rattle.std.specs.Prelude.{◌≡◌, ℕ, ◌≤◌, ◌<◌, Bool, cond, List, [], length, Option, Some, None, ⊤}
+-- Databases from files, and how large they may be.
+use Rattle.std.specs.Prelude.{◌≡◌, ℕ, ◌≤◌, ◌<◌, Bool, cond, List, length, Option, Some, None, ⊤}
 use Rattle.sdbm_addr.specs.declared.KeyBytes.{KeyBytes}
 use Rattle.sdbm_addr.specs.declared.KeyBytes.TheVariants.{Signed, Unsigned}
 use Rattle.sdbm_addr.specs.declared.PageSize.{PageSize}
@@ -7,12 +7,10 @@ use Rattle.sdbm_addr.specs.declared.PageSize.TheVariants.{Small, Wide}
 use Rattle.sdbm_addr.specs.Database.{Database}
 use Rattle.sdbm_addr.specs.Files.{ArePagBytes, SpellsDatabase}
 use Rattle.sdbm_files.specs.Opened.{IsOpenFault}
-use Rattle.sdbm_files.specs.Written.{IsWritten}
 use Rattle.sdbm_files.specs.declared.opening.OpenFault.{OpenFault}
 use Rattle.sdbm_files.specs.declared.opening.OpenFault.TheVariants as opening
 use Rattle.dbm_words.specs.declared.wish.Form.{Form}
 use Rattle.dbm_reports.specs.declared.databases.Given.{Given}
-use Rattle.dbm_reports.specs.declared.databases.Files.{Files}
 
 -- how keys hash and how large pages are, by the options
 abbrev pub key_bytes_of : Bool → KeyBytes
@@ -42,18 +40,15 @@ IsShut form given reason = IsOpenFault (key_bytes_of form.unsigned) (page_size_o
 abbrev pub pag_limit : ℕ
 pag_limit = 1073741824
 
--- the bytes that a write of the database gives, with a `.pag` that is not too long
-pub record AreFilesOf (db : Database) (files : Files) : Type 0 where
-  pub written : IsWritten db [] files.dir.bytes [] files.pag.bytes
-  pub short : length files.pag.bytes ≤ pag_limit
-
 -- the `.pag` of a database is longer than the program writes
 abbrev pub IsTooLong : Database → Type 0
 IsTooLong db = (pag : List ℕ) → ArePagBytes db pag → pag_limit < length pag
 
--- the files of the database that is to be written, and none where none is
-abbrev pub AreFilesToWrite : Option Database → Option Files → Type 0
-AreFilesToWrite None None = ⊤
-AreFilesToWrite None (Some files) = ⊥
-AreFilesToWrite (Some db) None = ⊥
-AreFilesToWrite (Some db) (Some files) = AreFilesOf db files
+-- the `.pag` of a database is one that the program writes
+abbrev pub IsShort : Database → Type 0
+IsShort db = (pag : List ℕ) → ArePagBytes db pag → length pag ≤ pag_limit
+
+-- a database that is to be written, where there is one, is one that the program writes
+abbrev pub MayBeWritten : Option Database → Type 0
+MayBeWritten None = ⊤
+MayBeWritten (Some db) = IsShort db

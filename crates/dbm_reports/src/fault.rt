@@ -77,6 +77,19 @@ impl<T: Drop> From<AllocFailed<T>> for ReportFault {
     }
 }
 
+impl From<OpenFault> for ReportFault {
+    ghost use Rattle.dbm_reports.specs.Causes.{open_fault};
+
+    ghost from_gives = { λ reason fault. fault ≡ open_fault reason };
+
+    fn from(fault: OpenFault) -> ReportFault {
+        match fault {
+            OpenFault::NoMemory => ReportFault::NoMemory,
+            fault => ReportFault::Open(fault),
+        }
+    }
+}
+
 impl From<WordFault> for ReportFault {
     ghost use Rattle.dbm_reports.specs.Causes.{word_fault};
 

@@ -48,24 +48,24 @@ fn text_image(alloc: Global, file: &[u8]) -> Result<Vec<u8>, ReportFault>
 /// The image of a program's file: the file itself, where it is an image, or that of the text in it.
 ///
 /// # Errors
-/// None where the file is an image; else those of `assemble_file`.
-pub fn file_image(alloc: Global, file: Vec<u8>, is_image: bool) -> Result<Vec<u8>, ReportFault>
-    ensures ok { IfOk result (λ image. IsFileImage is_image file.items image.items) }
-    ensures fault { IfErr result (IsCaused (file_causes is_image file.items)) }
+/// `NoMemory`; and where the file is a text, those of `assemble_file`.
+pub fn file_image(alloc: Global, file: &[u8], is_image: bool) -> Result<Vec<u8>, ReportFault>
+    ensures ok { IfOk result (λ image. IsFileImage is_image file.now image.items) }
+    ensures fault { IfErr result (IsCaused (file_causes is_image file.now)) }
 {
     if is_image {
-        return Ok(file);
+        return Ok(file.to_vec(alloc)?);
     }
-    text_image(alloc, file.as_slice())
+    text_image(alloc, file)
 }
 
 /// Whether the program of a file is accepted, or why not, as a line of a script would say it that submits its image first.
 ///
 /// # Errors
 /// Those of `file_image`, and `NoMemory`.
-pub fn verify_file(alloc: Global, file: Vec<u8>, is_image: bool) -> Result<Report, ReportFault>
-    ensures ok { IfOk result (Verifies is_image file.items) }
-    ensures fault { IfErr result (IsCaused (file_causes is_image file.items)) }
+pub fn verify_file(alloc: Global, file: &[u8], is_image: bool) -> Result<Report, ReportFault>
+    ensures ok { IfOk result (Verifies is_image file.now) }
+    ensures fault { IfErr result (IsCaused (file_causes is_image file.now)) }
 {
     let image = file_image(alloc, file, is_image)?;
     Ok(judge_image(alloc, image.as_slice())?)

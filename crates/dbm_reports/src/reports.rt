@@ -48,12 +48,12 @@ pub fn read_input<R: Read>(alloc: Global, reader: &mut R) -> Result<Vec<u8>, Rep
 pub fn report_on<R: Read>(
     alloc: Global,
     wish: Wish<'_>,
-    given: Given,
+    given: &Given,
     reader: &mut R,
 ) -> Result<Report, ReportFault>
     requires { is_batch wish ≡ false }
-    ensures ok { IfOk result (λ report. (subcommand_for wish.entry given (R.remaining reader.old)).reports report) }
-    ensures fault { IfErr result (IsCaused (subcommand_for wish.entry given (R.remaining reader.old)).causes) }
+    ensures ok { IfOk result (λ report. (subcommand_for wish.entry given.now (R.remaining reader.old)).reports report) }
+    ensures fault { IfErr result (IsCaused (subcommand_for wish.entry given.now (R.remaining reader.old)).causes) }
     ensures unread { is_script wish.entry ≡ false → R.remaining reader.new ≡ R.remaining reader.old }
 {
     match wish {
@@ -95,7 +95,7 @@ pub fn report_on<R: Read>(
         Wish::Widen { unsigned, .. } => report_widen(alloc, given, unsigned),
         Wish::Asm { .. } => assemble_file(alloc, given.file.as_slice()),
         Wish::Disasm { .. } => disassemble_file(alloc, given.file.as_slice()),
-        Wish::Verify { image, .. } => verify_file(alloc, given.file, image),
+        Wish::Verify { image, .. } => verify_file(alloc, given.file.as_slice(), image),
         Wish::Batch { .. } => unreachable!(),
     }
 }
@@ -103,13 +103,13 @@ pub fn report_on<R: Read>(
 // The command that words ask, and the database of the files. The words are read first.
 fn command_on(
     alloc: Global,
-    given: Given,
+    given: &Given,
     form: Form,
     name: &[u8],
     args: &[&[u8]],
 ) -> Result<(Image<Global>, Command<Global>), ReportFault>
-    ensures ok { IfOk result (λ r. IsOpened form given r.0 × (command_of (name.now ∷ map (λ x. x.now) args.now) ≡ Some r.1)) }
-    ensures fault { IfErr result (IsCaused (command_causes form given (name.now ∷ map (λ x. x.now) args.now))) }
+    ensures ok { IfOk result (λ r. IsOpened form given.now r.0 × (command_of (name.now ∷ map (λ x. x.now) args.now) ≡ Some r.1)) }
+    ensures fault { IfErr result (IsCaused (command_causes form given.now (name.now ∷ map (λ x. x.now) args.now))) }
 {
     let Some(command) = read_command(alloc, name, args)? else {
         return Err(ReportFault::BadHex);
@@ -118,9 +118,9 @@ fn command_on(
     Ok((image, command))
 }
 
-fn report_fetch(alloc: Global, given: Given, form: Form, key: &str) -> Result<Report, ReportFault>
-    ensures ok { IfOk result (λ report. OnCommand form given (fetch_words key.entry) (λ db command. Looks db command report)) }
-    ensures fault { IfErr result (IsCaused (command_causes form given (fetch_words key.entry))) }
+fn report_fetch(alloc: Global, given: &Given, form: Form, key: &str) -> Result<Report, ReportFault>
+    ensures ok { IfOk result (λ report. OnCommand form given.now (fetch_words key.entry) (λ db command. Looks db command report)) }
+    ensures fault { IfErr result (IsCaused (command_causes form given.now (fetch_words key.entry))) }
 {
     let (image, command) = command_on(alloc, given, form, b"fetch", &[key.as_bytes()])?;
     Ok(look(alloc, image, command)?)
@@ -128,14 +128,14 @@ fn report_fetch(alloc: Global, given: Given, form: Form, key: &str) -> Result<Re
 
 fn report_store<'a>(
     alloc: Global,
-    given: Given,
+    given: &Given,
     form: Form,
     key: &'a str,
     value: &'a str,
     insert: bool,
 ) -> Result<Report, ReportFault>
-    ensures ok { IfOk result (λ report. OnCommand form given (store_words key.entry value.entry insert) (λ db command. Changes db command None report)) }
-    ensures fault { IfErr result (IsCaused (command_causes form given (store_words key.entry value.entry insert))) }
+    ensures ok { IfOk result (λ report. OnCommand form given.now (store_words key.entry value.entry insert) (λ db command. Changes db command None report)) }
+    ensures fault { IfErr result (IsCaused (command_causes form given.now (store_words key.entry value.entry insert))) }
 {
     let name = store_name(insert);
     let args = [key.as_bytes(), value.as_bytes()];
@@ -150,25 +150,25 @@ fn store_name(insert: bool) -> &'static [u8]
     if insert { b"insert" } else { b"replace" }
 }
 
-fn report_delete(alloc: Global, given: Given, form: Form, key: &str) -> Result<Report, ReportFault>
-    ensures ok { IfOk result (λ report. OnCommand form given (delete_words key.entry) (λ db command. Changes db command None report)) }
-    ensures fault { IfErr result (IsCaused (command_causes form given (delete_words key.entry))) }
+fn report_delete(alloc: Global, given: &Given, form: Form, key: &str) -> Result<Report, ReportFault>
+    ensures ok { IfOk result (λ report. OnCommand form given.now (delete_words key.entry) (λ db command. Changes db command None report)) }
+    ensures fault { IfErr result (IsCaused (command_causes form given.now (delete_words key.entry))) }
 {
     let (image, command) = command_on(alloc, given, form, b"delete", &[key.as_bytes()])?;
     Ok(change(alloc, image, command, None)?)
 }
 
-fn report_list(alloc: Global, given: Given, form: Form) -> Result<Report, ReportFault>
-    ensures ok { IfOk result (λ report. OnDatabase form given (Lists report)) }
-    ensures fault { IfErr result (IsCaused (opening_causes form given)) }
+fn report_list(alloc: Global, given: &Given, form: Form) -> Result<Report, ReportFault>
+    ensures ok { IfOk result (λ report. OnDatabase form given.now (Lists report)) }
+    ensures fault { IfErr result (IsCaused (opening_causes form given.now)) }
 {
     let image = open(alloc, given, form)?;
     Ok(list(alloc, &image)?)
 }
 
-fn report_check(alloc: Global, given: Given, form: Form) -> Result<Report, ReportFault>
-    ensures ok { IfOk result (λ report. OnDatabase form given (Counts report)) }
-    ensures fault { IfErr result (IsCaused (opening_causes form given)) }
+fn report_check(alloc: Global, given: &Given, form: Form) -> Result<Report, ReportFault>
+    ensures ok { IfOk result (λ report. OnDatabase form given.now (Counts report)) }
+    ensures fault { IfErr result (IsCaused (opening_causes form given.now)) }
 {
     let image = open(alloc, given, form)?;
     Ok(check(alloc, &image)?)
@@ -176,14 +176,14 @@ fn report_check(alloc: Global, given: Given, form: Form) -> Result<Report, Repor
 
 fn report_script<R: Read>(
     alloc: Global,
-    given: Given,
+    given: &Given,
     base: Option<&str>,
     form: Form,
     max_output: Option<&str>,
     reader: &mut R,
 ) -> Result<Report, ReportFault>
-    ensures ok { IfOk result (λ report. (subcommand_for (wish.Script base.entry form max_output.entry) given (R.remaining reader.old)).reports report) }
-    ensures fault { IfErr result (IsCaused (subcommand_for (wish.Script base.entry form max_output.entry) given (R.remaining reader.old)).causes) }
+    ensures ok { IfOk result (λ report. (subcommand_for (wish.Script base.entry form max_output.entry) given.now (R.remaining reader.old)).reports report) }
+    ensures fault { IfErr result (IsCaused (subcommand_for (wish.Script base.entry form max_output.entry) given.now (R.remaining reader.old)).causes) }
 {
     let Some(most) = output_limit(max_output) else {
         return Err(ReportFault::BadNumber);
@@ -213,22 +213,22 @@ fn report_alone<R: Read>(
 // A script on the database of the files.
 fn report_played<R: Read>(
     alloc: Global,
-    given: Given,
+    given: &Given,
     form: Form,
     most: u64,
     reader: &mut R,
 ) -> Result<Report, ReportFault>
-    ensures ok { IfOk result (λ report. OnDatabase form given (PlaysOn (R.remaining reader.old) most report)) }
-    ensures fault { IfErr result (IsCaused (script_causes form given (R.remaining reader.old) most)) }
+    ensures ok { IfOk result (λ report. OnDatabase form given.now (PlaysOn (R.remaining reader.old) most report)) }
+    ensures fault { IfErr result (IsCaused (script_causes form given.now (R.remaining reader.old) most)) }
 {
     let image = open(alloc, given, form)?;
     let script = read_input(alloc, reader)?;
     play(alloc, image, script.as_slice(), most)
 }
 
-fn report_widen(alloc: Global, given: Given, unsigned: bool) -> Result<Report, ReportFault>
-    ensures ok { IfOk result (λ report. OnDatabase (small_form unsigned) given (Widens report)) }
-    ensures fault { IfErr result (IsCaused (opening_causes (small_form unsigned) given)) }
+fn report_widen(alloc: Global, given: &Given, unsigned: bool) -> Result<Report, ReportFault>
+    ensures ok { IfOk result (λ report. OnDatabase (small_form unsigned) given.now (Widens report)) }
+    ensures fault { IfErr result (IsCaused (opening_causes (small_form unsigned) given.now)) }
 {
     let form = Form {
         unsigned,

@@ -34,13 +34,13 @@ pub struct RunTexts<'a> {
 /// The first of: `BadHex` and `BadNumber` of the words, those of `open`, those of `file_image`; and `NoMemory`.
 pub fn report_run(
     alloc: Global,
-    given: Given,
+    given: &Given,
     form: Form,
     texts: RunTexts<'_>,
     is_image: bool,
 ) -> Result<Report, ReportFault>
-    ensures ok { IfOk result (OnRun form given texts.entry is_image) }
-    ensures fault { IfErr result (IsCaused (run_causes form given texts.entry is_image)) }
+    ensures ok { IfOk result (OnRun form given.now texts.entry is_image) }
+    ensures fault { IfErr result (IsCaused (run_causes form given.now texts.entry is_image)) }
 {
     let (words, expect) = run_words(alloc, texts)?;
     let (database, image) = database_and_image(alloc, given, form, is_image)?;
@@ -70,21 +70,15 @@ fn run_words(
 /// Those of `open`, and then those of `file_image`.
 pub fn database_and_image(
     alloc: Global,
-    given: Given,
+    given: &Given,
     form: Form,
     is_image: bool,
 ) -> Result<(Image<Global>, Vec<u8>), ReportFault>
-    ensures ok { IfOk result (λ r. IsOpened form given r.0 × IsFileImage is_image given.file.items r.1.items) }
-    ensures fault { IfErr result (IsCaused (program_causes form given is_image)) }
+    ensures ok { IfOk result (λ r. IsOpened form given.now r.0 × IsFileImage is_image given.now.file.items r.1.items) }
+    ensures fault { IfErr result (IsCaused (program_causes form given.now is_image)) }
 {
-    let Given { dir, pag, file } = given;
-    let files = Given {
-        dir,
-        pag,
-        file: Vec::new(alloc),
-    };
-    let database = open(alloc, files, form)?;
-    let image = file_image(alloc, file, is_image)?;
+    let database = open(alloc, given, form)?;
+    let image = file_image(alloc, given.file.as_slice(), is_image)?;
     Ok((database, image))
 }
 

@@ -51,14 +51,14 @@ struct Done {
 pub fn report_batch<T: Threads + Wait + Sync, R: Read>(
     rt: &T,
     alloc: Global,
-    given: Given,
+    given: &Given,
     form: Form,
     workers: &str,
     is_image: bool,
     reader: &mut R,
 ) -> Result<Report, ServeFault>
-    ensures ok { IfOk result (OnBatch form given workers.entry is_image (R.remaining reader.old)) }
-    ensures fault { IfErr result (HasCause (batch_causes form given workers.entry is_image (R.remaining reader.old))) }
+    ensures ok { IfOk result (OnBatch form given.now workers.entry is_image (R.remaining reader.old)) }
+    ensures fault { IfErr result (HasCause (batch_causes form given.now workers.entry is_image (R.remaining reader.old))) }
 {
     let batch = ready_batch(alloc, given, form, workers, is_image)?;
     let input = read_input(alloc, reader)?;
@@ -68,13 +68,13 @@ pub fn report_batch<T: Threads + Wait + Sync, R: Read>(
 // What the batch begins with, before standard input is read.
 fn ready_batch(
     alloc: Global,
-    given: Given,
+    given: &Given,
     form: Form,
     workers: &str,
     is_image: bool,
 ) -> Result<Batch, ServeFault>
-    ensures ok { IfOk result (IsReady form given workers.entry is_image) }
-    ensures fault { IfErr result (HasCause (ready_causes form given workers.entry is_image)) }
+    ensures ok { IfOk result (IsReady form given.now workers.entry is_image) }
+    ensures fault { IfErr result (HasCause (ready_causes form given.now workers.entry is_image)) }
 {
     let Some(workers) = read_number(workers.as_bytes(), WORKERS_MOST) else {
         return Err(ServeFault::Report(ReportFault::BadNumber));

@@ -50,12 +50,12 @@ pub fn serve<T: Threads + Wait + Sync, R: Read, W: Write>(
     rt: &T,
     alloc: Global,
     wish: Wish<'_>,
-    given: Given,
+    given: &Given,
     reader: &mut R,
     writer: &mut W,
 ) -> Outcome
-    ensures served { IsNone result.err → IsServed wish.entry given (R.remaining reader.old) (W.contents writer.old) (W.contents writer.new) result.status result.files }
-    ensures fault { IfSome result.err (IsUnserved wish.entry given (R.remaining reader.old) (W.contents writer.old) (W.contents writer.new)) }
+    ensures served { IsNone result.err → IsServed wish.entry given.now (R.remaining reader.old) (W.contents writer.old) (W.contents writer.new) result.status result.files }
+    ensures fault { IfSome result.err (IsUnserved wish.entry given.now (R.remaining reader.old) (W.contents writer.old) (W.contents writer.new)) }
     ensures unread { reads_input wish.entry ≡ false → R.remaining reader.new ≡ R.remaining reader.old }
     ensures files { IsNone result.err → is_some result.files ≡ writes_files wish.entry }
     ensures status { IfSome result.err (λ _. result.status ≡ 2) }
@@ -80,12 +80,12 @@ fn serve_wish<T: Threads + Wait + Sync, R: Read, W: Write>(
     rt: &T,
     alloc: Global,
     wish: Wish<'_>,
-    given: Given,
+    given: &Given,
     reader: &mut R,
     writer: &mut W,
 ) -> Result<Served, ServeFault>
-    ensures ok { IfOk result (λ served. IsServed wish.entry given (R.remaining reader.old) (W.contents writer.old) (W.contents writer.new) served.status served.files) }
-    ensures fault { IfErr result (IsUnserved wish.entry given (R.remaining reader.old) (W.contents writer.old) (W.contents writer.new)) }
+    ensures ok { IfOk result (λ served. IsServed wish.entry given.now (R.remaining reader.old) (W.contents writer.old) (W.contents writer.new) served.status served.files) }
+    ensures fault { IfErr result (IsUnserved wish.entry given.now (R.remaining reader.old) (W.contents writer.old) (W.contents writer.new)) }
     ensures files { IfOk result (λ served. is_some served.files ≡ writes_files wish.entry) }
     ensures unread { reads_input wish.entry ≡ false → R.remaining reader.new ≡ R.remaining reader.old }
 {
@@ -105,11 +105,11 @@ fn report_wish<T: Threads + Wait + Sync, R: Read>(
     rt: &T,
     alloc: Global,
     wish: Wish<'_>,
-    given: Given,
+    given: &Given,
     reader: &mut R,
 ) -> Result<Report, ServeFault>
-    ensures ok { IfOk result (λ report. (service_for wish.entry given (R.remaining reader.old)).reports report) }
-    ensures fault { IfErr result (HasCause (service_for wish.entry given (R.remaining reader.old)).causes) }
+    ensures ok { IfOk result (λ report. (service_for wish.entry given.now (R.remaining reader.old)).reports report) }
+    ensures fault { IfErr result (HasCause (service_for wish.entry given.now (R.remaining reader.old)).causes) }
     ensures unread { reads_input wish.entry ≡ false → R.remaining reader.new ≡ R.remaining reader.old }
 {
     match wish {
@@ -127,12 +127,12 @@ fn report_wish<T: Threads + Wait + Sync, R: Read>(
 fn report_other<R: Read>(
     alloc: Global,
     wish: Wish<'_>,
-    given: Given,
+    given: &Given,
     reader: &mut R,
 ) -> Result<Report, ServeFault>
     requires { is_batch wish ≡ false }
-    ensures ok { IfOk result (λ report. (service_for wish.entry given (R.remaining reader.old)).reports report) }
-    ensures fault { IfErr result (HasCause (service_for wish.entry given (R.remaining reader.old)).causes) }
+    ensures ok { IfOk result (λ report. (service_for wish.entry given.now (R.remaining reader.old)).reports report) }
+    ensures fault { IfErr result (HasCause (service_for wish.entry given.now (R.remaining reader.old)).causes) }
     ensures unread { is_script wish.entry ≡ false → R.remaining reader.new ≡ R.remaining reader.old }
 {
     let report = report_on(alloc, wish, given, reader)?;

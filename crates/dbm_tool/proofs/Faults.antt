@@ -1,21 +1,20 @@
 -- The fault of a step, as a fault of the whole.
-use Rattle.std.proofs.Common.{◌≡◌, ℕ, false, List, Option, Some, None, inl, inr, refl}
+use Rattle.std.proofs.Common.{◌≡◌, ℕ, false, List, Option, Some, None, refl, sym, subst}
 use Rattle.std.specs.Io.KnownBytes.{Appends, Keeps}
-use Rattle.sdbm_addr.specs.Database.{Database}
+use Rattle.sdbm_addr.specs.Database.{Database, IsDatabase}
 use Rattle.dbm_words.specs.declared.wish.Wish.{Wish}
 use Rattle.dbm_words.specs.declared.wish.Wish.TheVariants as wish
-use Rattle.dbm_reports.specs.declared.databases.FilesFault.{FilesFault}
-use Rattle.dbm_reports.specs.declared.databases.FilesFault.TheVariants as made
 use Rattle.dbm_reports.specs.declared.databases.Given.{Given}
 use Rattle.dbm_reports.specs.declared.fault.ReportFault.{ReportFault}
 use Rattle.dbm_reports.specs.declared.fault.ReportFault.TheVariants as reports
 use Rattle.dbm_reports.specs.declared.subcommands.Report.{Report}
-use Rattle.dbm_reports.specs.Causes.{IsCaused, IsFilesFault}
+use Rattle.dbm_reports.specs.Causes.{IsCaused}
+use Rattle.dbm_reports.specs.Databases.{IsTooLong}
 use Rattle.dbm_reports.specs.Subcommands.{is_batch, subcommand_for}
 use Rattle.dbm_tool.specs.declared.fault.ServeFault.{ServeFault}
 use Rattle.dbm_tool.specs.declared.fault.ServeFault.TheVariants.{FileTooLong, Write, NoMemory}
-use Rattle.dbm_tool.specs.Causes.{HasCause, WishCauses, files_fault, report_fault}
-use Rattle.dbm_tool.specs.Outcomes.{IsUnserved}
+use Rattle.dbm_tool.specs.Causes.{HasCause, WishCauses, report_fault}
+use Rattle.dbm_tool.specs.Outcomes.{IsUnserved, WasTooLong}
 use Rattle.dbm_tool.specs.Services.{service_for}
 
 keeps_all : (known : Option (List ℕ)) → Keeps known known
@@ -51,14 +50,12 @@ pub early_fault : (wish : Wish) (given : Given) (input old : Option (List ℕ)) 
     → HasCause (service_for wish given input).causes fault → IsUnserved wish given input old old fault
 early_fault wish given input old Write caused = absurd caused
 early_fault wish given input old FileTooLong caused = absurd caused
-early_fault wish given input old NoMemory caused = inl (keeps_all old)
 early_fault wish given input old _ caused = (caused, keeps_all old)
 
--- a fault behind the text
-pub late_fault : (wish : Wish) (given : Given) (input old new : Option (List ℕ)) (report : Report) (db : Database) (fault : FilesFault)
-    → (service_for wish given input).reports report → Appends old new report.text.items → report.database ≡ Some db → IsFilesFault db fault
-    → IsUnserved wish given input old new (files_fault fault)
-late_fault wish given input old new report db made.TooLong reports printed is bad =
-    record { report = report; reports = reports; printed = printed; database = db; is = is; sound = bad.0; long = bad.1 }
-late_fault wish given input old new report db made.NoMemory reports printed is bad =
-    inr (record { report = report; reports = reports; printed = printed; database = db; is = is })
+-- a database that is too large, behind the text
+pub late_fault : (wish : Wish) (given : Given) (input old new : Option (List ℕ)) (report : Report) (db : Database) (fault : ServeFault)
+    → (service_for wish given input).reports report → Appends old new report.text.items → fault ≡ FileTooLong → report.database ≡ Some db → IsDatabase db → IsTooLong db
+    → IsUnserved wish given input old new fault
+late_fault wish given input old new report db fault reports printed named is sound long =
+    let cut : WasTooLong wish given input old new = record { report = report; reports = reports; printed = printed; database = db; is = is; sound = sound; long = long } in
+    subst (λ (f : ServeFault). IsUnserved wish given input old new f) (sym named) cut

@@ -2,3 +2,4 @@ pub mod Faults
 pub mod FilesGiven
 pub mod BatchFaults
 pub mod Examples
+pub mod SaveMoments

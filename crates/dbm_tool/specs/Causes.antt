@@ -8,8 +8,6 @@ use Rattle.store_shared.specs.declared.close.CloseFault.{CloseFault}
 use Rattle.worker_pool.specs.declared.task.PoolFault.{PoolFault}
 use Rattle.worker_pool.specs.declared.task.PoolFault.TheVariants as jobs
 use Rattle.dbm_reports.specs.Causes.{Causes, IsCaused, no_causes}
-use Rattle.dbm_reports.specs.declared.databases.FilesFault.{FilesFault}
-use Rattle.dbm_reports.specs.declared.databases.FilesFault.TheVariants as made
 use Rattle.dbm_reports.specs.declared.fault.ReportFault.{ReportFault}
 use Rattle.dbm_reports.specs.declared.fault.ReportFault.TheVariants as reports
 use Rattle.sdbm_saves.specs.declared.disk.DiskError.{DiskError}
@@ -71,11 +69,6 @@ HasCause causes NoMemory = ⊤
 abbrev pub report_fault : ReportFault → ServeFault
 report_fault reports.NoMemory = NoMemory
 report_fault fault = Report fault
-
--- the fault of files that are not made
-abbrev pub files_fault : FilesFault → ServeFault
-files_fault made.TooLong = FileTooLong
-files_fault made.NoMemory = NoMemory
 
 -- the fault of lines that ask tasks
 abbrev pub tasks_fault : TasksFault → ServeFault

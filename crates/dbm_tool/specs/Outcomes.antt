@@ -1,33 +1,25 @@
--- What stands on the output, and which files are to be written, after a wish was served or refused.
-use Rattle.std.specs.Prelude.{◌≡◌, ℕ, List, Option, Some, ◌⊎◌}
+-- What stands on the output, and which database is to be written, after a wish was served or refused.
+use Rattle.std.specs.Prelude.{◌≡◌, ℕ, List, Option, Some}
 use Rattle.std.specs.Io.KnownBytes.{Appends, Keeps}
 use Rattle.sdbm_addr.specs.Database.{Database, IsDatabase}
 use Rattle.dbm_script.specs.Script.{WritesPart}
 use Rattle.dbm_words.specs.declared.wish.Wish.{Wish}
 use Rattle.dbm_reports.specs.declared.databases.Given.{Given}
-use Rattle.dbm_reports.specs.declared.databases.Files.{Files}
 use Rattle.dbm_reports.specs.declared.subcommands.Report.{Report}
 use Rattle.dbm_tool.specs.declared.fault.ServeFault.{ServeFault}
-use Rattle.dbm_tool.specs.declared.fault.ServeFault.TheVariants.{FileTooLong, Write, NoMemory}
-use Rattle.dbm_reports.specs.Databases.{AreFilesToWrite, IsTooLong}
+use Rattle.dbm_tool.specs.declared.fault.ServeFault.TheVariants.{FileTooLong, Write}
+use Rattle.dbm_reports.specs.Databases.{MayBeWritten, IsTooLong}
 use Rattle.dbm_tool.specs.Causes.{HasCause}
 use Rattle.dbm_tool.specs.Services.{service_for}
 
--- A wish is served: the text of what comes of it was written, the status is its own, and the files are those of its database.
-pub record IsServed (wish : Wish) (given : Given) (input old new : Option (List ℕ)) (status : ℕ) (files : Option Files) : Type 0 where
+-- A wish is served: the text of what comes of it was written, the status is its own, and so is the database that is to be written.
+pub record IsServed (wish : Wish) (given : Given) (input old new : Option (List ℕ)) (status : ℕ) (database : Option Database) : Type 0 where
   pub report : Report
   pub reports : (service_for wish given input).reports report
   pub printed : Appends old new report.text.items
   pub status_is : status ≡ report.status
-  pub files_are : AreFilesToWrite report.database files
-
--- all of the text was written, and there is a database that is to be written
-pub record WasPrinted (wish : Wish) (given : Given) (input old new : Option (List ℕ)) : Type 0 where
-  pub report : Report
-  pub reports : (service_for wish given input).reports report
-  pub printed : Appends old new report.text.items
-  pub database : Database
-  pub is : report.database ≡ Some database
+  pub database_is : database ≡ report.database
+  pub short : MayBeWritten database
 
 -- the first bytes of the text were written
 pub record WasCutShort (wish : Wish) (given : Given) (input old new : Option (List ℕ)) : Type 0 where
@@ -46,9 +38,8 @@ pub record WasTooLong (wish : Wish) (given : Given) (input old new : Option (Lis
   pub long : IsTooLong database
 
 -- A wish is refused. Before the text is written a fault has its cause, and nothing was written; `Write` leaves a part of the text, and
--- `FileTooLong` all of it. Memory may be wanted before the text, and behind it for the files.
+-- `FileTooLong` all of it.
 abbrev pub IsUnserved : Wish → Given → Option (List ℕ) → Option (List ℕ) → Option (List ℕ) → ServeFault → Type 0
 IsUnserved wish given input old new Write = WasCutShort wish given input old new
 IsUnserved wish given input old new FileTooLong = WasTooLong wish given input old new
-IsUnserved wish given input old new NoMemory = Keeps old new ⊎ WasPrinted wish given input old new
 IsUnserved wish given input old new fault = HasCause (service_for wish given input).causes fault × Keeps old new

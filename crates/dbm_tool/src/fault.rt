@@ -2,7 +2,7 @@
 ghost use Rattle.std.specs.Prelude.{◌≡◌};
 ghost use Rattle.dbm_tool.specs.declared.fault.ServeFault.TheVariants.{NoMemory};
 
-use dbm_reports::{FilesFault, ReportFault};
+use dbm_reports::ReportFault;
 use dbm_script::TasksFault;
 use prog_registry::RegFault;
 use sdbm_saves::{DiskError, PlanFault};
@@ -104,19 +104,6 @@ impl From<ReportFault> for ServeFault {
         match fault {
             ReportFault::NoMemory => ServeFault::NoMemory,
             fault => ServeFault::Report(fault),
-        }
-    }
-}
-
-impl From<FilesFault> for ServeFault {
-    ghost use Rattle.dbm_tool.specs.Causes.{files_fault};
-
-    ghost from_gives = { λ reason fault. fault ≡ files_fault reason };
-
-    fn from(fault: FilesFault) -> ServeFault {
-        match fault {
-            FilesFault::TooLong => ServeFault::FileTooLong,
-            FilesFault::NoMemory => ServeFault::NoMemory,
         }
     }
 }

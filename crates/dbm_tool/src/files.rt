@@ -4,12 +4,13 @@ use crate::host::{RealFiles, forget_redo};
 use crate::links::resolve;
 use crate::lock::{lock_to_read, lock_to_write};
 use crate::saving::{Change, save_change};
-use dbm_reports::{Files as Written, Given, Names, names_of, put, sources};
-use dbm_script::write_all;
+use dbm_reports::{Given, Names, names_of, put, sources};
 use dbm_words::Wish;
 use sdbm_saves::{
     CallLog, Contents, Found, Recorded, Unknown, is_whole, plan_in, read_through, recover,
 };
+use sdbm_files::Image;
+use std::alloc::Global;
 use std::fs;
 use std::fs::File;
 use std::io::{ErrorKind, Read, Write};
@@ -198,7 +199,7 @@ pub fn save_files<R: Files<File = File> + AllocGlobal, W: Write>(
     rt: &R,
     names: &Names,
     old: &Found,
-    new: &Written,
+    new: &Image<Global>,
     lines: &[u8],
     writer: &mut W,
 ) -> Result<(), ServeFault> {
@@ -208,16 +209,8 @@ pub fn save_files<R: Files<File = File> + AllocGlobal, W: Write>(
             directory: old.directory.as_slice(),
         },
         redo: old.redo.as_slice(),
-        after: Contents {
-            pages: new.pag.bytes(),
-            directory: new.dir.bytes(),
-        },
+        after: new,
     };
-    if change.before.pages == change.after.pages
-        && change.before.directory == change.after.directory
-    {
-        return print(writer, lines);
-    }
     if plan_in(change.redo).is_some() {
         return Err(ServeFault::BadRedo);
     }
@@ -228,12 +221,4 @@ pub fn save_files<R: Files<File = File> + AllocGlobal, W: Write>(
         forget_redo(rt, names);
     }
     saved
-}
-
-// Prints the lines of a wish that changed nothing.
-fn print<W: Write>(writer: &mut W, lines: &[u8]) -> Result<(), ServeFault> {
-    match write_all(writer, lines) {
-        Ok(()) => Ok(()),
-        Err(_) => Err(ServeFault::Write),
-    }
 }

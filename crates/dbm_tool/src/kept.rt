@@ -1,8 +1,9 @@
 //! Lines of a script that ask nothing, found once it was answered.
 
 use dbm_script::read_line;
+use memchr::memmem;
 use std::alloc::Global;
-use std::io::{self, Read};
+use std::io::{self, Read, Write};
 use std::rt::Runtime;
 
 /// A reader that keeps what it gives, as far as there is memory for it.
@@ -10,6 +11,8 @@ use std::rt::Runtime;
 pub struct Kept<R: Read> {
     reader: R,
     text: Vec<u8>,
+    /// Whether `bad line` is among the answers to what was read.
+    pub has_bad_line: bool,
 }
 
 impl<R: Read> Kept<R> {
@@ -18,6 +21,7 @@ impl<R: Read> Kept<R> {
         Kept {
             reader,
             text: Vec::new(alloc),
+            has_bad_line: false,
         }
     }
 
@@ -35,6 +39,46 @@ impl<R: Read> Read for Kept<R> {
         let _ = self.text.extend_from_slice(&buf[..count]);
         Ok(count)
     }
+}
+
+/// A writer that looks for `bad line` in what it is given.
+#[derive(Drop)]
+pub struct Watched<W: Write> {
+    writer: W,
+    has_bad_line: bool,
+}
+
+impl<W: Write> Watched<W> {
+    /// The writer, which was given nothing.
+    pub fn new(writer: W) -> Self {
+        Watched {
+            writer,
+            has_bad_line: false,
+        }
+    }
+
+    /// Whether it was given that answer.
+    pub fn has_bad_line(&self) -> bool {
+        self.has_bad_line
+    }
+}
+
+impl<W: Write> Write for Watched<W> {
+    ghost contents = { λ watched. W.contents watched.writer };
+
+    fn write(&mut self, buf: &[u8]) -> io::Result<usize> {
+        self.has_bad_line = self.has_bad_line || has_bad_line(buf);
+        self.writer.write(buf)
+    }
+
+    fn flush(&mut self) -> io::Result<()> {
+        self.writer.flush()
+    }
+}
+
+/// Whether `bad line` is among some answers.
+pub fn has_bad_line(answers: &[u8]) -> bool {
+    memmem::find(answers, b"bad line\n").is_some()
 }
 
 /// Says which line of a script is the first that asks nothing, and how many more there are.

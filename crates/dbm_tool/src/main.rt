@@ -25,7 +25,7 @@ use dbm_words::{Request, ToolFault, Wish, read_words};
 use ending::{Ending, ending_of, exit_status};
 use fault::ServeFault;
 use files::{Held, Taken, save_files, take_files};
-use kept::{Kept, note_bad_lines};
+use kept::{Kept, Watched, has_bad_line, note_bad_lines};
 use reasons::has_no_files;
 use sdbm_saves::Found;
 use serve::serve;
@@ -81,7 +81,7 @@ fn run<R: Runtime<File = File> + AllocGlobal + Threads + Wait + Sync>(
                 Ok(ending) => ending,
                 Err(fault) => Ending::Failed(fault),
             };
-            note(rt, &request.wish, &ending, reader.text());
+            note(rt, &request.wish, &ending, &reader);
             tell(rt, Some(&request), ending)
         }
         Err(ToolFault::NoMemory) => tell(rt, None, Ending::Failed(ServeFault::NoMemory)),
@@ -91,11 +91,11 @@ fn run<R: Runtime<File = File> + AllocGlobal + Threads + Wait + Sync>(
 
 // Says what stands behind an answer that may not be what was meant: files that are not there, an object in place of an image, and the
 // lines of a script that ask nothing.
-fn note<R: Runtime<File = File> + AllocGlobal>(
+fn note<R: Runtime<File = File> + AllocGlobal, I: Read>(
     rt: &R,
     wish: &Wish<'_>,
     ending: &Ending,
-    input: &[u8],
+    input: &Kept<I>,
 ) {
     if !matches!(ending, Ending::Served(_)) {
         return;
@@ -106,8 +106,8 @@ fn note<R: Runtime<File = File> + AllocGlobal>(
     if matches!(ending, Ending::Served(1)) {
         note_object(rt, wish);
     }
-    if matches!(wish, Wish::Script { .. }) {
-        note_bad_lines(rt, input);
+    if input.has_bad_line {
+        note_bad_lines(rt, input.text());
     }
 }
 
@@ -115,7 +115,7 @@ fn note<R: Runtime<File = File> + AllocGlobal>(
 fn serve_request<R: Runtime<File = File> + AllocGlobal + Threads + Wait + Sync, I: Read>(
     rt: &R,
     request: Request<'_>,
-    reader: &mut I,
+    reader: &mut Kept<I>,
 ) -> Result<Ending, ServeFault> {
     let Request { wish, access } = request;
     if let Some(base) = wish.base()
@@ -156,7 +156,7 @@ fn serve_files<R: Runtime<File = File> + AllocGlobal + Threads + Wait + Sync, I:
     rt: &R,
     wish: Wish<'_>,
     patience: Option<Duration>,
-    reader: &mut I,
+    reader: &mut Kept<I>,
 ) -> Result<Ending, ServeFault> {
     let taken = take_files(rt, &wish, patience)?;
     match wish.time_asked() {
@@ -173,14 +173,16 @@ fn serve_taken<R: Runtime<File = File> + AllocGlobal + Threads + Wait + Sync, I:
     rt: &R,
     wish: Wish<'_>,
     taken: Taken,
-    reader: &mut I,
+    reader: &mut Kept<I>,
 ) -> Result<Ending, ServeFault> {
     let Taken { given, held } = taken;
     match held {
         Some(held) => serve_change(rt, wish, given, held, reader),
         None => {
             let alloc = rt.alloc();
-            let outcome = serve(rt, alloc, wish, given, reader, &mut io::writer(rt));
+            let mut writer = Watched::new(io::writer(rt));
+            let outcome = serve(rt, alloc, wish, &given, reader, &mut writer);
+            reader.has_bad_line = writer.has_bad_line();
             Ok(ending_of(&outcome))
         }
     }
@@ -192,7 +194,7 @@ fn serve_change<R: Runtime<File = File> + AllocGlobal + Threads + Wait + Sync, I
     wish: Wish<'_>,
     given: Given,
     held: Held,
-    reader: &mut I,
+    reader: &mut Kept<I>,
 ) -> Result<Ending, ServeFault> {
     let alloc = rt.alloc();
     let Held {
@@ -200,14 +202,15 @@ fn serve_change<R: Runtime<File = File> + AllocGlobal + Threads + Wait + Sync, I
         redo,
         lock: _lock,
     } = held;
+    let mut lines = Vec::new(alloc);
+    let outcome = serve(rt, alloc, wish, &given, reader, &mut lines);
+    reader.has_bad_line = has_bad_line(lines.as_slice());
     let old = Found {
-        pages: given.pag.to_vec(alloc)?,
-        directory: given.dir.to_vec(alloc)?,
+        pages: given.pag,
+        directory: given.dir,
         redo,
     };
-    let mut lines = Vec::new(alloc);
-    let outcome = serve(rt, alloc, wish, given, reader, &mut lines);
-    if let Some(new) = &outcome.files {
+    if let Some(new) = &outcome.database {
         let writer = &mut io::writer(rt);
         save_files(rt, &names, &old, new, lines.as_slice(), writer)?;
     }

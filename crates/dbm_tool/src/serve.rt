@@ -1,16 +1,20 @@
 //! What a wish comes to on the bytes of its files, standard input and standard output.
-ghost use Rattle.std.specs.Prelude.{◌≡◌, false, IfOk, IfErr, IfSome, IsNone, Some, None, is_some};
+ghost use Rattle.std.specs.Prelude.{◌≡◌, false, IfOk, IfErr, OnOk, IfSome, IsNone, Some, None, is_some};
 ghost use Rattle.dbm_words.specs.Wishes.{writes_files};
 ghost use Rattle.dbm_reports.specs.Subcommands.{is_batch, is_script};
+ghost use Rattle.sdbm_addr.specs.Database.{Database, IsDatabase};
+ghost use Rattle.dbm_reports.specs.Databases.{IsTooLong, MayBeWritten};
+ghost use Rattle.dbm_tool.specs.declared.fault.ServeFault.TheVariants.{FileTooLong};
 ghost use Rattle.dbm_tool.specs.Causes.{HasCause};
 ghost use Rattle.dbm_tool.specs.Outcomes.{IsServed, IsUnserved};
 ghost use Rattle.dbm_tool.specs.Services.{reads_input, service_for};
 
 use crate::batch::report_batch;
 use crate::fault::ServeFault;
-use dbm_reports::{Files, Given, Report, files_to_write, report_on};
+use dbm_reports::{Given, Report, is_too_long, report_on};
 use dbm_script::write_all;
 use dbm_words::Wish;
+use sdbm_files::Image;
 use std::alloc::Global;
 use std::io::{Read, Write};
 use std::sync::Wait;
@@ -19,24 +23,24 @@ use std::thread::Threads;
 /// The status of every fault.
 pub const FAULT: u8 = 2;
 
-/// What came of a wish: the fault, where there was one, the status, and the files where they are to be written.
+/// What came of a wish: the fault, where there was one, the status, and the database where its files are to be written.
 #[derive(Drop)]
 pub struct Outcome {
     pub err: Option<ServeFault>,
     pub status: u8,
-    pub files: Option<Files>,
+    pub database: Option<Image<Global>>,
 }
 
 // What came of a wish that was served.
 #[derive(Drop)]
 struct Served {
     status: u8,
-    files: Option<Files>,
+    database: Option<Image<Global>>,
 }
 
 /// Serves a wish: reads what its words mean, opens the database, reads standard input for a script or a batch, does what is asked,
-/// writes the lines that it prints, and makes the files. The status is 1 where the answer is that nothing was found or changed, and
-/// `FAULT` where there is a fault. Files are given exactly for a wish that writes (`Wish::writes`), and none where there is a fault.
+/// and writes the lines that it prints. The status is 1 where the answer is that nothing was found or changed, and `FAULT` where there
+/// is a fault. A database is given exactly for a wish that writes (`Wish::writes`), and none where there is a fault.
 ///
 /// # Errors
 /// The first that is met, in this order; those that a `ReportFault` names come within `Report`. `BadHex` where a word is no bytes,
@@ -44,8 +48,8 @@ struct Served {
 /// of one, `Decode` where it is no image, and of a batch `Submit` where its program gets no number; of a script or a batch, `Read`
 /// where it could not be read and `TooLong` above 16,777,216 bytes; of a batch, `BadLine` with the first line that asks no task,
 /// `Pool` where not all tasks were done, and `Close` where the store does not close; `Write` where lines could not be written;
-/// `FileTooLong` where `.pag` would be above `PAG_LIMIT`, after the lines were written. `NoMemory` may come at any step, and
-/// stands within no other fault but that of a task. Nothing is written at a fault before the lines, and their first bytes at `Write`.
+/// `FileTooLong` where `.pag` would be above `PAG_LIMIT`, after the lines were written. `NoMemory` may come at any step before
+/// the lines, and stands within no other fault but that of a task. Nothing is written at a fault before the lines, and their first bytes at `Write`.
 pub fn serve<T: Threads + Wait + Sync, R: Read, W: Write>(
     rt: &T,
     alloc: Global,
@@ -54,28 +58,28 @@ pub fn serve<T: Threads + Wait + Sync, R: Read, W: Write>(
     reader: &mut R,
     writer: &mut W,
 ) -> Outcome
-    ensures served { IsNone result.err → IsServed wish.entry given.now (R.remaining reader.old) (W.contents writer.old) (W.contents writer.new) result.status result.files }
+    ensures served { IsNone result.err → IsServed wish.entry given.now (R.remaining reader.old) (W.contents writer.old) (W.contents writer.new) result.status result.database }
     ensures fault { IfSome result.err (IsUnserved wish.entry given.now (R.remaining reader.old) (W.contents writer.old) (W.contents writer.new)) }
     ensures unread { reads_input wish.entry ≡ false → R.remaining reader.new ≡ R.remaining reader.old }
-    ensures files { IsNone result.err → is_some result.files ≡ writes_files wish.entry }
+    ensures database { IsNone result.err → is_some result.database ≡ writes_files wish.entry }
     ensures status { IfSome result.err (λ _. result.status ≡ 2) }
-    ensures none { IfSome result.err (λ _. result.files ≡ None) }
+    ensures none { IfSome result.err (λ _. result.database ≡ None) }
 {
     match serve_wish(rt, alloc, wish, given, reader, writer) {
         Ok(served) => Outcome {
             err: None,
             status: served.status,
-            files: served.files,
+            database: served.database,
         },
         Err(fault) => Outcome {
             err: Some(fault),
             status: FAULT,
-            files: None,
+            database: None,
         },
     }
 }
 
-// Serves a wish: what comes of it is found before a line is written, and the files are made after the lines.
+// Serves a wish: what comes of it is found before a line is written.
 fn serve_wish<T: Threads + Wait + Sync, R: Read, W: Write>(
     rt: &T,
     alloc: Global,
@@ -84,20 +88,36 @@ fn serve_wish<T: Threads + Wait + Sync, R: Read, W: Write>(
     reader: &mut R,
     writer: &mut W,
 ) -> Result<Served, ServeFault>
-    ensures ok { IfOk result (λ served. IsServed wish.entry given.now (R.remaining reader.old) (W.contents writer.old) (W.contents writer.new) served.status served.files) }
+    ensures ok { IfOk result (λ served. IsServed wish.entry given.now (R.remaining reader.old) (W.contents writer.old) (W.contents writer.new) served.status served.database) }
     ensures fault { IfErr result (IsUnserved wish.entry given.now (R.remaining reader.old) (W.contents writer.old) (W.contents writer.new)) }
-    ensures files { IfOk result (λ served. is_some served.files ≡ writes_files wish.entry) }
+    ensures database { IfOk result (λ served. is_some served.database ≡ writes_files wish.entry) }
     ensures unread { reads_input wish.entry ≡ false → R.remaining reader.new ≡ R.remaining reader.old }
 {
     let report = report_wish(rt, alloc, wish, given, reader)?;
     let Ok(()) = write_all(writer, report.text.as_slice()) else {
         return Err(ServeFault::Write);
     };
-    let files = files_to_write(alloc, &report.database)?;
+    check_length(&report.database)?;
     Ok(Served {
         status: report.status,
-        files,
+        database: report.database,
     })
+}
+
+// Refuses a database that is to be written and is too large.
+fn check_length(database: &Option<Image<Global>>) -> Result<(), ServeFault>
+    ensures ok { OnOk result (MayBeWritten database.now) }
+    ensures fault { IfErr result (λ fault. (fault ≡ FileTooLong) × ((db : Database) × ((database.now ≡ Some db) × (IsDatabase db × IsTooLong db)))) }
+{
+    match database {
+        Some(image) => {
+            if is_too_long(image) {
+                return Err(ServeFault::FileTooLong);
+            }
+            Ok(())
+        }
+        None => Ok(()),
+    }
 }
 
 // What comes of a wish: it is found before a line is written.

@@ -30,3 +30,11 @@ HoldsDatabase db image = AreFilesFor db (stands_for image).0 (stands_for image).
 -- an image stands for the old files, or for those of a database
 abbrev pub IsOldOrSaved : List ℕ × List ℕ → Database → Image → Type 0
 IsOldOrSaved old db image = (stands_for image ≡ old) ⊎ HoldsDatabase db image
+
+-- a crash leaves only the files of a database
+abbrev pub LeavesDatabase : {D : Type 0} → Database → (D → Image → Type 0) → D → Type 0
+LeavesDatabase db may_leave disk = (c : Image) → may_leave disk c → HoldsDatabase db c
+
+-- The files are those of a database: they were those already, and the disk is as it was, or a crash leaves only those.
+abbrev pub IsSaved : {D : Type 0} → Database → List ℕ × List ℕ → (D → Image → Type 0) → D → D → Type 0
+IsSaved db before may_leave old new = (AreFilesFor db before.0 before.1 × (new ≡ old)) ⊎ LeavesDatabase db may_leave new

@@ -12,7 +12,7 @@ use Rattle.dbm_reports.specs.Causes.{IsCaused}
 use Rattle.dbm_reports.specs.Databases.{IsTooLong}
 use Rattle.dbm_reports.specs.Subcommands.{is_batch, subcommand_for}
 use Rattle.dbm_tool.specs.declared.fault.ServeFault.{ServeFault}
-use Rattle.dbm_tool.specs.declared.fault.ServeFault.TheVariants.{FileTooLong, Write, NoMemory}
+use Rattle.dbm_tool.specs.declared.fault.ServeFault.TheVariants.{FileTooLong, Write}
 use Rattle.dbm_tool.specs.Causes.{HasCause, WishCauses, report_fault}
 use Rattle.dbm_tool.specs.Outcomes.{IsUnserved, WasTooLong}
 use Rattle.dbm_tool.specs.Services.{service_for}

@@ -1,4 +1,4 @@
-use Rattle.dbm_tool.proofs.SaveMoments.{at_rest, rest_early}
+use Rattle.dbm_tool.proofs.SaveMoments.{at_rest}
 use Rattle.dbm_tool.proofs.saving.save_change.Goals as goal
 
 pub returns-in-None-clause-any_moment : goal.returns-in-None-clause-any_moment

@@ -1,7 +1,7 @@
 //! What stands on standard error behind the name of a fault: what it is about, in plain words, and what to do.
 
 use crate::fault::ServeFault;
-use crate::reasons::{is_object, tell_too_long, tell_unread, tell_unwritten};
+use crate::reasons::{Shown, is_object, tell_too_long, tell_unread, tell_unwritten};
 use bpf_asm::{AsmFault, FaultKind};
 use bpf_insn::DecodeFault;
 use dbm_reports::ReportFault;
@@ -63,10 +63,11 @@ fn advise_files<R: Runtime<File = File> + AllocGlobal>(rt: &R, wish: &Wish<'_>, 
 
 fn advise_rest<R: Runtime>(rt: &R, wish: &Wish<'_>, fault: ServeFault) {
     let base = base_of(wish);
+    let shown = Shown(base);
     let _ = match fault {
         ServeFault::BadRedo => {
             eprintln!(rt;
-                "  {base}.redo says that a save was committed, but no save of dbm leaves such a file. Move it away to have {base}.pag and {base}.dir as they are."
+                "  {shown}.redo says that a save was committed, but no save of dbm leaves such a file. Move it away to have {shown}.pag and {shown}.dir as they are."
             )
         }
         ServeFault::BadBase if base.is_empty() => {
@@ -81,7 +82,7 @@ fn advise_rest<R: Runtime>(rt: &R, wish: &Wish<'_>, fault: ServeFault) {
         }
         ServeFault::Absent => {
             eprintln!(rt;
-                "  Neither {base}.dir nor {base}.pag is there. Leave --must-exist out to make the database."
+                "  Neither {shown}.dir nor {shown}.pag is there. Leave --must-exist out to make the database."
             )
         }
         ServeFault::ReadClock => {
@@ -102,7 +103,7 @@ fn advise_rest<R: Runtime>(rt: &R, wish: &Wish<'_>, fault: ServeFault) {
 }
 
 fn advise_locked<R: Runtime>(rt: &R, request: &Request<'_>) {
-    let base = base_of(&request.wish);
+    let base = Shown(base_of(&request.wish));
     let _ = match request.access.timeout {
         Some("0") => {
             eprintln!(rt;
@@ -145,13 +146,14 @@ fn advise_report<R: Runtime<File = File> + AllocGlobal>(
 }
 
 fn tell_object<R: Runtime>(rt: &R, file: &str) {
+    let file = Shown(file);
     let _ = eprintln!(rt;
         "  {file} is an ELF object. Take its section .text for the image, or let tools/bpfcc make it."
     );
 }
 
 fn advise_no_text<R: Runtime>(rt: &R, wish: &Wish<'_>) {
-    let file = file_of(wish);
+    let file = Shown(file_of(wish));
     let _ = match wish {
         Wish::Asm { .. } => {
             eprintln!(rt;
@@ -285,7 +287,7 @@ fn form_of(wish: &Wish<'_>) -> Form {
 
 // Of files that are no database.
 fn advise_open<R: Runtime>(rt: &R, wish: &Wish<'_>, fault: OpenFault) {
-    let base = base_of(wish);
+    let base = Shown(base_of(wish));
     let form = form_of(wish);
     let wide = if form.wide {
         "without --wide"
@@ -335,7 +337,7 @@ fn advise_assemble<R: Runtime>(rt: &R, file: &str, fault: AsmFault) {
         FaultKind::TooLong => "the program has more than 4,096 units here",
         FaultKind::NoMemory => return no_memory(rt),
     };
-    let line = fault.line;
+    let (line, file) = (fault.line, Shown(file));
     let _ = eprintln!(rt;
         "  Line {line} of {file}: {wrong}. docs/ASSEMBLER.md has every instruction."
     );
@@ -343,7 +345,7 @@ fn advise_assemble<R: Runtime>(rt: &R, file: &str, fault: AsmFault) {
 
 // Of an image that is no program.
 fn advise_decode<R: Runtime>(rt: &R, wish: &Wish<'_>, fault: DecodeFault) {
-    let file = file_of(wish);
+    let file = Shown(file_of(wish));
     let text = match wish {
         Wish::Disasm { .. } => "If it is a text, dbm asm makes its image",
         _ => "If it is a text, leave --image out",
@@ -382,6 +384,7 @@ fn advise_submit<R: Runtime<File = File>>(rt: &R, wish: &Wish<'_>, fault: RegFau
         RegFault::Decode(_) if is_object(rt, file) => tell_object(rt, file),
         RegFault::Decode(fault) => advise_decode(rt, wish, fault),
         RegFault::Verify(fault) => {
+            let file = Shown(file);
             let _ = eprintln!(rt;
                 "  The program in {file} is not accepted: docs/PROGRAMS.md says under Verdicts what {fault} asks for."
             );
@@ -414,7 +417,7 @@ fn advise_pool<R: Runtime>(rt: &R, fault: PoolFault) {
 
 /// Says that neither file of the database was there that a wish has read.
 pub fn note_absent<R: Runtime>(rt: &R, wish: &Wish<'_>) {
-    let base = base_of(wish);
+    let base = Shown(base_of(wish));
     let _ = eprintln!(rt;
         "dbm: note: neither {base}.dir nor {base}.pag is there, so the database is empty"
     );
@@ -430,6 +433,7 @@ pub fn note_object<R: Runtime<File = File>>(rt: &R, wish: &Wish<'_>) {
     | Wish::Verify { file, image: true } = *wish
         && is_object(rt, file)
     {
+        let file = Shown(file);
         let _ = eprintln!(rt;
             "dbm: note: {file} is an ELF object, and no image: take its section .text, or let tools/bpfcc make the image"
         );

@@ -22,6 +22,20 @@ impl fmt::Display for Reason {
     }
 }
 
+/// A name as a sentence shows it: as it is, or where it is empty or has control characters, in quotes with these escaped.
+#[derive(Clone, Copy)]
+pub struct Shown<'a>(pub &'a str);
+
+impl<'a> fmt::Display for Shown<'a> {
+    fn fmt<W: fmt::Write>(&self, f: &mut fmt::Formatter<W>) -> fmt::Result {
+        let name = self.0;
+        if name.is_empty() || name.chars().any(|c| c.is_control()) {
+            return write!(f, "{name:?}");
+        }
+        write!(f, "{name}")
+    }
+}
+
 // The reasons that have plain words.
 fn reason_text(kind: ErrorKind) -> Option<&'static str> {
     match kind {
@@ -60,6 +74,7 @@ pub fn tell_unread<R: Runtime<File = File> + AllocGlobal>(
     }
     match wish.base() {
         Some(base) => {
+            let base = Shown(base);
             let _ = eprintln!(rt;
                 "  {base}.pag and {base}.dir do not lead to the two files of one base: make links of both, or of neither."
             );
@@ -76,16 +91,17 @@ fn is_told_unread<R: Runtime<File = File>>(rt: &R, name: &str, may_be_absent: bo
     let Some(error) = unread(rt, name) else {
         return false;
     };
+    let shown = Shown(name);
     if error.kind() != ErrorKind::NotFound {
-        let _ = eprintln!(rt; "  {name} cannot be read: {}.", Reason(error));
+        let _ = eprintln!(rt; "  {shown} cannot be read: {}.", Reason(error));
         return true;
     }
     if is_link(rt, name) {
-        let _ = eprintln!(rt; "  {name} is a link that leads nowhere.");
+        let _ = eprintln!(rt; "  {shown} is a link that leads nowhere.");
         return true;
     }
     if !may_be_absent {
-        let _ = eprintln!(rt; "  {name} is not there.");
+        let _ = eprintln!(rt; "  {shown} is not there.");
     }
     !may_be_absent
 }
@@ -118,7 +134,7 @@ pub fn tell_unwritten<R: Runtime<File = File> + AllocGlobal>(
     if is_told_lost(rt, folder_of(names.lock.as_str())) || is_told_unwritten(rt, &names) {
         return Ok(());
     }
-    let folder = folder_of(names.lock.as_str());
+    let (base, folder) = (Shown(base), Shown(folder_of(names.lock.as_str())));
     let _ = eprintln!(rt;
         "  {base}.lock, .redo, .dir or .pag could not be made or written: see that you may write into the folder {folder}, and that its disk has room."
     );
@@ -127,12 +143,13 @@ pub fn tell_unwritten<R: Runtime<File = File> + AllocGlobal>(
 
 // Says that a folder is none, and whether that was said.
 fn is_told_lost<R: Runtime<File = File>>(rt: &R, folder: &str) -> bool {
+    let shown = Shown(folder);
     let _ = match fs::metadata(rt, folder) {
         Ok(found) if found.is_dir() => return false,
-        Ok(_) => eprintln!(rt; "  No file can be made in the folder {folder}: it is a file."),
+        Ok(_) => eprintln!(rt; "  No file can be made in the folder {shown}: it is a file."),
         Err(error) => {
             eprintln!(rt;
-                "  No file can be made in the folder {folder}: {}.",
+                "  No file can be made in the folder {shown}: {}.",
                 Reason(error)
             )
         }
@@ -154,12 +171,13 @@ fn is_told_closed<R: Runtime<File = File>>(rt: &R, name: &str) -> bool {
     let Err(error) = OpenOptions::new().read(true).write(true).open(rt, name) else {
         return false;
     };
+    let shown = Shown(name);
     if error.kind() != ErrorKind::NotFound {
-        let _ = eprintln!(rt; "  {name} cannot be written: {}.", Reason(error));
+        let _ = eprintln!(rt; "  {shown} cannot be written: {}.", Reason(error));
         return true;
     }
     if is_link(rt, name) {
-        let _ = eprintln!(rt; "  {name} is a link that leads nowhere.");
+        let _ = eprintln!(rt; "  {shown} is a link that leads nowhere.");
         return true;
     }
     false
@@ -175,13 +193,15 @@ pub fn tell_too_long<R: Runtime<File = File> + AllocGlobal>(
         if let Ok(found) = fs::metadata(rt, name)
             && found.len() > limit
         {
+            let shown = Shown(name);
             let _ = eprintln!(rt;
-                "  {name} has more than {limit} bytes, the most that dbm reads of such a file."
+                "  {shown} has more than {limit} bytes, the most that dbm reads of such a file."
             );
             return Ok(());
         }
     }
     if let Some(base) = wish.base() {
+        let base = Shown(base);
         let _ = eprintln!(rt;
             "  {base}.pag would have more than 1 GiB after the command: nothing was changed."
         );

@@ -14,7 +14,7 @@
 #include <unistd.h>
 
 /* The most bytes of BASE.pag, .dir and .redo. */
-static const size_t limits[3] = {1073741824, 268435456, 1353973773};
+static const size_t limits[3] = {1073741824, 268435456, 1353973781};
 
 struct boddurci_base {
     boddurci db;

@@ -18,8 +18,8 @@ use std::rt::Files;
 use std::time::{Clock, Duration};
 
 /// A redo file of the program has at most this many bytes: those of both files at their limits, in blocks of 1,024 with nine bytes
-/// before each, behind thirteen.
-const REDO_LIMIT: u64 = 1_353_973_773;
+/// before each, behind twenty-one.
+const REDO_LIMIT: u64 = 1_353_973_781;
 
 /// What was read for a wish, and where it may change its database, what is held for that.
 #[derive(Drop)]

@@ -6,11 +6,12 @@ use std::alloc::Global;
 use std::io::{self, Read, Write};
 use std::rt::Runtime;
 
-/// A reader that keeps what it gives, as far as there is memory for it.
+/// A reader that keeps what it gives. Where memory runs out it keeps nothing.
 #[derive(Drop)]
 pub struct Kept<R: Read> {
     reader: R,
     text: Vec<u8>,
+    has_lost: bool,
     /// Whether `bad line` is among the answers to what was read.
     pub has_bad_line: bool,
 }
@@ -21,12 +22,16 @@ impl<R: Read> Kept<R> {
         Kept {
             reader,
             text: Vec::new(alloc),
+            has_lost: false,
             has_bad_line: false,
         }
     }
 
-    /// What was read.
+    /// What was read, and nothing where memory ran out.
     pub fn text(&self) -> &[u8] {
+        if self.has_lost {
+            return &[];
+        }
         self.text.as_slice()
     }
 }
@@ -36,7 +41,7 @@ impl<R: Read> Read for Kept<R> {
 
     fn read(&mut self, buf: &mut [u8]) -> io::Result<usize> {
         let count = self.reader.read(buf)?;
-        let _ = self.text.extend_from_slice(&buf[..count]);
+        self.has_lost = self.has_lost || self.text.extend_from_slice(&buf[..count]).is_err();
         Ok(count)
     }
 }

@@ -44,7 +44,8 @@ pub fn read_input<R: Read>(alloc: Global, reader: &mut R) -> Result<Vec<u8>, Rep
 /// # Errors
 /// The first that is met, in this order: `BadHex` where a word is no bytes, `BadNumber` where one is no number; `Open` where the
 /// files do not open; `NotText` and `Assemble` where a program's file is no text of one, `Decode` where it is no image; of a script,
-/// those of `read_input`, and `OutputTooLong` where its answers have more bytes than they may. `NoMemory` may come at any step. The bytes of the files are let go, and nothing else changes.
+/// those of `read_input`, and `OutputTooLong` where its answers have more bytes than they may. `NoMemory` may come at any step. The
+/// files are only lent, and nothing else changes.
 pub fn report_on<R: Read>(
     alloc: Global,
     wish: Wish<'_>,

@@ -191,7 +191,7 @@ fn read_file<R: Files + AllocGlobal>(
 
 /// Saves what a wish has made of a database, and prints its lines. The files are written in place, by a redo file: a crash at any
 /// moment leaves files from which the next run gets the database before the save or after it. Where nothing changed no file is
-/// written, made or touched.
+/// written, made or touched; but where its lines cannot be printed, a redo file goes that was never committed.
 ///
 /// # Errors
 /// Those of `save_change`, and `BadRedo` where the redo file is marked.

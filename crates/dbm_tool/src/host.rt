@@ -207,7 +207,8 @@ impl<'a, R: Files<File = File>> Host for RealFiles<'a, R> {
     }
 }
 
-/// Takes a redo file away that was not committed. That it may stay changes nothing: the next save takes it away.
+/// Takes the redo file away of a save that has failed before it wrote either file. Where it stays without a mark, the next save takes it
+/// away; where its mark is set, the next run ends the save.
 pub fn forget_redo<R: Files<File = File>>(rt: &R, names: &Names) {
     let _ = fs::remove_file(rt, names.redo.as_str());
 }

@@ -6,10 +6,10 @@ use crate::lock::{lock_to_read, lock_to_write};
 use crate::saving::{Change, save_change};
 use dbm_reports::{Given, Names, names_of, put, sources};
 use dbm_words::Wish;
+use sdbm_files::Image;
 use sdbm_saves::{
     CallLog, Contents, Found, Recorded, Unknown, is_whole, plan_in, read_through, recover,
 };
-use sdbm_files::Image;
 use std::alloc::Global;
 use std::fs;
 use std::fs::File;

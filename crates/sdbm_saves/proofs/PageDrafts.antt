@@ -64,7 +64,7 @@ page_renewed db ok n count whole below whole_is a given block before after a_is 
     let before_long : length before ≡ length new = ap (λ (l : List ℕ). length l) before_is ∙ length_partly at new old start same_length in
     let room : a + length block ≤ length before = omega (arith, a_is, block_long, long, within, new_long, whole_is, before_long) in
     let reads : (i : ℕ) → i < length block → get_or before (a + i) 0 ≡ get_or given (a + i) 0 = λ i lt. ap (λ (l : List ℕ). get_or l (a + i) 0) before_is ∙ partly_old at new old start same_length (a + i) (omega (arith, a_is))
-        ∙ read_resized whole given (a + i) (omega (arith, lt, a_is, block_long, long, within, whole_is)) in
+    ∙ read_resized whole given (a + i) (omega (arith, lt, a_is, block_long, long, within, whole_is)) in
     let ends : at + length page ≡ next = ap (λ (z : ℕ). at + z) long ∙ next_page db.size n in
     renews room reads
     ∙ ap (λ (l : List ℕ). written a block l) before_is

@@ -9,6 +9,7 @@ use Rattle.bpf_insn.specs.Code.{slots, slots_of, fetch}
 use Rattle.bpf_helpers.specs.Machine.{Config, step, ended, effect, arrives, exit_code}
 use Rattle.bpf_helpers.specs.Runs.{start, Reaches, Goes, Safe}
 use Rattle.bpf_verify.specs.States.{States}
+use Rattle.bpf_verify.specs.Stopped.{HoldAlways}
 use Rattle.bpf_verify.specs.Verified.{FitsAt, GoesOn, IsVerified}
 
 -- how many instructions begin before a unit, and in all
@@ -101,3 +102,9 @@ safe code states v = λ bytes argument env input n c r.
     let e : count (slots code) ≡ length code = count_all code in
     let l : n ≤ rank (slots code) c.place = h.least in
     (g, omega arith)
+
+-- what is known is true of each run
+pub hold_always : (code : List Insn) (states : States) → IsVerified code states → HoldAlways code states
+hold_always code states v = λ bytes argument env input n c r.
+    let h : Holds code states n c = holds code states v (start bytes argument env) (v.starts bytes argument env input) n c r in
+    h.fits

@@ -16,6 +16,7 @@ mod joining;
 mod loads;
 mod memory;
 mod numbers;
+mod refused;
 mod state;
 mod structure;
 mod table;
@@ -24,5 +25,8 @@ mod visits;
 
 pub use fault::VerifyFault;
 pub use flat::Flat;
+pub use refused::Refused;
+pub use state::State;
+pub use table::States;
 pub use verified::Verified;
-pub use visits::verify;
+pub use visits::{examine, verify};

@@ -1,6 +1,6 @@
 //! The states of a program, by unit.
 
-ghost use Rattle.std.specs.Prelude.{◌≡◌, ◌<◌, ℕ, length, slice_set, Some, None, IfOk, OnOk};
+ghost use Rattle.std.specs.Prelude.{◌≡◌, ◌<◌, ℕ, [], length, slice_set, Some, None, IfOk, OnOk};
 ghost use Rattle.std.specs.Option.{option_map};
 ghost use Rattle.bpf_verify.specs.States.{state_at};
 
@@ -8,7 +8,8 @@ use crate::state::State;
 use std::alloc::{AllocError, Allocator, Global};
 use std::marker::Model;
 
-/// For each unit the state that stands there, if any. A unit without one takes the room of a pointer.
+/// For each unit of a program what is known before the instruction there, if anything is: nothing is known where no edge leads.
+/// A unit of which nothing is known takes the room of a pointer.
 #[derive(Drop)]
 pub struct States<A: Allocator = Global> {
     boxes: Vec<Option<Box<State, A>>, A>,
@@ -23,8 +24,17 @@ impl<A: Allocator> Model for States<A> {
 }
 
 impl<A: Allocator> States<A> {
+    /// The states of no units, which take no memory.
+    pub(crate) fn empty(alloc: A) -> States<A>
+        ensures { result ≡ [] }
+    {
+        States {
+            boxes: Vec::new(alloc),
+        }
+    }
+
     /// No state at any of so many units.
-    pub fn none(alloc: A, units: usize) -> Result<States<A>, AllocError>
+    pub(crate) fn none(alloc: A, units: usize) -> Result<States<A>, AllocError>
         ensures long { IfOk result (λ s. length s ≡ units) }
         ensures none { IfOk result (λ s. (at : ℕ) → state_at s at ≡ None) }
     {
@@ -47,7 +57,7 @@ impl<A: Allocator> States<A> {
     }
 
     /// Puts a state at a unit, in the place of the one that stands there. Without memory nothing changes.
-    pub fn put(&mut self, alloc: A, at: usize, state: State) -> Result<(), AllocError>
+    pub(crate) fn put(&mut self, alloc: A, at: usize, state: State) -> Result<(), AllocError>
         requires { at < length self.old }
         ensures ok { OnOk result (self.new ≡ slice_set self.old at (Some state)) }
     {

@@ -1,12 +1,13 @@
 //! The pass over a program's instructions.
 
-ghost use Rattle.std.specs.Prelude.{◌≡◌, ◌<◌, ◌≤◌, ◌+◌, ◌≤ℤ◌, pos, ℕ, IsSome, OnOk, IfOk, IfErr, IsErrAnd, Some, length};
+ghost use Rattle.std.specs.Prelude.{◌≡◌, ◌<◌, ◌≤◌, ◌+◌, ◌≤ℤ◌, pos, ℕ, IsSome, OnOk, IfOk, IfErr, IsErrAnd, Some, None, length};
 ghost use Rattle.std.specs.Option.{option_map};
 ghost use Rattle.bpf_insn.specs.Code.{unit_count, units_of, fetch};
 ghost use Rattle.bpf_helpers.specs.Runs.{Safe};
-ghost use Rattle.bpf_verify.specs.States.{Fits};
+ghost use Rattle.bpf_verify.specs.States.{Fits, state_at};
 ghost use Rattle.bpf_verify.specs.Steps.{distance_of};
 ghost use Rattle.bpf_verify.specs.Structure.{IsBuilt, IsMisbuilt, IsMet, IsRefused};
+ghost use Rattle.bpf_verify.specs.Stopped.{Stays, IsStopped};
 ghost use Rattle.bpf_verify.specs.Verified.{Starts, IsVerified};
 ghost use Rattle.bpf_verify.specs.Visits.{AreStates, Follows, Adds, ConsistentAt};
 
@@ -14,6 +15,7 @@ use crate::fault::VerifyFault;
 use crate::flat::flatten;
 use crate::flow::flow;
 use crate::joining::join_states;
+use crate::refused::Refused;
 use crate::state::State;
 use crate::structure::structure;
 use crate::table::States;
@@ -74,6 +76,7 @@ fn visit<A: Allocator + Copy>(
     ensures adds { OnOk result (Adds code.now states.old states.new at) }
     ensures consistent { OnOk result (ConsistentAt code.now states.new at) }
     ensures met { IfErr result (IsMet code.now) }
+    ensures stays { IfErr result (Stays states.old states.new at) }
 {
     let Some(state) = states.get(at) else {
         return Ok(());
@@ -90,19 +93,77 @@ fn visit<A: Allocator + Copy>(
     Ok(())
 }
 
-/// The states of a code whose structure has no fault. Each instruction is taken once, the lowest first.
-fn states_of<A: Allocator + Copy>(alloc: A, code: &Code<A>) -> Result<States<A>, VerifyFault>
+/// The states of a code whose structure has no fault, or its fault and the states where the pass stopped. Each instruction is taken
+/// once, the lowest first.
+fn states_of<A: Allocator + Copy>(
+    alloc: A,
+    code: &Code<A>,
+) -> Result<States<A>, (VerifyFault, States<A>)>
     requires { IsBuilt code.now }
     ensures verified { IfOk result (IsVerified code.now) }
-    ensures met { IfErr result (IsMet code.now) }
+    ensures met { IfErr result (λ e. IsMet code.now e.0) }
+    ensures stopped { IfErr result (λ e. IsStopped code.now e.1 e.0) }
 {
     let units = code.units();
-    let mut states = States::none(alloc, units)?;
-    states.put(alloc, 0, State::at_start())?;
+    let Ok(mut states) = States::none(alloc, units) else {
+        return Err((VerifyFault::NoMemory, States::empty(alloc)));
+    };
+    let Ok(()) = states.put(alloc, 0, State::at_start()) else {
+        return Err((VerifyFault::NoMemory, states));
+    };
     for at in 0..units {
-        visit(alloc, code, &mut states, at)?;
+        if let Err(fault) = visit(alloc, code, &mut states, at) {
+            return Err((fault, states));
+        }
     }
     Ok(states)
+}
+
+/// Accepts a program, as `verify` does, or says why not, and also what was known before its instructions when the fault was met. Where
+/// the fault is one of the structure, nothing was known.
+pub fn examine<A: Allocator + Copy>(alloc: A, code: Code<A>) -> Result<Verified<A>, Refused<A>>
+    ensures value { IfOk result (λ v. v.code ≡ code) }
+    ensures safe { IfOk result (λ v. Safe v.code) }
+    ensures built { IfOk result (λ v. IsBuilt v.code) }
+    ensures refused { IfErr result (λ e. IsRefused code e.fault) }
+    ensures structure { (fault : _) → IsMisbuilt code fault → IsErrAnd result (λ e. e.fault ≡ fault) }
+    ensures back { IfErr result (λ e. e.code ≡ code) }
+    ensures stopped { IsBuilt code → IfErr result (λ e. IsStopped code e.states e.fault) }
+    ensures unknown { IfErr result (λ e. IsMisbuilt code e.fault → (u : ℕ) → state_at e.states u ≡ None) }
+{
+    if let Err(fault) = structure(&code) {
+        return Err(Refused {
+            fault,
+            code,
+            states: States::empty(alloc),
+        });
+    }
+    let states = match states_of(alloc, &code) {
+        Ok(states) => states,
+        Err((fault, states)) => {
+            return Err(Refused {
+                fault,
+                code,
+                states,
+            })
+        }
+    };
+    let fault = VerifyFault::NoMemory;
+    let Ok(flats) = flatten(alloc, &code, &states) else {
+        return Err(Refused {
+            fault,
+            code,
+            states,
+        });
+    };
+    match encode(alloc, &code) {
+        Ok(image) => Ok(Verified::new(code, states, flats, image)),
+        Err(AllocError) => Err(Refused {
+            fault,
+            code,
+            states,
+        }),
+    }
 }
 
 /// Accepts a program, which is then safe, or says why not and gives it back.
@@ -121,18 +182,8 @@ pub fn verify<A: Allocator + Copy>(
     ensures structure { (fault : _) → IsMisbuilt code fault → IsErrAnd result (λ e. e.0 ≡ fault) }
     ensures back { IfErr result (λ e. e.1 ≡ code) }
 {
-    if let Err(fault) = structure(&code) {
-        return Err((fault, code));
-    }
-    let states = match states_of(alloc, &code) {
-        Ok(states) => states,
-        Err(fault) => return Err((fault, code)),
-    };
-    let Ok(flats) = flatten(alloc, &code, &states) else {
-        return Err((VerifyFault::NoMemory, code));
-    };
-    match encode(alloc, &code) {
-        Ok(image) => Ok(Verified::new(code, states, flats, image)),
-        Err(AllocError) => Err((VerifyFault::NoMemory, code)),
+    match examine(alloc, code) {
+        Ok(verified) => Ok(verified),
+        Err(Refused { fault, code, .. }) => Err((fault, code)),
     }
 }

@@ -1,6 +1,6 @@
 use Rattle.bpf_verify.proofs.Misbuilt.{only_misbuilt, built_not}
 use Rattle.bpf_verify.proofs.Safety.{safe}
-use Rattle.bpf_verify.proofs.visits.verify.Goals as goal
+use Rattle.bpf_verify.proofs.visits.examine.Goals as goal
 
 pub returns-in-Err-clause-structure : goal.returns-in-Err-clause-structure
 returns-in-Err-clause-structure g c = λ fault is. only_misbuilt c.args.code c.in-Err.fault fault c.in-Err.ensures.err is
@@ -10,3 +10,6 @@ returns-in-Ok-encode-clause-safe g c = rw c.new.ensures.code (safe c.args.code c
 
 pub returns-in-Ok-encode-clause-structure : goal.returns-in-Ok-encode-clause-structure
 returns-in-Ok-encode-clause-structure g c = λ fault is. built_not c.args.code fault c.in_default.ensures.ok is
+
+pub returns-in-Err-clause-stopped : goal.returns-in-Err-clause-stopped
+returns-in-Err-clause-stopped g c = λ built. absurd (built_not c.args.code c.in-Err.fault built c.in-Err.ensures.err)

@@ -7,6 +7,7 @@ use Rattle.dbm_script.specs.Script.{AnswersExceed}
 use Rattle.dbm_script.specs.declared.fault.LinesFault.{LinesFault}
 use Rattle.dbm_script.specs.declared.fault.LinesFault.TheVariants as lines
 use Rattle.dbm_words.specs.declared.wish.Form.{Form}
+use Rattle.dbm_words.specs.declared.wish.Notation.{Notation}
 use Rattle.dbm_words.specs.declared.wish.Wish.TheVariants as wish
 use Rattle.dbm_reports.specs.declared.databases.Given.{Given}
 use Rattle.dbm_reports.specs.declared.fault.ReportFault.{ReportFault}
@@ -96,7 +97,7 @@ pub numbered : (n : Option ℕ) (m : ℕ) (causes : ℕ → Causes) (fault : Rep
 numbered n m causes fault is h = subst (λ (o : Option ℕ). IsCaused (numbered_causes o causes) fault) (sym is) h
 
 -- a script whose limit is no number
-pub unlimited : (base : Option (Bor (List ℕ))) (form : Form) (max_output : Option (Bor (List ℕ))) (given : Given) (input : Option (List ℕ)) → output_limit max_output ≡ None
-    → IsCaused (subcommand_for (wish.Script base form max_output) given input).causes BadNumber
-unlimited None form max_output given input is = unnumbered (output_limit max_output) (alone_causes form input) is
-unlimited (Some base) form max_output given input is = unnumbered (output_limit max_output) (script_causes form given input) is
+pub unlimited : (base : Option (Bor (List ℕ))) (form : Form) (notation : Notation) (max_output : Option (Bor (List ℕ))) (given : Given) (input : Option (List ℕ)) → output_limit max_output ≡ None
+    → IsCaused (subcommand_for (wish.Script base form notation max_output) given input).causes BadNumber
+unlimited None form notation max_output given input is = unnumbered (output_limit max_output) (alone_causes form input) is
+unlimited (Some base) form notation max_output given input is = unnumbered (output_limit max_output) (script_causes form given input) is

@@ -30,18 +30,23 @@ on_limit (Some most) P Q f h = f most h
 -- a subcommand reports a database exactly where its files are written
 pub database_given : (wish : Wish) (given : Given) (input : Option (List ℕ)) (report : Report)
     → (subcommand_for wish given input).reports report → is_some report.database ≡ writes_files wish
-database_given (wish.Fetch base form key) given input report comes = ap (λ (db : Option Database). is_some db) comes.holds.1.1
-database_given (wish.Store base form key value insert) given input report comes = ap (λ (db : Option Database). is_some db) comes.holds.1.1
-database_given (wish.Delete base form key) given input report comes = ap (λ (db : Option Database). is_some db) comes.holds.1.1
-database_given (wish.Run base form key file arg blank now expect image) given input report comes = ran_on comes.before comes.words comes.expect comes.image report comes.runs
-database_given (wish.Batch base form file workers image) given input report comes = absurd comes
-database_given (wish.List base form) given input report comes = ap (λ (db : Option Database). is_some db) comes.1.1.written
-database_given (wish.Check base form) given input report comes = ap (λ (db : Option Database). is_some db) comes.1.1.written
-database_given (wish.Script None form max_output) given input report comes =
+database_given (wish.Fetch base form notation key) given input report comes = ap (λ (db : Option Database). is_some db) comes.holds.1.1
+database_given (wish.Store base form notation key value insert) given input report comes = ap (λ (db : Option Database). is_some db) comes.holds.1.1
+database_given (wish.Delete base form notation key) given input report comes = ap (λ (db : Option Database). is_some db) comes.holds.1.1
+database_given (wish.Run base form notation key file arg blank now expect image) given input report comes = ran_on comes.before comes.words comes.expect comes.image report comes.runs
+database_given (wish.Batch base form notation file workers image) given input report comes = absurd comes
+database_given (wish.List base form notation prefix null json) given input report comes = ap (λ (db : Option Database). is_some db) comes.1.1.written
+database_given (wish.Check base form json) given input report comes = ap (λ (db : Option Database). is_some db) comes.1.1.written
+database_given (wish.Keys base form notation prefix null) given input report comes = absurd comes
+database_given (wish.Stats base form json) given input report comes = absurd comes
+database_given (wish.Dump base form format) given input report comes = absurd comes
+database_given (wish.Load base form format) given input report comes = absurd comes
+database_given (wish.Session base form notation save_every) given input report comes = absurd comes
+database_given (wish.Script None form notation max_output) given input report comes =
     on_limit (output_limit max_output) (λ most. PlaysAlone form input most report) (is_some report.database ≡ false) (λ most plays. ap (λ (db : Option Database). is_some db) plays.1.1) comes
-database_given (wish.Script (Some base) form max_output) given input report comes =
+database_given (wish.Script (Some base) form notation max_output) given input report comes =
     on_limit (output_limit max_output) (λ most. OnDatabase form given (PlaysOn input most report)) (is_some report.database ≡ true) (λ most plays. ap (λ (db : Option Database). is_some db) plays.1.1.1.1) comes
 database_given (wish.Widen base unsigned) given input report comes = ap (λ (db : Option Database). is_some db) comes.1.1.written
 database_given (wish.Asm file) given input report comes = ap (λ (db : Option Database). is_some db) comes.1.written
 database_given (wish.Disasm file) given input report comes = ap (λ (db : Option Database). is_some db) comes.1.written
-database_given (wish.Verify file image) given input report comes = ap (λ (db : Option Database). is_some db) (judged_alone comes.0 report comes.1.1)
+database_given (wish.Verify file image explain json) given input report comes = ap (λ (db : Option Database). is_some db) (judged_alone comes.0 report comes.1.1)

@@ -6,6 +6,7 @@ use Rattle.dbm_script.specs.Script.{AnswersExceed, IsScriptRun}
 use Rattle.dbm_script.proofs.Runs.{known_read}
 use Rattle.dbm_reports.specs.declared.subcommands.Report.{Report}
 use Rattle.dbm_words.specs.declared.wish.Form.{Form}
+use Rattle.dbm_words.specs.declared.wish.Notation.{Notation}
 use Rattle.dbm_words.specs.declared.wish.Wish.TheVariants as wish
 use Rattle.dbm_reports.specs.declared.databases.Given.{Given}
 use Rattle.dbm_reports.specs.Options.{output_limit}
@@ -43,10 +44,10 @@ within : (limit : Option ℕ) (most : ℕ) (P : ℕ → Type 0) → limit ≡ So
 within limit most P is holds = subst (λ (o : Option ℕ). IsSomeAnd o P) (sym is) holds
 
 -- a limit of a script on an empty database, and on one of files
-pub limited_alone : (form : Form) (max_output : Option (Bor (List ℕ))) (given : Given) (input : Option (List ℕ)) (most : ℕ) (report : Report) → output_limit max_output ≡ Some most
-    → PlaysAlone form input most report → (subcommand_for (wish.Script None form max_output) given input).reports report
-limited_alone form max_output given input most report is plays = within (output_limit max_output) most (λ n. PlaysAlone form input n report) is plays
+pub limited_alone : (form : Form) (notation : Notation) (max_output : Option (Bor (List ℕ))) (given : Given) (input : Option (List ℕ)) (most : ℕ) (report : Report) → output_limit max_output ≡ Some most
+    → PlaysAlone form input most report → (subcommand_for (wish.Script None form notation max_output) given input).reports report
+limited_alone form notation max_output given input most report is plays = within (output_limit max_output) most (λ n. PlaysAlone form input n report) is plays
 
-pub limited_on : (base : Bor (List ℕ)) (form : Form) (max_output : Option (Bor (List ℕ))) (given : Given) (input : Option (List ℕ)) (most : ℕ) (report : Report) → output_limit max_output ≡ Some most
-    → OnDatabase form given (PlaysOn input most report) → (subcommand_for (wish.Script (Some base) form max_output) given input).reports report
-limited_on base form max_output given input most report is plays = within (output_limit max_output) most (λ n. OnDatabase form given (PlaysOn input n report)) is plays
+pub limited_on : (base : Bor (List ℕ)) (form : Form) (notation : Notation) (max_output : Option (Bor (List ℕ))) (given : Given) (input : Option (List ℕ)) (most : ℕ) (report : Report) → output_limit max_output ≡ Some most
+    → OnDatabase form given (PlaysOn input most report) → (subcommand_for (wish.Script (Some base) form notation max_output) given input).reports report
+limited_on base form notation max_output given input most report is plays = within (output_limit max_output) most (λ n. OnDatabase form given (PlaysOn input n report)) is plays

@@ -16,39 +16,59 @@ pub record Subcommand : Type 1 where
 
 -- What is known of a subcommand, by the bytes of its files and of what is read. A batch is none of these.
 abbrev pub subcommand_for : Wish → Given → Option (List ℕ) → Subcommand
-subcommand_for (wish.Fetch base form key) given input = record {
+subcommand_for (wish.Fetch base form notation key) given input = record {
   reports = λ report. OnCommand form given (fetch_words key) (λ db command. Looks db command report);
   causes = command_causes form given (fetch_words key);
 }
-subcommand_for (wish.Store base form key value insert) given input = record {
+subcommand_for (wish.Store base form notation key value insert) given input = record {
   reports = λ report. OnCommand form given (store_words key value insert) (λ db command. Changes db command None report);
   causes = command_causes form given (store_words key value insert);
 }
-subcommand_for (wish.Delete base form key) given input = record {
+subcommand_for (wish.Delete base form notation key) given input = record {
   reports = λ report. OnCommand form given (delete_words key) (λ db command. Changes db command None report);
   causes = command_causes form given (delete_words key);
 }
-subcommand_for (wish.Run base form key file arg blank now expect image) given input = record {
+subcommand_for (wish.Run base form notation key file arg blank now expect image) given input = record {
   reports = OnRun form given (record { key = key; arg = arg; blank = blank; now = now; expect = expect }) image;
   causes = run_causes form given (record { key = key; arg = arg; blank = blank; now = now; expect = expect }) image;
 }
-subcommand_for (wish.Batch base form file workers image) given input = record {
+subcommand_for (wish.Batch base form notation file workers image) given input = record {
   reports = λ report. ⊥;
   causes = no_causes;
 }
-subcommand_for (wish.List base form) given input = record {
+subcommand_for (wish.List base form notation prefix null json) given input = record {
   reports = λ report. OnDatabase form given (Lists report);
   causes = opening_causes form given;
 }
-subcommand_for (wish.Check base form) given input = record {
+subcommand_for (wish.Check base form json) given input = record {
   reports = λ report. OnDatabase form given (Counts report);
   causes = opening_causes form given;
 }
-subcommand_for (wish.Script None form max_output) given input = record {
+subcommand_for (wish.Keys base form notation prefix null) given input = record {
+  reports = λ report. ⊥;
+  causes = no_causes;
+}
+subcommand_for (wish.Stats base form json) given input = record {
+  reports = λ report. ⊥;
+  causes = no_causes;
+}
+subcommand_for (wish.Dump base form format) given input = record {
+  reports = λ report. ⊥;
+  causes = no_causes;
+}
+subcommand_for (wish.Load base form format) given input = record {
+  reports = λ report. ⊥;
+  causes = no_causes;
+}
+subcommand_for (wish.Session base form notation save_every) given input = record {
+  reports = λ report. ⊥;
+  causes = no_causes;
+}
+subcommand_for (wish.Script None form notation max_output) given input = record {
   reports = λ report. IsSomeAnd (output_limit max_output) (λ most. PlaysAlone form input most report);
   causes = numbered_causes (output_limit max_output) (alone_causes form input);
 }
-subcommand_for (wish.Script (Some base) form max_output) given input = record {
+subcommand_for (wish.Script (Some base) form notation max_output) given input = record {
   reports = λ report. IsSomeAnd (output_limit max_output) (λ most. OnDatabase form given (PlaysOn input most report));
   causes = numbered_causes (output_limit max_output) (script_causes form given input);
 }
@@ -64,17 +84,17 @@ subcommand_for (wish.Disasm file) given input = record {
   reports = PrintsOf IsDisassembled given.file.items;
   causes = image_causes given.file.items;
 }
-subcommand_for (wish.Verify file image) given input = record {
+subcommand_for (wish.Verify file image explain json) given input = record {
   reports = Verifies image given.file.items;
   causes = file_causes image given.file.items;
 }
 
 -- the subcommand but a batch that reads standard input
 abbrev pub is_script : Wish → Bool
-is_script (wish.Script base form max_output) = true
+is_script (wish.Script base form notation max_output) = true
 is_script _ = false
 
 -- the subcommand that is none of these
 abbrev pub is_batch : Wish → Bool
-is_batch (wish.Batch base form file workers image) = true
+is_batch (wish.Batch base form notation file workers image) = true
 is_batch _ = false

@@ -14,7 +14,7 @@ use crate::programs::{assemble_file, disassemble_file, verify_file};
 use crate::running::{RunTexts, report_run};
 use crate::subcommands::{Report, change, check, list, look, play, printed, widen_pages};
 use dbm_script::{ScriptFault, read_all, read_command};
-use dbm_words::{Form, Wish};
+use dbm_words::{Form, Notation, Wish};
 use sdbm_files::Image;
 use std::alloc::Global;
 use std::io::Read;
@@ -91,13 +91,19 @@ pub fn report_on<R: Read>(
         Wish::Script {
             base,
             form,
+            notation,
             max_output,
-        } => report_script(alloc, given, base, form, max_output, reader),
+        } => report_script(alloc, given, base, form, notation, max_output, reader),
         Wish::Widen { unsigned, .. } => report_widen(alloc, given, unsigned),
         Wish::Asm { .. } => assemble_file(alloc, given.file.as_slice()),
         Wish::Disasm { .. } => disassemble_file(alloc, given.file.as_slice()),
         Wish::Verify { image, .. } => verify_file(alloc, given.file.as_slice(), image),
         Wish::Batch { .. } => unreachable!(),
+        Wish::Keys { .. }
+        | Wish::Stats { .. }
+        | Wish::Dump { .. }
+        | Wish::Load { .. }
+        | Wish::Session { .. } => Err(ReportFault::NoMemory),
     }
 }
 
@@ -180,11 +186,12 @@ fn report_script<R: Read>(
     given: &Given,
     base: Option<&str>,
     form: Form,
+    notation: Notation<'_>,
     max_output: Option<&str>,
     reader: &mut R,
 ) -> Result<Report, ReportFault>
-    ensures ok { IfOk result (λ report. (subcommand_for (wish.Script base.entry form max_output.entry) given.now (R.remaining reader.old)).reports report) }
-    ensures fault { IfErr result (IsCaused (subcommand_for (wish.Script base.entry form max_output.entry) given.now (R.remaining reader.old)).causes) }
+    ensures ok { IfOk result (λ report. (subcommand_for (wish.Script base.entry form notation max_output.entry) given.now (R.remaining reader.old)).reports report) }
+    ensures fault { IfErr result (IsCaused (subcommand_for (wish.Script base.entry form notation max_output.entry) given.now (R.remaining reader.old)).causes) }
 {
     let Some(most) = output_limit(max_output) else {
         return Err(ReportFault::BadNumber);

@@ -12,5 +12,5 @@ use Rattle.dbm_tool.specs.Services.{service_for}
 -- a wish has a database to be written exactly where its files are written
 pub database_of_wish : (wish : Wish) (given : Given) (input : Option (List ℕ)) (report : Report)
     → (service_for wish given input).reports report → is_some report.database ≡ writes_files wish
-database_of_wish (wish.Batch base form file workers image) given input report comes = ap (λ (db : Option Database). is_some db) comes.1.1.1.1.written
+database_of_wish (wish.Batch base form notation file workers image) given input report comes = ap (λ (db : Option Database). is_some db) comes.1.1.1.1.written
 database_of_wish other given input report comes = database_given other given input report comes

@@ -16,7 +16,7 @@ pub record Service : Type 1 where
 
 -- What is known of a wish, by the bytes of its files and of what is read.
 abbrev pub service_for : Wish → Given → Option (List ℕ) → Service
-service_for (wish.Batch base form file workers image) given input = record {
+service_for (wish.Batch base form notation file workers image) given input = record {
   reports = OnBatch form given workers image input;
   causes = batch_causes form given workers image input;
 }
@@ -27,5 +27,5 @@ service_for other given input = record {
 
 -- a script and a batch alone read
 abbrev pub reads_input : Wish → Bool
-reads_input (wish.Batch base form file workers image) = true
+reads_input (wish.Batch base form notation file workers image) = true
 reads_input other = is_script other

@@ -272,7 +272,12 @@ fn form_of(wish: &Wish<'_>) -> Form {
         | Wish::Run { form, .. }
         | Wish::Batch { form, .. }
         | Wish::List { form, .. }
+        | Wish::Keys { form, .. }
         | Wish::Check { form, .. }
+        | Wish::Stats { form, .. }
+        | Wish::Dump { form, .. }
+        | Wish::Load { form, .. }
+        | Wish::Session { form, .. }
         | Wish::Script { form, .. } => form,
         Wish::Widen { unsigned, .. } => Form {
             unsigned,
@@ -430,7 +435,11 @@ pub fn note_object<R: Runtime<File = File>>(rt: &R, wish: &Wish<'_>) {
         image: true,
         ..
     }
-    | Wish::Verify { file, image: true } = *wish
+    | Wish::Verify {
+        file,
+        image: true,
+        ..
+    } = *wish
         && is_object(rt, file)
     {
         let file = Shown(file);

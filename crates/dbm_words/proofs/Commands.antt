@@ -1,11 +1,14 @@
 -- What a chain of builder calls makes of a command.
-use Rattle.std.proofs.Common.{◌≡◌, ◌++◌, ◌∷◌, ◌&&◌, not, is_some, [], List, Bool, true, false, map, refl, ap, ◌∙◌, arith, append_assoc, append-nil}
+use Rattle.std.proofs.Common.{◌≡◌, ◌++◌, ◌∷◌, ◌&&◌, not, is_some, [], List, Bool, Bor, true, false, map, refl, ap, ◌∙◌, arith, append_assoc, append-nil}
+use Rattle.std.proofs.lemmas.List.{map-append}
 use Rattle.std.specs.List.{list_all}
-use Rattle.clap.specs.Words.{AddsArg, AddsInTurn, AddsSubcommand, App, Rule, Shape, app_of, rule_of, with_rule, with_subcommand}
+use Rattle.clap.specs.Words.{AddsArg, AddsCommandAliases, AddsInTurn, AddsSubcommand, App, Rule, Shape, Text, app_of, rule_of, with_rule, with_subcommand}
+use Rattle.clap.specs.Simple.{app_of_fields}
 use Rattle.clap.specs.Walk.{is_empty}
 use Rattle.clap.specs.declared.Arg.{Arg}
 use Rattle.clap.specs.declared.Command.{Command}
-use Rattle.dbm_words.specs.CommandLine.{IsCommand, IsSubcommand}
+use Rattle.clap.specs.declared.builder.command.Command.TheViews.{out-Command}
+use Rattle.dbm_words.specs.CommandLine.{IsCommand, IsSubcommand, with_alias}
 
 right : (a b : Bool) → (a && b) ≡ true → b ≡ true
 right a b h = grind arith
@@ -42,3 +45,14 @@ grown (x ∷ xs) old new s steps simple h =
     let first = gains old steps.0 x _ steps.1 parts.0 h in
     let rest = grown xs steps.0 new (record s { rules = s.rules ++ rule_of x ∷ [] }) steps.2 parts.1 first in
     rw append_assoc at rest
+
+-- one more name
+pub named : (old new : Command) (alias : Bor Text) (s : Shape) → AddsCommandAliases old new ((alias, true) ∷ []) → IsSubcommand s old → IsSubcommand (with_alias alias.now s) new
+named old new alias s step h =
+    let text : Bor Text × Bool → Text = λ a. a.0.now in
+    let names : map text (out-Command new).aliases.items ≡ s.aliases ++ (alias.now ∷ []) =
+    ap (map text) step.1 ∙ map-append text (out-Command old).aliases.items ((alias, true) ∷ []) ∙ ap (λ (a : App). a.top.aliases ++ (alias.now ∷ [])) h.0 in (
+      ap app_of_fields step.0 ∙ ap (λ (a : App). record a { top = record a.top { aliases = map text (out-Command new).aliases.items } }) h.0
+          ∙ ap (λ xs. record { top = record s { aliases = xs }; subs = [] }) names,
+      ap (λ c. c.has_globals) step.0 ∙ h.1,
+    )

@@ -6,6 +6,7 @@ use Rattle.clap.proofs.OnLiterals.{clap_on_literals}
 use Rattle.dbm_words.specs.CommandLine.{tool}
 use Rattle.dbm_words.specs.Wishes.{is_given, lacks_word, writes_files}
 use Rattle.dbm_words.specs.declared.wish.Form.{Form}
+use Rattle.dbm_words.specs.declared.wish.Notation.{Notation}
 use Rattle.dbm_words.specs.declared.wish.Wish.TheVariants as wish
 
 abbrev words : List Text
@@ -42,8 +43,16 @@ pub version_is_shown : fault_of tool (codes "--version" ∷ []) ≡ DisplayVersi
 unfolding clap_on_literals
 version_is_shown = refl
 
-pub script_keeps_nothing : (form : Form) (most : Option (Bor Text)) → writes_files (wish.Script None form most) ≡ false
-script_keeps_nothing form most = refl
+pub script_keeps_nothing : (form : Form) (notation : Notation) (most : Option (Bor Text)) → writes_files (wish.Script None form notation most) ≡ false
+script_keeps_nothing form notation most = refl
 
-pub script_on_files_writes_them : (base : Bor Text) (form : Form) (most : Option (Bor Text)) → writes_files (wish.Script (Some base) form most) ≡ true
-script_on_files_writes_them base form most = refl
+pub script_on_files_writes_them : (base : Bor Text) (form : Form) (notation : Notation) (most : Option (Bor Text)) → writes_files (wish.Script (Some base) form notation most) ≡ true
+script_on_files_writes_them base form notation most = refl
+
+pub get_fetches : option_map (λ p. p.0) (subcommand_of tool (codes "get" ∷ codes "db" ∷ codes "61" ∷ [])) ≡ Some (codes "fetch")
+unfolding clap_on_literals
+get_fetches = refl
+
+pub zero_is_null : option_map (λ p. is_given (codes "null") p.1) (subcommand_of tool (codes "keys" ∷ codes "db" ∷ codes "-0" ∷ [])) ≡ Some true
+unfolding clap_on_literals
+zero_is_null = refl

@@ -1,5 +1,5 @@
 -- The command line: the subcommands that the program has, and the words and options that each takes.
-use Rattle.std.specs.Prelude.{◌≡◌, true, false, List, [], ◌∷◌, Some, codes}
+use Rattle.std.specs.Prelude.{◌≡◌, true, false, List, [], ◌∷◌, ◌++◌, Some, codes}
 use Rattle.clap.specs.Words.{App, Rule, Shape, Text, app_of, new_rule}
 use Rattle.clap.specs.Simple.{new_shape}
 use Rattle.clap.specs.declared.builder.ArgAction.TheVariants.{SetTrue}
@@ -14,12 +14,20 @@ required_word id = record (new_rule id) { required = true }
 abbrev pub flag : Text → Rule
 flag id = record (new_rule id) { long = Some id; action = Some SetTrue }
 
+-- the option `--null`, also as `-0`
+abbrev pub null_flag : Rule
+null_flag = record (flag (codes "null")) { short = Some 48 }
+
 -- the option `--id VALUE`
 abbrev pub valued_option : Text → Rule
 valued_option id = record (new_rule id) { long = Some id; value_names = 1 }
 
 abbrev pub subcommand : Text → List Rule → Shape
 subcommand name rules = record (new_shape name) { rules = rules }
+
+-- a subcommand that has another name too
+abbrev pub with_alias : Text → Shape → Shape
+with_alias alias shape = record shape { aliases = shape.aliases ++ (alias ∷ []) }
 
 -- how long a run waits for the lock, and for one that writes, whether the files have to be there
 abbrev pub reading_access : List Rule
@@ -35,29 +43,51 @@ reading_options = flag (codes "unsigned") ∷ flag (codes "wide") ∷ reading_ac
 abbrev pub writing_options : List Rule
 writing_options = flag (codes "unsigned") ∷ flag (codes "wide") ∷ writing_access
 
+-- how bytes are written in words and lines, and then the same
+abbrev pub reading_in : List Rule
+reading_in = flag (codes "text") ∷ valued_option (codes "as") ∷ reading_options
+
+abbrev pub writing_in : List Rule
+writing_in = flag (codes "text") ∷ valued_option (codes "as") ∷ writing_options
+
 abbrev pub fetch : Shape
-fetch = subcommand (codes "fetch") (required_word (codes "BASE") ∷ required_word (codes "KEY") ∷ reading_options)
+fetch = with_alias (codes "get") (subcommand (codes "fetch") (required_word (codes "BASE") ∷ required_word (codes "KEY") ∷ reading_in))
 
 abbrev pub store : Shape
-store = subcommand (codes "store") (required_word (codes "BASE") ∷ required_word (codes "KEY") ∷ required_word (codes "VALUE") ∷ flag (codes "insert") ∷ writing_options)
+store = with_alias (codes "put") (subcommand (codes "store") (required_word (codes "BASE") ∷ required_word (codes "KEY") ∷ required_word (codes "VALUE") ∷ flag (codes "insert") ∷ writing_in))
 
 abbrev pub delete : Shape
-delete = subcommand (codes "delete") (required_word (codes "BASE") ∷ required_word (codes "KEY") ∷ writing_options)
+delete = with_alias (codes "del") (subcommand (codes "delete") (required_word (codes "BASE") ∷ required_word (codes "KEY") ∷ writing_in))
 
 abbrev pub run : Shape
-run = subcommand (codes "run") (required_word (codes "BASE") ∷ required_word (codes "KEY") ∷ required_word (codes "FILE") ∷ required_word (codes "ARG") ∷ required_word (codes "BLANK") ∷ required_word (codes "NOW") ∷ valued_option (codes "expect") ∷ flag (codes "image") ∷ writing_options)
+run = subcommand (codes "run") (required_word (codes "BASE") ∷ required_word (codes "KEY") ∷ required_word (codes "FILE") ∷ required_word (codes "ARG") ∷ required_word (codes "BLANK") ∷ required_word (codes "NOW") ∷ valued_option (codes "expect") ∷ flag (codes "image") ∷ writing_in)
 
 abbrev pub batch : Shape
-batch = subcommand (codes "batch") (required_word (codes "BASE") ∷ required_word (codes "FILE") ∷ required_word (codes "WORKERS") ∷ flag (codes "image") ∷ writing_options)
+batch = subcommand (codes "batch") (required_word (codes "BASE") ∷ required_word (codes "FILE") ∷ required_word (codes "WORKERS") ∷ flag (codes "image") ∷ writing_in)
 
 abbrev pub list : Shape
-list = subcommand (codes "list") (required_word (codes "BASE") ∷ reading_options)
+list = with_alias (codes "ls") (subcommand (codes "list") (required_word (codes "BASE") ∷ valued_option (codes "prefix") ∷ null_flag ∷ flag (codes "json") ∷ reading_in))
+
+abbrev pub keys : Shape
+keys = subcommand (codes "keys") (required_word (codes "BASE") ∷ valued_option (codes "prefix") ∷ null_flag ∷ flag (codes "text") ∷ reading_options)
 
 abbrev pub check : Shape
-check = subcommand (codes "check") (required_word (codes "BASE") ∷ reading_options)
+check = subcommand (codes "check") (required_word (codes "BASE") ∷ flag (codes "json") ∷ reading_options)
+
+abbrev pub stats : Shape
+stats = subcommand (codes "stats") (required_word (codes "BASE") ∷ flag (codes "json") ∷ reading_options)
+
+abbrev pub dump : Shape
+dump = subcommand (codes "dump") (required_word (codes "BASE") ∷ valued_option (codes "format") ∷ reading_options)
+
+abbrev pub load : Shape
+load = subcommand (codes "load") (required_word (codes "BASE") ∷ valued_option (codes "format") ∷ writing_options)
 
 abbrev pub script : Shape
-script = subcommand (codes "script") (valued_option (codes "base") ∷ valued_option (codes "max-output") ∷ writing_options)
+script = subcommand (codes "script") (valued_option (codes "base") ∷ valued_option (codes "max-output") ∷ writing_in)
+
+abbrev pub session : Shape
+session = subcommand (codes "session") (required_word (codes "BASE") ∷ valued_option (codes "save-every") ∷ writing_in)
 
 abbrev pub widen : Shape
 widen = subcommand (codes "widen") (required_word (codes "BASE") ∷ flag (codes "unsigned") ∷ writing_access)
@@ -69,7 +99,7 @@ abbrev pub disasm : Shape
 disasm = subcommand (codes "disasm") (required_word (codes "FILE") ∷ [])
 
 abbrev pub verify : Shape
-verify = subcommand (codes "verify") (required_word (codes "FILE") ∷ flag (codes "image") ∷ [])
+verify = subcommand (codes "verify") (required_word (codes "FILE") ∷ flag (codes "image") ∷ flag (codes "explain") ∷ flag (codes "json") ∷ [])
 
 -- the program's name, with a version
 abbrev pub titled : Shape
@@ -87,7 +117,7 @@ bare = record titled {
 abbrev pub tool : App
 tool = record {
   top = record bare { is_leaf = false };
-  subs = fetch ∷ store ∷ delete ∷ list ∷ check ∷ script ∷ widen ∷ asm ∷ disasm ∷ verify ∷ run ∷ batch ∷ [];
+  subs = fetch ∷ store ∷ delete ∷ list ∷ keys ∷ check ∷ stats ∷ script ∷ session ∷ dump ∷ load ∷ widen ∷ asm ∷ disasm ∷ verify ∷ run ∷ batch ∷ [];
 }
 
 -- a command with these rules, none of whose arguments holds for its subcommands too

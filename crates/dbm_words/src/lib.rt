@@ -15,7 +15,7 @@ mod wish;
 pub use crate::fault::ToolFault;
 use crate::matched::{access, asked};
 use crate::subcommands::tool_command;
-pub use crate::wish::{Access, Form, Request, TimeUnit, Wish};
+pub use crate::wish::{Access, Form, Notation, Request, TimeUnit, Wish};
 use std::alloc::Global;
 
 /// What the words behind the program's name ask, and how its database is come by.

@@ -2,9 +2,9 @@
 ghost use Rattle.std.specs.Prelude.{◌≡◌, IfSome, IsNone, Some, true, false, codes, option_map};
 ghost use Rattle.clap.specs.Words.{first_of, found_of, rows_of};
 ghost use Rattle.dbm_words.specs.CommandLine as spec;
-ghost use Rattle.dbm_words.specs.Wishes.{SubcommandAsks, IsAccess, IsForm, has_words, is_given, lacks_word};
+ghost use Rattle.dbm_words.specs.Wishes.{SubcommandAsks, IsAccess, IsForm, IsNotation, has_words, is_given, lacks_word};
 
-use crate::wish::{Access, Form, Wish};
+use crate::wish::{Access, Form, Notation, Wish};
 use clap::ArgMatches;
 
 /// What the subcommand of this name asks by its matches. There is none where they lack a word that it has to have, or where no
@@ -18,8 +18,13 @@ pub fn asked<'a>(name: &str, matches: &ArgMatches<'a>) -> Option<Wish<'a>>
         "store" => store(matches),
         "delete" => delete(matches),
         "list" => list(matches),
+        "keys" => keys(matches),
         "check" => check(matches),
+        "stats" => stats(matches),
         "script" => script(matches),
+        "session" => session(matches),
+        "dump" => dump(matches),
+        "load" => load(matches),
         "widen" => widen(matches),
         "asm" => asm(matches),
         "disasm" => disasm(matches),
@@ -56,6 +61,15 @@ fn form(matches: &ArgMatches<'_>) -> Form
     }
 }
 
+fn notation<'a>(matches: &ArgMatches<'a>) -> Notation<'a>
+    ensures { IsNotation (rows_of (found_of matches.now)) result }
+{
+    Notation {
+        text: has_flag(matches, "text"),
+        layout: word(matches, "as"),
+    }
+}
+
 /// How the database of a subcommand is come by.
 pub fn access<'a>(matches: &ArgMatches<'a>) -> Access<'a>
     ensures { IsAccess (rows_of (found_of matches.now)) result }
@@ -73,6 +87,7 @@ fn fetch<'a>(matches: &ArgMatches<'a>) -> Option<Wish<'a>>
     Some(Wish::Fetch {
         base: word(matches, "BASE")?,
         form: form(matches),
+        notation: notation(matches),
         key: word(matches, "KEY")?,
     })
 }
@@ -84,6 +99,7 @@ fn store<'a>(matches: &ArgMatches<'a>) -> Option<Wish<'a>>
     Some(Wish::Store {
         base: word(matches, "BASE")?,
         form: form(matches),
+        notation: notation(matches),
         key: word(matches, "KEY")?,
         value: word(matches, "VALUE")?,
         insert: has_flag(matches, "insert"),
@@ -97,6 +113,7 @@ fn delete<'a>(matches: &ArgMatches<'a>) -> Option<Wish<'a>>
     Some(Wish::Delete {
         base: word(matches, "BASE")?,
         form: form(matches),
+        notation: notation(matches),
         key: word(matches, "KEY")?,
     })
 }
@@ -108,6 +125,23 @@ fn list<'a>(matches: &ArgMatches<'a>) -> Option<Wish<'a>>
     Some(Wish::List {
         base: word(matches, "BASE")?,
         form: form(matches),
+        notation: notation(matches),
+        prefix: word(matches, "prefix"),
+        null: has_flag(matches, "null"),
+        json: has_flag(matches, "json"),
+    })
+}
+
+fn keys<'a>(matches: &ArgMatches<'a>) -> Option<Wish<'a>>
+    ensures some { IfSome result (SubcommandAsks (codes "keys") (rows_of (found_of matches.now))) }
+    ensures none { IsNone result → has_words spec.keys.rules (rows_of (found_of matches.now)) ≡ false }
+{
+    Some(Wish::Keys {
+        base: word(matches, "BASE")?,
+        form: form(matches),
+        notation: notation(matches),
+        prefix: word(matches, "prefix"),
+        null: has_flag(matches, "null"),
     })
 }
 
@@ -118,6 +152,40 @@ fn check<'a>(matches: &ArgMatches<'a>) -> Option<Wish<'a>>
     Some(Wish::Check {
         base: word(matches, "BASE")?,
         form: form(matches),
+        json: has_flag(matches, "json"),
+    })
+}
+
+fn stats<'a>(matches: &ArgMatches<'a>) -> Option<Wish<'a>>
+    ensures some { IfSome result (SubcommandAsks (codes "stats") (rows_of (found_of matches.now))) }
+    ensures none { IsNone result → has_words spec.stats.rules (rows_of (found_of matches.now)) ≡ false }
+{
+    Some(Wish::Stats {
+        base: word(matches, "BASE")?,
+        form: form(matches),
+        json: has_flag(matches, "json"),
+    })
+}
+
+fn dump<'a>(matches: &ArgMatches<'a>) -> Option<Wish<'a>>
+    ensures some { IfSome result (SubcommandAsks (codes "dump") (rows_of (found_of matches.now))) }
+    ensures none { IsNone result → has_words spec.dump.rules (rows_of (found_of matches.now)) ≡ false }
+{
+    Some(Wish::Dump {
+        base: word(matches, "BASE")?,
+        form: form(matches),
+        format: word(matches, "format"),
+    })
+}
+
+fn load<'a>(matches: &ArgMatches<'a>) -> Option<Wish<'a>>
+    ensures some { IfSome result (SubcommandAsks (codes "load") (rows_of (found_of matches.now))) }
+    ensures none { IsNone result → has_words spec.load.rules (rows_of (found_of matches.now)) ≡ false }
+{
+    Some(Wish::Load {
+        base: word(matches, "BASE")?,
+        form: form(matches),
+        format: word(matches, "format"),
     })
 }
 
@@ -129,6 +197,19 @@ fn script<'a>(matches: &ArgMatches<'a>) -> Option<Wish<'a>>
         base: word(matches, "base"),
         max_output: word(matches, "max-output"),
         form: form(matches),
+        notation: notation(matches),
+    })
+}
+
+fn session<'a>(matches: &ArgMatches<'a>) -> Option<Wish<'a>>
+    ensures some { IfSome result (SubcommandAsks (codes "session") (rows_of (found_of matches.now))) }
+    ensures none { IsNone result → has_words spec.session.rules (rows_of (found_of matches.now)) ≡ false }
+{
+    Some(Wish::Session {
+        base: word(matches, "BASE")?,
+        form: form(matches),
+        notation: notation(matches),
+        save_every: word(matches, "save-every"),
     })
 }
 
@@ -167,6 +248,8 @@ fn verify<'a>(matches: &ArgMatches<'a>) -> Option<Wish<'a>>
     Some(Wish::Verify {
         file: word(matches, "FILE")?,
         image: has_flag(matches, "image"),
+        explain: has_flag(matches, "explain"),
+        json: has_flag(matches, "json"),
     })
 }
 
@@ -177,6 +260,7 @@ fn run<'a>(matches: &ArgMatches<'a>) -> Option<Wish<'a>>
     Some(Wish::Run {
         base: word(matches, "BASE")?,
         form: form(matches),
+        notation: notation(matches),
         key: word(matches, "KEY")?,
         file: word(matches, "FILE")?,
         arg: word(matches, "ARG")?,
@@ -194,6 +278,7 @@ fn batch<'a>(matches: &ArgMatches<'a>) -> Option<Wish<'a>>
     Some(Wish::Batch {
         base: word(matches, "BASE")?,
         form: form(matches),
+        notation: notation(matches),
         file: word(matches, "FILE")?,
         workers: word(matches, "WORKERS")?,
         image: has_flag(matches, "image"),

@@ -6,7 +6,8 @@ ghost use Rattle.dbm_words.specs.CommandLine.{IsCommand, IsSubcommand, tool};
 ghost use Rattle.dbm_words.specs.CommandLine as spec;
 
 use crate::arguments::{
-    base, file, flag, image, key, must_exist, required_word, timeout, unsigned, valued_option, wide,
+    base, file, flag, format, image, json, key, layout, must_exist, null, prefix, required_word,
+    text, timeout, unsigned, valued_option, wide,
 };
 use clap::{Arg, Command};
 use std::alloc::{AllocError, Global};
@@ -20,8 +21,13 @@ pub fn tool_command<'a>(alloc: Global) -> Result<Command<'a>, AllocError>
         .subcommand(store_command(alloc)?)?
         .subcommand(delete_command(alloc)?)?
         .subcommand(list_command(alloc)?)?
+        .subcommand(keys_command(alloc)?)?
         .subcommand(check_command(alloc)?)?
+        .subcommand(stats_command(alloc)?)?
         .subcommand(script_command(alloc)?)?
+        .subcommand(session_command(alloc)?)?
+        .subcommand(dump_command(alloc)?)?
+        .subcommand(load_command(alloc)?)?
         .subcommand(widen_command(alloc)?)?
         .subcommand(asm_command(alloc)?)?
         .subcommand(disasm_command(alloc)?)?
@@ -38,10 +44,10 @@ fn titled_command<'a>(alloc: Global) -> Command<'a>
         .version("0.1.0")
         .about("A key-value store in the files of an sdbm database")
         .after_help(
-            "Bytes are written in hex, two digits a byte, or as . for none.\n\
+            "Bytes are written in hex, two digits a byte, or as . for none; with --text as text.\n\
              The status is 0; 1 where fetch, store, delete or run answers missing, exists, crowded or refused,\n\
              or verify answers refused; and 2 for a fault, which standard error names.\n\n\
-             Example: dbm store users 6162 78797a\n\
+             Example: dbm store users ab xyz --text\n\
              stores the value xyz of the key ab in users.dir and users.pag.",
         )
 }
@@ -74,25 +80,47 @@ fn subcommand<'a>(
         .args(args)
 }
 
+// A subcommand that has another name too.
+fn aliased_subcommand<'a>(
+    alloc: Global,
+    name: &'a str,
+    alias: &'a str,
+    about: &'a str,
+    notes: &'a str,
+    args: Vec<Arg<'a>>,
+) -> Result<Command<'a>, AllocError>
+    requires { list_all (λ rule. rule.is_simple) (map rule_of args.items) ≡ true }
+    ensures { IfOk result (IsSubcommand (spec.with_alias alias.entry.now (spec.subcommand name.entry.now (map rule_of args.entry.items)))) }
+{
+    subcommand(alloc, name, about, notes, args)?.visible_alias(alias)
+}
+
 fn fetch_command<'a>(alloc: Global) -> Result<Command<'a>, AllocError>
     ensures { IfOk result (IsSubcommand spec.fetch) }
 {
     let args = vec![in alloc;
         base(alloc),
         key(alloc),
+        text(alloc),
+        layout(alloc),
         unsigned(alloc),
         wide(alloc),
         timeout(alloc),
     ]?;
     let about = "Print the value of a key";
-    let notes = "Prints found VALUE, or missing with status 1.\n\nExample: dbm fetch users 6162";
-    subcommand(alloc, "fetch", about, notes, args)
+    let notes =
+        "Prints found VALUE, or missing with status 1.\n\nExample: dbm fetch users ab --text";
+    aliased_subcommand(alloc, "fetch", "get", about, notes, args)
 }
 
 fn store_command<'a>(alloc: Global) -> Result<Command<'a>, AllocError>
     ensures { IfOk result (IsSubcommand spec.store) }
 {
-    let value = required_word(alloc, "VALUE", "The value in hex, or . for the empty one");
+    let value = required_word(
+        alloc,
+        "VALUE",
+        "The value in hex, or with --text as text; . for the empty one",
+    );
     let insert = flag(
         alloc,
         "insert",
@@ -103,6 +131,8 @@ fn store_command<'a>(alloc: Global) -> Result<Command<'a>, AllocError>
         key(alloc),
         value,
         insert,
+        text(alloc),
+        layout(alloc),
         unsigned(alloc),
         wide(alloc),
         must_exist(alloc),
@@ -112,8 +142,8 @@ fn store_command<'a>(alloc: Global) -> Result<Command<'a>, AllocError>
     let notes =
         "Prints stored, or with status 1 exists (only with --insert), crowded (there is no room) or\n\
          refused PairTooLarge (key and value have more than 1,008 bytes together, or 8,008 with --wide).\n\n\
-         Example: dbm store users 6162 78797a --insert";
-    subcommand(alloc, "store", about, notes, args)
+         Example: dbm store users ab xyz --text --insert";
+    aliased_subcommand(alloc, "store", "put", about, notes, args)
 }
 
 fn delete_command<'a>(alloc: Global) -> Result<Command<'a>, AllocError>
@@ -122,36 +152,129 @@ fn delete_command<'a>(alloc: Global) -> Result<Command<'a>, AllocError>
     let args = vec![in alloc;
         base(alloc),
         key(alloc),
+        text(alloc),
+        layout(alloc),
         unsigned(alloc),
         wide(alloc),
         must_exist(alloc),
         timeout(alloc),
     ]?;
     let about = "Delete the pair of a key";
-    let notes = "Prints deleted, or missing with status 1.\n\nExample: dbm delete users 6162";
-    subcommand(alloc, "delete", about, notes, args)
+    let notes = "Prints deleted, or missing with status 1.\n\nExample: dbm delete users ab --text";
+    aliased_subcommand(alloc, "delete", "del", about, notes, args)
 }
 
 fn list_command<'a>(alloc: Global) -> Result<Command<'a>, AllocError>
     ensures { IfOk result (IsSubcommand spec.list) }
 {
-    let args = vec![in alloc; base(alloc), unsigned(alloc), wide(alloc), timeout(alloc)]?;
+    let args = vec![in alloc;
+        base(alloc),
+        prefix(alloc),
+        null(alloc),
+        json(alloc),
+        text(alloc),
+        layout(alloc),
+        unsigned(alloc),
+        wide(alloc),
+        timeout(alloc),
+    ]?;
     let about = "Print all pairs, sorted by the bytes of their keys";
-    let notes = "Prints KEY VALUE for each pair, both in hex, or . for no bytes.\n\n\
-         Example: dbm list users";
-    subcommand(alloc, "list", about, notes, args)
+    let notes =
+        "Prints KEY VALUE for each pair, both in hex, or . for no bytes; with --json an object\n\
+         for each in a line of its own.\n\n\
+         Example: dbm list users --text";
+    aliased_subcommand(alloc, "list", "ls", about, notes, args)
+}
+
+fn keys_command<'a>(alloc: Global) -> Result<Command<'a>, AllocError>
+    ensures { IfOk result (IsSubcommand spec.keys) }
+{
+    let args = vec![in alloc;
+        base(alloc),
+        prefix(alloc),
+        null(alloc),
+        text(alloc),
+        unsigned(alloc),
+        wide(alloc),
+        timeout(alloc),
+    ]?;
+    let about = "Print all keys, sorted by their bytes";
+    let notes = "Prints each key in a line, in hex, or . for no bytes.\n\n\
+         Example: dbm keys users --text --prefix user:";
+    subcommand(alloc, "keys", about, notes, args)
 }
 
 fn check_command<'a>(alloc: Global) -> Result<Command<'a>, AllocError>
     ensures { IfOk result (IsSubcommand spec.check) }
 {
-    let args = vec![in alloc; base(alloc), unsigned(alloc), wide(alloc), timeout(alloc)]?;
+    let args = vec![in alloc;
+        base(alloc),
+        json(alloc),
+        unsigned(alloc),
+        wide(alloc),
+        timeout(alloc),
+    ]?;
     let about = "Check that the files are a database";
     let notes =
         "Prints ok N for a database of N pairs. Where the files are none, standard error names\n\
          the fault, and the status is 2. Where neither file is there, the database is empty.\n\n\
          Example: dbm check users";
     subcommand(alloc, "check", about, notes, args)
+}
+
+fn stats_command<'a>(alloc: Global) -> Result<Command<'a>, AllocError>
+    ensures { IfOk result (IsSubcommand spec.stats) }
+{
+    let args = vec![in alloc;
+        base(alloc),
+        json(alloc),
+        unsigned(alloc),
+        wide(alloc),
+        timeout(alloc),
+    ]?;
+    let about = "Print what is in a database, in numbers";
+    let notes =
+        "Prints how many pairs and bytes there are, how full the pages are, and how deep the directory is.\n\n\
+         Example: dbm stats users";
+    subcommand(alloc, "stats", about, notes, args)
+}
+
+fn dump_command<'a>(alloc: Global) -> Result<Command<'a>, AllocError>
+    ensures { IfOk result (IsSubcommand spec.dump) }
+{
+    let help =
+        "gdbm for gdbm_load, redis for redis-cli --pipe; without it, the form that load takes back";
+    let args = vec![in alloc;
+        base(alloc),
+        format(alloc, help),
+        unsigned(alloc),
+        wide(alloc),
+        timeout(alloc),
+    ]?;
+    let about = "Print all pairs in a form that load, or another program, takes back";
+    let notes = "Prints a header and a line for each pair, sorted by the bytes of their keys.\n\n\
+         Example: dbm dump users > users.dump";
+    subcommand(alloc, "dump", about, notes, args)
+}
+
+fn load_command<'a>(alloc: Global) -> Result<Command<'a>, AllocError>
+    ensures { IfOk result (IsSubcommand spec.load) }
+{
+    let help = "gdbm for what gdbm_dump prints; without it, the first line says which form it is";
+    let args = vec![in alloc;
+        base(alloc),
+        format(alloc, help),
+        unsigned(alloc),
+        wide(alloc),
+        must_exist(alloc),
+        timeout(alloc),
+    ]?;
+    let about = "Store the pairs of a dump on standard input, in one save";
+    let notes =
+        "Prints loaded N for a dump of N pairs, which may have any length. A pair replaces that of its key;\n\
+         the pairs of other keys stay. At a fault nothing is stored.\n\n\
+         Example: dbm load users < users.dump";
+    subcommand(alloc, "load", about, notes, args)
 }
 
 fn script_command<'a>(alloc: Global) -> Result<Command<'a>, AllocError>
@@ -162,6 +285,8 @@ fn script_command<'a>(alloc: Global) -> Result<Command<'a>, AllocError>
     let args = vec![in alloc;
         valued_option(alloc, "base", "BASE", help),
         valued_option(alloc, "max-output", "BYTES", limit),
+        text(alloc),
+        layout(alloc),
         unsigned(alloc),
         wide(alloc),
         must_exist(alloc),
@@ -176,6 +301,29 @@ fn script_command<'a>(alloc: Global) -> Result<Command<'a>, AllocError>
          and their answers up to 2,003 times as much. Where that is more than BYTES, the fault is OutputTooLong.\n\n\
          Example: dbm script --base users < first.script";
     subcommand(alloc, "script", about, notes, args)
+}
+
+fn session_command<'a>(alloc: Global) -> Result<Command<'a>, AllocError>
+    ensures { IfOk result (IsSubcommand spec.session) }
+{
+    let help =
+        "Save after so many changes too, or with an s behind the number, after so many seconds";
+    let args = vec![in alloc;
+        base(alloc),
+        valued_option(alloc, "save-every", "N", help),
+        text(alloc),
+        layout(alloc),
+        unsigned(alloc),
+        wide(alloc),
+        must_exist(alloc),
+        timeout(alloc),
+    ]?;
+    let about = "Answer each line on standard input before the next is read";
+    let notes =
+        "The lines are those of a script, and save, which answers saved once all changes are kept. They are\n\
+         saved at the end too. The database is locked until then.\n\n\
+         Example: dbm session users --text";
+    subcommand(alloc, "session", about, notes, args)
 }
 
 fn widen_command<'a>(alloc: Global) -> Result<Command<'a>, AllocError>
@@ -222,6 +370,12 @@ fn verify_command<'a>(alloc: Global) -> Result<Command<'a>, AllocError>
     let args = vec![in alloc;
         file(alloc, "The program as text, one instruction a line"),
         image(alloc),
+        flag(
+            alloc,
+            "explain",
+            "Print what is known before each instruction, and in words why the program is refused"
+        ),
+        json(alloc),
     ]?;
     let about = "Say whether a program is accepted, or why it is refused";
     let notes =
@@ -240,7 +394,7 @@ fn run_command<'a>(alloc: Global) -> Result<Command<'a>, AllocError>
         required_word(
             alloc,
             "ARG",
-            "What the program is given, in hex, or . for nothing"
+            "What the program is given, in hex, or with --text as text; . for nothing"
         ),
         required_word(
             alloc,
@@ -259,6 +413,8 @@ fn run_command<'a>(alloc: Global) -> Result<Command<'a>, AllocError>
             "Let the status be 1 unless the program ended with this code"
         ),
         image(alloc),
+        text(alloc),
+        layout(alloc),
         unsigned(alloc),
         wide(alloc),
         must_exist(alloc),
@@ -269,7 +425,7 @@ fn run_command<'a>(alloc: Global) -> Result<Command<'a>, AllocError>
         "Prints ran CODE WORD, or with status 1 missing, crowded (there is no room for a new record) or\n\
          refused FAULT (the program is not accepted, or KEY and BLANK or ARG are too long). CODE 1 kept the\n\
          record, 2 deleted the pair, and any other changed nothing; WORD is what the program replied.\n\n\
-         Example: dbm run users 6162 counter.s . 8 0";
+         Example: dbm run users hits counter.s . 8 now --text";
     subcommand(alloc, "run", about, notes, args)
 }
 
@@ -285,6 +441,8 @@ fn batch_command<'a>(alloc: Global) -> Result<Command<'a>, AllocError>
             "How many workers share the tasks, each in a thread of its own where one can be made"
         ),
         image(alloc),
+        text(alloc),
+        layout(alloc),
         unsigned(alloc),
         wide(alloc),
         must_exist(alloc),

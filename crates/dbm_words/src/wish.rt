@@ -11,6 +11,15 @@ pub struct Form {
     pub wide: bool,
 }
 
+/// How bytes are written in words and in lines, as the options `--text` and `--as` say.
+#[derive(Clone, Copy, Debug, PartialEq, Eq)]
+pub struct Notation<'a> {
+    /// Bytes are written as text.
+    pub text: bool,
+    /// Values are printed by this layout; all else is text.
+    pub layout: Option<&'a str>,
+}
+
 /// How a database is come by, as the options `--timeout` and `--must-exist` say.
 #[derive(Clone, Copy, Debug, PartialEq, Eq)]
 pub struct Access<'a> {
@@ -35,12 +44,14 @@ pub enum Wish<'a> {
     Fetch {
         base: &'a str,
         form: Form,
+        notation: Notation<'a>,
         key: &'a str,
     },
     /// A pair is to be stored, with `insert` only where its key is not there.
     Store {
         base: &'a str,
         form: Form,
+        notation: Notation<'a>,
         key: &'a str,
         value: &'a str,
         insert: bool,
@@ -49,6 +60,7 @@ pub enum Wish<'a> {
     Delete {
         base: &'a str,
         form: Form,
+        notation: Notation<'a>,
         key: &'a str,
     },
     /// A program is to be run on the record of a key: that of a text, or with `image` that of an image. `expect` is the code with
@@ -56,6 +68,7 @@ pub enum Wish<'a> {
     Run {
         base: &'a str,
         form: Form,
+        notation: Notation<'a>,
         key: &'a str,
         file: &'a str,
         arg: &'a str,
@@ -69,25 +82,67 @@ pub enum Wish<'a> {
     Batch {
         base: &'a str,
         form: Form,
+        notation: Notation<'a>,
         file: &'a str,
         workers: &'a str,
         image: bool,
     },
-    /// All pairs.
+    /// All pairs, or those whose keys begin with a prefix: with `null` as raw bytes, each key and value ended by a zero byte, with
+    /// `json` as objects.
     List {
         base: &'a str,
         form: Form,
+        notation: Notation<'a>,
+        prefix: Option<&'a str>,
+        null: bool,
+        json: bool,
+    },
+    /// All keys, or those that begin with a prefix: with `null` as raw bytes, each ended by a zero byte.
+    Keys {
+        base: &'a str,
+        form: Form,
+        notation: Notation<'a>,
+        prefix: Option<&'a str>,
+        null: bool,
     },
     /// Whether the files are a database, and how many pairs it has.
     Check {
         base: &'a str,
         form: Form,
+        json: bool,
+    },
+    /// What is in a database, in numbers.
+    Stats {
+        base: &'a str,
+        form: Form,
+        json: bool,
+    },
+    /// All pairs in a text form that `load` takes back, or in a format of another program.
+    Dump {
+        base: &'a str,
+        form: Form,
+        format: Option<&'a str>,
+    },
+    /// The pairs of a dump on standard input are to be stored.
+    Load {
+        base: &'a str,
+        form: Form,
+        format: Option<&'a str>,
+    },
+    /// The lines on standard input are to be answered one by one, and what they change is saved at the lines that ask for it, as often
+    /// as `save_every` says, and at the end.
+    Session {
+        base: &'a str,
+        form: Form,
+        notation: Notation<'a>,
+        save_every: Option<&'a str>,
     },
     /// The script on standard input is to be run, without a base on an empty database that is not kept. Its answers are to have at
     /// most `max_output` bytes.
     Script {
         base: Option<&'a str>,
         form: Form,
+        notation: Notation<'a>,
         max_output: Option<&'a str>,
     },
     /// A database of small pages is to be written with wide ones.
@@ -103,10 +158,12 @@ pub enum Wish<'a> {
     Disasm {
         file: &'a str,
     },
-    /// Whether a program is accepted: that of a text, or with `image` that of an image.
+    /// Whether a program is accepted: that of a text, or with `image` that of an image. With `explain` it is told why.
     Verify {
         file: &'a str,
         image: bool,
+        explain: bool,
+        json: bool,
     },
 }
 
@@ -129,7 +186,12 @@ impl<'a> Wish<'a> {
             | Wish::Run { base, .. }
             | Wish::Batch { base, .. }
             | Wish::List { base, .. }
+            | Wish::Keys { base, .. }
             | Wish::Check { base, .. }
+            | Wish::Stats { base, .. }
+            | Wish::Dump { base, .. }
+            | Wish::Load { base, .. }
+            | Wish::Session { base, .. }
             | Wish::Widen { base, .. } => Some(base),
             Wish::Script { base, .. } => base,
             Wish::Asm { .. } | Wish::Disasm { .. } | Wish::Verify { .. } => None,
@@ -150,8 +212,8 @@ impl<'a> Wish<'a> {
         }
     }
 
-    /// Whether the files of its database are written once it was served: by `store`, `delete`, `run`, `batch`, `widen`, and `script`
-    /// with a base. A `store`, `delete` or `run` that changed nothing writes them too.
+    /// Whether the files of its database are written once it was served: by `store`, `delete`, `run`, `batch`, `load`, `session`,
+    /// `widen`, and `script` with a base. A `store`, `delete` or `run` that changed nothing writes them too.
     pub fn writes(&self) -> bool
         ensures { result ≡ writes_files self.now }
     {
@@ -160,11 +222,16 @@ impl<'a> Wish<'a> {
             | Wish::Delete { .. }
             | Wish::Run { .. }
             | Wish::Batch { .. }
+            | Wish::Load { .. }
+            | Wish::Session { .. }
             | Wish::Widen { .. } => true,
             Wish::Script { base, .. } => base.is_some(),
             Wish::Fetch { .. }
             | Wish::List { .. }
+            | Wish::Keys { .. }
             | Wish::Check { .. }
+            | Wish::Stats { .. }
+            | Wish::Dump { .. }
             | Wish::Asm { .. }
             | Wish::Disasm { .. }
             | Wish::Verify { .. } => false,
@@ -193,6 +260,7 @@ impl<'a> Wish<'a> {
             Wish::Run {
                 base,
                 form,
+                notation,
                 key,
                 file,
                 arg,
@@ -203,6 +271,7 @@ impl<'a> Wish<'a> {
             } => Wish::Run {
                 base,
                 form,
+                notation,
                 key,
                 file,
                 arg,

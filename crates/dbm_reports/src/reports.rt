@@ -190,8 +190,8 @@ fn report_script<R: Read>(
     max_output: Option<&str>,
     reader: &mut R,
 ) -> Result<Report, ReportFault>
-    ensures ok { IfOk result (λ report. (subcommand_for (wish.Script base.entry form notation max_output.entry) given.now (R.remaining reader.old)).reports report) }
-    ensures fault { IfErr result (IsCaused (subcommand_for (wish.Script base.entry form notation max_output.entry) given.now (R.remaining reader.old)).causes) }
+    ensures ok { IfOk result (λ report. (subcommand_for (wish.Script base.entry form notation.entry max_output.entry) given.now (R.remaining reader.old)).reports report) }
+    ensures fault { IfErr result (IsCaused (subcommand_for (wish.Script base.entry form notation.entry max_output.entry) given.now (R.remaining reader.old)).causes) }
 {
     let Some(most) = output_limit(max_output) else {
         return Err(ReportFault::BadNumber);

@@ -17,16 +17,20 @@ ghost use Rattle.sdbm_files.specs.Opened.{IsOpenFault, SpellsNoDatabase};
 mod fault_text;
 mod opening;
 mod pages;
+mod parsed;
+mod reading;
 mod sink;
+mod told;
 mod widening;
 mod writing;
 
 pub use opening::OpenFault;
-use opening::{keep_pages, misplaced, read_dir, read_pages};
+use opening::{copy_pages, misplaced, read_dir};
 use pages::{
     Pages, copy_pairs, count_pairs, grow_all, mark_all, put_page, put_pages, replace_page,
     sort_pairs, store_pair, write_record,
 };
+pub use reading::ReadPages;
 use sdbm_addr::{Bytes, KeyBytes, Mode, PageSize, hash};
 use sdbm_dir::{Dir, Place};
 use sdbm_page::SharedPage;
@@ -101,18 +105,46 @@ impl<A: Allocator + Copy> Image<A> {
         if pag.len() % size.bytes() != 0 {
             return Err(OpenFault::PagLength);
         }
-        let read = match read_pages(alloc, pag, size) {
-            Ok(read) => read,
-            Err(fault) => return Err(fault),
+        let mut read = ReadPages::new(alloc, size);
+        let Ok(()) = read.push(pag) else {
+            return Err(OpenFault::NoMemory);
         };
+        Image::open_read(alloc, dir, &read, kind)
+    }
+
+    /// The same for a `.pag` that was read piece by piece. The database shares its pages with what was read until it changes them.
+    ///
+    /// # Errors
+    /// Those of `open`.
+    pub fn open_read(
+        alloc: A,
+        dir: &[u8],
+        pag: &ReadPages<A>,
+        kind: KeyBytes,
+    ) -> Result<Self, OpenFault>
+        ensures database { IfOk result (λ image. SpellsDatabase image dir.now pag.now.bytes) }
+        ensures kind { IfOk result (λ image. image.kind ≡ kind) }
+        ensures size { IfOk result (λ image. image.size ≡ pag.now.size) }
+        ensures only { IfOk result (λ image. (db : Database) → db.kind ≡ kind → db.size ≡ pag.now.size → SpellsDatabase db dir.now pag.now.bytes → db ≡ image) }
+        ensures fault { IfErr result (IsOpenFault kind pag.now.size dir.now pag.now.bytes) }
+        ensures none { IfErr result (λ fault. fault ≢ OpenFault.NoMemory → SpellsNoDatabase kind pag.now.size dir.now pag.now.bytes) }
+    {
+        let size = pag.size;
+        if pag.len % size.bytes() != 0 {
+            return Err(OpenFault::PagLength);
+        }
+        if let Some((number, fault)) = pag.parsed.bad {
+            return Err(OpenFault::Page(number, fault));
+        }
         let splits = match read_dir(alloc, dir) {
             Ok(splits) => splits,
             Err(fault) => return Err(fault),
         };
-        if let Some(number) = misplaced(&splits, kind, read.as_slice()) {
+        let count = pag.parsed.foreign.len();
+        if let Some(number) = misplaced(&splits, kind, &pag.parsed.pages, count) {
             return Err(OpenFault::Misplaced(number));
         }
-        let Ok(pages) = keep_pages(alloc, size, read) else {
+        let Ok(pages) = copy_pages(alloc, &pag.parsed.pages) else {
             return Err(OpenFault::NoMemory);
         };
         Ok(Image {

@@ -1,15 +1,16 @@
 //! A database from the bytes of both files.
-ghost use Rattle.std.specs.Prelude.{◌≡◌, ◌<◌, ◌%◌, ◌↔◌, ℕ, length, get_or, IsTrue, IfOk, OnOk, IfErr, IfSome, IfNone, None};
+ghost use Rattle.std.specs.Prelude.{◌≡◌, ◌<◌, ◌↔◌, ℕ, IsTrue, IfOk, IfErr, IfSome, IfNone};
+ghost use Rattle.sdbm_addr.specs.declared.PageSize.{PageSize};
 ghost use Rattle.sdbm_addr.specs.DirectoryFile.{SpellsDirectory};
-ghost use Rattle.sdbm_addr.specs.Pairs.{page_bytes};
-ghost use Rattle.sdbm_addr.specs.Database.{put_page};
-ghost use Rattle.sdbm_files.specs.Kept.{pages_of, AreSized};
-ghost use Rattle.sdbm_files.specs.Opened.{AreRead, IsRead, IsFaultOf, IsFaultOfPages, IsFaultOfDir, LeadTo, IsFirstMisled, MayKeep, AreKeptAs, pairs_of_page};
+ghost use Rattle.sdbm_files.specs.Kept.{pages_of, pairs_under, AreSized};
+ghost use Rattle.sdbm_files.specs.Opened.{IsFaultOfDir, LeadTo, IsFirstMisled};
+ghost use Rattle.sdbm_files.specs.Reading.{AreLow};
 
 use crate::pages::{Pages, put_page};
-use sdbm_addr::{KeyBytes, PageSize, hash, mask};
+use crate::parsed::Numbered;
+use sdbm_addr::{KeyBytes, hash, mask};
 use sdbm_dir::{Dir, DirFault};
-use sdbm_page::{Page, PageFault, SharedPage, spells_empty};
+use sdbm_page::{Page, PageFault};
 use std::alloc::{AllocError, Allocator};
 use std::collections::HashMap;
 
@@ -28,53 +29,6 @@ pub enum OpenFault {
     NoMemory,
 }
 
-/// The pages of `.pag` in the order of their numbers, none for those without pairs.
-pub fn read_pages<A: Allocator + Copy>(
-    alloc: A,
-    pag: &[u8],
-    size: PageSize,
-) -> Result<Vec<Option<Page<A>>, A>, OpenFault>
-    requires { length pag.now % page_bytes size ≡ 0 }
-    ensures pages { IfOk result (λ pages. AreRead size pag.now pages.items) }
-    ensures fault { IfErr result (IsFaultOfPages size pag.now) }
-{
-    let page_bytes = size.bytes();
-    let count = pag.len() / page_bytes;
-    let Ok(mut pages) = Vec::with_capacity(alloc, count) else {
-        return Err(OpenFault::NoMemory);
-    };
-    for number in 0..count {
-        let start = number * page_bytes;
-        let page = match read_page(alloc, &pag[start..start + page_bytes], size, number) {
-            Ok(page) => page,
-            Err(fault) => return Err(fault),
-        };
-        pages.push_reserved(page);
-    }
-    Ok(pages)
-}
-
-// The page that bytes spell under a number, none where it has no pairs.
-fn read_page<A: Allocator + Copy>(
-    alloc: A,
-    bytes: &[u8],
-    size: PageSize,
-    number: usize,
-) -> Result<Option<Page<A>>, OpenFault>
-    requires { length bytes.now ≡ page_bytes size }
-    ensures page { IfOk result (IsRead size bytes.now) }
-    ensures fault { IfErr result (IsFaultOf size bytes.now number) }
-{
-    if spells_empty(bytes, size) {
-        return Ok(None);
-    }
-    match Page::from_bytes(alloc, bytes, size) {
-        Ok(page) => Ok(Some(page)),
-        Err(PageFault::NoMemory) => Err(OpenFault::NoMemory),
-        Err(fault) => Err(OpenFault::Page(number, fault)),
-    }
-}
-
 /// The directory that bytes spell.
 pub fn read_dir<A: Allocator + Copy>(alloc: A, bytes: &[u8]) -> Result<Dir<A>, OpenFault>
     ensures dir { IfOk result (λ dir. SpellsDirectory bytes.now dir.splits) }
@@ -87,18 +41,18 @@ pub fn read_dir<A: Allocator + Copy>(alloc: A, bytes: &[u8]) -> Result<Dir<A>, O
     }
 }
 
-/// The lowest number of a page with a key that leads to another page.
+/// The lowest number of a page, of so many, with a key that leads to another page.
 pub fn misplaced<A: Allocator>(
     dir: &Dir<A>,
     kind: KeyBytes,
-    pages: &[Option<Page<A>>],
+    pages: &Numbered<A>,
+    count: usize,
 ) -> Option<usize>
-    ensures some { IfSome result (IsFirstMisled kind dir.now.splits pages.now) }
-    ensures none { IfNone result ((n : ℕ) → n < length pages.now
-        → LeadTo kind dir.now.splits n (pairs_of_page (get_or pages.now n None))) }
+    ensures some { IfSome result (IsFirstMisled kind dir.now.splits pages.now.entries count) }
+    ensures none { IfNone result ((n : ℕ) → n < count → LeadTo kind dir.now.splits n (pairs_under pages.now.entries n)) }
 {
-    for number in 0..pages.len() {
-        if !leads_here(dir, kind, number, &pages[number]) {
+    for number in 0..count {
+        if !leads_here(dir, kind, pages, number) {
             return Some(number);
         }
     }
@@ -109,14 +63,14 @@ pub fn misplaced<A: Allocator>(
 fn leads_here<A: Allocator>(
     dir: &Dir<A>,
     kind: KeyBytes,
+    pages: &Numbered<A>,
     number: usize,
-    page: &Option<Page<A>>,
 ) -> bool
-    ensures { IsTrue result ↔ LeadTo kind dir.now.splits number (pairs_of_page page.now) }
+    ensures { IsTrue result ↔ LeadTo kind dir.now.splits number (pairs_under pages.now.entries number) }
 {
-    match page {
+    match pages.get(&number) {
         None => true,
-        Some(page) => keys_lead(dir, kind, number, page),
+        Some(page) => keys_lead(dir, kind, number, page.page()),
     }
 }
 
@@ -141,37 +95,19 @@ fn keys_lead<A: Allocator>(dir: &Dir<A>, kind: KeyBytes, number: usize, page: &P
     true
 }
 
-/// Keeps pages that have pairs under their numbers.
-pub fn keep_pages<A: Allocator + Copy>(
+/// The same pages, shared, under the same numbers.
+pub fn copy_pages<A: Allocator + Copy>(
     alloc: A,
-    size: PageSize,
-    read: Vec<Option<Page<A>>, A>,
+    pages: &Numbered<A>,
 ) -> Result<Pages<A>, AllocError>
-    requires { (n : ℕ) → n < length read.items → MayKeep size n (get_or read.items n None) }
-    ensures { IfOk result (λ pages. AreKeptAs size read.items pages.entries) }
+    requires { AreLow pages.now.entries }
+    ensures pages { IfOk result (λ copy. pages_of copy.entries ≡ pages_of pages.now.entries) }
+    ensures sizes { IfOk result (λ copy. (size : PageSize) → AreSized size pages.now.entries → AreSized size copy.entries) }
 {
-    let mut pages = HashMap::new(alloc);
-    let mut number = 0usize;
-    for page in read {
-        if let Some(page) = page {
-            let shared = SharedPage::new(alloc, page)?;
-            keep_page(&mut pages, number as u32, shared)?;
-        }
-        number += 1;
+    let mut copy = HashMap::with_capacity(alloc, pages.len())?;
+    for (number, page) in pages.iter() {
+        let shared = page.try_clone()?;
+        put_page(&mut copy, *number as u32, shared);
     }
-    Ok(pages)
-}
-
-// Keeps a page under a number.
-fn keep_page<A: Allocator + Copy>(
-    pages: &mut Pages<A>,
-    number: u32,
-    page: SharedPage<A>,
-) -> Result<(), AllocError>
-    ensures pages { OnOk result (pages_of pages.new.entries ≡ put_page (pages_of pages.old.entries) number page.pairs) }
-    ensures sizes { OnOk result (AreSized page.size pages.old.entries → AreSized page.size pages.new.entries) }
-{
-    pages.reserve(1)?;
-    put_page(pages, number, page);
-    Ok(())
+    Ok(copy)
 }

@@ -1,0 +1,100 @@
+//! What is told of a program.
+
+ghost use Rattle.std.specs.Prelude.{◌≡◌, IfOk, Some, None};
+ghost use Rattle.std.specs.Option.{option_and_then};
+ghost use Rattle.bpf_verify.specs.Stopped.{HoldAlways};
+ghost use Rattle.bpf_explain.specs.Lines.{lines_up_to, place_of};
+
+use crate::lines::{Line, lines_below, lines_to};
+use bpf_asm::disassemble;
+use bpf_insn::Code;
+use bpf_verify::{Refused, States, Verified, VerifyFault};
+use std::alloc::{AllocError, Allocator, Global};
+
+/// What is told of a program: its instructions, each with what the verifier knows before it, and what is wrong with the last of
+/// them, where it is refused.
+#[derive(Drop)]
+pub struct Explanation<A: Allocator = Global> {
+    pub lines: Vec<Line, A>,
+    pub fault: Option<VerifyFault>,
+    // The program's text, an instruction a line, and how many units it has.
+    pub(crate) insns: String<A>,
+    pub(crate) units: usize,
+}
+
+/// All instructions of an accepted program, each with the state by which it was accepted. What these say is true of each run.
+///
+/// # Errors
+/// `AllocError` where no memory is left.
+pub fn explain_accepted<A: Allocator + Copy>(
+    alloc: A,
+    verified: &Verified<A>,
+) -> Result<Explanation<A>, AllocError>
+    ensures lines { IfOk result (λ e. e.lines.items ≡ lines_up_to verified.now.code verified.now.states None) }
+    ensures fault { IfOk result (λ e. e.fault ≡ None) }
+    ensures hold { HoldAlways verified.now.code verified.now.states }
+{
+    explained(alloc, verified.code(), verified.states(), None)
+}
+
+/// The instructions of a refused program up to the one at fault, each with the state that the verifier had of it, and the fault.
+///
+/// # Errors
+/// `AllocError` where no memory is left.
+pub fn explain_refused<A: Allocator + Copy>(
+    alloc: A,
+    refused: &Refused<A>,
+) -> Result<Explanation<A>, AllocError>
+    ensures lines { IfOk result (λ e. e.lines.items ≡ lines_up_to refused.now.code refused.now.states (place_of refused.now.fault)) }
+    ensures fault { IfOk result (λ e. e.fault ≡ Some refused.now.fault) }
+{
+    explained(alloc, &refused.code, &refused.states, Some(refused.fault))
+}
+
+// What is told of a code, its states and its fault.
+fn explained<A: Allocator + Copy>(
+    alloc: A,
+    code: &Code<A>,
+    states: &States<A>,
+    fault: Option<VerifyFault>,
+) -> Result<Explanation<A>, AllocError>
+    ensures lines { IfOk result (λ e. e.lines.items ≡ lines_up_to code.now states.now (option_and_then place_of fault)) }
+    ensures fault { IfOk result (λ e. e.fault ≡ fault) }
+{
+    let lines = match place_in(fault) {
+        Some(last) => lines_to(alloc, code, states, last)?,
+        None => lines_below(alloc, code, states, code.units())?,
+    };
+    Ok(Explanation {
+        lines,
+        fault,
+        insns: disassemble(alloc, code)?,
+        units: code.units(),
+    })
+}
+
+// The unit that a fault names.
+fn place_in(fault: Option<VerifyFault>) -> Option<usize>
+    ensures { result ≡ option_and_then place_of fault }
+{
+    match fault? {
+        VerifyFault::NoMemory | VerifyFault::Empty => None,
+        VerifyFault::FrameWritten(at)
+        | VerifyFault::NoHelper(at)
+        | VerifyFault::Backward(at)
+        | VerifyFault::JumpOut(at)
+        | VerifyFault::JumpIntoWide(at)
+        | VerifyFault::FallsOff(at)
+        | VerifyFault::Unset(at)
+        | VerifyFault::HelperArgument(at)
+        | VerifyFault::ExitNotNumber(at)
+        | VerifyFault::NotPointer(at)
+        | VerifyFault::PointerOp(at)
+        | VerifyFault::PointerRange(at)
+        | VerifyFault::PointerStored(at)
+        | VerifyFault::ArgumentWritten(at)
+        | VerifyFault::OutOfRecord(at)
+        | VerifyFault::OutOfArgument(at)
+        | VerifyFault::OutOfStack(at) => Some(at),
+    }
+}

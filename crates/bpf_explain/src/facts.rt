@@ -1,0 +1,124 @@
+//! What is known of registers and lengths, as text.
+
+use crate::reading::registers_read;
+use bpf_insn::Insn;
+use bpf_range::{Bits, Kind, Known, Range};
+use bpf_verify::State;
+use std::alloc::{AllocError, Allocator};
+
+/// What is known of a register.
+pub fn kind_of(state: &State, register: u8) -> Kind {
+    match state.kinds.get(register as usize) {
+        Some(kind) => *kind,
+        None => Kind::Unset,
+    }
+}
+
+/// A register and what is known of it, as `r6 = 0..255`.
+pub fn write_fact<A: Allocator>(
+    out: &mut String<A>,
+    register: u8,
+    state: &State,
+) -> Result<(), AllocError> {
+    write!(out, "r{register} = ")?;
+    match kind_of(state, register) {
+        Kind::Unset => out.push_str("unset"),
+        Kind::Num(known) => write_number(out, known),
+        Kind::RecLen => write_length(out, "record", state.bytes),
+        Kind::ArgLen => write_length(out, "argument", state.argument),
+        Kind::Rec { lo, hi } => write_place(out, "record", lo, hi),
+        Kind::Arg { lo, hi } => write_place(out, "argument", lo, hi),
+        Kind::Stack { lo, hi } => write_place(out, "stack", lo, hi),
+    }
+}
+
+/// What is known of each register that an instruction reads, with a mark between two of them.
+pub fn write_facts<A: Allocator>(
+    out: &mut String<A>,
+    insn: Insn,
+    state: &State,
+    mark: &str,
+) -> Result<(), AllocError> {
+    for (index, register) in registers_read(insn).iter().enumerate() {
+        if let Some(register) = register {
+            if index > 0 {
+                out.push_str(mark)?;
+            }
+            write_fact(out, *register, state)?;
+        }
+    }
+    Ok(())
+}
+
+fn write_length<A: Allocator>(
+    out: &mut String<A>,
+    name: &str,
+    range: Range,
+) -> Result<(), AllocError> {
+    write!(out, "length of the {name} (")?;
+    write_range(out, range)?;
+    out.push_str(")")
+}
+
+/// A place, or the least and the greatest, counted from where a region begins, and on the stack from its end: `record+0..7`.
+pub fn write_place<A: Allocator>(
+    out: &mut String<A>,
+    name: &str,
+    lo: i64,
+    hi: i64,
+) -> Result<(), AllocError> {
+    let sign = if lo < 0 { "" } else { "+" };
+    write!(out, "{name}{sign}{lo}")?;
+    if lo == hi {
+        return Ok(());
+    }
+    write!(out, "..{hi}")
+}
+
+/// A number, or the least and the greatest.
+pub fn write_range<A: Allocator>(out: &mut String<A>, range: Range) -> Result<(), AllocError> {
+    let (lo, hi) = (range.lo, range.hi);
+    if lo == hi {
+        return write!(out, "{lo}");
+    }
+    write!(out, "{lo}..{hi}")
+}
+
+// The numbers of a register: the ends, with their signs where they are negative, and the bits where they say more.
+fn write_number<A: Allocator>(out: &mut String<A>, known: Known) -> Result<(), AllocError> {
+    let range = known.range();
+    if range.lo == 0 && range.hi == u64::MAX {
+        out.push_str("any number")?;
+    } else {
+        write_range(out, range)?;
+        write_signed(out, range)?;
+    }
+    write_bits(out, known.bits(), Known::of(range.lo, range.hi).bits())
+}
+
+fn write_signed<A: Allocator>(out: &mut String<A>, range: Range) -> Result<(), AllocError> {
+    let (lo, hi) = (range.lo.cast_signed(), range.hi.cast_signed());
+    if lo >= 0 || hi >= 0 {
+        return Ok(());
+    }
+    if lo == hi {
+        return write!(out, " ({lo})");
+    }
+    write!(out, " ({lo}..{hi})")
+}
+
+// The bits that are known, where they are more than those of the ends.
+fn write_bits<A: Allocator>(
+    out: &mut String<A>,
+    bits: Bits,
+    plain: Bits,
+) -> Result<(), AllocError> {
+    let (value, unknown) = (bits.value, bits.unknown);
+    if value == plain.value && unknown == plain.unknown {
+        return Ok(());
+    }
+    if value == 0 {
+        return write!(out, ", any of the bits 0x{unknown:x}");
+    }
+    write!(out, ", the bits 0x{value:x} and any of 0x{unknown:x}")
+}

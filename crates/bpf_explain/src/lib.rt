@@ -1,0 +1,19 @@
+//! Why the verifier accepts a program, or refuses it, as a text for people.
+//!
+//! `explain_accepted` and `explain_refused` give a program's instructions, each with what the verifier knows before it; `text` is a
+//! table of them, and behind it stands for a refused program one sentence with the register, its bounds and what was needed.
+#![tactic(auto)]
+
+mod explaining;
+mod facts;
+mod lines;
+mod moves;
+mod needs;
+mod reading;
+mod sentences;
+mod source;
+mod structure;
+mod table;
+
+pub use explaining::{Explanation, explain_accepted, explain_refused};
+pub use lines::Line;

@@ -1,0 +1,59 @@
+//! What an instruction reads, and where it may lead.
+
+use bpf_insn::{Insn, Op, Operand};
+
+// The register of an operand, if it is one.
+fn register_of(operand: Operand) -> Option<u8> {
+    match operand {
+        Operand::Reg(register) => Some(register),
+        Operand::Imm(_) => None,
+    }
+}
+
+// Two registers, or the one that both are.
+fn both(first: u8, second: Option<u8>) -> [Option<u8>; 3] {
+    match second {
+        Some(register) if register != first => [Some(first), second, None],
+        _ => [Some(first), None, None],
+    }
+}
+
+/// The registers that an instruction reads, each once, in the order in which the verifier asks whether they were written.
+pub fn registers_read(insn: Insn) -> [Option<u8>; 3] {
+    match insn {
+        Insn::Alu {
+            op: Op::Mov | Op::MovSx(_),
+            src,
+            ..
+        } => [register_of(src), None, None],
+        Insn::Alu { dst, src, .. } | Insn::Branch { dst, src, .. } => both(dst, register_of(src)),
+        Insn::Unary { dst, .. } => [Some(dst), None, None],
+        Insn::Load { base, .. } | Insn::LoadSigned { base, .. } | Insn::StoreImm { base, .. } => {
+            [Some(base), None, None]
+        }
+        Insn::Store { base, src, .. } => both(base, Some(src)),
+        Insn::Call { helper: 1 } => [Some(1), None, None],
+        Insn::Call { helper: 5 } => [Some(1), Some(2), Some(3)],
+        Insn::Exit => [Some(0), None, None],
+        Insn::Call { .. } | Insn::Jump { .. } | Insn::JumpFar { .. } | Insn::Wide { .. } => {
+            [None, None, None]
+        }
+    }
+}
+
+/// How far an instruction may jump from the unit behind it, where it may.
+pub fn distance_of(insn: Insn) -> Option<i64> {
+    match insn {
+        Insn::Branch { offset, .. } => Some(offset as i64),
+        Insn::Jump { offset } => Some(offset as i64),
+        Insn::JumpFar { offset } => Some(offset as i64),
+        _ => None,
+    }
+}
+
+/// The unit to which an instruction may jump.
+pub fn target_of(at: usize, insn: Insn) -> Option<i64> {
+    let distance = distance_of(insn)?;
+    let own = i64::try_from(at).ok()?;
+    Some(own.saturating_add(1).saturating_add(distance))
+}

@@ -1,0 +1,4 @@
+pub mod TotalsLemmas
+pub mod UsedPages
+pub mod SplitsLemmas
+pub mod ShapesLemmas

@@ -1,0 +1,20 @@
+-- The pages that are nearest to full.
+use Rattle.std.specs.Prelude.{◌≡◌, ℕ, ◌+◌, ◌-◌, ◌<◌, ◌≤◌, List, length, slice_index_or, take}
+use Rattle.std.specs.List.Sorted.{IsPermutation, IsNonDecreasingBy}
+use Rattle.sdbm_addr.specs.declared.PageSize.{PageSize}
+use Rattle.sdbm_addr.specs.Pairs.{page_bytes}
+use Rattle.sdbm_stats.specs.declared.fullest.PageRoom.{PageRoom}
+use Rattle.sdbm_stats.specs.declared.shapes.PageShape.{PageShape}
+
+-- a page and its free bytes
+abbrev pub room_on : PageSize → PageShape → PageRoom
+room_on size s = record { number = s.number; free = page_bytes size - s.filled }
+
+-- The first five of pages in the order of their free bytes, and of two with as many the one with the lower number first.
+pub record AreFullest (rooms fullest : List PageRoom) : Type 0 where
+  pub sorted : List PageRoom
+  pub same : IsPermutation rooms sorted
+  pub rising : IsNonDecreasingBy (λ (r : PageRoom). r.free) sorted
+  pub ties : (k : ℕ) (d : PageRoom) → k + 1 < length sorted → (slice_index_or sorted k d).free ≡ (slice_index_or sorted (k + 1) d).free
+      → (slice_index_or sorted k d).number ≤ (slice_index_or sorted (k + 1) d).number
+  pub first : fullest ≡ take 5 sorted

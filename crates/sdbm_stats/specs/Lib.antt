@@ -1,0 +1,5 @@
+pub mod Totals
+pub mod Shapes
+pub mod Depths
+pub mod Fullest
+pub mod Stats

@@ -1,0 +1,49 @@
+//! How full pages are, by tenths.
+ghost use Rattle.std.specs.Prelude.{◌≡◌, ◌≤◌, ◌==◌, ◌^◌, IfOk, length, map as map_list};
+ghost use Rattle.std.specs.List.{count_by, range_with_len};
+ghost use Rattle.sdbm_stats.specs.Shapes.{tenth};
+
+use crate::shapes::PageShape;
+use sdbm_addr::PageSize;
+use std::alloc::{AllocError, Allocator};
+
+/// How many pages there are of each tenth, from the emptiest on.
+///
+/// # Errors
+/// `AllocError` where no memory is left for ten numbers.
+pub fn bars_of<A: Allocator>(
+    alloc: A,
+    shapes: &[PageShape],
+    size: PageSize,
+) -> Result<Vec<u32, A>, AllocError>
+    requires { length shapes.now ≤ 2 ^ 31 }
+    ensures { IfOk result (λ bars. bars.items ≡ map_list (λ i. count_by (λ (s : PageShape). tenth size s.filled == i) shapes.now) (range_with_len 0 10)) }
+{
+    let mut bars = Vec::new(alloc);
+    for i in 0..10 {
+        bars.push(count_tenth(shapes, size, i))?;
+    }
+    Ok(bars)
+}
+
+// How many pages there are of a tenth.
+fn count_tenth(shapes: &[PageShape], size: PageSize, i: u64) -> u32
+    requires { length shapes.now ≤ 2 ^ 31 }
+    ensures { result ≡ count_by (λ (s : PageShape). tenth size s.filled == i) shapes.now }
+{
+    let mut count = 0;
+    for shape in shapes {
+        if tenth(shape.filled, size) == i {
+            count += 1;
+        }
+    }
+    count
+}
+
+// The tenth of a page of which so many bytes are not free.
+fn tenth(filled: u32, size: PageSize) -> u64
+    ensures { result ≡ tenth size filled }
+{
+    let tenths = 10 * filled as u64 / size.bytes() as u64;
+    tenths.min(9)
+}

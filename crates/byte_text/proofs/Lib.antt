@@ -1,0 +1,7 @@
+pub mod Decimals
+pub mod LowBytes
+pub mod Cuts
+pub mod Escaped
+pub mod RoundTrip
+pub mod Laid
+pub mod Steps

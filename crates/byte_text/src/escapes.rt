@@ -1,0 +1,183 @@
+//! Escapes: how a text writes bytes that do not stand for themselves.
+ghost use Rattle.std.specs.Prelude.{◌≡◌, ◌++◌, ◌∷◌, [], ◌<◌, ℕ, List, IfOk, IfSome, OnOk, Some, None, cond};
+ghost use Rattle.hex.specs.Hex.{hex_digit_value};
+ghost use Rattle.byte_text.specs.Escapes.{IsReading, IsStep, after_step, bytes_left, sign_of, hex_escape, escape_of, escaped};
+ghost use Rattle.byte_text.specs.Text.{Puts};
+ghost use Rattle.byte_text.specs.declared.escapes.Reading.TheVariants.{Plain};
+
+use memchr::memchr;
+use std::alloc::{AllocError, Allocator};
+
+const DIGITS: [u8; 16] = *b"0123456789abcdef";
+
+// Where the reading of a text stands.
+#[derive(Clone, Copy)]
+enum Reading {
+    // Between two bytes.
+    Plain,
+    // Behind a backslash.
+    Escape,
+    // Behind `\x`.
+    High,
+    // Behind `\x` and its first digit, which has this value.
+    Low(u8),
+}
+
+// What the next byte of a text does.
+#[derive(Clone, Copy)]
+enum Step {
+    // It stands in no text here.
+    Refused,
+    // The reading goes on so.
+    Goes(Reading),
+    // It is, or ends, the text of a byte.
+    Byte(u8),
+}
+
+// Puts the bytes for which a text stands behind others, and tells whether it stands for any.
+pub(crate) fn read_escapes<A: Allocator>(
+    text: &[u8],
+    bytes: &mut Vec<u8, A>,
+) -> Result<bool, AllocError>
+    ensures { IfOk result (λ good. Puts (bytes_left Plain text.now) good bytes.old.items bytes.new.items) }
+{
+    match memchr(b'\\', text) {
+        None => put_all(text, bytes),
+        Some(_) => read_each(text, bytes),
+    }
+}
+
+// Puts a text that stands for itself behind others.
+fn put_all<A: Allocator>(text: &[u8], bytes: &mut Vec<u8, A>) -> Result<bool, AllocError>
+    ensures { IfOk result (λ good. Puts (Some text.now) good bytes.old.items bytes.new.items) }
+{
+    bytes.extend_from_slice(text)?;
+    Ok(true)
+}
+
+// The same, byte by byte.
+fn read_each<A: Allocator>(text: &[u8], bytes: &mut Vec<u8, A>) -> Result<bool, AllocError>
+    ensures { IfOk result (λ good. Puts (bytes_left Plain text.now) good bytes.old.items bytes.new.items) }
+{
+    let mut reading = Reading::Plain;
+    for c in text {
+        match step_at(reading, *c) {
+            Step::Refused => return Ok(false),
+            Step::Goes(next) => reading = next,
+            Step::Byte(byte) => {
+                bytes.push(byte)?;
+                reading = Reading::Plain;
+            }
+        }
+    }
+    Ok(is_plain(reading))
+}
+
+// What the next byte of a text does.
+fn step_at(reading: Reading, c: u8) -> Step
+    requires { IsReading reading }
+    ensures value { (cs : List ℕ) → bytes_left reading (c ∷ cs) ≡ after_step result cs }
+    ensures small { IsStep result }
+{
+    match reading {
+        Reading::Plain => {
+            if c == b'\\' {
+                return Step::Goes(Reading::Escape);
+            }
+            Step::Byte(c)
+        }
+        Reading::Escape => {
+            if c == b'x' {
+                return Step::Goes(Reading::High);
+            }
+            match sign(c) {
+                Some(byte) => Step::Byte(byte),
+                None => Step::Refused,
+            }
+        }
+        Reading::High => match hex_digit(c) {
+            Some(high) => Step::Goes(Reading::Low(high)),
+            None => Step::Refused,
+        },
+        Reading::Low(high) => match hex_digit(c) {
+            Some(low) => Step::Byte(16 * high + low),
+            None => Step::Refused,
+        },
+    }
+}
+
+fn is_plain(reading: Reading) -> bool
+    ensures { bytes_left reading [] ≡ cond result (Some []) None }
+{
+    match reading {
+        Reading::Plain => true,
+        Reading::Escape | Reading::High | Reading::Low(_) => false,
+    }
+}
+
+// The byte for which a letter stands behind a backslash.
+fn sign(c: u8) -> Option<u8>
+    ensures { result ≡ sign_of c }
+{
+    match c {
+        b's' => Some(b' '),
+        b'n' => Some(b'\n'),
+        b't' => Some(b'\t'),
+        b'\\' => Some(b'\\'),
+        b'.' => Some(b'.'),
+        b',' => Some(b','),
+        _ => None,
+    }
+}
+
+// The value of a hex digit of either case.
+fn hex_digit(c: u8) -> Option<u8>
+    ensures value { result ≡ hex_digit_value c }
+    ensures small { IfSome result (λ d. d < 16) }
+{
+    match c {
+        b'A'..=b'F' => Some(c - 55),
+        b'a'..=b'f' => Some(c - 87),
+        b'0'..=b'9' => Some(c - 48),
+        _ => None,
+    }
+}
+
+// Writes bytes after a text, each as itself or by its escape.
+pub(crate) fn show_escaped<A: Allocator>(
+    bytes: &[u8],
+    text: &mut Vec<u8, A>,
+) -> Result<(), AllocError>
+    ensures { OnOk result (text.new.items ≡ text.old.items ++ escaped bytes.now) }
+{
+    for byte in bytes {
+        show_byte(*byte, text)?;
+    }
+    Ok(())
+}
+
+fn show_byte<A: Allocator>(byte: u8, text: &mut Vec<u8, A>) -> Result<(), AllocError>
+    ensures { OnOk result (text.new.items ≡ text.old.items ++ escape_of byte) }
+{
+    match byte {
+        b' ' => text.extend_from_slice(b"\\s"),
+        b'\n' => text.extend_from_slice(b"\\n"),
+        b'\t' => text.extend_from_slice(b"\\t"),
+        b'\\' => text.extend_from_slice(b"\\\\"),
+        b',' => text.extend_from_slice(b"\\,"),
+        33..=126 => Ok(text.push(byte)?),
+        _ => show_hex_escape(byte, text),
+    }
+}
+
+// Writes a byte after a text as `\x` and two digits.
+pub(crate) fn show_hex_escape<A: Allocator>(
+    byte: u8,
+    text: &mut Vec<u8, A>,
+) -> Result<(), AllocError>
+    ensures { OnOk result (text.new.items ≡ text.old.items ++ hex_escape byte) }
+{
+    let high = DIGITS[usize::from(byte / 16)];
+    let low = DIGITS[usize::from(byte % 16)];
+    text.extend_from_slice(&[b'\\', b'x', high, low])
+}

@@ -1,0 +1,13 @@
+//! Bytes as a text of one word: letters for themselves, escapes for the rest, numbers with their types, bytes in hex. What is printed can be
+//! read back.
+#![tactic(auto)]
+
+mod escapes;
+mod layouts;
+mod numbers;
+mod parts;
+mod text;
+
+pub use layouts::{Kind, Layout, Number, read_layout, show_by};
+pub use numbers::read_number;
+pub use text::{read_text, show_text};

@@ -1,0 +1,109 @@
+//! Numbers in decimal, and as little-endian bytes.
+ghost use Rattle.std.specs.Prelude.{◌≡◌, ◌<◌, ◌≤◌, ◌^◌, ◌++◌, ℕ, IfSome, OnOk, Some, decimal, length};
+ghost use Rattle.std.specs.Bool.{Decides};
+ghost use Rattle.byte_text.specs.Numbers.{number_of, signed_of, signed_text, low_bytes, number_in};
+
+use itoa::Buffer;
+use std::alloc::{AllocError, Allocator};
+
+/// A number below this one is not below zero when its 64 bits are read as signed ones.
+const SIGN: u64 = 9_223_372_036_854_775_808;
+
+/// The number of at most `most` that a text is, in decimal without leading zeros, where it is one. No memory is taken.
+pub fn read_number(text: &[u8], most: u64) -> Option<u64>
+    ensures value { result ≡ number_of most text.now }
+    ensures within { IfSome result (λ n. n ≤ most) }
+{
+    let number = parsed(text)?;
+    if number > most {
+        return None;
+    }
+    if !is_decimal_of(text, number) {
+        return None;
+    }
+    Some(number)
+}
+
+// Whether a text is the decimal of a number.
+fn is_decimal_of(text: &[u8], number: u64) -> bool
+    ensures { Decides result (text.now ≡ decimal number) }
+{
+    let mut digits = Buffer::new();
+    text == digits.format(number).as_bytes()
+}
+
+// The number of which a text is the decimal, where it is that of one. Of other texts it says nothing.
+fn parsed(text: &[u8]) -> Option<u64>
+    ensures { (n : ℕ) → n < 2 ^ 64 → text.now ≡ decimal n → result ≡ Some n }
+{
+    let Ok(digits) = str::from_utf8(text) else {
+        return None;
+    };
+    digits.parse().ok()
+}
+
+// The word of 64 bits of the signed number that a text is, where it is one.
+pub(crate) fn read_signed(text: &[u8]) -> Option<u64>
+    ensures { result ≡ signed_of text.now }
+{
+    match text {
+        [] => None,
+        [b'-', digits @ ..] => match read_number(digits, SIGN) {
+            Some(0) => Some(0),
+            Some(number) => Some(u64::MAX - number + 1),
+            None => None,
+        },
+        _ => read_number(text, SIGN - 1),
+    }
+}
+
+// Writes a number in decimal after a text.
+pub(crate) fn show_number<A: Allocator>(
+    number: u64,
+    text: &mut Vec<u8, A>,
+) -> Result<(), AllocError>
+    ensures { OnOk result (text.new.items ≡ text.old.items ++ decimal number) }
+{
+    let mut digits = Buffer::new();
+    text.extend_from_slice(digits.format(number).as_bytes())
+}
+
+// Writes a word of 64 bits, read as a signed number, in decimal after a text.
+pub(crate) fn show_signed<A: Allocator>(word: u64, text: &mut Vec<u8, A>) -> Result<(), AllocError>
+    ensures { OnOk result (text.new.items ≡ text.old.items ++ signed_text word) }
+{
+    if word < SIGN {
+        return show_number(word, text);
+    }
+    text.push(b'-')?;
+    show_number(u64::MAX - word + 1, text)
+}
+
+// Puts the low bytes of a number behind others, the lowest first.
+pub(crate) fn put_number<A: Allocator>(
+    number: u64,
+    width: usize,
+    bytes: &mut Vec<u8, A>,
+) -> Result<(), AllocError>
+    ensures { OnOk result (bytes.new.items ≡ bytes.old.items ++ low_bytes width number) }
+{
+    let mut left = number;
+    let mut places = width;
+    while places > 0 {
+        bytes.push((left % 256) as u8)?;
+        left /= 256;
+        places -= 1;
+    }
+    Ok(())
+}
+
+// The number of at most eight bytes, the lowest of which comes first.
+pub(crate) fn number_from(bytes: &[u8]) -> u64
+    requires { length bytes.now ≤ 8 }
+    ensures { result ≡ number_in bytes.now }
+{
+    match bytes {
+        [] => 0,
+        [low, rest @ ..] => u64::from(*low) + 256 * number_from(rest),
+    }
+}

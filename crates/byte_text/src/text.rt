@@ -1,0 +1,69 @@
+//! Bytes as a text of one word.
+ghost use Rattle.std.specs.Prelude.{◌≡◌, ◌++◌, IfOk, OnOk, Some, option_map};
+ghost use Rattle.byte_text.specs.Text.{bytes_of_text, text_of_bytes};
+
+use crate::escapes::{show_escaped, show_hex_escape};
+use crate::parts::{begins_typed, first_part, read_part};
+use std::alloc::{AllocError, Allocator};
+
+/// The bytes for which a text stands, where it stands for any. A dot alone is none. Any other text is parts, with a comma between two:
+/// `u8:`, `u16:`, `u32:`, `u64:` or `i64:` and a decimal number, whose bytes are little-endian; `hex:` and hex of either case; or text, in
+/// which each byte stands for itself but for `\s` (a space), `\n`, `\t`, `\\`, `\.`, `\,` and `\xHH`. A part of the last form is not empty.
+///
+/// # Errors
+/// `AllocError` where there is no memory for the bytes.
+pub fn read_text<A: Allocator + Copy>(
+    alloc: A,
+    text: &[u8],
+) -> Result<Option<Vec<u8, A>>, AllocError>
+    ensures { IfOk result (λ bytes. option_map (λ b. b.items) bytes ≡ bytes_of_text text.now) }
+{
+    let mut bytes = Vec::new(alloc);
+    if text.is_empty() {
+        return Ok(None);
+    }
+    if text == b".".as_slice() {
+        return Ok(Some(bytes));
+    }
+    let mut rest = Some(text);
+    while let Some(left) = rest {
+        let (part, after) = first_part(left);
+        if !read_part(alloc, part, &mut bytes)? {
+            return Ok(None);
+        }
+        rest = after;
+    }
+    Ok(Some(bytes))
+}
+
+/// Writes bytes as a text of one word after a text: printable ASCII as itself, but for a backslash and a comma, and the rest by escapes.
+/// What is written is read back as these bytes.
+///
+/// # Errors
+/// `AllocError` where there is no memory for them. The text is of no use then.
+pub fn show_text<A: Allocator>(bytes: &[u8], text: &mut Vec<u8, A>) -> Result<(), AllocError>
+    ensures text { OnOk result (text.new.items ≡ text.old.items ++ text_of_bytes bytes.now) }
+    ensures reads { OnOk result (bytes_of_text (text_of_bytes bytes.now) ≡ Some bytes.now) }
+{
+    print_text(bytes, text)?;
+    Ok(())
+}
+
+pub(crate) fn print_text<A: Allocator>(
+    bytes: &[u8],
+    text: &mut Vec<u8, A>,
+) -> Result<(), AllocError>
+    ensures { OnOk result (text.new.items ≡ text.old.items ++ text_of_bytes bytes.now) }
+{
+    let [first, others @ ..] = bytes else {
+        return text.extend_from_slice(b".");
+    };
+    if bytes == b".".as_slice() {
+        return text.extend_from_slice(b"\\.");
+    }
+    if begins_typed(bytes) {
+        show_hex_escape(*first, text)?;
+        return show_escaped(others, text);
+    }
+    show_escaped(bytes, text)
+}

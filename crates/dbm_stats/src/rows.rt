@@ -1,0 +1,113 @@
+//! Lines that are a label and a number.
+ghost use Rattle.std.specs.Prelude.{◌≡◌, ◌++◌, decimal, OnOk};
+ghost use Rattle.dbm_stats.specs.Figures.{depth_rows, file_rows, full_row, pair_rows, quotient, row};
+
+use itoa::Buffer;
+use sdbm_stats::{Depths, PageRoom, PairTotals, Stats};
+use std::alloc::{AllocError, Allocator};
+
+// A number behind its label.
+fn show_row<A: Allocator>(
+    label: &[u8],
+    number: u64,
+    text: &mut Vec<u8, A>,
+) -> Result<(), AllocError>
+    ensures { OnOk result (text.new.items ≡ text.old.items ++ row label.now number) }
+{
+    text.extend_from_slice(label)?;
+    show_number(number, text)?;
+    Ok(text.push(b'\n')?)
+}
+
+/// Adds the digits of a number.
+///
+/// # Errors
+/// `AllocError` where no memory is left for them.
+pub fn show_number<A: Allocator>(number: u64, text: &mut Vec<u8, A>) -> Result<(), AllocError>
+    ensures { OnOk result (text.new.items ≡ text.old.items ++ decimal number) }
+{
+    let mut digits = Buffer::new();
+    text.extend_from_slice(digits.format(number).as_bytes())
+}
+
+/// The lines on pairs.
+///
+/// # Errors
+/// `AllocError` where no memory is left for them. First bytes of them may have been added.
+pub fn show_pairs<A: Allocator>(
+    totals: &PairTotals,
+    text: &mut Vec<u8, A>,
+) -> Result<(), AllocError>
+    ensures { OnOk result (text.new.items ≡ text.old.items ++ pair_rows totals.now) }
+{
+    show_row(b"pairs                    ", totals.count, text)?;
+    show_row(b"bytes of keys            ", totals.key_bytes, text)?;
+    show_row(b"bytes of values          ", totals.value_bytes, text)?;
+    show_row(b"bytes of longest key     ", totals.longest_key, text)?;
+    show_row(b"bytes of longest pair    ", totals.longest_pair, text)
+}
+
+/// The lines on pages and files.
+///
+/// # Errors
+/// `AllocError` where no memory is left for them. First bytes of them may have been added.
+pub fn show_files<A: Allocator, B: Allocator>(
+    stats: &Stats<B>,
+    text: &mut Vec<u8, A>,
+) -> Result<(), AllocError>
+    ensures { OnOk result (text.new.items ≡ text.old.items ++ file_rows stats.now) }
+{
+    show_row(b"pages with pairs         ", stats.used as u64, text)?;
+    show_row(b"pages without (holes)    ", stats.holes as u64, text)?;
+    show_row(b"bytes of .dir            ", stats.dir_bytes, text)?;
+    show_row(b"bytes of .pag            ", stats.pag_bytes, text)?;
+    show_row(b"bytes of .pag, widened   ", stats.wide_bytes, text)
+}
+
+/// The lines on the directory.
+///
+/// # Errors
+/// `AllocError` where no memory is left for them. First bytes of them may have been added.
+pub fn show_depths<A: Allocator>(
+    splits: u64,
+    depths: Depths,
+    used: u32,
+    text: &mut Vec<u8, A>,
+) -> Result<(), AllocError>
+    ensures { OnOk result (text.new.items ≡ text.old.items ++ depth_rows splits depths used) }
+{
+    show_row(b"splits                   ", splits, text)?;
+    show_row(b"least depth of a page    ", depths.least as u64, text)?;
+    text.extend_from_slice(b"average depth            ")?;
+    show_quotient(depths.sum, used, text)?;
+    text.push(b'\n')?;
+    show_row(b"greatest depth           ", depths.greatest as u64, text)
+}
+
+// A quotient to one place behind the point, cut off.
+fn show_quotient<A: Allocator>(
+    sum: u64,
+    count: u32,
+    text: &mut Vec<u8, A>,
+) -> Result<(), AllocError>
+    ensures { OnOk result (text.new.items ≡ text.old.items ++ quotient sum count) }
+{
+    let count = count.max(1) as u64;
+    show_number(sum / count, text)?;
+    text.push(b'.')?;
+    show_number(sum % count * 10 / count, text)
+}
+
+/// The line on a page that is near to full.
+///
+/// # Errors
+/// `AllocError` where no memory is left for it. First bytes of it may have been added.
+pub fn show_full<A: Allocator>(room: &PageRoom, text: &mut Vec<u8, A>) -> Result<(), AllocError>
+    ensures { OnOk result (text.new.items ≡ text.old.items ++ full_row room.now) }
+{
+    text.extend_from_slice(b"page ")?;
+    show_number(room.number as u64, text)?;
+    text.extend_from_slice(b": ")?;
+    show_number(room.free as u64, text)?;
+    text.extend_from_slice(b" bytes free\n")
+}

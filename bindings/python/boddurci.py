@@ -131,6 +131,18 @@ def _bytes(value):
     raise TypeError(f"keys and values are bytes or str, not {type(value).__name__}")
 
 
+class _Room:
+    """A room for bytes: where it lies, and the bytes in it. An address costs a call less than the object does."""
+
+    def __init__(self, size):
+        self._bytes = ctypes.create_string_buffer(size)
+        self._view = memoryview(self._bytes).cast("B")
+        self.at = ctypes.addressof(self._bytes)
+
+    def taken(self, length):
+        return self._view[:length].tobytes()
+
+
 class Database(MutableMapping):
     """A database that is open: a mapping from bytes to bytes. `open` makes it."""
 
@@ -146,11 +158,13 @@ class Database(MutableMapping):
         self._db = _call.take(opened)
         _call.give(opened)
         self._reads = bool(flags & _READ_ONLY)
-        self._room = ctypes.create_string_buffer(_VALUE_MOST)
-        self._key = ctypes.create_string_buffer(_VALUE_MOST)
+        self._room, self._key, self._cursor = _Room(_VALUE_MOST), _Room(_VALUE_MOST), _Cursor()
         self._length, self._other, self._place = ctypes.c_size_t(), ctypes.c_size_t(), ctypes.c_size_t()
-        self._at = {name: ctypes.byref(getattr(self, name)) for name in ("_length", "_other", "_place")}
-        self._length_at = self._at["_length"]
+        self._end, self._word = ctypes.c_uint64(), ctypes.c_uint64()
+        names = ("_cursor", "_length", "_other", "_place", "_end", "_word")
+        self._at = {name: ctypes.addressof(getattr(self, name)) for name in names}
+        # What a fetch is given behind its key.
+        self._value = (self._room.at, _VALUE_MOST, self._at["_length"])
 
     def _need_open(self):
         if self._base is None:
@@ -162,15 +176,15 @@ class Database(MutableMapping):
             raise error("the database is opened to be read only")
 
     def _text(self):
-        return self._room.raw[: self._length.value].decode("utf-8", "replace") if self._length.value <= _VALUE_MOST else ""
+        return self._room.taken(self._length.value).decode("utf-8", "replace") if self._length.value <= _VALUE_MOST else ""
 
     def __getitem__(self, key):
         name = _bytes(key)
         with self._lock:
             self._need_open()
-            status = _call.fetch(self._db, name, len(name), self._room, _VALUE_MOST, self._length_at)
+            status = _call.fetch(self._db, name, len(name), *self._value)
             if status == _DONE:
-                return ctypes.string_at(self._room, self._length.value)
+                return self._room.taken(self._length.value)
         if status == _MISSING:
             raise KeyError(key)
         raise error(_WORDS[status])
@@ -179,7 +193,7 @@ class Database(MutableMapping):
         name = _bytes(key)
         with self._lock:
             self._need_open()
-            return _call.fetch(self._db, name, len(name), self._room, _VALUE_MOST, self._length_at) != _MISSING
+            return _call.fetch(self._db, name, len(name), *self._value) != _MISSING
 
     def __setitem__(self, key, value):
         name, value = _bytes(key), _bytes(value)
@@ -202,24 +216,18 @@ class Database(MutableMapping):
     def __len__(self):
         with self._lock:
             self._need_open()
-            _call.count(self._db, self._length_at)
+            _call.count(self._db, self._at["_length"])
             return self._length.value
 
     def _pairs(self):
         """All pairs, as they stand now."""
         with self._lock:
             self._need_open()
-            cursor = _Cursor()
-            where = ctypes.byref(cursor)
-            found = []
+            where, found = self._at["_cursor"], []
             _call.first(self._db, where)
-            while True:
-                status = _call.next(
-                    self._db, where, self._key, _VALUE_MOST, self._at["_other"], self._room, _VALUE_MOST, self._length_at
-                )
-                if status != _DONE:
-                    return found
-                found.append((ctypes.string_at(self._key, self._other.value), ctypes.string_at(self._room, self._length.value)))
+            while _call.next(self._db, where, self._key.at, _VALUE_MOST, self._at["_other"], *self._value) == _DONE:
+                found.append((self._key.taken(self._other.value), self._room.taken(self._length.value)))
+            return found
 
     def keys(self):
         return [key for key, _ in self._pairs()]
@@ -251,9 +259,7 @@ class Database(MutableMapping):
             self._need_open()
             image = self._assembled(source) if isinstance(source, str) else bytes(source)
             number = ctypes.c_uint32()
-            status = _call.submit(
-                self._db, image, len(image), ctypes.byref(number), self._at["_place"], self._room, _VALUE_MOST, self._length_at
-            )
+            status = _call.submit(self._db, image, len(image), ctypes.byref(number), self._at["_place"], *self._value)
             if status == _REFUSED:
                 unit = self._place.value
                 raise ProgramError(self._text(), None if unit == ctypes.c_size_t(-1).value else unit)
@@ -262,21 +268,18 @@ class Database(MutableMapping):
             return Program(number.value)
 
     def _assembled(self, source):
-        text, image = source.encode("utf-8"), ctypes.create_string_buffer(_IMAGE_MOST)
-        status = _call.assemble(
-            text, len(text), image, _IMAGE_MOST, self._at["_other"], self._at["_place"], self._room, _VALUE_MOST, self._length_at
-        )
+        text, image = source.encode("utf-8"), _Room(_IMAGE_MOST)
+        status = _call.assemble(text, len(text), image.at, _IMAGE_MOST, self._at["_other"], self._at["_place"], *self._value)
         if status == _BAD_TEXT:
             raise ProgramError(self._text(), self._place.value or None)
         if status != _DONE:
             raise error(_WORDS[status])
-        return ctypes.string_at(image, self._other.value)
+        return image.taken(self._other.value)
 
     def run(self, program, key, arg=b"", blank=None, now=None):
         """Runs a program on the record of a key, or on so many zeros where the key is not there and `blank` says how many, as one step.
         The program is told the time `now`, in seconds, which is the system's where none is given."""
         name, arg = _bytes(key), _bytes(arg)
-        end, word = ctypes.c_uint64(), ctypes.c_uint64()
         with self._lock:
             self._need_writes()
             status = _call.run(
@@ -289,14 +292,14 @@ class Database(MutableMapping):
                 blank is not None,
                 blank or 0,
                 int(time.time()) if now is None else now,
-                ctypes.byref(end),
-                ctypes.byref(word),
+                self._at["_end"],
+                self._at["_word"],
             )
+            if status == _DONE:
+                return Ran(self._end.value, self._word.value)
         if status == _MISSING:
             raise KeyError(key)
-        if status != _DONE:
-            raise error(_WORDS[status])
-        return Ran(end.value, word.value)
+        raise error(_WORDS[status])
 
     def sync(self):
         """Writes both files, and keeps them on the disk."""

@@ -1,0 +1,106 @@
+"""How long calls from Python take: N stores, fetches and increments of 16-byte keys and 8-byte values, by boddurci, by dbm.gnu where this
+Python has it, and by sqlite3. BODDURCI_LIBRARY names the shared object.
+
+usage: bench.py N [ROUNDS]     prints the nanoseconds of each, the median of the rounds, in which all take turns
+"""
+
+import os
+import pathlib
+import sqlite3
+import statistics
+import sys
+import tempfile
+import time
+
+sys.path.insert(0, str(pathlib.Path(__file__).resolve().parent))
+import boddurci
+
+try:
+    import dbm.gnu as gnu
+except ImportError:
+    gnu = None
+
+TOP = pathlib.Path(__file__).resolve().parent.parent.parent
+
+
+class Plain:
+    """A mapping whose increment is a fetch, an addition and a store."""
+
+    def __init__(self, db):
+        self.db = db
+
+    def add(self, key):
+        self.db[key] = (int.from_bytes(self.db[key], "little") + 1).to_bytes(8, "little")
+
+
+class Counting(Plain):
+    """Ours, whose increment is a run."""
+
+    def __init__(self, db):
+        super().__init__(db)
+        self.counter = db.program((TOP / "examples/counter.s").read_text())
+
+    def add(self, key):
+        self.db.run(self.counter, key, blank=8, now=0)
+
+
+class Sqlite:
+    """A table, in one transaction."""
+
+    def __init__(self, path):
+        self.base = sqlite3.connect(path, isolation_level=None)
+        self.base.execute("pragma synchronous = off")
+        self.base.execute("create table pairs (key blob primary key, value blob) without rowid")
+        self.base.execute("begin")
+
+    def __setitem__(self, key, value):
+        self.base.execute("insert or replace into pairs values (?, ?)", (key, value))
+
+    def __getitem__(self, key):
+        return self.base.execute("select value from pairs where key = ?", (key,)).fetchone()[0]
+
+    def close(self):
+        self.base.execute("commit")
+        self.base.close()
+
+
+def measured(store, keys):
+    """The seconds of all stores, fetches and increments."""
+    times = [time.perf_counter()]
+    for number, key in enumerate(keys):
+        store.db[key] = number.to_bytes(8, "little")
+    times.append(time.perf_counter())
+    for key in keys:
+        store.db[key]
+    times.append(time.perf_counter())
+    for key in keys:
+        store.add(key)
+    times.append(time.perf_counter())
+    assert store.db[keys[7]] == (8).to_bytes(8, "little")
+    store.db.close()
+    return [after - before for before, after in zip(times, times[1:])]
+
+
+def stores(folder):
+    yield "boddurci", Counting(boddurci.open(folder / "ours", "n"))
+    if gnu:
+        yield "dbm.gnu", Plain(gnu.open(str(folder / "gnu"), "nf"))
+    yield "sqlite3", Plain(Sqlite(folder / "sqlite"))
+
+
+def main():
+    count, rounds = int(sys.argv[1]), int(sys.argv[2]) if len(sys.argv) > 2 else 5
+    keys = [b"key%013d" % (number * 2654435761 % 2**32) for number in range(count)]
+    found = {}
+    for _ in range(rounds):
+        with tempfile.TemporaryDirectory(dir="/dev/shm" if os.access("/dev/shm", os.W_OK) else None) as name:
+            for kind, store in stores(pathlib.Path(name)):
+                found.setdefault(kind, []).append(measured(store, keys))
+    for kind, times in found.items():
+        print(kind, *(round(statistics.median(it) / count * 1e9) for it in zip(*times)))
+    if not gnu:
+        print("bench.py: this Python has no dbm.gnu")
+
+
+if __name__ == "__main__":
+    main()

@@ -28,10 +28,9 @@
  * from thread to thread, so several may share one under a mutex of yours; two handles are nothing to each other. Neither a signal
  * handler nor the forked child of a process with threads may call the library.
  *
- * Long programs. A run is one call, so it takes your mutex as long as its program runs: mostly less than a microsecond, some 60 for the
- * longest. Where that is too long, let each thread run programs on a handle of its own: fetch the record under the mutex; store it in
- * the own handle, run there, and fetch what is left; then fetch again under the mutex, and where the record is as it was store what was
- * left, or delete the key. Where it is another, begin anew. A key that is not there is a record too.
+ * Long programs. boddurci_run takes your mutex as long as its program runs: mostly less than a microsecond, some 60 for the longest.
+ * Where that is too long, run by a ticket, in three calls: boddurci_ask under the mutex, boddurci_work without it, boddurci_finish under
+ * it. What they do together is what boddurci_run does, as one step at the moment of boddurci_finish.
  *
  * Bytes. A key, a value, an argument and an image are a pointer and a length. The pointer must not be NULL, also where the length is
  * 0: BODDURCI_NO_BYTES stands for no bytes. What a call only reads may overlap; what it writes (rooms, lengths, numbers, the handle)
@@ -40,8 +39,8 @@
  * Rooms. A room is where a call writes bytes. It writes them where all fit, and tells their number in *length either way; where they
  * do not fit, the room stays as it was. A text has no zero at its end.
  *
- * Refusals. Each call returns a status. From BODDURCI_IS_CLOSED on nothing was done, the handle is as it was, and so is everything
- * that the call was to write, unless it says otherwise.
+ * Refusals. Each call returns a status. From BODDURCI_CHANGED on nothing was done, handle and ticket are as they were, and so is
+ * everything that the call was to write, unless it says otherwise.
  *
  * Memory comes from malloc. Each call that wants some may return BODDURCI_NO_MEMORY. */
 #ifndef BODDURCI_H
@@ -56,6 +55,11 @@ typedef struct boddurci {
     void *at;
 } boddurci;
 
+/* A run that was asked and is not finished yet. What is said of handles above is so of tickets. */
+typedef struct boddurci_ticket {
+    void *at;
+} boddurci_ticket;
+
 /* Where a walk over all pairs stands. */
 typedef struct boddurci_cursor {
     uint32_t page;
@@ -64,11 +68,12 @@ typedef struct boddurci_cursor {
 } boddurci_cursor;
 
 #define BODDURCI_CLOSED { NULL }
+#define BODDURCI_FREE { NULL }
 #define BODDURCI_START { 0, 0, 0 }
 #define BODDURCI_NO_BYTES ((const uint8_t *)""), 0
 
 enum boddurci_status {
-    BODDURCI_DONE = 0,           /* it is done: found, stored, deleted, counted, run, numbered, opened or written */
+    BODDURCI_DONE = 0,           /* it is done: found, stored, deleted, counted, run, numbered, opened, written, asked or worked */
     BODDURCI_MISSING = 1,        /* the key is not there */
     BODDURCI_EXISTS = 2,         /* the key is there, so that nothing was inserted */
     BODDURCI_CROWDED = 3,        /* there is no room for the pair, however often its page is split; nothing changed */
@@ -76,12 +81,15 @@ enum boddurci_status {
     BODDURCI_REFUSED = 5,        /* the image is no accepted program, or there are 4,096; the text says why */
     BODDURCI_BAD_TEXT = 6,       /* the text is no program; the line and the text of the fault are told */
     BODDURCI_BAD_FILES = 7,      /* the bytes are no database; the text says why; the handle stays closed */
+    BODDURCI_CHANGED = 8,        /* the page of the key is another than when the run was asked: ask again */
     BODDURCI_IS_CLOSED = 16,     /* the handle is closed */
     BODDURCI_IS_OPEN = 17,       /* the handle is open already */
     BODDURCI_PAIR_TOO_LARGE = 18,/* key and value, or key and blank, have more than BODDURCI_PAIR_MOST(wide) bytes together */
     BODDURCI_ARG_TOO_LONG = 19,  /* the argument has more than BODDURCI_ARG_MOST bytes */
     BODDURCI_NO_PROGRAM = 20,    /* no program has the number */
-    BODDURCI_NO_MEMORY = 21      /* memory ran out */
+    BODDURCI_NO_MEMORY = 21,     /* memory ran out */
+    BODDURCI_FILE_TOO_LONG = 22, /* a file would have 4 GiB or more */
+    BODDURCI_NO_TICKET = 23      /* under the ticket nothing is asked, or what is asked is not worked */
 };
 
 #define BODDURCI_PAIR_MOST(wide) ((wide) ? 8008 : 1008)
@@ -102,12 +110,15 @@ static inline const char *boddurci_text(uint32_t status)
     case BODDURCI_REFUSED: return "program refused";
     case BODDURCI_BAD_TEXT: return "text is no program";
     case BODDURCI_BAD_FILES: return "bad files";
+    case BODDURCI_CHANGED: return "changed meanwhile";
     case BODDURCI_IS_CLOSED: return "handle closed";
     case BODDURCI_IS_OPEN: return "handle open already";
     case BODDURCI_PAIR_TOO_LARGE: return "pair too large";
     case BODDURCI_ARG_TOO_LONG: return "argument too long";
     case BODDURCI_NO_PROGRAM: return "no such program";
     case BODDURCI_NO_MEMORY: return "no memory";
+    case BODDURCI_FILE_TOO_LONG: return "file too long";
+    case BODDURCI_NO_TICKET: return "nothing worked under the ticket";
     default: return "no status";
     }
 }
@@ -156,6 +167,39 @@ uint32_t boddurci_submit(boddurci *db, const uint8_t *image, size_t image_length
 uint32_t boddurci_run(boddurci *db, uint32_t number, const uint8_t *key, size_t key_length, const uint8_t *arg, size_t arg_length,
                       uint32_t has_blank, size_t blank, uint64_t now, uint64_t *end, uint64_t *word);
 
+/* The same run by a ticket, which begins with BODDURCI_FREE:
+ *
+ *     boddurci_ticket ticket = BODDURCI_FREE;
+ *     do {
+ *         pthread_mutex_lock(&mutex);
+ *         status = boddurci_ask(&db, &ticket, number, key, key_length, arg, arg_length, 1, 8, now);
+ *         pthread_mutex_unlock(&mutex);
+ *         if (status == BODDURCI_DONE)
+ *             status = boddurci_work(&ticket);
+ *         pthread_mutex_lock(&mutex);
+ *         if (status == BODDURCI_DONE)
+ *             status = boddurci_finish(&db, &ticket, &end, &word);
+ *         pthread_mutex_unlock(&mutex);
+ *     } while (status == BODDURCI_CHANGED);
+ *     boddurci_abandon(&ticket);
+ *
+ * boddurci_ask keeps what the run is, and the page of its key as it is now. It refuses as boddurci_run does, and then the ticket is as it
+ * was; else what was under it goes. Nothing is run yet: a key that is not there is told by boddurci_finish.
+ *
+ * boddurci_work runs the program, on that page. It wants no handle, and may be called while another thread uses the one that was asked.
+ * NO_TICKET where nothing is asked; NO_MEMORY.
+ *
+ * boddurci_finish does what boddurci_run would do, and tells the same, where the page is still as it was asked. The ticket is free then.
+ * CHANGED where any of its pairs is another, or it was split: of pairs of 24 bytes a page of 1,024 has some 25. IS_CLOSED, NO_TICKET;
+ * NO_MEMORY, after which it may be called again.
+ *
+ * boddurci_abandon lets go what is under a ticket, which may be free. */
+uint32_t boddurci_ask(boddurci *db, boddurci_ticket *ticket, uint32_t number, const uint8_t *key, size_t key_length, const uint8_t *arg,
+                      size_t arg_length, uint32_t has_blank, size_t blank, uint64_t now);
+uint32_t boddurci_work(boddurci_ticket *ticket);
+uint32_t boddurci_finish(boddurci *db, boddurci_ticket *ticket, uint64_t *end, uint64_t *word);
+void boddurci_abandon(boddurci_ticket *ticket);
+
 /* Every pair in turn, in an order that stays while nothing is stored, deleted or run; after a change begin anew. A cursor is yours, and
  * any number of them may be on the way. boddurci_first sets it before the first pair: IS_CLOSED. boddurci_next tells the next pair and
  * moves the cursor behind it: MISSING where none is left; SHORT_ROOM where key or value does not fit, and then the cursor stays;
@@ -168,6 +212,14 @@ uint32_t boddurci_next(boddurci *db, boddurci_cursor *cursor, uint8_t *key, size
  * with rooms of length 0 first. IS_CLOSED, NO_MEMORY. */
 uint32_t boddurci_files(boddurci *db, uint8_t *dir, size_t dir_room, size_t *dir_length, uint8_t *pag, size_t pag_room,
                         size_t *pag_length);
+
+/* What changed since the last save: of the bytes of both files as they are, `dir` and `pag`, the plan that makes them those of the database.
+ * It has the pages that differ, and the blocks of 1,024 bytes of .dir; no bytes where nothing does. SHORT_ROOM; FILE_TOO_LONG, IS_CLOSED,
+ * NO_MEMORY. A byte 1 and the plan are a redo file, which dbm and boddurci_files.h end: 8 bytes "sdbmredo"; the new lengths of .pag and of
+ * .dir; the number of changes; and of each its file (a byte, 0 for .pag and 1 for .dir), its offset, its length, its bytes. A number is 4
+ * bytes, the lowest first. */
+uint32_t boddurci_plan(boddurci *db, const uint8_t *dir, size_t dir_length, const uint8_t *pag, size_t pag_length, uint8_t *plan,
+                       size_t plan_room, size_t *plan_length);
 
 #ifdef __cplusplus
 }

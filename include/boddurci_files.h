@@ -63,8 +63,8 @@ void boddurci_give(boddurci_base *base);
 /* Makes the files those of the database in memory, as dbm saves: what changed is written to BASE.redo first, then in place, so that the
  * files keep their owner, permissions and links. Where nothing changed nothing is written or made. A crash at any moment leaves what the
  * next opening, or dbm, reads as the database before the save or the one after it. After a fault it is the one before; but where
- * BASE.redo itself failed it may be either once the machine stops. Then save again. Other threads go on meanwhile: what they do behind the
- * beginning of a save is in the next one. */
+ * BASE.redo itself failed it may be either once the machine stops. Then save again. The mutex is held while the database is compared with the
+ * files, and not while they are read and written: what other threads do meanwhile is in the next save. */
 uint32_t boddurci_save(boddurci_base *base, boddurci_fault *fault);
 
 /* Lets the lock go, and the memory. Nothing is saved. base may be NULL. */

@@ -121,6 +121,7 @@ static void test_closed(void)
 {
     boddurci db = BODDURCI_CLOSED;
     boddurci_cursor cursor = BODDURCI_START;
+    boddurci_ticket ticket = BODDURCI_FREE;
     uint8_t room[16], other[16];
     size_t length, more;
     uint32_t number;
@@ -135,6 +136,11 @@ static void test_closed(void)
     EXPECT(boddurci_first(&db, &cursor) == BODDURCI_IS_CLOSED);
     EXPECT(boddurci_next(&db, &cursor, room, sizeof room, &length, other, sizeof other, &more) == BODDURCI_IS_CLOSED);
     EXPECT(boddurci_files(&db, room, sizeof room, &length, other, sizeof other, &more) == BODDURCI_IS_CLOSED);
+    EXPECT(boddurci_plan(&db, BODDURCI_NO_BYTES, BODDURCI_NO_BYTES, room, sizeof room, &length) == BODDURCI_IS_CLOSED);
+    EXPECT(boddurci_ask(&db, &ticket, 0, BYTES("a"), BODDURCI_NO_BYTES, 0, 0, 0) == BODDURCI_IS_CLOSED);
+    EXPECT(boddurci_work(&ticket) == BODDURCI_NO_TICKET);
+    EXPECT(boddurci_finish(&db, &ticket, &end, &word) == BODDURCI_IS_CLOSED);
+    boddurci_abandon(&ticket);
     EXPECT(!boddurci_is_open(&db));
     boddurci_close(&db);
     EXPECT(!boddurci_is_open(&db));
@@ -250,6 +256,216 @@ static void test_arguments(void)
     boddurci_close(&db);
 }
 
+/* ---- runs by a ticket */
+
+static void submit_counter(boddurci *db)
+{
+    uint8_t text[100];
+    size_t length, unit;
+    uint32_t number;
+    EXPECT(boddurci_submit(db, counter, counter_length, &number, &unit, text, sizeof text, &length) == BODDURCI_DONE && number == 0);
+}
+
+static uint32_t ask(boddurci *db, boddurci_ticket *ticket, const char *key, uint32_t has_blank)
+{
+    return boddurci_ask(db, ticket, 0, (const uint8_t *)key, strlen(key), BODDURCI_NO_BYTES, has_blank, 8, 0);
+}
+
+static uint64_t count_at(boddurci *db, const char *key)
+{
+    uint8_t value[8];
+    size_t length;
+    EXPECT(boddurci_fetch(db, (const uint8_t *)key, strlen(key), value, sizeof value, &length) == BODDURCI_DONE && length == 8);
+    return number_of(value);
+}
+
+static void test_tickets(void)
+{
+    boddurci db = BODDURCI_CLOSED;
+    boddurci_ticket ticket = BODDURCI_FREE;
+    uint8_t arg[BODDURCI_ARG_MOST + 1] = {0};
+    size_t length;
+    uint64_t end = 9, word = 9;
+    open_empty(&db, 0, 0);
+    EXPECT(ask(&db, &ticket, "hits", 1) == BODDURCI_NO_PROGRAM && boddurci_work(&ticket) == BODDURCI_NO_TICKET);
+    submit_counter(&db);
+    EXPECT(boddurci_ask(&db, &ticket, 0, BYTES("hits"), arg, sizeof arg, 1, 1005, 0) == BODDURCI_PAIR_TOO_LARGE);
+    EXPECT(boddurci_ask(&db, &ticket, 0, BYTES("hits"), arg, sizeof arg, 1, 1004, 0) == BODDURCI_ARG_TOO_LONG);
+    EXPECT(boddurci_finish(&db, &ticket, &end, &word) == BODDURCI_NO_TICKET && end == 9);
+    EXPECT(ask(&db, &ticket, "hits", 1) == BODDURCI_DONE && boddurci_finish(&db, &ticket, &end, &word) == BODDURCI_NO_TICKET);
+    EXPECT(boddurci_work(&ticket) == BODDURCI_DONE && boddurci_work(&ticket) == BODDURCI_DONE);
+    EXPECT(boddurci_count(&db, &length) == BODDURCI_DONE && length == 0);
+    EXPECT(boddurci_finish(&db, &ticket, &end, &word) == BODDURCI_DONE && end == 1 && word == 0 && count_at(&db, "hits") == 1);
+    EXPECT(boddurci_finish(&db, &ticket, &end, &word) == BODDURCI_NO_TICKET && boddurci_work(&ticket) == BODDURCI_NO_TICKET);
+    EXPECT(ask(&db, &ticket, "none", 0) == BODDURCI_DONE && boddurci_work(&ticket) == BODDURCI_DONE);
+    EXPECT(boddurci_finish(&db, &ticket, &end, &word) == BODDURCI_MISSING && end == 0);
+    /* An ask in the place of another. */
+    EXPECT(ask(&db, &ticket, "other", 1) == BODDURCI_DONE && boddurci_work(&ticket) == BODDURCI_DONE);
+    EXPECT(ask(&db, &ticket, "hits", 1) == BODDURCI_DONE && boddurci_finish(&db, &ticket, &end, &word) == BODDURCI_NO_TICKET);
+    EXPECT(boddurci_work(&ticket) == BODDURCI_DONE && boddurci_finish(&db, &ticket, &end, &word) == BODDURCI_DONE);
+    EXPECT(count_at(&db, "hits") == 2);
+    boddurci_abandon(&ticket);
+    boddurci_close(&db);
+}
+
+/* What others do meanwhile on the page, on the handle, and elsewhere. */
+static void test_meanwhile(void)
+{
+    boddurci db = BODDURCI_CLOSED, wide = BODDURCI_CLOSED, twin = BODDURCI_CLOSED;
+    boddurci_ticket ticket = BODDURCI_FREE, second = BODDURCI_FREE;
+    uint64_t end, word;
+    open_empty(&db, 0, 0);
+    submit_counter(&db);
+    EXPECT(ask(&db, &ticket, "hits", 1) == BODDURCI_DONE && boddurci_work(&ticket) == BODDURCI_DONE);
+    EXPECT(ask(&db, &second, "hits", 1) == BODDURCI_DONE && boddurci_work(&second) == BODDURCI_DONE);
+    EXPECT(boddurci_finish(&db, &second, &end, &word) == BODDURCI_DONE);
+    EXPECT(boddurci_finish(&db, &ticket, &end, &word) == BODDURCI_CHANGED && count_at(&db, "hits") == 1);
+    EXPECT(boddurci_finish(&db, &ticket, &end, &word) == BODDURCI_CHANGED);
+    /* The page is as it was again. */
+    EXPECT(boddurci_delete(&db, BYTES("hits")) == BODDURCI_DONE);
+    EXPECT(boddurci_finish(&db, &ticket, &end, &word) == BODDURCI_DONE && count_at(&db, "hits") == 1);
+    EXPECT(ask(&db, &ticket, "hits", 1) == BODDURCI_DONE && boddurci_work(&ticket) == BODDURCI_DONE);
+    EXPECT(boddurci_store(&db, BYTES("beside"), BYTES("it"), 1) == BODDURCI_DONE);
+    EXPECT(boddurci_finish(&db, &ticket, &end, &word) == BODDURCI_CHANGED);
+    /* Another handle: one with other pages, and one with the same. */
+    EXPECT(ask(&db, &ticket, "new", 1) == BODDURCI_DONE && boddurci_work(&ticket) == BODDURCI_DONE);
+    open_empty(&wide, 1, 0);
+    EXPECT(boddurci_finish(&wide, &ticket, &end, &word) == BODDURCI_CHANGED);
+    struct files files = files_of(&db);
+    uint8_t text[100];
+    size_t length;
+    EXPECT(boddurci_open(&twin, files.dir, files.dir_length, files.pag, files.pag_length, 0, 0, text, sizeof text, &length) == BODDURCI_DONE);
+    free_files(files);
+    boddurci_close(&db);
+    EXPECT(boddurci_finish(&db, &ticket, &end, &word) == BODDURCI_IS_CLOSED);
+    EXPECT(boddurci_finish(&twin, &ticket, &end, &word) == BODDURCI_DONE && count_at(&twin, "new") == 1 && count_at(&twin, "hits") == 1);
+    EXPECT(boddurci_finish(&wide, &ticket, &end, &word) == BODDURCI_NO_TICKET);
+    /* One that is asked outlives its handle. */
+    submit_counter(&twin);
+    EXPECT(ask(&twin, &second, "new", 1) == BODDURCI_DONE);
+    boddurci_close(&twin);
+    boddurci_close(&wide);
+    EXPECT(boddurci_work(&second) == BODDURCI_DONE);
+    boddurci_abandon(&second);
+}
+
+/* Runs by tickets, of which many are open at a time, beside the same runs on another handle: the same answers, and the same files. Tickets
+ * are worked and finished in another order than they were asked. */
+static void test_many_tickets(void)
+{
+    enum { OPEN = 40, ROUNDS = 60 };
+    boddurci db = BODDURCI_CLOSED, model = BODDURCI_CLOSED;
+    boddurci_ticket tickets[OPEN];
+    char keys[OPEN][16];
+    uint64_t end, word, model_end, model_word, state = 1;
+    unsigned long changed = 0;
+    open_empty(&db, 0, 0);
+    open_empty(&model, 0, 0);
+    submit_counter(&db);
+    submit_counter(&model);
+    for (int round = 0; round < ROUNDS; round++) {
+        for (int i = 0; i < OPEN; i++) {
+            tickets[i] = (boddurci_ticket)BODDURCI_FREE;
+            state = state * 6364136223846793005u + 1442695040888963407u;
+            snprintf(keys[i], sizeof keys[i], "key%u", (unsigned)(state >> 40) % 3000);
+            EXPECT(ask(&db, &tickets[i], keys[i], 1) == BODDURCI_DONE);
+        }
+        for (int i = 0; i < OPEN; i++)
+            EXPECT(boddurci_work(&tickets[i * 7 % OPEN]) == BODDURCI_DONE);
+        for (int i = 0; i < OPEN; i++) {
+            int at = i * 11 % OPEN;
+            uint32_t status = boddurci_finish(&db, &tickets[at], &end, &word);
+            EXPECT(status == BODDURCI_DONE || status == BODDURCI_CHANGED);
+            if (status == BODDURCI_DONE) {
+                EXPECT(boddurci_run(&model, 0, (const uint8_t *)keys[at], strlen(keys[at]), BODDURCI_NO_BYTES, 1, 8, 0, &model_end, &model_word) == status);
+                EXPECT(end == model_end && word == model_word);
+            }
+            changed += status == BODDURCI_CHANGED;
+            boddurci_abandon(&tickets[at]);
+        }
+    }
+    EXPECT(changed != 0 && changed < OPEN * ROUNDS);
+    struct files files = files_of(&db), others = files_of(&model);
+    EXPECT(are_same(files, others));
+    free_files(files);
+    free_files(others);
+    boddurci_close(&db);
+    boddurci_close(&model);
+}
+
+/* ---- plans of saves */
+
+static uint32_t number_at(const uint8_t *at)
+{
+    return at[0] | (uint32_t)at[1] << 8 | (uint32_t)at[2] << 16 | (uint32_t)at[3] << 24;
+}
+
+/* One file of those that a plan makes of the old ones, which is to be freed. */
+static uint8_t *made_by(const uint8_t *plan, size_t length, int file, const uint8_t *old, size_t old_length, size_t *new_length)
+{
+    const uint8_t *at = plan + 20;
+    *new_length = number_at(plan + 8 + 4 * file);
+    uint8_t *made = calloc(1, *new_length + old_length + 1);
+    memcpy(made, old, old_length);
+    memset(made + *new_length, 0, old_length);
+    for (uint32_t left = number_at(plan + 16); left != 0; left--) {
+        size_t offset = number_at(at + 1), size = number_at(at + 5);
+        EXPECT(at[0] <= 1 && size != 0 && size <= 8192 && offset + size <= number_at(plan + 8 + 4 * at[0]));
+        if (at[0] == file)
+            memcpy(made + offset, at + 9, size);
+        at += 9 + size;
+    }
+    EXPECT(at == plan + length && !memcmp(plan, "sdbmredo", 8));
+    return made;
+}
+
+/* Whether the plan for the old files makes them those of a database, and how long it is. */
+static size_t plan_from(boddurci *db, struct files old)
+{
+    uint8_t none[1];
+    size_t length, again;
+    struct files wanted = files_of(db), made;
+    uint32_t status = boddurci_plan(db, old.dir, old.dir_length, old.pag, old.pag_length, none, 0, &length);
+    EXPECT(status == (length == 0 ? BODDURCI_DONE : BODDURCI_SHORT_ROOM) && (length == 0) == are_same(old, wanted));
+    uint8_t *plan = malloc(length + 1);
+    plan[length] = 77;
+    if (length != 0) {
+        EXPECT(boddurci_plan(db, old.dir, old.dir_length, old.pag, old.pag_length, plan, length - 1, &again) == BODDURCI_SHORT_ROOM);
+        EXPECT(boddurci_plan(db, old.dir, old.dir_length, old.pag, old.pag_length, plan, length, &again) == BODDURCI_DONE && again == length);
+        made.pag = made_by(plan, length, 0, old.pag, old.pag_length, &made.pag_length);
+        made.dir = made_by(plan, length, 1, old.dir, old.dir_length, &made.dir_length);
+        EXPECT(are_same(made, wanted) && plan[length] == 77);
+        free_files(made);
+    }
+    free(plan);
+    free_files(wanted);
+    return length;
+}
+
+static void test_plans(uint32_t wide)
+{
+    boddurci db = BODDURCI_CLOSED;
+    char key[16];
+    open_empty(&db, wide, 0);
+    struct files empty = files_of(&db);
+    EXPECT(plan_from(&db, empty) == 0);
+    for (int i = 0; i < 3000; i++)
+        EXPECT(boddurci_store(&db, (const uint8_t *)key, (size_t)snprintf(key, sizeof key, "%d", i), (const uint8_t *)&i, sizeof i, 1) ==
+               BODDURCI_DONE);
+    struct files full = files_of(&db);
+    size_t whole = plan_from(&db, empty), page = wide ? 8192 : 1024;
+    EXPECT(whole > 3000 * 8 && plan_from(&db, full) == 0);
+    EXPECT(boddurci_store(&db, BYTES("7"), BYTES("another"), 1) == BODDURCI_DONE);
+    EXPECT(plan_from(&db, full) == 20 + 9 + page);
+    for (int i = 0; i < 3000; i++)
+        EXPECT(boddurci_delete(&db, (const uint8_t *)key, (size_t)snprintf(key, sizeof key, "%d", i)) == BODDURCI_DONE);
+    plan_from(&db, full);
+    plan_from(&db, empty);
+    free_files(empty);
+    free_files(full);
+    boddurci_close(&db);
+}
+
 static void test_turns(void)
 {
     enum { PAIRS = 5000 };
@@ -321,7 +537,7 @@ static void test_files(void)
 static void test_texts(void)
 {
     for (uint32_t status = 0; status < 30; status++) {
-        int is_one = status <= BODDURCI_BAD_FILES || (status >= BODDURCI_IS_CLOSED && status <= BODDURCI_NO_MEMORY);
+        int is_one = status <= BODDURCI_CHANGED || (status >= BODDURCI_IS_CLOSED && status <= BODDURCI_NO_TICKET);
         EXPECT((strcmp(boddurci_text(status), "no status") != 0) == is_one);
     }
 }
@@ -341,81 +557,42 @@ static void run_under(const char *key)
     pthread_mutex_unlock(&mutex);
 }
 
-/* A record, or that there is none. */
-struct record {
-    uint32_t status;
-    size_t length;
-    uint8_t bytes[BODDURCI_VALUE_MOST];
-};
-
-static void look_up(boddurci *db, const char *key, struct record *record)
+/* The same, where the program runs outside the mutex, as often as it takes. */
+static uint64_t run_by_ticket(const char *key)
 {
-    record->length = 0;
-    record->status = boddurci_fetch(db, (const uint8_t *)key, strlen(key), record->bytes, sizeof record->bytes, &record->length);
-}
-
-static int are_alike(const struct record *one, const struct record *other)
-{
-    return one->status == other->status && one->length == other->length && memcmp(one->bytes, other->bytes, one->length) == 0;
-}
-
-/* The counter on a handle of the thread's own, which holds no pair before and behind it: what it leaves of a record. */
-static void run_apart(boddurci *own, const char *key, const struct record *old, struct record *left)
-{
-    uint64_t end, word;
-    const uint8_t *name = (const uint8_t *)key;
-    if (old->status == BODDURCI_DONE && boddurci_store(own, name, strlen(key), old->bytes, old->length, 1) != BODDURCI_DONE)
-        abort();
-    if (boddurci_run(own, 0, name, strlen(key), BODDURCI_NO_BYTES, 1, 8, 0, &end, &word) != BODDURCI_DONE || end != 1)
-        abort();
-    look_up(own, key, left);
-    if (boddurci_delete(own, name, strlen(key)) != BODDURCI_DONE)
-        abort();
-}
-
-/* The same as run_under, where the program runs outside the mutex, as often as it takes. */
-static void run_outside(boddurci *own, const char *key)
-{
-    struct record old, now, left;
-    int is_done = 0;
-    while (!is_done) {
+    boddurci_ticket ticket = BODDURCI_FREE;
+    uint64_t end, word, again = 0;
+    uint32_t status = BODDURCI_CHANGED;
+    for (; status == BODDURCI_CHANGED; again++) {
         pthread_mutex_lock(&mutex);
-        look_up(&shared, key, &old);
+        uint32_t asked = ask(&shared, &ticket, key, 1);
         pthread_mutex_unlock(&mutex);
-        run_apart(own, key, &old, &left);
-        pthread_mutex_lock(&mutex);
-        look_up(&shared, key, &now);
-        is_done = are_alike(&old, &now);
-        if (is_done && boddurci_store(&shared, (const uint8_t *)key, strlen(key), left.bytes, left.length, 1) != BODDURCI_DONE)
+        if (asked != BODDURCI_DONE || boddurci_work(&ticket) != BODDURCI_DONE)
             abort();
+        pthread_mutex_lock(&mutex);
+        status = boddurci_finish(&shared, &ticket, &end, &word);
         pthread_mutex_unlock(&mutex);
     }
+    if (status != BODDURCI_DONE || end != 1)
+        abort();
+    return again - 1;
 }
 
-static void submit_counter(boddurci *db)
-{
-    uint8_t text[100];
-    size_t length, unit;
-    uint32_t number;
-    EXPECT(boddurci_submit(db, counter, counter_length, &number, &unit, text, sizeof text, &length) == BODDURCI_DONE && number == 0);
-}
-
-/* A thread: its key, the handle on which it runs programs outside the mutex, where that is open, and how often it did its runs. */
+/* A thread: its key, whether it runs by tickets, how often it did its runs, and how often one of them began anew. */
 struct worker {
     const char *key;
-    boddurci own;
-    uint64_t done;
+    int by_ticket;
+    uint64_t done, again;
 };
 
 static void *work(void *given)
 {
     struct worker *worker = given;
-    int runs_outside = boddurci_is_open(&worker->own) != 0;
     /* Once at least: on a busy machine a thread may get the mutex late. */
     do {
-        if (runs_outside) {
-            run_outside(&worker->own, worker->key);
-            run_outside(&worker->own, "all");
+        if (worker->by_ticket) {
+            worker->again += run_by_ticket(worker->key);
+            worker->again += run_by_ticket("all");
         } else {
             run_under(worker->key);
             run_under("all");
@@ -428,45 +605,41 @@ static void *work(void *given)
 static void test_threads(int seconds)
 {
     enum { THREADS = 4 };
-    struct worker workers[THREADS] = {{"t0", BODDURCI_CLOSED, 0}, {"t1", BODDURCI_CLOSED, 0}, {"t2", BODDURCI_CLOSED, 0}, {"t3", BODDURCI_CLOSED, 0}};
+    struct worker workers[THREADS] = {{"t0", 0, 0, 0}, {"t1", 0, 0, 0}, {"t2", 1, 0, 0}, {"t3", 1, 0, 0}};
     pthread_t threads[THREADS];
-    uint64_t all = 0;
-    struct record found;
+    uint64_t all = 0, again = 0;
     open_empty(&shared, 0, 0);
     submit_counter(&shared);
-    for (int i = THREADS / 2; i < THREADS; i++) {
-        open_empty(&workers[i].own, 0, 0);
-        submit_counter(&workers[i].own);
-    }
     until = time(NULL) + seconds;
     for (int i = 0; i < THREADS; i++)
         EXPECT(pthread_create(&threads[i], NULL, work, &workers[i]) == 0);
     for (int i = 0; i < THREADS; i++)
         EXPECT(pthread_join(threads[i], NULL) == 0);
     for (int i = 0; i < THREADS; i++) {
-        look_up(&shared, workers[i].key, &found);
-        EXPECT(found.status == BODDURCI_DONE && found.length == 8 && number_of(found.bytes) == workers[i].done && workers[i].done != 0);
+        EXPECT(count_at(&shared, workers[i].key) == workers[i].done && workers[i].done != 0);
         all += workers[i].done;
-        boddurci_close(&workers[i].own);
+        again += workers[i].again;
     }
-    look_up(&shared, "all", &found);
-    EXPECT(found.status == BODDURCI_DONE && number_of(found.bytes) == all);
+    EXPECT(count_at(&shared, "all") == all);
     boddurci_close(&shared);
-    printf("%llu runs by %d threads\n", (unsigned long long)(2 * all), THREADS);
+    printf("%llu runs by %d threads, %llu of them begun anew\n", (unsigned long long)(2 * all), THREADS, (unsigned long long)again);
 }
 
 /* ---- each growth of memory refused in turn */
 
-enum { STEPS = 60 };
+enum { STEPS = 80 };
 
-static uint32_t do_step(boddurci *db, int step)
+/* A handle and a ticket, on which a step is one call. */
+static uint32_t do_step(boddurci *db, boddurci_ticket *ticket, int step)
 {
     uint8_t text[100], value[200];
     size_t length, unit, line, image_length;
     uint32_t number;
     uint64_t end, word;
     char key[16];
-    static uint8_t image[BODDURCI_IMAGE_MOST];
+    static uint8_t image[BODDURCI_IMAGE_MOST], dir[65536], pag[262144];
+    static const uint8_t page[1024] = {1, 0, 0xff};
+    boddurci other = BODDURCI_CLOSED;
     memset(value, step, sizeof value);
     size_t key_length = (size_t)snprintf(key, sizeof key, "key %d", step);
     switch (step) {
@@ -478,6 +651,18 @@ static uint32_t do_step(boddurci *db, int step)
     case 5: return boddurci_run(db, 0, BYTES("hits"), BYTES("argument"), 1, 8, 0, &end, &word);
     case 6: return boddurci_delete(db, BYTES("hits"));
     case 7: return boddurci_delete(db, BYTES("none"));
+    case 8: return boddurci_assemble(BYTES("hop"), image, sizeof image, &image_length, &line, text, sizeof text, &length);
+    case 9: return boddurci_open(&other, BODDURCI_NO_BYTES, page, sizeof page, 0, 0, text, sizeof text, &length);
+    case 50: return ask(db, ticket, "hits", 1);
+    case 51: return boddurci_work(ticket);
+    case 52: return boddurci_finish(db, ticket, &end, &word);
+    case 53: return ask(db, ticket, "hits", 1);
+    case 54: return boddurci_work(ticket);
+    case 55: return boddurci_finish(db, ticket, &end, &word);
+    case 56: return boddurci_files(db, dir, sizeof dir, &length, pag, sizeof pag, &unit);
+    case 57: return boddurci_plan(db, BODDURCI_NO_BYTES, BODDURCI_NO_BYTES, pag, sizeof pag, &length);
+    case 58: return boddurci_run(db, 0, (const uint8_t *)key, key_length, BODDURCI_NO_BYTES, 1, 900, 0, &end, &word);
+    case 59: return boddurci_run(db, 0, (const uint8_t *)key, key_length, BODDURCI_NO_BYTES, 1, 900, 0, &end, &word);
     default: return boddurci_store(db, (const uint8_t *)key, key_length, value, sizeof value, 1);
     }
 }
@@ -489,6 +674,7 @@ static void test_growths(void)
     uint32_t expected[STEPS];
     for (unsigned long nth = 0;; nth++) {
         boddurci db = BODDURCI_CLOSED, other = BODDURCI_CLOSED;
+        boddurci_ticket ticket = BODDURCI_FREE;
         uint8_t text[100];
         size_t length;
         int was_refused = 0;
@@ -499,7 +685,7 @@ static void test_growths(void)
             if (step > 0)
                 before = files_of(&db);
             refused = nth;
-            uint32_t status = do_step(&db, step);
+            uint32_t status = do_step(&db, &ticket, step);
             if (nth != 0 && growths >= nth && !was_refused) {
                 /* The refusal fell into this step: it is done all the same, or nothing is done, and then it is done again. */
                 was_refused = 1;
@@ -512,7 +698,7 @@ static void test_growths(void)
                         EXPECT(are_same(before, after));
                         free_files(after);
                     }
-                    status = do_step(&db, step);
+                    status = do_step(&db, &ticket, step);
                     calls++;
                 }
             }
@@ -561,6 +747,11 @@ int main(int argc, char **argv)
         test_crowded();
         test_programs();
         test_arguments();
+        test_tickets();
+        test_meanwhile();
+        test_many_tickets();
+        test_plans(0);
+        test_plans(1);
         test_turns();
         test_files();
         test_texts();

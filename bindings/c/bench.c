@@ -1,7 +1,7 @@
 /* How long calls of the library take: N stores, fetches and increments (runs of examples/counter.s) of 16-byte keys and 8-byte values.
  * cc -O2 -I out/boddurci bindings/c/bench.c out/boddurci/libboddurci.a -pthread -o bench
- * usage: bench N [wide]     prints how many stores, fetches and runs there were a second, and the milliseconds in which the bytes of
- * both files were made, and were opened again. */
+ * usage: bench N [wide]     prints how many stores, fetches and runs there were a second, and runs by a ticket; and the milliseconds in
+ * which the bytes of both files were made, the plan of a save of one changed pair, and in which they were opened again. */
 #include "boddurci.h"
 #include <stdio.h>
 #include <stdlib.h>
@@ -40,6 +40,7 @@ int main(int argc, char **argv)
     uint64_t value, sum = 0, end, word;
     size_t length, unit, dir_length, pag_length;
     uint8_t text[100], none[2];
+    static uint8_t plan[65536];
     uint32_t number;
     if (boddurci_open(&db, BODDURCI_NO_BYTES, BODDURCI_NO_BYTES, argc > 2, 0, text, sizeof text, &length) ||
         boddurci_submit(&db, image, sizeof image, &number, &unit, text, sizeof text, &length))
@@ -65,11 +66,23 @@ int main(int argc, char **argv)
             return 4;
     }
     double d = now();
+    for (unsigned i = 0; i < n; i++) {
+        boddurci_ticket ticket = BODDURCI_FREE;
+        name(key, i);
+        if (boddurci_ask(&db, &ticket, number, KEY, BODDURCI_NO_BYTES, 1, 8, 0) || boddurci_work(&ticket) ||
+            boddurci_finish(&db, &ticket, &end, &word) || end != 1)
+            return 4;
+    }
+    double t = now();
     boddurci_files(&db, none, 0, &dir_length, none + 1, 0, &pag_length);
     uint8_t *dir = malloc(dir_length + 1), *pag = malloc(pag_length + 1);
     if (boddurci_files(&db, dir, dir_length, &dir_length, pag, pag_length, &pag_length))
         return 5;
     double e = now();
+    if (boddurci_run(&db, number, KEY, BODDURCI_NO_BYTES, 1, 8, 0, &end, &word) ||
+        boddurci_plan(&db, dir, dir_length, pag, pag_length, plan, sizeof plan, &length))
+        return 5;
+    double p = now();
     boddurci_close(&db);
     double f = now();
     if (boddurci_open(&db, dir, dir_length, pag, pag_length, argc > 2, 0, text, sizeof text, &length))
@@ -78,6 +91,7 @@ int main(int argc, char **argv)
     boddurci_close(&db);
     if (sum != (uint64_t)n * (n - 1) / 2)
         return 7;
-    printf("boddurci%s %.0f %.0f %.0f files %.0f ms open %.0f ms\n", argc > 2 ? "_wide" : "", n / (b - a), n / (c - b), n / (d - c), (e - d) * 1e3, (g - f) * 1e3);
+    printf("boddurci%s %.0f %.0f %.0f ticket %.0f files %.0f ms plan %.0f ms open %.0f ms\n", argc > 2 ? "_wide" : "", n / (b - a), n / (c - b),
+           n / (d - c), n / (t - d), (e - t) * 1e3, (p - e) * 1e3, (g - f) * 1e3);
     return 0;
 }

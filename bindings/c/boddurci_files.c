@@ -242,15 +242,19 @@ static uint32_t read_files(boddurci_base *base, struct boddurci_bytes *files, bo
     return status;
 }
 
-static uint32_t open_bytes(boddurci_base *base, const struct boddurci_bytes *files, boddurci_fault *fault)
+static const uint8_t *or_none(struct boddurci_bytes bytes)
 {
     static const uint8_t none[1];
+    return bytes.at != NULL ? bytes.at : none;
+}
+
+static uint32_t open_bytes(boddurci_base *base, const struct boddurci_bytes *files, boddurci_fault *fault)
+{
     uint8_t text[sizeof fault->text - 1];
     size_t length = 0;
     struct boddurci_bytes dir = files[BODDURCI_DIRECTORY], pag = files[BODDURCI_PAGES];
-    uint32_t status = boddurci_open(&base->db, dir.at != NULL ? dir.at : none, dir.length, pag.at != NULL ? pag.at : none, pag.length,
-                                    (base->flags & BODDURCI_WIDE) != 0, (base->flags & BODDURCI_UNSIGNED_KEYS) != 0, text, sizeof text,
-                                    &length);
+    uint32_t status = boddurci_open(&base->db, or_none(dir), dir.length, or_none(pag), pag.length, (base->flags & BODDURCI_WIDE) != 0,
+                                    (base->flags & BODDURCI_UNSIGNED_KEYS) != 0, text, sizeof text, &length);
     if (status == BODDURCI_DONE)
         return status;
     fail(fault, status, 0, boddurci_text(status));
@@ -349,17 +353,63 @@ void boddurci_give(boddurci_base *base)
 
 /* ---- saving */
 
-/* The whole save, behind one that was cut off. Where the files are the same nothing is done. */
-static uint32_t write_changes(const char *base, const struct boddurci_bytes *files, boddurci_fault *fault)
+/* The redo file, not marked yet, that makes the files those of the database; an empty one where they are that already. It is to be freed
+ * in any case. */
+static uint32_t plan_of(boddurci *db, const struct boddurci_bytes *files, struct boddurci_bytes *redo)
+{
+    struct boddurci_bytes dir = files[BODDURCI_DIRECTORY], pag = files[BODDURCI_PAGES];
+    size_t room, length = 65536;
+    uint32_t status = BODDURCI_SHORT_ROOM;
+    while (status == BODDURCI_SHORT_ROOM) {
+        uint8_t *grown = realloc(redo->at, 1 + length);
+        if (grown == NULL)
+            return BODDURCI_NO_MEMORY;
+        redo->at = grown;
+        room = length;
+        status = boddurci_plan(db, or_none(dir), dir.length, or_none(pag), pag.length, grown + 1, room, &length);
+    }
+    if (status != BODDURCI_DONE)
+        return status;
+    redo->at[0] = 0;
+    redo->length = length == 0 ? 0 : 1 + length;
+    return status;
+}
+
+/* The same of the database as it is now, under the mutex. */
+static uint32_t plan_now(boddurci_base *base, const struct boddurci_bytes *files, struct boddurci_bytes *redo, boddurci_fault *fault)
+{
+    uint32_t status = plan_of(boddurci_take(base), files, redo);
+    boddurci_give(base);
+    if (status != BODDURCI_DONE)
+        return fail(fault, status, 0, boddurci_text(status));
+    if (redo->length != 0 && boddurci_new_length(*redo, BODDURCI_PAGES) > limits[BODDURCI_PAGES])
+        return fail(fault, BODDURCI_TOO_LONG, 0, "the pages have more than 1 GiB");
+    return status;
+}
+
+/* What the redo file of a save is to be, behind a save that was cut off. */
+static uint32_t plan_save(boddurci_base *base, struct boddurci_disk *disk, struct boddurci_bytes *redo, boddurci_fault *fault)
+{
+    struct boddurci_bytes files[2] = {{NULL, 0}, {NULL, 0}};
+    uint32_t status = end_marked(disk, fault);
+    for (enum boddurci_file file = BODDURCI_PAGES; status == BODDURCI_DONE && file <= BODDURCI_DIRECTORY; file++)
+        status = read_file(disk, file, 0, &files[file], fault);
+    if (status == BODDURCI_DONE)
+        status = plan_now(base, files, redo, fault);
+    let_go(&files[BODDURCI_PAGES]);
+    let_go(&files[BODDURCI_DIRECTORY]);
+    return status;
+}
+
+/* The whole save. Where the files are those of the database nothing is written. */
+static uint32_t save(boddurci_base *base, boddurci_fault *fault)
 {
     struct boddurci_disk disk;
     struct boddurci_bytes redo = {NULL, 0}, none = {NULL, 0};
-    uint32_t status = boddurci_disk_of(&disk, base) == 0 ? BODDURCI_DONE : no_memory(fault);
+    uint32_t status = boddurci_disk_of(&disk, base->name) == 0 ? BODDURCI_DONE : no_memory(fault);
     if (status == BODDURCI_DONE)
-        status = end_marked(&disk, fault);
-    if (status == BODDURCI_DONE && boddurci_rewriting(disk.names, files, &redo) != 0)
-        status = fail_by_system(fault, "the files cannot be compared");
-    if (status == BODDURCI_DONE && redo.at != NULL &&
+        status = plan_save(base, &disk, &redo, fault);
+    if (status == BODDURCI_DONE && redo.length != 0 &&
         (boddurci_recover(&disk, none) != 0 || boddurci_stage(&disk, redo) != 0 || boddurci_commit(&disk, redo) != 0))
         status = cannot_be_written(fault, disk.last);
     free(redo.at);
@@ -367,38 +417,13 @@ static uint32_t write_changes(const char *base, const struct boddurci_bytes *fil
     return status;
 }
 
-/* The bytes of both files, which are to be freed in any case. */
-static uint32_t bytes_of(boddurci *db, struct boddurci_bytes *files)
-{
-    uint8_t none[2];
-    struct boddurci_bytes *dir = &files[BODDURCI_DIRECTORY], *pag = &files[BODDURCI_PAGES];
-    uint32_t status = boddurci_files(db, none, 0, &dir->length, none + 1, 0, &pag->length);
-    if (status != BODDURCI_DONE && status != BODDURCI_SHORT_ROOM)
-        return status;
-    dir->at = malloc(dir->length + 1);
-    pag->at = malloc(pag->length + 1);
-    if (dir->at == NULL || pag->at == NULL)
-        return BODDURCI_NO_MEMORY;
-    return boddurci_files(db, dir->at, dir->length, &dir->length, pag->at, pag->length, &pag->length);
-}
-
 uint32_t boddurci_save(boddurci_base *base, boddurci_fault *fault)
 {
-    struct boddurci_bytes files[2] = {{NULL, 0}, {NULL, 0}};
     fail(fault, BODDURCI_DONE, 0, boddurci_text(BODDURCI_DONE));
     if (base->flags & BODDURCI_READ_ONLY)
         return fail(fault, BODDURCI_NO_SAVE, 0, "it was opened to be read only");
     pthread_mutex_lock(&base->saves);
-    uint32_t status = bytes_of(boddurci_take(base), files);
-    boddurci_give(base);
-    if (status != BODDURCI_DONE)
-        fail(fault, status, 0, boddurci_text(status));
-    else if (files[BODDURCI_PAGES].length > limits[BODDURCI_PAGES])
-        status = fail(fault, BODDURCI_TOO_LONG, 0, "the pages have more than 1 GiB");
-    else
-        status = write_changes(base->name, files, fault);
+    uint32_t status = save(base, fault);
     pthread_mutex_unlock(&base->saves);
-    free(files[BODDURCI_PAGES].at);
-    free(files[BODDURCI_DIRECTORY].at);
     return status;
 }

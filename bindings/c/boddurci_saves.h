@@ -41,9 +41,6 @@ int boddurci_next_change(struct boddurci_bytes redo, struct boddurci_change *cha
 /* Does the save in the bytes of a data file. */
 int boddurci_lay_over(struct boddurci_bytes redo, enum boddurci_file file, struct boddurci_bytes *bytes);
 
-/* The redo file, not marked yet, that makes the files with these names have these bytes; an empty one where they have them. */
-int boddurci_rewriting(char *const names[2], const struct boddurci_bytes bytes[2], struct boddurci_bytes *redo);
-
 /* ---- boddurci_disk.c: the three files of a database, written */
 
 /* Each file is opened when it is first written, made where it is not there, and then kept open. */

@@ -31,6 +31,10 @@ closed_denies P old new code e e' is = record { status = Closed; code_is = is; s
 pub shows : (P : Db → Type 0) (old new : Option Db) (d d' : Db) → old ≡ Some d → new ≡ Some d' → d' ≡ d → P d → Shows old new P
 shows P old new d d' e e' same is = record { db = d; old_is = e; same = e' ∙ ap Some same ∙ sym e; is = is }
 
+pub if_ok_shows : {A B : Type 0} (r : Result A B) (P : A → Db → Type 0) (old new : Option Db) (d d' : Db) → old ≡ Some d → new ≡ Some d' → d' ≡ d → IfOk r (λ a. P a d) → IfOk r (λ a. Shows old new (P a))
+if_ok_shows (Ok a) P old new d d' e e' same is = shows (P a) old new d d' e e' same is
+if_ok_shows (Err b) P old new d d' e e' same is = tt
+
 -- a handle that is not open
 pub shut : (held : Option Db) → (open_word held ≡ 1 → ⊥) → held ≡ None
 shut None wrong = refl

@@ -1,5 +1,5 @@
 -- What calls do with a handle, which is closed or has an open database with its programs (own).
-use Rattle.std.specs.Prelude.{◌≡◌, ◌==◌, ◌⊎◌, ◌<◌, ◌≤◌, ℕ, cond, length, take, drop, List, [], Option, Some, None, IsSome, Result, Ok, Err, slice_get, unwrap_or}
+use Rattle.std.specs.Prelude.{◌≡◌, ◌≢◌, ◌==◌, ◌⊎◌, ◌<◌, ◌≤◌, ℕ, cond, length, take, drop, List, [], Option, Some, None, IsSome, Result, Ok, Err, slice_get, unwrap_or}
 use Rattle.std.specs.declared.alloc.Global.{Global}
 use Rattle.std.specs.FinMap as map
 use Rattle.sdbm_addr.specs.declared.Mode.{Mode}
@@ -10,7 +10,7 @@ use Rattle.sdbm_addr.specs.declared.PageSize.{PageSize}
 use Rattle.sdbm_addr.specs.declared.PageSize.TheVariants.{Small, Wide}
 use Rattle.sdbm_addr.specs.Database.{Database, map_of}
 use Rattle.sdbm_addr.specs.Files.{SpellsDatabase, AreFiles}
-use Rattle.sdbm_files.specs.Opened.{IsOpenFault}
+use Rattle.sdbm_files.specs.Opened.{IsOpenFault, SpellsNoDatabase}
 use Rattle.sdbm_files.specs.FaultText.{fault_text as open_text}
 use Rattle.sdbm_files.specs.declared.opening.OpenFault.{OpenFault}
 use Rattle.sdbm_files.specs.declared.opening.OpenFault.TheVariants as open_faults
@@ -30,7 +30,7 @@ use Rattle.prog_registry.specs.declared.fault.RegFault.{RegFault}
 use Rattle.prog_registry.specs.declared.fault.RegFault.TheVariants as faults
 use Rattle.boddurci_c.specs.declared.db.Db.{Db}
 use Rattle.boddurci_c.specs.declared.status.Status.{Status}
-use Rattle.boddurci_c.specs.declared.status.Status.TheVariants.{Done, Missing, Exists, Crowded, ShortRoom, Refused, BadText, BadFiles, Closed, Open, PairTooLarge, ArgTooLong, NoProgram, NoMemory}
+use Rattle.boddurci_c.specs.declared.status.Status.TheVariants.{Done, Missing, Exists, Crowded, ShortRoom, Refused, BadText, BadFiles, Changed, Closed, Open, PairTooLarge, ArgTooLong, NoProgram, NoMemory, TooLong, NoTicket}
 use Rattle.boddurci_c.specs.Statuses.{code_of, status_of}
 use Rattle.boddurci_c.specs.Units.{unit_in, nowhere}
 
@@ -84,12 +84,15 @@ DeniesBy d command ShortRoom = ⊥
 DeniesBy d command Refused = ⊥
 DeniesBy d command BadText = ⊥
 DeniesBy d command BadFiles = ⊥
+DeniesBy d command Changed = ⊥
 DeniesBy d command Closed = ⊥
 DeniesBy d command Open = ⊥
 DeniesBy d command PairTooLarge = IsSizeFault d.image.size command sizes.PairTooLarge
 DeniesBy d command ArgTooLong = IsSizeFault d.image.size command sizes.ArgTooLong
 DeniesBy d command NoProgram = ⊥
 DeniesBy d command NoMemory = IsSmall d.image.size command
+DeniesBy d command TooLong = ⊥
+DeniesBy d command NoTicket = ⊥
 
 -- a command is done, and the status is that of its reply
 pub record Answers (command : Command Global) (old : Option Db) (code : ℕ) (new : Option Db) : Type 0 where
@@ -123,12 +126,15 @@ IsCopied bytes old new len ShortRoom = (len ≡ length bytes) × ((length old < 
 IsCopied bytes old new len Refused = ⊥
 IsCopied bytes old new len BadText = ⊥
 IsCopied bytes old new len BadFiles = ⊥
+IsCopied bytes old new len Changed = ⊥
 IsCopied bytes old new len Closed = ⊥
 IsCopied bytes old new len Open = ⊥
 IsCopied bytes old new len PairTooLarge = ⊥
 IsCopied bytes old new len ArgTooLong = ⊥
 IsCopied bytes old new len NoProgram = ⊥
 IsCopied bytes old new len NoMemory = ⊥
+IsCopied bytes old new len TooLong = ⊥
+IsCopied bytes old new len NoTicket = ⊥
 
 -- The text of a fault stands in a room, or the room is too short for it, or memory ran out for it and none is told.
 pub record IsTold (text old new : List ℕ) (len : ℕ) : Type 0 where
@@ -203,12 +209,15 @@ DeniesRun number key arg blank d ShortRoom = ⊥
 DeniesRun number key arg blank d Refused = ⊥
 DeniesRun number key arg blank d BadText = ⊥
 DeniesRun number key arg blank d BadFiles = ⊥
+DeniesRun number key arg blank d Changed = ⊥
 DeniesRun number key arg blank d Closed = ⊥
 DeniesRun number key arg blank d Open = ⊥
 DeniesRun number key arg blank d PairTooLarge = IsSome (slice_get d.registry.programs number) × IsRunFault d.image.size key arg blank sizes.PairTooLarge
 DeniesRun number key arg blank d ArgTooLong = IsSome (slice_get d.registry.programs number) × IsRunFault d.image.size key arg blank sizes.ArgTooLong
 DeniesRun number key arg blank d NoProgram = slice_get d.registry.programs number ≡ None
 DeniesRun number key arg blank d NoMemory = IsSome (slice_get d.registry.programs number) × (FitsBlank d.image.size key blank × (length arg ≤ argument_limit))
+DeniesRun number key arg blank d TooLong = ⊥
+DeniesRun number key arg blank d NoTicket = ⊥
 
 -- the number with which a run ended, and its word, are told; where it did not run they are zeros
 abbrev pub IsEnd : Reply Global → ℕ → ℕ → Type 0
@@ -239,12 +248,15 @@ AreCopied dir pag dir_old dir_new pag_old pag_new ShortRoom = ((length dir_old <
 AreCopied dir pag dir_old dir_new pag_old pag_new Refused = ⊥
 AreCopied dir pag dir_old dir_new pag_old pag_new BadText = ⊥
 AreCopied dir pag dir_old dir_new pag_old pag_new BadFiles = ⊥
+AreCopied dir pag dir_old dir_new pag_old pag_new Changed = ⊥
 AreCopied dir pag dir_old dir_new pag_old pag_new Closed = ⊥
 AreCopied dir pag dir_old dir_new pag_old pag_new Open = ⊥
 AreCopied dir pag dir_old dir_new pag_old pag_new PairTooLarge = ⊥
 AreCopied dir pag dir_old dir_new pag_old pag_new ArgTooLong = ⊥
 AreCopied dir pag dir_old dir_new pag_old pag_new NoProgram = ⊥
 AreCopied dir pag dir_old dir_new pag_old pag_new NoMemory = ⊥
+AreCopied dir pag dir_old dir_new pag_old pag_new TooLong = ⊥
+AreCopied dir pag dir_old dir_new pag_old pag_new NoTicket = ⊥
 
 -- the bytes of both files of a database
 pub record HasFiles (dir pag : List ℕ) (d : Db) : Type 0 where
@@ -309,6 +321,7 @@ pub record Faults (kind : KeyBytes) (size : PageSize) (dir pag : List ℕ) (old 
   pub closed : old ≡ None
   pub same : new ≡ None
   pub is : IsOpenFault kind size dir pag fault
+  pub none : fault ≢ open_faults.NoMemory → SpellsNoDatabase kind size dir pag
   pub text : IsTold (open_text fault) room_old room_new len
 
 -- nothing is opened: memory ran out, or the handle is open already

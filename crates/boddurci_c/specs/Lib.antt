@@ -4,3 +4,6 @@ pub mod Units
 pub mod Calls
 pub mod Texts
 pub mod Turns
+pub mod Plans
+pub mod Asked
+pub mod Tickets

@@ -6,7 +6,7 @@ use Rattle.store_cmd.specs.declared.Reply.TheVariants as replies
 use Rattle.store_cmd.specs.declared.SizeFault.{SizeFault}
 use Rattle.store_cmd.specs.declared.SizeFault.TheVariants as sizes
 use Rattle.boddurci_c.specs.declared.status.Status.{Status}
-use Rattle.boddurci_c.specs.declared.status.Status.TheVariants.{Done, Missing, Exists, Crowded, ShortRoom, Refused, BadText, BadFiles, Closed, Open, PairTooLarge, ArgTooLong, NoProgram, NoMemory}
+use Rattle.boddurci_c.specs.declared.status.Status.TheVariants.{Done, Missing, Exists, Crowded, ShortRoom, Refused, BadText, BadFiles, Changed, Closed, Open, PairTooLarge, ArgTooLong, NoProgram, NoMemory, TooLong, NoTicket}
 
 abbrev pub code_of : Status → ℕ
 code_of Done = 0
@@ -17,12 +17,15 @@ code_of ShortRoom = 4
 code_of Refused = 5
 code_of BadText = 6
 code_of BadFiles = 7
+code_of Changed = 8
 code_of Closed = 16
 code_of Open = 17
 code_of PairTooLarge = 18
 code_of ArgTooLong = 19
 code_of NoProgram = 20
 code_of NoMemory = 21
+code_of TooLong = 22
+code_of NoTicket = 23
 
 abbrev pub status_of : Reply Global → Status
 status_of (replies.Found value) = Done

@@ -1,16 +1,18 @@
 //! An open database with its programs, and what is done with it.
-ghost use Rattle.std.specs.Prelude.{◌≡◌, IfOk, IfErr, IfSome, IfNone, OnErr};
+ghost use Rattle.std.specs.Prelude.{◌≡◌, ◌≢◌, IfOk, IfErr, IfSome, IfNone, OnErr};
 ghost use Rattle.std.specs.Option.{option_map};
 ghost use Rattle.std.specs.Arc.{arc_value};
 ghost use Rattle.std.specs.declared.alloc.Global.{Global};
 ghost use Rattle.std.specs.FinMap as map;
 ghost use Rattle.sdbm_addr.specs.Database.{map_of};
-ghost use Rattle.sdbm_files.specs.Opened.{IsOpenFault};
+ghost use Rattle.sdbm_files.specs.Opened.{IsOpenFault, SpellsNoDatabase};
 ghost use Rattle.store_cmd.specs.Command.{IsSmall};
 ghost use Rattle.store_cmd.specs.declared.Command.TheVariants.{Store, Delete, Run};
 ghost use Rattle.store_moves.specs.Acts.{Acts};
 ghost use Rattle.boddurci_c.specs.Calls.{Does, DeniesBy, RunsBy, DeniesRun, Submits, IsEnd, FetchesIn, HasFiles, IsOpened, empty_registry};
+ghost use Rattle.boddurci_c.specs.Tickets.{IsRunAsked};
 
+use crate::job::Job;
 use crate::rooms::copy_out;
 use crate::status::Status;
 use bpf_verify::Verified;
@@ -210,6 +212,37 @@ pub fn run(
     }
 }
 
+/// Asks the run of the program with a number, and works nothing yet.
+pub fn ask(
+    alloc: Global,
+    db: &Db,
+    number: u32,
+    key: &[u8],
+    arg: &[u8],
+    blank: Option<usize>,
+    now: u64,
+) -> Result<Box<Job>, Status>
+    ensures ok { IfOk result (λ job. IsRunAsked number key.now arg.now blank now db.now job.value) }
+    ensures why { IfErr result (DeniesRun number key.now arg.now blank db.now) }
+{
+    let Some(program) = db.registry.get(ProgId(number)) else {
+        return Err(Status::NoProgram);
+    };
+    if let Err(fault) = check_run(key, arg, blank, db.image.page_size()) {
+        return Err(Status::of_size(fault));
+    }
+    let Ok(command) = run_command(alloc, program, key, arg, blank, now) else {
+        return Err(Status::NoMemory);
+    };
+    let Ok(job) = Job::ask(&db.image, command) else {
+        return Err(Status::NoMemory);
+    };
+    match Box::new(alloc, job) {
+        Ok(owned) => Ok(owned),
+        Err(_) => Err(Status::NoMemory),
+    }
+}
+
 /// Submits the image of a program.
 pub fn submit(db: &mut Db, image: &[u8]) -> Result<ProgId, RegFault>
     ensures { Submits image.now result db.old db.new }
@@ -241,6 +274,7 @@ pub fn open(
     requires { registry ≡ empty_registry }
     ensures ok { IfOk result (IsOpened kind size dir.now pag.now) }
     ensures err { IfErr result (IsOpenFault kind size dir.now pag.now) }
+    ensures none { IfErr result (λ fault. fault ≢ OpenFault.NoMemory → SpellsNoDatabase kind size dir.now pag.now) }
 {
     match Image::open(alloc, dir, pag, kind, size) {
         Ok(image) => Ok(Db { image, registry }),

@@ -2,25 +2,33 @@
 //! thread, and reads and writes no file.
 #![tactic(auto)]
 
-ghost use Rattle.std.specs.Prelude.{◌≡◌, ◌⊎◌, Option, Some, None, IfOk, IfErr, IfSome, IfNone, OnOk, OnErr};
+ghost use Rattle.std.specs.Prelude.{◌≡◌, ◌≢◌, ◌⊎◌, Option, Some, None, IfOk, IfErr, IfSome, IfNone, OnOk, OnErr};
 ghost use Rattle.store_cmd.specs.declared.Command.TheVariants.{Store, Delete};
 ghost use Rattle.boddurci_c.specs.Calls.{At, Shows, Why, Denies, Never, Does, DeniesBy, Says, Fetches, Counts, Runs, RunsBy, DeniesRun, Submits, Numbers, Rejects, HasFiles, Writes, LacksMemory, IsOpened, OpensOr, open_word, mode_for, blank_for, kind_for, size_for, empty_registry, status_of_fault, status_of_open, AreCopied};
 ghost use Rattle.boddurci_c.specs.Texts.{Assembles, Garbles};
 ghost use Rattle.boddurci_c.specs.Turns.{Begins, GoesOn};
 ghost use Rattle.boddurci_c.specs.declared.db.Db.{Db};
-ghost use Rattle.sdbm_files.specs.Opened.{IsOpenFault};
+ghost use Rattle.boddurci_c.specs.Plans.{Plans, IsPlanFor, DeniesPlan};
+ghost use Rattle.boddurci_c.specs.Tickets.{Asks, AsksNot, IsRunAsked, Works, WorksNot, FinishesOn, WhyNot, Finishes, FinishesNot};
+ghost use Rattle.sdbm_files.specs.Opened.{IsOpenFault, SpellsNoDatabase};
 
 mod db;
 mod handle;
+mod job;
 mod loose;
+mod plans;
 mod rooms;
+mod snapshot;
 mod status;
 mod texts;
+mod ticket;
 mod turns;
 mod units;
 
-use db::{delete, end_of, fetch, files, open, run, store, submit};
+use db::{Db, ask, delete, end_of, fetch, files, open, run, store, submit};
 use handle::Handle;
+use job::Job;
+use plans::plan;
 use prog_registry::{ProgId, RegFault, Registry};
 use rooms::{copy_both, copy_out, tell};
 use sdbm_addr::{KeyBytes, Mode, PageSize};
@@ -29,6 +37,7 @@ use status::Status;
 use std::alloc::Global;
 use store_cmd::Reply;
 use texts::image_of;
+use ticket::Ticket;
 use turns::{Cursor, start, turn};
 use units::unit_of;
 
@@ -276,6 +285,142 @@ pub extern "C" fn boddurci_run(
     }
 }
 
+// Asks a run of an open handle.
+fn ask_at(
+    alloc: Global,
+    slot: &mut Handle,
+    number: u32,
+    key: &[u8],
+    arg: &[u8],
+    blank: Option<usize>,
+    now: u64,
+) -> Result<Box<Job>, Status>
+    ensures ok { IfOk result (λ job. Shows slot.old.held slot.new.held (λ d. IsRunAsked number key.now arg.now blank now d job.value)) }
+    ensures same { slot.new.held ≡ slot.old.held }
+    ensures why { IfErr result (Why (DeniesRun number key.now arg.now blank) slot.old.held) }
+{
+    let Some(db) = slot.take(alloc) else {
+        return Err(Status::Closed);
+    };
+    let asked = ask(alloc, &*db, number, key, arg, blank, now);
+    slot.put(db);
+    asked
+}
+
+/// Asks a run as `boddurci_run` does it, under a ticket: with the page of its key as it is now. Nothing is run yet. What was under the
+/// ticket goes.
+#[unsafe(no_mangle)]
+pub extern "C" fn boddurci_ask(
+    alloc: Global,
+    slot: &mut Handle,
+    ticket: &mut Ticket,
+    number: u32,
+    key: &[u8],
+    arg: &[u8],
+    has_blank: u32,
+    blank: usize,
+    now: u64,
+) -> u32
+    ensures { Asks number key.now arg.now (blank_for has_blank blank) now slot.old.held result slot.new.held ticket.new.asked
+        ⊎ AsksNot number key.now arg.now (blank_for has_blank blank) now slot.old.held result slot.new.held ticket.old.asked ticket.new.asked }
+{
+    match ask_at(
+        alloc,
+        slot,
+        number,
+        key,
+        arg,
+        blank_of(has_blank, blank),
+        now,
+    ) {
+        Ok(job) => {
+            ticket.put(job);
+            Status::Done.code()
+        }
+        Err(status) => status.code(),
+    }
+}
+
+/// Works out what was asked, on the page as it was then. It wants no handle.
+#[unsafe(no_mangle)]
+pub extern "C" fn boddurci_work(alloc: Global, ticket: &mut Ticket) -> u32
+    ensures { Works ticket.old.asked result ticket.new.asked ⊎ WorksNot ticket.old.asked result ticket.new.asked }
+{
+    let Some(mut job) = ticket.take(alloc) else {
+        return Status::NoTicket.code();
+    };
+    let worked = job.work(alloc);
+    ticket.put(job);
+    match worked {
+        Ok(()) => Status::Done.code(),
+        Err(_) => Status::NoMemory.code(),
+    }
+}
+
+// Does on a database what was worked under a ticket.
+fn finish_on(alloc: Global, db: &mut Db, ticket: &mut Ticket) -> Result<Reply<Global>, Status>
+    ensures ok { IfOk result (λ reply. FinishesOn db.old ticket.old.asked reply db.new ticket.new.asked) }
+    ensures err { OnErr result (db.new ≡ db.old) }
+    ensures same { OnErr result (ticket.new.asked ≡ ticket.old.asked) }
+    ensures why { IfErr result (WhyNot ticket.old.asked db.old) }
+{
+    let Some(mut job) = ticket.take(alloc) else {
+        return Err(Status::NoTicket);
+    };
+    match job.finish(&mut db.image) {
+        Ok(reply) => Ok(reply),
+        Err(status) => {
+            ticket.put(job);
+            Err(status)
+        }
+    }
+}
+
+// The same on an open handle.
+fn finish_at(alloc: Global, slot: &mut Handle, ticket: &mut Ticket) -> Result<Reply<Global>, Status>
+    ensures ok { IfOk result (λ reply. At slot.old.held slot.new.held (λ d d'. FinishesOn d ticket.old.asked reply d' ticket.new.asked)) }
+    ensures err { OnErr result (slot.new.held ≡ slot.old.held) }
+    ensures same { OnErr result (ticket.new.asked ≡ ticket.old.asked) }
+    ensures why { IfErr result (Why (WhyNot ticket.old.asked) slot.old.held) }
+{
+    let Some(mut db) = slot.take(alloc) else {
+        return Err(Status::Closed);
+    };
+    let done = finish_on(alloc, &mut *db, ticket);
+    slot.put(db);
+    done
+}
+
+/// Does what was worked under a ticket as one step of the database as it stands, where the page of its key is as it was asked, and
+/// tells as `boddurci_run` does how the run ended. The ticket is free then.
+#[unsafe(no_mangle)]
+pub extern "C" fn boddurci_finish(
+    alloc: Global,
+    slot: &mut Handle,
+    ticket: &mut Ticket,
+    end: &mut u64,
+    word: &mut u64,
+) -> u32
+    ensures { Finishes slot.old.held result slot.new.held ticket.old.asked ticket.new.asked end.new word.new
+        ⊎ FinishesNot slot.old.held result slot.new.held ticket.old.asked ticket.new.asked }
+{
+    match finish_at(alloc, slot, ticket) {
+        Ok(reply) => {
+            (*end, *word) = end_of(&reply);
+            Status::of_reply(&reply).code()
+        }
+        Err(status) => status.code(),
+    }
+}
+
+/// Gives up what is under a ticket, which is free then.
+#[unsafe(no_mangle)]
+pub extern "C" fn boddurci_abandon(alloc: Global, ticket: &mut Ticket)
+    ensures { ticket.new.asked ≡ None }
+{
+    let _ = ticket.take(alloc);
+}
+
 /// Begins a walk over all pairs.
 #[unsafe(no_mangle)]
 pub extern "C" fn boddurci_first(alloc: Global, slot: &mut Handle, cursor: &mut Cursor) -> u32
@@ -351,6 +496,40 @@ pub extern "C" fn boddurci_files(
     }
 }
 
+// The plan of a save of an open handle's database.
+fn plan_at(alloc: Global, slot: &mut Handle, dir: &[u8], pag: &[u8]) -> Result<Vec<u8>, Status>
+    ensures ok { IfOk result (λ plan. Shows slot.old.held slot.new.held (λ d. IsPlanFor d.image plan.items dir.now pag.now)) }
+    ensures same { slot.new.held ≡ slot.old.held }
+    ensures why { IfErr result (Why DeniesPlan slot.old.held) }
+{
+    let Some(db) = slot.take(alloc) else {
+        return Err(Status::Closed);
+    };
+    let done = plan(alloc, &*db, dir, pag);
+    slot.put(db);
+    done
+}
+
+/// Writes the plan that makes the old bytes of both files those of the database into a room, where it fits, and tells its length, which
+/// is 0 where they are that already.
+#[unsafe(no_mangle)]
+pub extern "C" fn boddurci_plan(
+    alloc: Global,
+    slot: &mut Handle,
+    dir: &[u8],
+    pag: &[u8],
+    room: &mut [u8],
+    len: &mut usize,
+) -> u32
+    ensures { Plans slot.old.held result slot.new.held dir.now pag.now room.old room.new len.new
+        ⊎ Denies DeniesPlan slot.old.held result slot.new.held }
+{
+    match plan_at(alloc, slot, dir, pag) {
+        Ok(plan) => copy_out(plan.as_slice(), room, len).code(),
+        Err(status) => status.code(),
+    }
+}
+
 // How keys hash.
 fn kind_of(unsigned_keys: u32) -> KeyBytes
     ensures { result ≡ kind_for unsigned_keys }
@@ -401,6 +580,7 @@ fn open_at(
     ensures ok { OnOk result ((d : Db) × ((slot.new.held ≡ Some d) × IsOpened kind size dir.now pag.now d)) }
     ensures err { OnErr result (slot.new.held ≡ None) }
     ensures fault { IfErr result (IsOpenFault kind size dir.now pag.now) }
+    ensures none { IfErr result (λ fault. fault ≢ OpenFault.NoMemory → SpellsNoDatabase kind size dir.now pag.now) }
 {
     let db = open(alloc, registry, dir, pag, kind, size)?;
     match Box::new(alloc, db) {

@@ -8,7 +8,7 @@ use store_cmd::{Reply, SizeFault};
 /// What a call answers: that it is done, what is told of the database, or why nothing was done.
 #[derive(Clone, Copy, Debug, PartialEq, Eq)]
 pub enum Status {
-    /// It is done: found, stored, deleted, counted, run, numbered, opened or written.
+    /// It is done: found, stored, deleted, counted, run, numbered, opened, written, asked or worked.
     Done,
     /// The key is not there, or no pair is left.
     Missing,
@@ -24,6 +24,8 @@ pub enum Status {
     BadText,
     /// The bytes of the files are no database.
     BadFiles,
+    /// The page of the key is another than it was when the run was asked.
+    Changed,
     /// The handle is closed.
     Closed,
     /// The handle is open already.
@@ -36,6 +38,10 @@ pub enum Status {
     NoProgram,
     /// Memory ran out.
     NoMemory,
+    /// A file would have 2^32 bytes or more.
+    TooLong,
+    /// Under the ticket nothing is asked, or what is asked is not worked.
+    NoTicket,
 }
 
 impl Status {
@@ -52,12 +58,15 @@ impl Status {
             Status::Refused => 5,
             Status::BadText => 6,
             Status::BadFiles => 7,
+            Status::Changed => 8,
             Status::Closed => 16,
             Status::Open => 17,
             Status::PairTooLarge => 18,
             Status::ArgTooLong => 19,
             Status::NoProgram => 20,
             Status::NoMemory => 21,
+            Status::TooLong => 22,
+            Status::NoTicket => 23,
         }
     }
 

@@ -1,5 +1,5 @@
 use Rattle.std.proofs.Common.{◌∙◌, ap, refl, subst, inl, inr}
-use Rattle.sdbm_files.specs.Opened.{IsOpenFault}
+use Rattle.sdbm_files.specs.Opened.{IsOpenFault, SpellsNoDatabase}
 use Rattle.boddurci_c.specs.Statuses.{code_of}
 use Rattle.boddurci_c.specs.Calls.{IsOpened, kind_for}
 use Rattle.boddurci_c.proofs.CallLemmas.{shut}
@@ -26,5 +26,7 @@ returns-in-Err c =
       same = c.in-Err.ensures.err;
       is = subst (λ s. IsOpenFault (kind_for c.args.unsigned_keys) s c.args.dir.now c.args.pag.now c.in-Err.fault) c.size_of.ensures
           (subst (λ k. IsOpenFault k c.size_of.result c.args.dir.now c.args.pag.now c.in-Err.fault) c.kind_of.ensures c.in-Err.ensures.fault);
+      none = λ told. subst (λ s. SpellsNoDatabase (kind_for c.args.unsigned_keys) s c.args.dir.now c.args.pag.now) c.size_of.ensures
+          (subst (λ k. SpellsNoDatabase k c.size_of.result c.args.dir.now c.args.pag.now) c.kind_of.ensures (c.in-Err.ensures.none told));
       text = c.tell.ensures _ refl;
     }))

@@ -1,0 +1,44 @@
+-- What was worked on a page that stands as it was asked is one command of the database.
+use Rattle.std.proofs.Common.{◌≡◌, ℕ, List, sym, ap, ◌∙◌, subst}
+use Rattle.std.specs.Option.{option_map}
+use Rattle.std.specs.declared.alloc.Global.{Global}
+use Rattle.sdbm_addr.specs.declared.KeyBytes.{KeyBytes}
+use Rattle.sdbm_addr.specs.declared.PageSize.{PageSize}
+use Rattle.sdbm_addr.specs.Pairs.{Pair}
+use Rattle.sdbm_addr.specs.Database.{Database, IsDatabase, pairs_at}
+use Rattle.store_cmd.specs.declared.Reply.{Reply}
+use Rattle.store_cmd.specs.Command.{IsSmall}
+use Rattle.store_moves.specs.declared.work.Worked.{Worked}
+use Rattle.store_moves.specs.Acts.{Acts}
+use Rattle.store_moves.specs.Leads.{LeadsTo, MayChange, changed_by}
+use Rattle.store_moves.specs.Works.{PageResult, works, change_of, HasEnd, IsWorkable}
+use Rattle.store_moves.proofs.Lifting.{works_lead}
+use Rattle.store_moves.proofs.Acting.{Acts-on_page}
+use Rattle.boddurci_c.specs.Asked.{Asked, result_of, IsWorkedOut}
+use Rattle.boddurci_c.specs.Tickets.{IsCurrent}
+
+module _ (db : Database) (ok : IsDatabase db) (a : Asked) (w : Worked Global) (now : IsCurrent db a) (may : IsWorkable a.place a.kind a.page.size a.page.pairs a.command) (out : IsWorkedOut a w) where
+  abbrev here : PageResult Global
+  here = works a.place db.kind db.size (pairs_at db a.place.page) 0 a.command
+
+  same : result_of a ≡ here
+  same = ap (λ (k : KeyBytes). works a.place k a.page.size a.page.pairs 0 a.command) now.kind
+      ∙ ap (λ (s : PageSize). works a.place db.kind s a.page.pairs 0 a.command) now.size
+      ∙ ap (λ (ps : List Pair). works a.place db.kind db.size ps 0 a.command) now.pairs
+
+  small : IsSmall db.size a.command
+  small = subst (λ (s : PageSize). IsSmall s a.command) now.size may.small
+
+  change : option_map change_of w.change ≡ here.change
+  change = out.is.change ∙ ap (λ (r : PageResult Global). r.change) same
+
+  leads : LeadsTo db 0 a.command a.place.page here
+  leads = works_lead db ok a.place 0 a.command may.keyed small now.place
+
+  pub may_put : MayChange db a.place.page (option_map change_of w.change)
+  may_put = subst (λ x. MayChange db a.place.page x) (sym change) leads.may
+
+  pub put_acts : (db' : Database) → db' ≡ changed_by db a.place.page (option_map change_of w.change) → Acts db (record { session = 0; command = a.command; reply = w.reply }) db'
+  put_acts db' installed =
+      Acts-on_page db db' ok a.place 0 a.command w.reply may.keyed small now.place (subst (λ (ps : List Pair). HasEnd ps 0 a.command) now.pairs out.ends)
+      (out.is.reply ∙ ap (λ (r : PageResult Global). r.reply) same) (installed ∙ ap (λ x. changed_by db a.place.page x) change)

@@ -1,0 +1,23 @@
+use Rattle.std.proofs.Common.{Option, IfSome, is_some, sym, subst}
+use Rattle.std.specs.declared.alloc.Global.{Global}
+use Rattle.store_moves.specs.declared.work.Worked.{Worked}
+use Rattle.store_moves.specs.Acts.{Acts}
+use Rattle.boddurci_c.specs.Asked.{Asked, IsWorkedOut}
+use Rattle.boddurci_c.specs.Tickets.{IsCurrent}
+use Rattle.boddurci_c.proofs.Jobs.{may_put, put_acts}
+use Rattle.boddurci_c.proofs.job.Job.put.Goals as goal
+
+pub put_in-requires : goal.put_in-requires
+put_in-requires c =
+    let a : Asked = record { command = c.self.inside.command; place = c.self.inside.place; kind = c.self.inside.kind; page = c.self.inside.page; is_worked = is_some c.self.inside.worked } in
+    let now : IsCurrent c.args.image.now a = subst (λ (x : Asked). IsCurrent c.args.image.now x) (sym c.self.view_is) c.requires.current in
+    let out : IsWorkedOut a c.in-Some.field-0 = subst (λ (w : Option (Worked Global)). IfSome w (IsWorkedOut a)) (sym c.in-Some.ensures.value) c.self.invariant.done in
+    may_put c.args.image.now c.requires.database a c.in-Some.field-0 now c.self.invariant.workable out
+
+pub returns-in-Ok-clause-ok : goal.returns-in-Ok-clause-ok
+returns-in-Ok-clause-ok c =
+    let a : Asked = record { command = c.self.inside.command; place = c.self.inside.place; kind = c.self.inside.kind; page = c.self.inside.page; is_worked = is_some c.self.inside.worked } in
+    let now : IsCurrent c.args.image.now a = subst (λ (x : Asked). IsCurrent c.args.image.now x) (sym c.self.view_is) c.requires.current in
+    let out : IsWorkedOut a c.in-Some.field-0 = subst (λ (w : Option (Worked Global)). IfSome w (IsWorkedOut a)) (sym c.in-Some.ensures.value) c.self.invariant.done in
+    subst (λ (x : Asked). Acts c.args.image.now (record { session = 0; command = x.command; reply = c.in-Some.field-0.reply }) c.put_in.new.image) c.self.view_is
+    (put_acts c.args.image.now c.requires.database a c.in-Some.field-0 now c.self.invariant.workable out c.put_in.new.image c.in-Ok.ensures.ok)

@@ -1,0 +1,151 @@
+//! Runs that are asked, worked and finished one after another: what a program does to a record is worked out while others use the
+//! database, and put in where the page of its key is still as it was.
+ghost use Rattle.std.specs.Prelude.{◌≡◌, ◌↔◌, IsTrue, IfOk, IfErr, OnOk, OnErr, true};
+ghost use Rattle.sdbm_addr.specs.Database.{IsDatabase};
+ghost use Rattle.store_cmd.specs.Command.{IsSmall};
+ghost use Rattle.store_moves.specs.Acts.{Acts};
+ghost use Rattle.store_moves.specs.Works.{HasKey};
+ghost use Rattle.boddurci_c.specs.Tickets.{IsAskedOf, IsCurrent, DeniesFinish, worked_out};
+
+use crate::snapshot::Snapshot;
+use crate::status::Status;
+use sdbm_addr::KeyBytes;
+use sdbm_dir::Place;
+use sdbm_files::Image;
+use std::alloc::{AllocError, Global};
+use std::marker::Model;
+use store_cmd::{Command, Reply};
+use store_moves::{Worked, key_in, put_in, work_on};
+
+/// A command that was asked: the place of its key in a database whose keys hash so, and the page there as it was; and what it came to,
+/// once it is worked.
+#[derive(Drop)]
+pub struct Job {
+    command: Command<Global>,
+    place: Place,
+    kind: KeyBytes,
+    page: Snapshot,
+    worked: Option<Worked<Global>>,
+}
+
+impl Model for Job {
+    ghost use Rattle.std.specs.Prelude.{is_some};
+    ghost use Rattle.boddurci_c.specs.Asked.{Asked, IsJob};
+
+    ghost Value = { Asked };
+
+    ghost view = { λ a. record { command = a.command; place = a.place; kind = a.kind; page = a.page; is_worked = is_some a.worked } };
+
+    ghost invariant = { λ a. IsJob (record { command = a.command; place = a.place; kind = a.kind; page = a.page; is_worked = is_some a.worked }) a.worked };
+}
+
+impl Job {
+    /// Asks a command about a key, one that `check` takes for the page size of the database. The page is shared, and not copied.
+    ///
+    /// # Errors
+    /// `AllocError` where the page has as many owners as can be counted.
+    pub fn ask(image: &Image<Global>, command: Command<Global>) -> Result<Job, AllocError>
+        requires keyed { HasKey command }
+        requires small { IsSmall image.now.size command }
+        ensures { IfOk result (λ job. IsAskedOf image.now command job) }
+    {
+        let place = image.place(key_in(&command));
+        let page = Snapshot::of(image, place.page)?;
+        let kind = image.key_bytes();
+        Ok(Job {
+            command,
+            place,
+            kind,
+            page,
+            worked: None,
+        })
+    }
+
+    /// Works the command out on the page as it was asked, and touches nothing else. What was worked before is worked again, to the same.
+    ///
+    /// # Errors
+    /// `AllocError` where no memory is left for the reply or for the pages that change. The job is then as it was.
+    pub fn work(&mut self, alloc: Global) -> Result<(), AllocError>
+        ensures ok { OnOk result (self.new ≡ worked_out self.old) }
+        ensures err { OnErr result (self.new ≡ self.old) }
+    {
+        let worked = work_on(
+            alloc,
+            self.page.page(),
+            self.place,
+            self.kind,
+            self.page.page_size(),
+            0,
+            &self.command,
+        )?;
+        self.worked = Some(worked);
+        Ok(())
+    }
+
+    // Whether the command was worked.
+    fn is_worked(&self) -> bool
+        ensures { result ≡ self.now.is_worked }
+    {
+        self.worked.is_some()
+    }
+
+    // Whether the page of the key is as it was asked, in a database whose keys hash so.
+    fn is_current(&self, image: &Image<Global>) -> bool
+        ensures current { IsTrue result ↔ IsCurrent image.now self.now }
+        ensures database { IsDatabase image.now }
+    {
+        let place = image.place(key_in(&self.command));
+        if place != self.place {
+            return false;
+        }
+        if image.key_bytes() != self.kind {
+            return false;
+        }
+        self.page.is_still(image, place.page)
+    }
+
+    /// Does the command as one step of a database in which the page of its key is as it was asked.
+    ///
+    /// # Errors
+    /// `NoTicket` where it was not worked, `Changed` where the page is another, and else `NoMemory`. The database and the job are then
+    /// as they were.
+    pub fn finish(&mut self, image: &mut Image<Global>) -> Result<Reply<Global>, Status>
+        ensures ok { IfOk result (λ reply. Acts image.old (record { session = 0; command = self.old.command; reply = reply }) image.new) }
+        ensures worked { OnOk result (self.old.is_worked ≡ true) }
+        ensures why { IfErr result (DeniesFinish image.old self.old) }
+        ensures err { OnErr result (image.new ≡ image.old) }
+        ensures kept { OnErr result (self.new ≡ self.old) }
+    {
+        if !self.is_worked() {
+            return Err(Status::NoTicket);
+        }
+        if !self.is_current(image) {
+            return Err(Status::Changed);
+        }
+        match self.put(image) {
+            Ok(reply) => Ok(reply),
+            Err(_) => Err(Status::NoMemory),
+        }
+    }
+
+    // Puts in what it came to.
+    fn put(&mut self, image: &mut Image<Global>) -> Result<Reply<Global>, AllocError>
+        requires worked { self.old.is_worked ≡ true }
+        requires current { IsCurrent image.old self.old }
+        requires database { IsDatabase image.old }
+        ensures ok { IfOk result (λ reply. Acts image.old (record { session = 0; command = self.old.command; reply = reply }) image.new) }
+        ensures err { OnErr result (image.new ≡ image.old) }
+        ensures kept { OnErr result (self.new ≡ self.old) }
+    {
+        let Some(Worked { reply, change }) = self.worked.take() else {
+            unreachable!()
+        };
+        match put_in(image, self.place, change) {
+            Ok(()) => Ok(reply),
+            Err((error, change)) => {
+                self.worked = Some(Worked { reply, change });
+                Err(error)
+            }
+        }
+    }
+}

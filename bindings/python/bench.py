@@ -1,13 +1,12 @@
 """How long calls from Python take: N stores, fetches and increments of 16-byte keys and 8-byte values, by boddurci, by dbm.gnu where this
 Python has it, and by sqlite3. BODDURCI_LIBRARY names the shared object.
 
-usage: bench.py N [ROUNDS]     prints the nanoseconds of each, the median of the rounds, in which all take turns
+usage: bench.py N [ROUNDS]     prints the nanoseconds of the processor of each, the least of the rounds, in which all take turns
 """
 
 import os
 import pathlib
 import sqlite3
-import statistics
 import sys
 import tempfile
 import time
@@ -65,17 +64,17 @@ class Sqlite:
 
 
 def measured(store, keys):
-    """The seconds of all stores, fetches and increments."""
-    times = [time.perf_counter()]
+    """The seconds of all stores, fetches and increments, of the processor's time."""
+    times = [time.process_time()]
     for number, key in enumerate(keys):
         store.db[key] = number.to_bytes(8, "little")
-    times.append(time.perf_counter())
+    times.append(time.process_time())
     for key in keys:
         store.db[key]
-    times.append(time.perf_counter())
+    times.append(time.process_time())
     for key in keys:
         store.add(key)
-    times.append(time.perf_counter())
+    times.append(time.process_time())
     assert store.db[keys[7]] == (8).to_bytes(8, "little")
     store.db.close()
     return [after - before for before, after in zip(times, times[1:])]
@@ -97,7 +96,7 @@ def main():
             for kind, store in stores(pathlib.Path(name)):
                 found.setdefault(kind, []).append(measured(store, keys))
     for kind, times in found.items():
-        print(kind, *(round(statistics.median(it) / count * 1e9) for it in zip(*times)))
+        print(kind, *(round(min(it) / count * 1e9) for it in zip(*times)))
     if not gnu:
         print("bench.py: this Python has no dbm.gnu")
 

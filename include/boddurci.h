@@ -162,7 +162,8 @@ uint32_t boddurci_submit(boddurci *db, const uint8_t *image, size_t image_length
 
 /* Runs the program with a number on the record of a key, as one step; where the key is not there, on `blank` zeros if has_blank is
  * not 0. The program is told the time `now`, and is lent the argument. *end is the number with which it ended: 1 saves the record, 2
- * deletes the pair, any other changes nothing. *word is its reply word. Both are 0 where it did not run, or its record found no room.
+ * deletes the pair, any other changes nothing. *word is its reply word. After MISSING and CROWDED both are 0, and after any
+ * other refusal they are what they were.
  * MISSING where there is neither key nor blank; CROWDED; NO_PROGRAM, then PAIR_TOO_LARGE, then ARG_TOO_LONG; IS_CLOSED, NO_MEMORY. */
 uint32_t boddurci_run(boddurci *db, uint32_t number, const uint8_t *key, size_t key_length, const uint8_t *arg, size_t arg_length,
                       uint32_t has_blank, size_t blank, uint64_t now, uint64_t *end, uint64_t *word);

@@ -1,26 +1,32 @@
 -- The fault of a step, as a fault of the whole.
-use Rattle.std.proofs.Common.{◌≡◌, ℕ, List, Option, Some, None, Bor, Result, Ok, Err, IfErr, IsErrAnd, refl, sym, subst}
+use Rattle.std.proofs.Common.{◌≡◌, ℕ, List, Option, Some, None, Bor, Result, Ok, Err, IfErr, IsErrAnd, Bool, true, false, cond, refl, sym, subst}
 use Rattle.std.specs.declared.alloc.Global.{Global}
 use Rattle.std.proofs.lemmas.Option.{none-some}
 use Rattle.sdbm_addr.specs.Database.{Database}
+use Rattle.dbm_script.specs.Commands.{command_of}
+use Rattle.dbm_script.specs.Notation.{reads_hex}
 use Rattle.dbm_script.specs.Script.{AnswersExceed}
 use Rattle.dbm_script.specs.declared.fault.LinesFault.{LinesFault}
 use Rattle.dbm_script.specs.declared.fault.LinesFault.TheVariants as lines
 use Rattle.dbm_words.specs.declared.wish.Form.{Form}
-use Rattle.dbm_words.specs.declared.wish.Notation.{Notation}
+use Rattle.dbm_words.specs.declared.wish.Notation.{Notation as Options}
+use Rattle.dbm_script.specs.declared.notations.Notation.{Notation}
+use Rattle.dbm_words.specs.declared.wish.Wish.{Wish}
 use Rattle.dbm_words.specs.declared.wish.Wish.TheVariants as wish
+use Rattle.dbm_reports.specs.declared.subcommands.Report.{Report}
 use Rattle.dbm_reports.specs.declared.databases.Given.{Given}
 use Rattle.dbm_reports.specs.declared.fault.ReportFault.{ReportFault}
-use Rattle.dbm_reports.specs.declared.fault.ReportFault.TheVariants.{BadHex, BadNumber, Open, NotText, Assemble, Decode, Read, TooLong, OutputTooLong, NoMemory}
+use Rattle.dbm_reports.specs.declared.fault.ReportFault.TheVariants.{BadHex, BadText, BadLayout, BadNumber, Open, NotText, Assemble, Decode, Read, TooLong, OutputTooLong, NoMemory}
 use Rattle.sdbm_addr.specs.declared.KeyBytes.{KeyBytes}
 use Rattle.sdbm_addr.specs.declared.PageSize.{PageSize}
 use Rattle.sdbm_files.specs.Opened.{IsOpenFault}
 use Rattle.sdbm_files.specs.declared.opening.OpenFault.{OpenFault}
 use Rattle.sdbm_files.specs.declared.opening.OpenFault.TheVariants as opening
 use Rattle.dbm_reports.specs.Databases.{Opens, key_bytes_of, page_size_of}
+use Rattle.dbm_reports.specs.Notations.{notation_for}
 use Rattle.dbm_reports.specs.Options.{output_limit}
-use Rattle.dbm_reports.specs.Causes.{Causes, IsCaused, IsOverlong, alone_causes, input_causes, lines_fault, numbered_causes, open_fault, opening_causes, play_causes, script_causes}
-use Rattle.dbm_reports.specs.Subcommands.{subcommand_for}
+use Rattle.dbm_reports.specs.Causes.{Causes, IsCaused, command_causes, IsOverlong, alone_causes, input_causes, lines_fault, numbered_causes, open_fault, opening_causes, play_causes, script_causes}
+use Rattle.dbm_reports.specs.Subcommands.{layout_causes, noted, subcommand_for, subcommand_in}
 
 -- the fault is this one, of which Q holds
 pub as_err : {T E : Type 0} (Q : E → Type 0) {e : E} (r : Result T E) → IsErrAnd r (λ fault. fault ≡ e) → Q e → IfErr r Q
@@ -44,48 +50,54 @@ shut_fault form given kind size dir pag fault kinds sizes dirs pags is = of faul
     of (opening.Misplaced number) h = h
 
 -- standard input is read behind the opening
-pub input_fault : (form : Form) (given : Given) (input : Option (List ℕ)) (most : ℕ) (fault : ReportFault) → Opens form given → IsCaused (input_causes input) fault → IsCaused (script_causes form given input most) fault
-input_fault form given input most BadHex opens h = h
-input_fault form given input most BadNumber opens h = h
-input_fault form given input most (Open reason) opens h = absurd h
-input_fault form given input most NotText opens h = h
-input_fault form given input most (Assemble fault) opens h = h
-input_fault form given input most (Decode fault) opens h = h
-input_fault form given input most Read opens h = opens
-input_fault form given input most TooLong opens h = (opens, h)
-input_fault form given input most OutputTooLong opens h = absurd h
-input_fault form given input most NoMemory opens h = tt
+pub input_fault : (n : Notation Global) (form : Form) (given : Given) (input : Option (List ℕ)) (most : ℕ) (fault : ReportFault) → Opens form given → IsCaused (input_causes input) fault → IsCaused (script_causes n form given input most) fault
+input_fault n form given input most BadHex opens h = h
+input_fault n form given input most BadText opens h = h
+input_fault n form given input most BadLayout opens h = h
+input_fault n form given input most BadNumber opens h = h
+input_fault n form given input most (Open reason) opens h = absurd h
+input_fault n form given input most NotText opens h = h
+input_fault n form given input most (Assemble fault) opens h = h
+input_fault n form given input most (Decode fault) opens h = h
+input_fault n form given input most Read opens h = opens
+input_fault n form given input most TooLong opens h = (opens, h)
+input_fault n form given input most OutputTooLong opens h = absurd h
+input_fault n form given input most NoMemory opens h = tt
 
 -- standard input is read for a script on an empty database
-pub alone_fault : (form : Form) (input : Option (List ℕ)) (most : ℕ) (fault : ReportFault) → IsCaused (input_causes input) fault → IsCaused (alone_causes form input most) fault
-alone_fault form input most BadHex h = h
-alone_fault form input most BadNumber h = h
-alone_fault form input most (Open reason) h = h
-alone_fault form input most NotText h = h
-alone_fault form input most (Assemble fault) h = h
-alone_fault form input most (Decode fault) h = h
-alone_fault form input most Read h = h
-alone_fault form input most TooLong h = h
-alone_fault form input most OutputTooLong h = absurd h
-alone_fault form input most NoMemory h = h
+pub alone_fault : (n : Notation Global) (form : Form) (input : Option (List ℕ)) (most : ℕ) (fault : ReportFault) → IsCaused (input_causes input) fault → IsCaused (alone_causes n form input most) fault
+alone_fault n form input most BadHex h = h
+alone_fault n form input most BadText h = h
+alone_fault n form input most BadLayout h = h
+alone_fault n form input most BadNumber h = h
+alone_fault n form input most (Open reason) h = h
+alone_fault n form input most NotText h = h
+alone_fault n form input most (Assemble fault) h = h
+alone_fault n form input most (Decode fault) h = h
+alone_fault n form input most Read h = h
+alone_fault n form input most TooLong h = h
+alone_fault n form input most OutputTooLong h = absurd h
+alone_fault n form input most NoMemory h = h
 
 -- a script that was read is played behind other steps
-pub played_fault : (causes : Causes) (db : Database) (input : Option (List ℕ)) (most : ℕ) (fault : ReportFault) → (IsOverlong db input most → causes.overlong) → IsCaused (play_causes db input most) fault → IsCaused causes fault
-played_fault causes db input most BadHex f h = absurd h
-played_fault causes db input most BadNumber f h = absurd h
-played_fault causes db input most (Open reason) f h = absurd h
-played_fault causes db input most NotText f h = absurd h
-played_fault causes db input most (Assemble fault) f h = absurd h
-played_fault causes db input most (Decode fault) f h = absurd h
-played_fault causes db input most Read f h = absurd h
-played_fault causes db input most TooLong f h = absurd h
-played_fault causes db input most OutputTooLong f h = f h
-played_fault causes db input most NoMemory f h = tt
+pub played_fault : (causes : Causes) (n : Notation Global) (db : Database) (input : Option (List ℕ)) (most : ℕ) (fault : ReportFault) → (IsOverlong n db input most → causes.overlong) → IsCaused (play_causes n db input most) fault → IsCaused causes fault
+played_fault causes n db input most BadHex f h = absurd h
+played_fault causes n db input most BadText f h = absurd h
+played_fault causes n db input most BadLayout f h = absurd h
+played_fault causes n db input most BadNumber f h = absurd h
+played_fault causes n db input most (Open reason) f h = absurd h
+played_fault causes n db input most NotText f h = absurd h
+played_fault causes n db input most (Assemble fault) f h = absurd h
+played_fault causes n db input most (Decode fault) f h = absurd h
+played_fault causes n db input most Read f h = absurd h
+played_fault causes n db input most TooLong f h = absurd h
+played_fault causes n db input most OutputTooLong f h = f h
+played_fault causes n db input most NoMemory f h = tt
 
 -- the fault of lines that were not all run
-pub lines_caused : (db : Database) (input : List ℕ) (most : ℕ) (fault : LinesFault) → (fault ≡ lines.OutputTooLong → AnswersExceed Global db input most) → IsCaused (play_causes db (Some input) most) (lines_fault fault)
-lines_caused db input most lines.OutputTooLong long = long refl
-lines_caused db input most lines.NoMemory long = tt
+pub lines_caused : (n : Notation Global) (db : Database) (input : List ℕ) (most : ℕ) (fault : LinesFault) → (fault ≡ lines.OutputTooLong → AnswersExceed Global n db input most) → IsCaused (play_causes n db (Some input) most) (lines_fault fault)
+lines_caused n db input most lines.OutputTooLong long = long refl
+lines_caused n db input most lines.NoMemory long = tt
 
 -- a number that is none comes before all else
 pub unnumbered : (n : Option ℕ) (causes : ℕ → Causes) → n ≡ None → IsCaused (numbered_causes n causes) BadNumber
@@ -97,7 +109,45 @@ pub numbered : (n : Option ℕ) (m : ℕ) (causes : ℕ → Causes) (fault : Rep
 numbered n m causes fault is h = subst (λ (o : Option ℕ). IsCaused (numbered_causes o causes) fault) (sym is) h
 
 -- a script whose limit is no number
-pub unlimited : (base : Option (Bor (List ℕ))) (form : Form) (notation : Notation) (max_output : Option (Bor (List ℕ))) (given : Given) (input : Option (List ℕ)) → output_limit max_output ≡ None
-    → IsCaused (subcommand_for (wish.Script base form notation max_output) given input).causes BadNumber
-unlimited None form notation max_output given input is = unnumbered (output_limit max_output) (alone_causes form input) is
-unlimited (Some base) form notation max_output given input is = unnumbered (output_limit max_output) (script_causes form given input) is
+pub unlimited : (n : Notation Global) (base : Option (Bor (List ℕ))) (form : Form) (notation : Options) (max_output : Option (Bor (List ℕ))) (given : Given) (input : Option (List ℕ)) → output_limit max_output ≡ None
+    → IsCaused (subcommand_in n (wish.Script base form notation max_output) given input).causes BadNumber
+unlimited n None form notation max_output given input is = unnumbered (output_limit max_output) (alone_causes n form input) is
+unlimited n (Some base) form notation max_output given input is = unnumbered (output_limit max_output) (script_causes n form given input) is
+
+-- ---- notations
+
+-- words that are no command, in hex or as text
+pub no_command : (n : Notation Global) (form : Form) (given : Given) (words : List (List ℕ)) → command_of n words ≡ None → IsCaused (command_causes n form given words) (cond (reads_hex n) BadHex BadText)
+no_command n form given words none = by_reading (reads_hex n) refl
+  where
+    by_reading : (hex : Bool) → reads_hex n ≡ hex → IsCaused (command_causes n form given words) (cond hex BadHex BadText)
+    by_reading true is = (is, none)
+    by_reading false is = (is, none)
+
+-- a layout that is none comes before all else
+pub unlaid : (wish : Wish) (given : Given) (input : Option (List ℕ)) (fault : ReportFault) → IsCaused (layout_causes (notation_for wish)) fault → IsCaused (subcommand_for wish given input).causes fault
+unlaid wish given input fault h = by_notation (notation_for wish) fault h
+  where
+    by_notation : (o : Option (Notation Global)) (fault : ReportFault) → IsCaused (layout_causes o) fault → IsCaused (noted o (λ n. subcommand_in n wish given input)).causes fault
+    by_notation None fault h = h
+    by_notation (Some n) BadHex h = absurd h
+    by_notation (Some n) BadText h = absurd h
+    by_notation (Some n) BadLayout h = absurd h
+    by_notation (Some n) BadNumber h = absurd h
+    by_notation (Some n) (Open reason) h = absurd h
+    by_notation (Some n) NotText h = absurd h
+    by_notation (Some n) (Assemble fault) h = absurd h
+    by_notation (Some n) (Decode fault) h = absurd h
+    by_notation (Some n) Read h = absurd h
+    by_notation (Some n) TooLong h = absurd h
+    by_notation (Some n) OutputTooLong h = absurd h
+    by_notation (Some n) NoMemory h = tt
+
+-- what comes in a notation, where it is that of the wish
+pub noted_report : (wish : Wish) (n : Notation Global) (given : Given) (input : Option (List ℕ)) (report : Report) → notation_for wish ≡ Some n
+    → (subcommand_in n wish given input).reports report → (subcommand_for wish given input).reports report
+noted_report wish n given input report is h = subst (λ (o : Option (Notation Global)). (noted o (λ m. subcommand_in m wish given input)).reports report) (sym is) h
+
+pub noted_fault : (wish : Wish) (n : Notation Global) (given : Given) (input : Option (List ℕ)) (fault : ReportFault) → notation_for wish ≡ Some n
+    → IsCaused (subcommand_in n wish given input).causes fault → IsCaused (subcommand_for wish given input).causes fault
+noted_fault wish n given input fault is h = subst (λ (o : Option (Notation Global)). IsCaused (noted o (λ m. subcommand_in m wish given input)).causes fault) (sym is) h

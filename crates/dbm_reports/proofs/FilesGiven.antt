@@ -4,13 +4,15 @@ use Rattle.sdbm_addr.specs.Database.{Database}
 use Rattle.dbm_words.specs.Wishes.{writes_files}
 use Rattle.dbm_words.specs.declared.wish.Wish.{Wish}
 use Rattle.dbm_words.specs.declared.wish.Wish.TheVariants as wish
+use Rattle.dbm_script.specs.declared.notations.Notation.{Notation}
 use Rattle.dbm_reports.specs.declared.subcommands.Report.{Report}
 use Rattle.dbm_reports.specs.declared.databases.Given.{Given}
 use Rattle.std.specs.declared.alloc.Global.{Global}
 use Rattle.dbm_script.specs.declared.run_words.RunWords.{RunWords}
+use Rattle.dbm_reports.specs.Notations.{notation_for}
 use Rattle.dbm_reports.specs.Options.{output_limit}
 use Rattle.dbm_reports.specs.Reports.{Judges, OnDatabase, PlaysAlone, PlaysOn, RunsImage}
-use Rattle.dbm_reports.specs.Subcommands.{subcommand_for}
+use Rattle.dbm_reports.specs.Subcommands.{noted, subcommand_for, subcommand_in}
 
 -- what is said of an image changes no file
 judged_alone : (image : List ℕ) (report : Report) → Judges image report → report.database ≡ None
@@ -18,9 +20,9 @@ judged_alone image report (inl h) = h.1.written
 judged_alone image report (inr h) = h.1.1.written
 
 -- after a run there is a database to be written
-ran_on : (before : Database) (words : RunWords Global) (expect : Option ℕ) (image : List ℕ) (report : Report) → RunsImage before words expect image report → is_some report.database ≡ true
-ran_on before words expect image report (inl h) = ap (λ (db : Option Database). is_some db) h.1.1.1.1
-ran_on before words expect image report (inr h) = ap (λ (db : Option Database). is_some db) h.1.1.written
+ran_on : (n : Notation Global) (before : Database) (words : RunWords Global) (expect : Option ℕ) (image : List ℕ) (report : Report) → RunsImage n before words expect image report → is_some report.database ≡ true
+ran_on n before words expect image report (inl h) = ap (λ (db : Option Database). is_some db) h.1.1.1.1
+ran_on n before words expect image report (inr h) = ap (λ (db : Option Database). is_some db) h.1.1.written
 
 -- what follows from a limit, whichever it is
 on_limit : (limit : Option ℕ) (P : ℕ → Type 0) (Q : Type 0) → ((most : ℕ) → P most → Q) → IsSomeAnd limit P → Q
@@ -28,25 +30,28 @@ on_limit None P Q f h = absurd h
 on_limit (Some most) P Q f h = f most h
 
 -- a subcommand reports a database exactly where its files are written
+given_in : (n : Notation Global) (wish : Wish) (given : Given) (input : Option (List ℕ)) (report : Report)
+    → (subcommand_in n wish given input).reports report → is_some report.database ≡ writes_files wish
+given_in n (wish.Fetch base form notation key) given input report comes = ap (λ (db : Option Database). is_some db) comes.holds.1.1
+given_in n (wish.Store base form notation key value insert) given input report comes = ap (λ (db : Option Database). is_some db) comes.holds.1.1
+given_in n (wish.Delete base form notation key) given input report comes = ap (λ (db : Option Database). is_some db) comes.holds.1.1
+given_in n (wish.Run base form notation key file arg blank now expect image) given input report comes = ran_on n comes.before comes.words comes.expect comes.image report comes.runs
+given_in n (wish.Batch base form notation file workers image) given input report comes = absurd comes
+given_in n (wish.List base form notation) given input report comes = ap (λ (db : Option Database). is_some db) comes.1.1.written
+given_in n (wish.Check base form) given input report comes = ap (λ (db : Option Database). is_some db) comes.1.1.written
+given_in n (wish.Script None form notation max_output) given input report comes =
+    on_limit (output_limit max_output) (λ most. PlaysAlone n form input most report) (is_some report.database ≡ false) (λ most plays. ap (λ (db : Option Database). is_some db) plays.1.1) comes
+given_in n (wish.Script (Some base) form notation max_output) given input report comes =
+    on_limit (output_limit max_output) (λ most. OnDatabase form given (PlaysOn n input most report)) (is_some report.database ≡ true) (λ most plays. ap (λ (db : Option Database). is_some db) plays.1.1.1.1) comes
+given_in n (wish.Widen base unsigned) given input report comes = ap (λ (db : Option Database). is_some db) comes.1.1.written
+given_in n (wish.Asm file) given input report comes = ap (λ (db : Option Database). is_some db) comes.1.written
+given_in n (wish.Disasm file) given input report comes = ap (λ (db : Option Database). is_some db) comes.1.written
+given_in n (wish.Verify file image) given input report comes = ap (λ (db : Option Database). is_some db) (judged_alone comes.0 report comes.1.1)
+
 pub database_given : (wish : Wish) (given : Given) (input : Option (List ℕ)) (report : Report)
     → (subcommand_for wish given input).reports report → is_some report.database ≡ writes_files wish
-database_given (wish.Fetch base form notation key) given input report comes = ap (λ (db : Option Database). is_some db) comes.holds.1.1
-database_given (wish.Store base form notation key value insert) given input report comes = ap (λ (db : Option Database). is_some db) comes.holds.1.1
-database_given (wish.Delete base form notation key) given input report comes = ap (λ (db : Option Database). is_some db) comes.holds.1.1
-database_given (wish.Run base form notation key file arg blank now expect image) given input report comes = ran_on comes.before comes.words comes.expect comes.image report comes.runs
-database_given (wish.Batch base form notation file workers image) given input report comes = absurd comes
-database_given (wish.List base form notation prefix null json) given input report comes = ap (λ (db : Option Database). is_some db) comes.1.1.written
-database_given (wish.Check base form json) given input report comes = ap (λ (db : Option Database). is_some db) comes.1.1.written
-database_given (wish.Keys base form notation prefix null) given input report comes = absurd comes
-database_given (wish.Stats base form json) given input report comes = absurd comes
-database_given (wish.Dump base form format) given input report comes = absurd comes
-database_given (wish.Load base form format) given input report comes = absurd comes
-database_given (wish.Session base form notation save_every) given input report comes = absurd comes
-database_given (wish.Script None form notation max_output) given input report comes =
-    on_limit (output_limit max_output) (λ most. PlaysAlone form input most report) (is_some report.database ≡ false) (λ most plays. ap (λ (db : Option Database). is_some db) plays.1.1) comes
-database_given (wish.Script (Some base) form notation max_output) given input report comes =
-    on_limit (output_limit max_output) (λ most. OnDatabase form given (PlaysOn input most report)) (is_some report.database ≡ true) (λ most plays. ap (λ (db : Option Database). is_some db) plays.1.1.1.1) comes
-database_given (wish.Widen base unsigned) given input report comes = ap (λ (db : Option Database). is_some db) comes.1.1.written
-database_given (wish.Asm file) given input report comes = ap (λ (db : Option Database). is_some db) comes.1.written
-database_given (wish.Disasm file) given input report comes = ap (λ (db : Option Database). is_some db) comes.1.written
-database_given (wish.Verify file image explain json) given input report comes = ap (λ (db : Option Database). is_some db) (judged_alone comes.0 report comes.1.1)
+database_given wish given input report comes = by_notation (notation_for wish) comes
+  where
+    by_notation : (o : Option (Notation Global)) → (noted o (λ n. subcommand_in n wish given input)).reports report → is_some report.database ≡ writes_files wish
+    by_notation None h = absurd h
+    by_notation (Some n) h = given_in n wish given input report h

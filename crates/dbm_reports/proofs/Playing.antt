@@ -4,21 +4,22 @@ use Rattle.std.specs.declared.alloc.Global.{Global}
 use Rattle.sdbm_addr.specs.Database.{Database}
 use Rattle.dbm_script.specs.Script.{AnswersExceed, IsScriptRun}
 use Rattle.dbm_script.proofs.Runs.{known_read}
+use Rattle.dbm_script.specs.declared.notations.Notation.{Notation}
 use Rattle.dbm_reports.specs.declared.subcommands.Report.{Report}
 use Rattle.dbm_words.specs.declared.wish.Form.{Form}
-use Rattle.dbm_words.specs.declared.wish.Notation.{Notation}
+use Rattle.dbm_words.specs.declared.wish.Notation.{Notation as Options}
 use Rattle.dbm_words.specs.declared.wish.Wish.TheVariants as wish
 use Rattle.dbm_reports.specs.declared.databases.Given.{Given}
 use Rattle.dbm_reports.specs.Options.{output_limit}
 use Rattle.dbm_reports.specs.Causes.{IsOverlong}
 use Rattle.dbm_reports.specs.Reports.{OnDatabase, Plays, PlaysAlone, PlaysOn}
-use Rattle.dbm_reports.specs.Subcommands.{subcommand_for}
+use Rattle.dbm_reports.specs.Subcommands.{subcommand_in}
 
 -- what was read is what is known
-pub plays_known : (before : Database) (known : Option (List ℕ)) (read : List ℕ) (most : ℕ) (after : Database) (report : Report)
-    → IfSome known (λ input. read ≡ input) → Plays before (Some read) most after report → Plays before known most after report
-plays_known before known read most after report is plays = record {
-  runs = known_read known read (λ bytes. IsScriptRun Global before bytes report.text.items after) is plays.runs;
+pub plays_known : (n : Notation Global) (before : Database) (known : Option (List ℕ)) (read : List ℕ) (most : ℕ) (after : Database) (report : Report)
+    → IfSome known (λ input. read ≡ input) → Plays n before (Some read) most after report → Plays n before known most after report
+plays_known n before known read most after report is plays = record {
+  runs = known_read known read (λ bytes. IsScriptRun Global n before bytes report.text.items after) is plays.runs;
   short = plays.short;
   kind = plays.kind;
   size = plays.size;
@@ -26,10 +27,10 @@ plays_known before known read most after report is plays = record {
 }
 
 -- the text alone
-pub plays_text : (before : Database) (known : Option (List ℕ)) (most : ℕ) (after : Database) (report other : Report)
-    → other.text.items ≡ report.text.items → other.status ≡ 0 → Plays before known most after report → Plays before known most after other
-plays_text before known most after report other text status plays = record {
-  runs = subst (λ (t : List ℕ). IfSome known (λ bytes. IsScriptRun Global before bytes t after)) (sym text) plays.runs;
+pub plays_text : (n : Notation Global) (before : Database) (known : Option (List ℕ)) (most : ℕ) (after : Database) (report other : Report)
+    → other.text.items ≡ report.text.items → other.status ≡ 0 → Plays n before known most after report → Plays n before known most after other
+plays_text n before known most after report other text status plays = record {
+  runs = subst (λ (t : List ℕ). IfSome known (λ bytes. IsScriptRun Global n before bytes t after)) (sym text) plays.runs;
   short = subst (λ (t : List ℕ). length t ≤ most) (sym text) plays.short;
   kind = plays.kind;
   size = plays.size;
@@ -37,17 +38,17 @@ plays_text before known most after report other text status plays = record {
 }
 
 -- so are its answers, where they are too long
-pub overlong_known : (before : Database) (known : Option (List ℕ)) (read : List ℕ) (most : ℕ) → IfSome known (λ input. read ≡ input) → IsOverlong before (Some read) most → IsOverlong before known most
-overlong_known before known read most is long = known_read known read (λ bytes. AnswersExceed Global before bytes most) is long
+pub overlong_known : (n : Notation Global) (before : Database) (known : Option (List ℕ)) (read : List ℕ) (most : ℕ) → IfSome known (λ input. read ≡ input) → IsOverlong n before (Some read) most → IsOverlong n before known most
+overlong_known n before known read most is long = known_read known read (λ bytes. AnswersExceed Global n before bytes most) is long
 
 within : (limit : Option ℕ) (most : ℕ) (P : ℕ → Type 0) → limit ≡ Some most → P most → IsSomeAnd limit P
 within limit most P is holds = subst (λ (o : Option ℕ). IsSomeAnd o P) (sym is) holds
 
 -- a limit of a script on an empty database, and on one of files
-pub limited_alone : (form : Form) (notation : Notation) (max_output : Option (Bor (List ℕ))) (given : Given) (input : Option (List ℕ)) (most : ℕ) (report : Report) → output_limit max_output ≡ Some most
-    → PlaysAlone form input most report → (subcommand_for (wish.Script None form notation max_output) given input).reports report
-limited_alone form notation max_output given input most report is plays = within (output_limit max_output) most (λ n. PlaysAlone form input n report) is plays
+pub limited_alone : (n : Notation Global) (form : Form) (notation : Options) (max_output : Option (Bor (List ℕ))) (given : Given) (input : Option (List ℕ)) (most : ℕ) (report : Report) → output_limit max_output ≡ Some most
+    → PlaysAlone n form input most report → (subcommand_in n (wish.Script None form notation max_output) given input).reports report
+limited_alone n form notation max_output given input most report is plays = within (output_limit max_output) most (λ m. PlaysAlone n form input m report) is plays
 
-pub limited_on : (base : Bor (List ℕ)) (form : Form) (notation : Notation) (max_output : Option (Bor (List ℕ))) (given : Given) (input : Option (List ℕ)) (most : ℕ) (report : Report) → output_limit max_output ≡ Some most
-    → OnDatabase form given (PlaysOn input most report) → (subcommand_for (wish.Script (Some base) form notation max_output) given input).reports report
-limited_on base form notation max_output given input most report is plays = within (output_limit max_output) most (λ n. OnDatabase form given (PlaysOn input n report)) is plays
+pub limited_on : (n : Notation Global) (base : Bor (List ℕ)) (form : Form) (notation : Options) (max_output : Option (Bor (List ℕ))) (given : Given) (input : Option (List ℕ)) (most : ℕ) (report : Report) → output_limit max_output ≡ Some most
+    → OnDatabase form given (PlaysOn n input most report) → (subcommand_in n (wish.Script (Some base) form notation max_output) given input).reports report
+limited_on n base form notation max_output given input most report is plays = within (output_limit max_output) most (λ m. OnDatabase form given (PlaysOn n input m report)) is plays

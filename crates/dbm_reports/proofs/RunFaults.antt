@@ -17,13 +17,15 @@ use Rattle.dbm_script.specs.Images.{Denies}
 use Rattle.dbm_words.specs.declared.wish.Form.{Form}
 use Rattle.dbm_reports.specs.declared.databases.Given.{Given}
 use Rattle.dbm_reports.specs.declared.fault.ReportFault.{ReportFault}
-use Rattle.dbm_reports.specs.declared.fault.ReportFault.TheVariants.{BadHex, BadNumber, Open, NotText, Assemble, Decode, Read, TooLong, OutputTooLong, NoMemory}
+use Rattle.dbm_reports.specs.declared.fault.ReportFault.TheVariants.{BadHex, BadText, BadLayout, BadNumber, Open, NotText, Assemble, Decode, Read, TooLong, OutputTooLong, NoMemory}
 use Rattle.dbm_reports.specs.Databases.{IsOpened, Opens}
 use Rattle.dbm_reports.specs.Causes.{Causes, IsCaused, no_causes, file_causes, program_causes}
 
 -- no cause but want of memory
 no_fault : (causes : Causes) (fault : ReportFault) → IsCaused no_causes fault → IsCaused causes fault
 no_fault causes BadHex h = absurd h
+no_fault causes BadText h = absurd h
+no_fault causes BadLayout h = absurd h
 no_fault causes BadNumber h = absurd h
 no_fault causes (Open reason) h = absurd h
 no_fault causes NotText h = absurd h
@@ -38,6 +40,8 @@ no_fault causes NoMemory h = h
 pub opened_fault : (form : Form) (given : Given) (is_image : Bool) (fault : ReportFault) → Opens form given → IsCaused (file_causes is_image given.file.items) fault → IsCaused (program_causes form given is_image) fault
 opened_fault form given true fault opens h = no_fault (program_causes form given true) fault h
 opened_fault form given false BadHex opens h = h
+opened_fault form given false BadText opens h = h
+opened_fault form given false BadLayout opens h = h
 opened_fault form given false BadNumber opens h = h
 opened_fault form given false (Open reason) opens h = absurd h
 opened_fault form given false NotText opens h = (opens, h)

@@ -12,6 +12,8 @@ use Rattle.bpf_asm.specs.declared.fault.AsmFault.{AsmFault}
 use Rattle.bpf_asm.specs.declared.fault.FaultKind.TheVariants as kinds
 use Rattle.prog_registry.specs.Judged.{IsUndecoded}
 use Rattle.dbm_script.specs.Commands.{command_of}
+use Rattle.dbm_script.specs.Notation.{reads_hex}
+use Rattle.dbm_script.specs.declared.notations.Notation.{Notation}
 use Rattle.dbm_script.specs.Script.{AnswersExceed}
 use Rattle.dbm_script.specs.Tasks.{HasBadBytes, HasBadNumber, run_words_of}
 use Rattle.dbm_script.specs.declared.fault.LinesFault.{LinesFault}
@@ -23,14 +25,16 @@ use Rattle.dbm_words.specs.declared.wish.Form.{Form}
 use Rattle.dbm_reports.specs.declared.databases.Given.{Given}
 use Rattle.dbm_reports.specs.declared.running.RunTexts.{RunTexts}
 use Rattle.dbm_reports.specs.declared.fault.ReportFault.{ReportFault}
-use Rattle.dbm_reports.specs.declared.fault.ReportFault.TheVariants.{BadHex, BadNumber, Open, NotText, Assemble, Decode, Read, TooLong, OutputTooLong, NoMemory}
+use Rattle.dbm_reports.specs.declared.fault.ReportFault.TheVariants.{BadHex, BadText, BadLayout, BadNumber, Open, NotText, Assemble, Decode, Read, TooLong, OutputTooLong, NoMemory}
 use Rattle.dbm_reports.specs.Databases.{IsOpened, IsShut, Opens, key_bytes_of, page_size_of}
 use Rattle.dbm_reports.specs.Options.{expected_code}
 
 -- the causes for which nothing comes of a wish
 pub record Causes : Type 1 where
-  -- a word is no bytes, or no number
+  -- a word is no bytes in hex or as text, the layout is none, or a word is no number
   pub words : Type 0
+  pub texts : Type 0
+  pub layouts : Type 0
   pub numbers : Type 0
   -- the files are no database
   pub opening : OpenFault → Type 0
@@ -47,6 +51,8 @@ pub record Causes : Type 1 where
 abbrev pub no_causes : Causes
 no_causes = record {
   words = ⊥;
+  texts = ⊥;
+  layouts = ⊥;
   numbers = ⊥;
   opening = λ reason. ⊥;
   no_text = ⊥;
@@ -60,6 +66,8 @@ no_causes = record {
 -- A fault comes only for its cause. Memory may be wanted at any time.
 abbrev pub IsCaused : Causes → ReportFault → Type 0
 IsCaused causes BadHex = causes.words
+IsCaused causes BadText = causes.texts
+IsCaused causes BadLayout = causes.layouts
 IsCaused causes BadNumber = causes.numbers
 IsCaused causes (Open reason) = causes.opening reason
 IsCaused causes NotText = causes.no_text
@@ -75,10 +83,11 @@ abbrev pub opening_causes : Form → Given → Causes
 opening_causes form given = record no_causes { opening = IsShut form given }
 
 -- a command: its words come before the files
-abbrev pub command_causes : Form → Given → List (List ℕ) → Causes
-command_causes form given words = record no_causes {
-  words = command_of {A = Global} words ≡ None;
-  opening = λ reason. (command_of {A = Global} words ≢ None) × IsShut form given reason;
+abbrev pub command_causes : Notation Global → Form → Given → List (List ℕ) → Causes
+command_causes notation form given words = record no_causes {
+  words = (reads_hex notation ≡ true) × (command_of notation words ≡ None);
+  texts = (reads_hex notation ≡ false) × (command_of notation words ≡ None);
+  opening = λ reason. (command_of notation words ≢ None) × IsShut form given reason;
 }
 
 -- a script: at most 16,777,216 bytes
@@ -89,26 +98,26 @@ abbrev pub input_causes : Option (List ℕ) → Causes
 input_causes input = record no_causes { reading = ⊤; long = IsLongScript input }
 
 -- the answers to a script on a database have more bytes than so many
-abbrev pub IsOverlong : Database → Option (List ℕ) → ℕ → Type 0
-IsOverlong db input most = IfSome input (λ bytes. AnswersExceed Global db bytes most)
+abbrev pub IsOverlong : Notation Global → Database → Option (List ℕ) → ℕ → Type 0
+IsOverlong notation db input most = IfSome input (λ bytes. AnswersExceed Global notation db bytes most)
 
 -- a script that was read, on a database that is open
-abbrev pub play_causes : Database → Option (List ℕ) → ℕ → Causes
-play_causes db input most = record no_causes { overlong = IsOverlong db input most }
+abbrev pub play_causes : Notation Global → Database → Option (List ℕ) → ℕ → Causes
+play_causes notation db input most = record no_causes { overlong = IsOverlong notation db input most }
 
 -- a script on an empty database
-abbrev pub alone_causes : Form → Option (List ℕ) → ℕ → Causes
-alone_causes form input most = record (input_causes input) {
-  overlong = IsOverlong (empty_database (key_bytes_of form.unsigned) (page_size_of form.wide)) input most;
+abbrev pub alone_causes : Notation Global → Form → Option (List ℕ) → ℕ → Causes
+alone_causes notation form input most = record (input_causes input) {
+  overlong = IsOverlong notation (empty_database (key_bytes_of form.unsigned) (page_size_of form.wide)) input most;
 }
 
 -- a script on the database of the files, which are opened before it is read
-abbrev pub script_causes : Form → Given → Option (List ℕ) → ℕ → Causes
-script_causes form given input most = record no_causes {
+abbrev pub script_causes : Notation Global → Form → Given → Option (List ℕ) → ℕ → Causes
+script_causes notation form given input most = record no_causes {
   opening = IsShut form given;
   reading = Opens form given;
   long = Opens form given × IsLongScript input;
-  overlong = (db : Database) × (IsOpened form given db × IsOverlong db input most);
+  overlong = (db : Database) × (IsOpened form given db × IsOverlong notation db input most);
 }
 
 -- a number that comes before all else
@@ -133,24 +142,25 @@ file_causes true file = no_causes
 file_causes false file = text_causes file
 
 -- what the words of a run mean
-abbrev pub run_asked : RunTexts → Option (RunWords Global)
-run_asked texts = run_words_of texts.key.now texts.arg.now texts.blank.now texts.now.now
+abbrev pub run_asked : Notation Global → RunTexts → Option (RunWords Global)
+run_asked notation texts = run_words_of notation texts.key.now texts.arg.now texts.blank.now texts.now.now
 
 -- what they mean, and the code with which it is to end
-abbrev pub AreRunWords : RunTexts → RunWords Global → Option ℕ → Type 0
-AreRunWords texts words expect = (run_asked texts ≡ Some words) × (expected_code texts.expect ≡ Some expect)
+abbrev pub AreRunWords : Notation Global → RunTexts → RunWords Global → Option ℕ → Type 0
+AreRunWords notation texts words expect = (run_asked notation texts ≡ Some words) × (expected_code texts.expect ≡ Some expect)
 
-abbrev pub Means : RunTexts → Type 0
-Means texts = (words : RunWords Global) × ((expect : Option ℕ) × AreRunWords texts words expect)
+abbrev pub Means : Notation Global → RunTexts → Type 0
+Means notation texts = (words : RunWords Global) × ((expect : Option ℕ) × AreRunWords notation texts words expect)
 
 -- the words mean a run, and the code is no number
-abbrev pub HasBadCode : RunTexts → Type 0
-HasBadCode texts = IsSome (run_asked texts) × (expected_code texts.expect ≡ None)
+abbrev pub HasBadCode : Notation Global → RunTexts → Type 0
+HasBadCode notation texts = IsSome (run_asked notation texts) × (expected_code texts.expect ≡ None)
 
-abbrev pub word_causes : RunTexts → Causes
-word_causes texts = record no_causes {
-  words = HasBadBytes texts.key.now texts.arg.now;
-  numbers = HasBadNumber texts.key.now texts.arg.now texts.blank.now texts.now.now ⊎ HasBadCode texts;
+abbrev pub word_causes : Notation Global → RunTexts → Causes
+word_causes notation texts = record no_causes {
+  words = (reads_hex notation ≡ true) × HasBadBytes notation texts.key.now texts.arg.now;
+  texts = (reads_hex notation ≡ false) × HasBadBytes notation texts.key.now texts.arg.now;
+  numbers = HasBadNumber notation texts.key.now texts.arg.now texts.blank.now texts.now.now ⊎ HasBadCode notation texts;
 }
 
 -- the files of a database, and then a program's file
@@ -162,13 +172,14 @@ program_causes form given is_image = record no_causes {
 }
 
 -- a run: its words come before the files
-abbrev pub run_causes : Form → Given → RunTexts → Bool → Causes
-run_causes form given texts is_image = record no_causes {
-  words = (word_causes texts).words;
-  numbers = (word_causes texts).numbers;
-  opening = λ reason. Means texts × IsShut form given reason;
-  no_text = Means texts × (program_causes form given is_image).no_text;
-  assembling = λ fault. Means texts × (program_causes form given is_image).assembling fault;
+abbrev pub run_causes : Notation Global → Form → Given → RunTexts → Bool → Causes
+run_causes notation form given texts is_image = record no_causes {
+  words = (word_causes notation texts).words;
+  texts = (word_causes notation texts).texts;
+  numbers = (word_causes notation texts).numbers;
+  opening = λ reason. Means notation texts × IsShut form given reason;
+  no_text = Means notation texts × (program_causes form given is_image).no_text;
+  assembling = λ fault. Means notation texts × (program_causes form given is_image).assembling fault;
 }
 
 -- the file of a program's image
@@ -183,6 +194,7 @@ open_fault reason = Open reason
 -- the fault of words
 abbrev pub word_fault : WordFault → ReportFault
 word_fault meant.BadHex = BadHex
+word_fault meant.BadText = BadText
 word_fault meant.BadNumber = BadNumber
 word_fault meant.NoMemory = NoMemory
 

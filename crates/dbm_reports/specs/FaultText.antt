@@ -4,10 +4,12 @@ use Rattle.sdbm_files.specs.FaultText as files
 use Rattle.bpf_insn.specs.Decoding as decoding
 use Rattle.bpf_asm.specs.Fault as assembling
 use Rattle.dbm_reports.specs.declared.fault.ReportFault.{ReportFault}
-use Rattle.dbm_reports.specs.declared.fault.ReportFault.TheVariants.{BadHex, BadNumber, Open, NotText, Assemble, Decode, Read, TooLong, OutputTooLong, NoMemory}
+use Rattle.dbm_reports.specs.declared.fault.ReportFault.TheVariants.{BadHex, BadText, BadLayout, BadNumber, Open, NotText, Assemble, Decode, Read, TooLong, OutputTooLong, NoMemory}
 
 abbrev pub fault_text : ReportFault → List ℕ
 fault_text BadHex = codes "BadHex"
+fault_text BadText = codes "BadText"
+fault_text BadLayout = codes "BadLayout"
 fault_text BadNumber = codes "BadNumber"
 fault_text (Open reason) = files.fault_text reason
 fault_text NotText = codes "NotText"

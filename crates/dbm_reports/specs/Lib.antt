@@ -1,5 +1,6 @@
 pub mod Names
 pub mod Databases
+pub mod Notations
 pub mod Options
 pub mod Causes
 pub mod Reports

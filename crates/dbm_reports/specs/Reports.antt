@@ -23,7 +23,9 @@ use Rattle.prog_registry.specs.Registry.{IsAccepted}
 use Rattle.prog_registry.specs.declared.fault.RegFault.{RegFault}
 use Rattle.dbm_script.specs.declared.answers.Answer.{Answer}
 use Rattle.dbm_script.specs.declared.answers.Answer.TheVariants.{Replied, Refused}
-use Rattle.dbm_script.specs.Answers.{IsAnswerTo, answer_text, shown}
+use Rattle.dbm_script.specs.Answers.{IsAnswerTo, answer_text}
+use Rattle.dbm_script.specs.Notation.{shown, value_shown}
+use Rattle.dbm_script.specs.declared.notations.Notation.{Notation}
 use Rattle.dbm_script.specs.Commands.{command_of}
 use Rattle.dbm_script.specs.Images.{Denies}
 use Rattle.dbm_script.specs.Script.{IsScriptRun}
@@ -74,28 +76,28 @@ status_of None answer = answer_status answer
 status_of (Some code) answer = code_status code answer
 
 -- a command is answered, by its answer in a line and the status that goes with it
-pub record IsCommandReport (before : Database) (command : Command Global) (expect : Option ℕ) (after : Database) (report : Report) : Type 0 where
+pub record IsCommandReport (notation : Notation Global) (before : Database) (command : Command Global) (expect : Option ℕ) (after : Database) (report : Report) : Type 0 where
   pub answer : Answer Global
   pub answers : IsAnswerTo Global before command answer after
   pub kind : after.kind ≡ before.kind
   pub size : after.size ≡ before.size
-  pub text_is : report.text.items ≡ answer_text answer ++ 10 ∷ []
+  pub text_is : report.text.items ≡ answer_text notation answer ++ 10 ∷ []
   pub status_is : report.status ≡ status_of expect answer
 
 -- a command that changes no file
-abbrev pub Looks : Database → Command Global → Report → Type 0
-Looks before command report = (after : Database) × (IsCommandReport before command None after report × (report.database ≡ None))
+abbrev pub Looks : Notation Global → Database → Command Global → Report → Type 0
+Looks notation before command report = (after : Database) × (IsCommandReport notation before command None after report × (report.database ≡ None))
 
 -- a command after which the files are written
-abbrev pub Changes : Database → Command Global → Option ℕ → Report → Type 0
-Changes before command expect report = (after : Database) × (IsCommandReport before command expect after report × (report.database ≡ Some after))
+abbrev pub Changes : Notation Global → Database → Command Global → Option ℕ → Report → Type 0
+Changes notation before command expect report = (after : Database) × (IsCommandReport notation before command expect after report × (report.database ≡ Some after))
 
 -- the words of a command on the database of the files, of which P holds
-pub record OnCommand (form : Form) (given : Given) (words : List (List ℕ)) (P : Database → Command Global → Type 0) : Type 0 where
+pub record OnCommand (notation : Notation Global) (form : Form) (given : Given) (words : List (List ℕ)) (P : Database → Command Global → Type 0) : Type 0 where
   pub before : Database
   pub opened : IsOpened form given before
   pub command : Command Global
-  pub is : command_of words ≡ Some command
+  pub is : command_of notation words ≡ Some command
   pub holds : P before command
 
 -- the words that the subcommands ask, as those of a line
@@ -113,12 +115,12 @@ delete_words key = codes "delete" ∷ (key.now ∷ [])
 
 -- ---- the whole database
 
--- a pair in a line: key and value in hex
-abbrev pub pair_line : Pair → List ℕ
-pair_line e = shown e.0 ++ (32 ∷ (shown e.1 ++ 10 ∷ []))
+-- a pair in a line: key and value
+abbrev pub pair_line : {A : Type 0} → Notation A → Pair → List ℕ
+pair_line notation e = shown notation e.0 ++ (32 ∷ (value_shown notation e.1 ++ 10 ∷ []))
 
-abbrev pub listed : List Pair → List ℕ
-listed = flat_map pair_line
+abbrev pub listed : {A : Type 0} → Notation A → List Pair → List ℕ
+listed notation = flat_map (pair_line notation)
 
 -- a number of pairs in a line
 abbrev pub ok_line : ℕ → List ℕ
@@ -129,8 +131,8 @@ abbrev pub OnDatabase : Form → Given → (Database → Type 0) → Type 0
 OnDatabase form given P = (db : Database) × (IsOpened form given db × P db)
 
 -- all pairs, sorted by their keys
-abbrev pub Lists : Report → Database → Type 0
-Lists report db = Prints (listed (map.entries (map_of db))) report
+abbrev pub Lists : Notation Global → Report → Database → Type 0
+Lists notation report db = Prints (listed notation (map.entries (map_of db))) report
 
 -- how many pairs there are
 abbrev pub Counts : Report → Database → Type 0
@@ -149,21 +151,21 @@ small_form unsigned = record { unsigned = unsigned; wide = false }
 -- ---- scripts
 
 -- the answers to a script, whose bytes may not be known, and the database after it; the answers have at most so many bytes
-pub record Plays (before : Database) (input : Option (List ℕ)) (most : ℕ) (after : Database) (report : Report) : Type 0 where
-  pub runs : IfSome input (λ bytes. IsScriptRun Global before bytes report.text.items after)
+pub record Plays (notation : Notation Global) (before : Database) (input : Option (List ℕ)) (most : ℕ) (after : Database) (report : Report) : Type 0 where
+  pub runs : IfSome input (λ bytes. IsScriptRun Global notation before bytes report.text.items after)
   pub short : length report.text.items ≤ most
   pub kind : after.kind ≡ before.kind
   pub size : after.size ≡ before.size
   pub status_is : report.status ≡ 0
 
 -- on an empty database, which is not kept
-abbrev pub PlaysAlone : Form → Option (List ℕ) → ℕ → Report → Type 0
-PlaysAlone form input most report =
-    (after : Database) × (Plays (empty_database (key_bytes_of form.unsigned) (page_size_of form.wide)) input most after report × (report.database ≡ None))
+abbrev pub PlaysAlone : Notation Global → Form → Option (List ℕ) → ℕ → Report → Type 0
+PlaysAlone notation form input most report =
+    (after : Database) × (Plays notation (empty_database (key_bytes_of form.unsigned) (page_size_of form.wide)) input most after report × (report.database ≡ None))
 
 -- on a database, which is written after it
-abbrev pub PlaysOn : Option (List ℕ) → ℕ → Report → Database → Type 0
-PlaysOn input most report before = (after : Database) × (Plays before input most after report × (report.database ≡ Some after))
+abbrev pub PlaysOn : Notation Global → Option (List ℕ) → ℕ → Report → Database → Type 0
+PlaysOn notation input most report before = (after : Database) × (Plays notation before input most after report × (report.database ≡ Some after))
 
 -- ---- programs
 
@@ -216,21 +218,21 @@ Verifies is_image file report = (image : List ℕ) × (IsFileImage is_image file
 
 -- The run of an image's accepted program answers a command, after which the files are written; or the image gets no number in a
 -- registry without programs, and the files are written as they are.
-abbrev pub RunsImage : Database → RunWords Global → Option ℕ → List ℕ → Report → Type 0
-RunsImage before words expect image report =
-    ((p : Accepted) × (IsProgramOf image p × Changes before (Run words.key p.code words.arg words.blank words.now) expect report))
+abbrev pub RunsImage : Notation Global → Database → RunWords Global → Option ℕ → List ℕ → Report → Type 0
+RunsImage notation before words expect image report =
+    ((p : Accepted) × (IsProgramOf image p × Changes notation before (Run words.key p.code words.arg words.blank words.now) expect report))
     ⊎ ((fault : RegFault) × (Denies [] image fault × Refuses fault (Some before) report))
 
 -- what comes of a run by its words, on the database of the files, of the program of a file
-pub record OnRun (form : Form) (given : Given) (texts : RunTexts) (is_image : Bool) (report : Report) : Type 0 where
+pub record OnRun (notation : Notation Global) (form : Form) (given : Given) (texts : RunTexts) (is_image : Bool) (report : Report) : Type 0 where
   pub before : Database
   pub opened : IsOpened form given before
   pub words : RunWords Global
   pub expect : Option ℕ
-  pub are : AreRunWords texts words expect
+  pub are : AreRunWords notation texts words expect
   pub image : List ℕ
   pub image_is : IsFileImage is_image given.file.items image
-  pub runs : RunsImage before words expect image report
+  pub runs : RunsImage notation before words expect image report
 
 -- a text is printed that goes so with the file, and that is all
 abbrev pub PrintsOf : (List ℕ → List ℕ → Type 0) → List ℕ → Report → Type 0

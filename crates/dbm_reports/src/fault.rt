@@ -15,6 +15,10 @@ use std::fmt;
 pub enum ReportFault {
     /// A key, a value or an argument is no hex and no dot.
     BadHex,
+    /// A key, a value or an argument is no bytes as text.
+    BadText,
+    /// The layout of values is none.
+    BadLayout,
     /// A blank is neither a dot nor a number below 65,536, a time, a limit or a code is no number below 2^64, or a number of
     /// workers none below 2^32.
     /// Numbers have no leading zeros.
@@ -46,6 +50,8 @@ impl fmt::Display for ReportFault {
     fn fmt<W: fmt::Write>(&self, f: &mut fmt::Formatter<W>) -> fmt::Result {
         match self {
             ReportFault::BadHex => write!(f, "BadHex"),
+            ReportFault::BadText => write!(f, "BadText"),
+            ReportFault::BadLayout => write!(f, "BadLayout"),
             ReportFault::BadNumber => write!(f, "BadNumber"),
             ReportFault::Open(fault) => write!(f, "{fault}"),
             ReportFault::NotText => write!(f, "NotText"),
@@ -98,6 +104,7 @@ impl From<WordFault> for ReportFault {
     fn from(fault: WordFault) -> ReportFault {
         match fault {
             WordFault::BadHex => ReportFault::BadHex,
+            WordFault::BadText => ReportFault::BadText,
             WordFault::BadNumber => ReportFault::BadNumber,
             WordFault::NoMemory => ReportFault::NoMemory,
         }

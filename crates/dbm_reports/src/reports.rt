@@ -1,20 +1,22 @@
 //! What comes of each subcommand, from its words, the bytes of its files and standard input.
-ghost use Rattle.std.specs.Prelude.{◌≡◌, ◌≤◌, ◌∷◌, false, length, map, IfOk, IfErr, IfSome, Some};
+ghost use Rattle.std.specs.Prelude.{◌≡◌, cond, ◌≤◌, ◌∷◌, false, length, map, IfOk, IfErr, IfSome, Some};
 ghost use Rattle.dbm_script.specs.Commands.{command_of};
+ghost use Rattle.dbm_script.specs.Notation.{reads_hex};
 ghost use Rattle.dbm_words.specs.declared.wish.Wish.TheVariants as wish;
 ghost use Rattle.dbm_reports.specs.Causes.{IsCaused, command_causes, alone_causes, opening_causes, input_causes, script_causes};
 ghost use Rattle.dbm_reports.specs.Databases.{IsOpened};
 ghost use Rattle.dbm_reports.specs.Reports.{OnCommand, OnDatabase, Looks, Changes, Lists, Counts, PlaysAlone, PlaysOn, Widens, delete_words, fetch_words, small_form, store_name, store_words};
-ghost use Rattle.dbm_reports.specs.Subcommands.{is_batch, is_script, subcommand_for};
+ghost use Rattle.dbm_reports.specs.Subcommands.{is_batch, is_script, subcommand_for, subcommand_in};
 
 use crate::databases::{Given, key_bytes_of, open, page_size_of};
 use crate::fault::ReportFault;
+use crate::notations::notation_of;
 use crate::options::output_limit;
 use crate::programs::{assemble_file, disassemble_file, verify_file};
 use crate::running::{RunTexts, report_run};
 use crate::subcommands::{Report, change, check, list, look, play, printed, widen_pages};
-use dbm_script::{ScriptFault, read_all, read_command};
-use dbm_words::{Form, Notation, Wish};
+use dbm_script::{Notation, ScriptFault, read_all, read_command};
+use dbm_words::{Form, Notation as Options, Wish};
 use sdbm_files::Image;
 use std::alloc::Global;
 use std::io::Read;
@@ -42,7 +44,7 @@ pub fn read_input<R: Read>(alloc: Global, reader: &mut R) -> Result<Vec<u8>, Rep
 /// What comes of a wish that asks no batch. It is found before a line is written, and standard input is read for a script alone.
 ///
 /// # Errors
-/// The first that is met, in this order: `BadHex` where a word is no bytes, `BadNumber` where one is no number; `Open` where the
+/// The first that is met, in this order: `BadLayout` where the layout is none; `BadHex`, or as text `BadText`, where a word is no bytes, `BadNumber` where one is no number; `Open` where the
 /// files do not open; `NotText` and `Assemble` where a program's file is no text of one, `Decode` where it is no image; of a script,
 /// those of `read_input`, and `OutputTooLong` where its answers have more bytes than they may. `NoMemory` may come at any step. The
 /// files are only lent, and nothing else changes.
@@ -57,16 +59,33 @@ pub fn report_on<R: Read>(
     ensures fault { IfErr result (IsCaused (subcommand_for wish.entry given.now (R.remaining reader.old)).causes) }
     ensures unread { is_script wish.entry ≡ false → R.remaining reader.new ≡ R.remaining reader.old }
 {
+    let notation = notation_of(alloc, &wish)?;
+    report_in(alloc, &notation, wish, given, reader)
+}
+
+// What comes of a wish whose bytes are in a notation.
+fn report_in<R: Read>(
+    alloc: Global,
+    notation: &Notation<Global>,
+    wish: Wish<'_>,
+    given: &Given,
+    reader: &mut R,
+) -> Result<Report, ReportFault>
+    requires { is_batch wish ≡ false }
+    ensures ok { IfOk result (λ report. (subcommand_in notation.now wish.entry given.now (R.remaining reader.old)).reports report) }
+    ensures fault { IfErr result (IsCaused (subcommand_in notation.now wish.entry given.now (R.remaining reader.old)).causes) }
+    ensures unread { is_script wish.entry ≡ false → R.remaining reader.new ≡ R.remaining reader.old }
+{
     match wish {
-        Wish::Fetch { form, key, .. } => report_fetch(alloc, given, form, key),
+        Wish::Fetch { form, key, .. } => report_fetch(alloc, notation, given, form, key),
         Wish::Store {
             form,
             key,
             value,
             insert,
             ..
-        } => report_store(alloc, given, form, key, value, insert),
-        Wish::Delete { form, key, .. } => report_delete(alloc, given, form, key),
+        } => report_store(alloc, notation, given, form, key, value, insert),
+        Wish::Delete { form, key, .. } => report_delete(alloc, notation, given, form, key),
         Wish::Run {
             form,
             key,
@@ -84,70 +103,85 @@ pub fn report_on<R: Read>(
                 now,
                 expect,
             };
-            report_run(alloc, given, form, texts, image)
+            report_run(alloc, notation, given, form, texts, image)
         }
-        Wish::List { form, .. } => report_list(alloc, given, form),
+        Wish::List { form, .. } => report_list(alloc, notation, given, form),
         Wish::Check { form, .. } => report_check(alloc, given, form),
         Wish::Script {
             base,
             form,
-            notation,
+            notation: options,
             max_output,
-        } => report_script(alloc, given, base, form, notation, max_output, reader),
+        } => report_script(
+            alloc, notation, given, base, form, options, max_output, reader,
+        ),
         Wish::Widen { unsigned, .. } => report_widen(alloc, given, unsigned),
         Wish::Asm { .. } => assemble_file(alloc, given.file.as_slice()),
         Wish::Disasm { .. } => disassemble_file(alloc, given.file.as_slice()),
         Wish::Verify { image, .. } => verify_file(alloc, given.file.as_slice(), image),
         Wish::Batch { .. } => unreachable!(),
-        Wish::Keys { .. }
-        | Wish::Stats { .. }
-        | Wish::Dump { .. }
-        | Wish::Load { .. }
-        | Wish::Session { .. } => Err(ReportFault::NoMemory),
     }
 }
 
 // The command that words ask, and the database of the files. The words are read first.
 fn command_on(
     alloc: Global,
+    notation: &Notation<Global>,
     given: &Given,
     form: Form,
     name: &[u8],
     args: &[&[u8]],
 ) -> Result<(Image<Global>, Command<Global>), ReportFault>
-    ensures ok { IfOk result (λ r. IsOpened form given.now r.0 × (command_of (name.now ∷ map (λ x. x.now) args.now) ≡ Some r.1)) }
-    ensures fault { IfErr result (IsCaused (command_causes form given.now (name.now ∷ map (λ x. x.now) args.now))) }
+    ensures ok { IfOk result (λ r. IsOpened form given.now r.0 × (command_of notation.now (name.now ∷ map (λ x. x.now) args.now) ≡ Some r.1)) }
+    ensures fault { IfErr result (IsCaused (command_causes notation.now form given.now (name.now ∷ map (λ x. x.now) args.now))) }
 {
-    let Some(command) = read_command(alloc, name, args)? else {
-        return Err(ReportFault::BadHex);
+    let Some(command) = read_command(alloc, notation, name, args)? else {
+        return Err(bad_words(notation));
     };
     let image = open(alloc, given, form)?;
     Ok((image, command))
 }
 
-fn report_fetch(alloc: Global, given: &Given, form: Form, key: &str) -> Result<Report, ReportFault>
-    ensures ok { IfOk result (λ report. OnCommand form given.now (fetch_words key.entry) (λ db command. Looks db command report)) }
-    ensures fault { IfErr result (IsCaused (command_causes form given.now (fetch_words key.entry))) }
+// The fault of a word that is no bytes.
+fn bad_words(notation: &Notation<Global>) -> ReportFault
+    ensures { result ≡ cond (reads_hex notation.now) ReportFault.BadHex ReportFault.BadText }
 {
-    let (image, command) = command_on(alloc, given, form, b"fetch", &[key.as_bytes()])?;
-    Ok(look(alloc, image, command)?)
+    if notation.is_hex() {
+        return ReportFault::BadHex;
+    }
+    ReportFault::BadText
+}
+
+fn report_fetch(
+    alloc: Global,
+    notation: &Notation<Global>,
+    given: &Given,
+    form: Form,
+    key: &str,
+) -> Result<Report, ReportFault>
+    ensures ok { IfOk result (λ report. OnCommand notation.now form given.now (fetch_words key.entry) (λ db command. Looks notation.now db command report)) }
+    ensures fault { IfErr result (IsCaused (command_causes notation.now form given.now (fetch_words key.entry))) }
+{
+    let (image, command) = command_on(alloc, notation, given, form, b"fetch", &[key.as_bytes()])?;
+    Ok(look(alloc, notation, image, command)?)
 }
 
 fn report_store<'a>(
     alloc: Global,
+    notation: &Notation<Global>,
     given: &Given,
     form: Form,
     key: &'a str,
     value: &'a str,
     insert: bool,
 ) -> Result<Report, ReportFault>
-    ensures ok { IfOk result (λ report. OnCommand form given.now (store_words key.entry value.entry insert) (λ db command. Changes db command None report)) }
-    ensures fault { IfErr result (IsCaused (command_causes form given.now (store_words key.entry value.entry insert))) }
+    ensures ok { IfOk result (λ report. OnCommand notation.now form given.now (store_words key.entry value.entry insert) (λ db command. Changes notation.now db command None report)) }
+    ensures fault { IfErr result (IsCaused (command_causes notation.now form given.now (store_words key.entry value.entry insert))) }
 {
     let name = store_name(insert);
     let args = [key.as_bytes(), value.as_bytes()];
-    let (image, command) = command_on(alloc, given, form, name, &args)?;
-    Ok(change(alloc, image, command, None)?)
+    let (image, command) = command_on(alloc, notation, given, form, name, &args)?;
+    Ok(change(alloc, notation, image, command, None)?)
 }
 
 // The name of the command of a store.
@@ -157,20 +191,31 @@ fn store_name(insert: bool) -> &'static [u8]
     if insert { b"insert" } else { b"replace" }
 }
 
-fn report_delete(alloc: Global, given: &Given, form: Form, key: &str) -> Result<Report, ReportFault>
-    ensures ok { IfOk result (λ report. OnCommand form given.now (delete_words key.entry) (λ db command. Changes db command None report)) }
-    ensures fault { IfErr result (IsCaused (command_causes form given.now (delete_words key.entry))) }
+fn report_delete(
+    alloc: Global,
+    notation: &Notation<Global>,
+    given: &Given,
+    form: Form,
+    key: &str,
+) -> Result<Report, ReportFault>
+    ensures ok { IfOk result (λ report. OnCommand notation.now form given.now (delete_words key.entry) (λ db command. Changes notation.now db command None report)) }
+    ensures fault { IfErr result (IsCaused (command_causes notation.now form given.now (delete_words key.entry))) }
 {
-    let (image, command) = command_on(alloc, given, form, b"delete", &[key.as_bytes()])?;
-    Ok(change(alloc, image, command, None)?)
+    let (image, command) = command_on(alloc, notation, given, form, b"delete", &[key.as_bytes()])?;
+    Ok(change(alloc, notation, image, command, None)?)
 }
 
-fn report_list(alloc: Global, given: &Given, form: Form) -> Result<Report, ReportFault>
-    ensures ok { IfOk result (λ report. OnDatabase form given.now (Lists report)) }
+fn report_list(
+    alloc: Global,
+    notation: &Notation<Global>,
+    given: &Given,
+    form: Form,
+) -> Result<Report, ReportFault>
+    ensures ok { IfOk result (λ report. OnDatabase form given.now (Lists notation.now report)) }
     ensures fault { IfErr result (IsCaused (opening_causes form given.now)) }
 {
     let image = open(alloc, given, form)?;
-    Ok(list(alloc, &image)?)
+    Ok(list(alloc, notation, &image)?)
 }
 
 fn report_check(alloc: Global, given: &Given, form: Form) -> Result<Report, ReportFault>
@@ -183,55 +228,58 @@ fn report_check(alloc: Global, given: &Given, form: Form) -> Result<Report, Repo
 
 fn report_script<R: Read>(
     alloc: Global,
+    notation: &Notation<Global>,
     given: &Given,
     base: Option<&str>,
     form: Form,
-    notation: Notation<'_>,
+    options: Options<'_>,
     max_output: Option<&str>,
     reader: &mut R,
 ) -> Result<Report, ReportFault>
-    ensures ok { IfOk result (λ report. (subcommand_for (wish.Script base.entry form notation.entry max_output.entry) given.now (R.remaining reader.old)).reports report) }
-    ensures fault { IfErr result (IsCaused (subcommand_for (wish.Script base.entry form notation.entry max_output.entry) given.now (R.remaining reader.old)).causes) }
+    ensures ok { IfOk result (λ report. (subcommand_in notation.now (wish.Script base.entry form options.entry max_output.entry) given.now (R.remaining reader.old)).reports report) }
+    ensures fault { IfErr result (IsCaused (subcommand_in notation.now (wish.Script base.entry form options.entry max_output.entry) given.now (R.remaining reader.old)).causes) }
 {
     let Some(most) = output_limit(max_output) else {
         return Err(ReportFault::BadNumber);
     };
     match base {
-        None => report_alone(alloc, form, most, reader),
-        Some(_) => report_played(alloc, given, form, most, reader),
+        None => report_alone(alloc, notation, form, most, reader),
+        Some(_) => report_played(alloc, notation, given, form, most, reader),
     }
 }
 
 // A script on an empty database, which is not kept.
 fn report_alone<R: Read>(
     alloc: Global,
+    notation: &Notation<Global>,
     form: Form,
     most: u64,
     reader: &mut R,
 ) -> Result<Report, ReportFault>
-    ensures ok { IfOk result (PlaysAlone form (R.remaining reader.old) most) }
-    ensures fault { IfErr result (IsCaused (alone_causes form (R.remaining reader.old) most)) }
+    ensures ok { IfOk result (PlaysAlone notation.now form (R.remaining reader.old) most) }
+    ensures fault { IfErr result (IsCaused (alone_causes notation.now form (R.remaining reader.old) most)) }
 {
     let image = Image::empty(alloc, key_bytes_of(form), page_size_of(form));
     let script = read_input(alloc, reader)?;
-    let Report { text, .. } = play(alloc, image, script.as_slice(), most)?;
+    let Report { text, .. } = play(alloc, notation, image, script.as_slice(), most)?;
     Ok(printed(text))
 }
 
 // A script on the database of the files.
 fn report_played<R: Read>(
     alloc: Global,
+    notation: &Notation<Global>,
     given: &Given,
     form: Form,
     most: u64,
     reader: &mut R,
 ) -> Result<Report, ReportFault>
-    ensures ok { IfOk result (λ report. OnDatabase form given.now (PlaysOn (R.remaining reader.old) most report)) }
-    ensures fault { IfErr result (IsCaused (script_causes form given.now (R.remaining reader.old) most)) }
+    ensures ok { IfOk result (λ report. OnDatabase form given.now (PlaysOn notation.now (R.remaining reader.old) most report)) }
+    ensures fault { IfErr result (IsCaused (script_causes notation.now form given.now (R.remaining reader.old) most)) }
 {
     let image = open(alloc, given, form)?;
     let script = read_input(alloc, reader)?;
-    play(alloc, image, script.as_slice(), most)
+    play(alloc, notation, image, script.as_slice(), most)
 }
 
 fn report_widen(alloc: Global, given: &Given, unsigned: bool) -> Result<Report, ReportFault>

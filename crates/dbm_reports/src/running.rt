@@ -11,7 +11,7 @@ use crate::fault::ReportFault;
 use crate::options::expected_code;
 use crate::programs::{file_image, refused};
 use crate::subcommands::{Report, change};
-use dbm_script::{RunAsk, RunWords, command_of_run, read_run_words};
+use dbm_script::{Notation, RunAsk, RunWords, command_of_run, read_run_words};
 use dbm_words::Form;
 use prog_registry::Registry;
 use sdbm_files::Image;
@@ -31,33 +31,35 @@ pub struct RunTexts<'a> {
 /// gets no number, as a line of a script would say it that submits its image first.
 ///
 /// # Errors
-/// The first of: `BadHex` and `BadNumber` of the words, those of `open`, those of `file_image`; and `NoMemory`.
+/// The first of: `BadHex`, or as text `BadText`, and `BadNumber` of the words, those of `open`, those of `file_image`; and `NoMemory`.
 pub fn report_run(
     alloc: Global,
+    notation: &Notation<Global>,
     given: &Given,
     form: Form,
     texts: RunTexts<'_>,
     is_image: bool,
 ) -> Result<Report, ReportFault>
-    ensures ok { IfOk result (OnRun form given.now texts.entry is_image) }
-    ensures fault { IfErr result (IsCaused (run_causes form given.now texts.entry is_image)) }
+    ensures ok { IfOk result (OnRun notation.now form given.now texts.entry is_image) }
+    ensures fault { IfErr result (IsCaused (run_causes notation.now form given.now texts.entry is_image)) }
 {
-    let (words, expect) = run_words(alloc, texts)?;
+    let (words, expect) = run_words(alloc, notation, texts)?;
     let (database, image) = database_and_image(alloc, given, form, is_image)?;
-    Ok(run_image(alloc, database, image.as_slice(), words, expect)?)
+    Ok(run_image(alloc, notation, database, image.as_slice(), words, expect)?)
 }
 
 // What the words mean, read from left to right, and then the code.
 fn run_words(
     alloc: Global,
+    notation: &Notation<Global>,
     texts: RunTexts<'_>,
 ) -> Result<(RunWords<Global>, Option<u64>), ReportFault>
-    ensures ok { IfOk result (λ r. AreRunWords texts.entry r.0 r.1) }
-    ensures fault { IfErr result (IsCaused (word_causes texts.entry)) }
+    ensures ok { IfOk result (λ r. AreRunWords notation.now texts.entry r.0 r.1) }
+    ensures fault { IfErr result (IsCaused (word_causes notation.now texts.entry)) }
 {
     let (key, arg) = (texts.key.as_bytes(), texts.arg.as_bytes());
     let (blank, now) = (texts.blank.as_bytes(), texts.now.as_bytes());
-    let words = read_run_words(alloc, key, arg, blank, now)?;
+    let words = read_run_words(alloc, notation, key, arg, blank, now)?;
     match expected_code(texts.expect) {
         Some(expect) => Ok((words, expect)),
         None => Err(ReportFault::BadNumber),
@@ -85,12 +87,13 @@ pub fn database_and_image(
 // Runs the program of an image on a database, where it is accepted.
 fn run_image(
     alloc: Global,
+    notation: &Notation<Global>,
     database: Image<Global>,
     image: &[u8],
     words: RunWords<Global>,
     expect: Option<u64>,
 ) -> Result<Report, AllocError>
-    ensures { IfOk result (RunsImage database words expect image.now) }
+    ensures { IfOk result (RunsImage notation.now database words expect image.now) }
 {
     let mut registry = Registry::new(alloc)?;
     match registry.submit(image) {
@@ -102,7 +105,7 @@ fn run_image(
                 blank: words.blank,
                 now: words.now,
             };
-            run_program(alloc, database, &registry, run, expect)
+            run_program(alloc, notation, database, &registry, run, expect)
         }
         Err(fault) => refused(alloc, fault, Some(database)),
     }
@@ -111,16 +114,17 @@ fn run_image(
 // Runs a program of a registry on a database.
 fn run_program(
     alloc: Global,
+    notation: &Notation<Global>,
     database: Image<Global>,
     registry: &Registry<Global>,
     run: RunAsk<Global>,
     expect: Option<u64>,
 ) -> Result<Report, AllocError>
     requires { IsSome (slice_get registry.now.programs run.prog) }
-    ensures { IfOk result (λ report. (p : Accepted) × ((slice_get registry.now.programs run.prog ≡ Some p) × Changes database (command.Run run.key p.code run.arg run.blank run.now) expect report)) }
+    ensures { IfOk result (λ report. (p : Accepted) × ((slice_get registry.now.programs run.prog ≡ Some p) × Changes notation.now database (command.Run run.key p.code run.arg run.blank run.now) expect report)) }
 {
     let Some(command) = command_of_run(registry, run)? else {
         unreachable!()
     };
-    change(alloc, database, command, expect)
+    change(alloc, notation, database, command, expect)
 }

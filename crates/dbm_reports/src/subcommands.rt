@@ -7,7 +7,7 @@ ghost use Rattle.dbm_reports.specs.Reports.{Looks, Changes, Lists, Counts, Plays
 
 use crate::fault::ReportFault;
 use crate::listing::{list_pairs, show_ok};
-use dbm_script::{Answer, answer_command, run_lines, show_answer};
+use dbm_script::{Answer, Notation, answer_command, run_lines, show_answer};
 use sdbm_files::{Image, widen};
 use std::alloc::{AllocError, Global};
 use store_cmd::{Command, Reply};
@@ -26,12 +26,13 @@ pub struct Report {
 /// `AllocError` where no memory is left.
 pub fn look(
     alloc: Global,
+    notation: &Notation<Global>,
     image: Image<Global>,
     command: Command<Global>,
 ) -> Result<Report, AllocError>
-    ensures { IfOk result (Looks image command) }
+    ensures { IfOk result (Looks notation.now image command) }
 {
-    let Report { text, status, .. } = change(alloc, image, command, None)?;
+    let Report { text, status, .. } = change(alloc, notation, image, command, None)?;
     Ok(Report {
         text,
         status,
@@ -45,15 +46,16 @@ pub fn look(
 /// `AllocError` where no memory is left.
 pub fn change(
     alloc: Global,
+    notation: &Notation<Global>,
     image: Image<Global>,
     command: Command<Global>,
     expect: Option<u64>,
 ) -> Result<Report, AllocError>
-    ensures { IfOk result (Changes image command expect) }
+    ensures { IfOk result (Changes notation.now image command expect) }
 {
     let (image, answer) = answer_one(alloc, image, command)?;
     let mut text = Vec::new(alloc);
-    show_answer(alloc, &answer, &mut text)?;
+    show_answer(alloc, notation, &answer, &mut text)?;
     text.push(b'\n')?;
     Ok(Report {
         text,
@@ -124,11 +126,15 @@ fn ended_with(reply: &Reply<Global>, code: u64) -> bool
 ///
 /// # Errors
 /// `AllocError` where no memory is left.
-pub fn list(alloc: Global, image: &Image<Global>) -> Result<Report, AllocError>
-    ensures { IfOk result (λ report. Lists report image.now) }
+pub fn list(
+    alloc: Global,
+    notation: &Notation<Global>,
+    image: &Image<Global>,
+) -> Result<Report, AllocError>
+    ensures { IfOk result (λ report. Lists notation.now report image.now) }
 {
     let pairs = image.pairs()?;
-    let text = list_pairs(alloc, pairs.as_slice())?;
+    let text = list_pairs(alloc, notation, pairs.as_slice())?;
     Ok(printed(text))
 }
 
@@ -148,14 +154,15 @@ pub fn check(alloc: Global, image: &Image<Global>) -> Result<Report, AllocError>
 /// `OutputTooLong` where the answers have more bytes, and `NoMemory`.
 pub fn play(
     alloc: Global,
+    notation: &Notation<Global>,
     image: Image<Global>,
     script: &[u8],
     most: u64,
 ) -> Result<Report, ReportFault>
-    ensures ok { IfOk result (λ report. (after : Database) × (Plays image (Some script.now) most after report × (report.database ≡ Some after))) }
-    ensures fault { IfErr result (IsCaused (play_causes image (Some script.now) most)) }
+    ensures ok { IfOk result (λ report. (after : Database) × (Plays notation.now image (Some script.now) most after report × (report.database ≡ Some after))) }
+    ensures fault { IfErr result (IsCaused (play_causes notation.now image (Some script.now) most)) }
 {
-    let (image, text) = run_lines(alloc, image, script, most)?;
+    let (image, text) = run_lines(alloc, notation, image, script, most)?;
     Ok(Report {
         text,
         status: 0,

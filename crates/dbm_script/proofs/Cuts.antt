@@ -6,6 +6,7 @@ use Rattle.std.proofs.lemmas.List.Splits.{slice_split_none, slice_split_at, leng
 use Rattle.std.specs.List.{All}
 use Rattle.dbm_script.specs.Pieces.{pieces_of}
 use Rattle.dbm_script.specs.Lines.{ask_of}
+use Rattle.dbm_script.specs.declared.notations.Notation.{Notation}
 
 -- no such byte before place k
 abbrev pub NoneBefore : ℕ → List ℕ → ℕ → Type 0
@@ -27,9 +28,9 @@ pieces-first byte text k h none hit =
     ∙ ap (λ xs. take k text ∷ pieces_of byte xs) (sym (take_all (length text - (k + 1)) (drop (k + 1) text) (let l : length (drop (k + 1) text) ≡ length text - (k + 1) = length-drop (k + 1) text in omega arith)))
 
 -- seven words and more ask nothing
-pub too_many_words : {A : Type 0} (a b c d e f rest : List ℕ) → None ≡ ask_of {A = A} (a ∷ b ∷ c ∷ d ∷ e ∷ f ∷ pieces_of 32 rest)
-too_many_words {A = A} a b c d e f rest = none (pieces_of 32 rest) (let long = length-slice_split (λ x. eqb x 32) rest in omega arith)
+pub too_many_words : {A : Type 0} (n : Notation A) (a b c d e f rest : List ℕ) → None ≡ ask_of n (a ∷ b ∷ c ∷ d ∷ e ∷ f ∷ pieces_of 32 rest)
+too_many_words {A = A} n a b c d e f rest = none (pieces_of 32 rest) (let long = length-slice_split (λ x. eqb x 32) rest in omega arith)
   where
-    none : (words : List (List ℕ)) → 0 < length words → None ≡ ask_of {A = A} (a ∷ b ∷ c ∷ d ∷ e ∷ f ∷ words)
+    none : (words : List (List ℕ)) → 0 < length words → None ≡ ask_of n (a ∷ b ∷ c ∷ d ∷ e ∷ f ∷ words)
     none [] h = absurd (search (rules, h))
     none (word ∷ words) h = refl

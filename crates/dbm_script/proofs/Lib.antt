@@ -1,5 +1,5 @@
 pub mod Runs
 pub mod Cuts
 pub mod TaskLines
-pub mod Decimals
 pub mod Numbered
+pub mod RunsAsked

@@ -12,6 +12,7 @@ use Rattle.prog_registry.specs.declared.fault.RegFault.{RegFault}
 use Rattle.prog_registry.specs.declared.fault.RegFault.TheVariants.{NoMemory, Decode, Verify, Full}
 use Rattle.dbm_script.specs.Images.{Verdict, Numbers, Denies, AnswersImage}
 use Rattle.dbm_script.specs.Script as script
+use Rattle.dbm_script.specs.declared.notations.Notation.{Notation}
 use Rattle.dbm_script.specs.declared.lines.Ask.{Ask}
 use Rattle.dbm_script.specs.declared.lines.Ask.TheVariants.{Program}
 
@@ -74,14 +75,14 @@ both_ok (Ok x) f p q = f p q
 both_ok (Err e) f p q = tt
 
 -- a line that submits an image
-pub image_line : (A : Type 0) (db : Database) (programs programs' : List Accepted) (ask : Option (Ask A)) (image before after : List ℕ) → ask ≡ Some (Program image)
+pub image_line : (A : Type 0) (n : Notation A) (db : Database) (programs programs' : List Accepted) (ask : Option (Ask A)) (image before after : List ℕ) → ask ≡ Some (Program image)
     → script.Adds before after (λ added. (told : Verdict) × AnswersImage programs image told added programs')
-    → script.Adds before after (λ added. (told : Option Verdict) × script.AnswersLine A (script.stage db programs) ask told added (script.stage db programs'))
-image_line A db programs programs' ask image before after is adds = record {
+    → script.Adds before after (λ added. (told : Option Verdict) × script.AnswersLine A n (script.stage db programs) ask told added (script.stage db programs'))
+image_line A n db programs programs' ask image before after is adds = record {
   added = adds.added;
   is = adds.is;
   holds = (
     Some adds.holds.0,
-    subst (λ (a : Option (Ask A)). script.AnswersLine A (script.stage db programs) a (Some adds.holds.0) adds.added (script.stage db programs')) (sym is) (refl, adds.holds.1),
+    subst (λ (a : Option (Ask A)). script.AnswersLine A n (script.stage db programs) a (Some adds.holds.0) adds.added (script.stage db programs')) (sym is) (refl, adds.holds.1),
   );
 }

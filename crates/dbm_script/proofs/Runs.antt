@@ -17,6 +17,7 @@ use Rattle.store_moves.proofs.Acting.{Acts-unique}
 use Rattle.dbm_script.specs.Lines.{ask_of}
 use Rattle.dbm_script.specs.Images.{Verdict}
 use Rattle.dbm_script.specs.Answers.{IsAnswerTo, answer_text}
+use Rattle.dbm_script.specs.declared.notations.Notation.{Notation}
 use Rattle.dbm_script.specs.declared.answers.Answer.{Answer}
 use Rattle.dbm_script.specs.declared.answers.Answer.TheVariants.{Replied, Refused}
 use Rattle.dbm_script.specs.declared.lines.Ask.{Ask}
@@ -36,34 +37,34 @@ known_read None read P h p = tt
 known_read (Some x) read P h p = subst P h p
 
 -- more lines
-pub RunsLines-append : (A : Type 0) (s mid s' : Stage) (lines more : List (List ℕ)) (told later : List (Option Verdict)) (text added : List ℕ)
-    → RunsLines A s lines told text mid → RunsLines A mid more later added s' → RunsLines A s (lines ++ more) (told ++ later) (text ++ added) s'
-RunsLines-append A s mid s' [] more [] later text added r q =
-    subst (λ (x : List ℕ). RunsLines A s more later (x ++ added) s') (sym r.0) (subst (λ (m : Stage). RunsLines A m more later added s') r.1 q)
-RunsLines-append A s mid s' [] more (v ∷ told) later text added r q = absurd r
-RunsLines-append A s mid s' ([] ∷ lines) more told later text added r q = RunsLines-append A s mid s' lines more told later text added r q
-RunsLines-append A s mid s' ((c ∷ cs) ∷ lines) more [] later text added r q = absurd r
-RunsLines-append A s mid s' ((c ∷ cs) ∷ lines) more (v ∷ told) later text added r q =
-    (r.0, (r.1.0 ++ added, (r.1.1.0, (r.1.1.1.0, (RunsLines-append A r.1.1.0 mid s' lines more told later r.1.0 added r.1.1.1.1.0 q, ap (λ xs. xs ++ added) r.1.1.1.1.1 ∙ append_assoc r.0 (10 ∷ r.1.0) added)))))
+pub RunsLines-append : (A : Type 0) (n : Notation A) (s mid s' : Stage) (lines more : List (List ℕ)) (told later : List (Option Verdict)) (text added : List ℕ)
+    → RunsLines A n s lines told text mid → RunsLines A n mid more later added s' → RunsLines A n s (lines ++ more) (told ++ later) (text ++ added) s'
+RunsLines-append A n s mid s' [] more [] later text added r q =
+    subst (λ (x : List ℕ). RunsLines A n s more later (x ++ added) s') (sym r.0) (subst (λ (m : Stage). RunsLines A n m more later added s') r.1 q)
+RunsLines-append A n s mid s' [] more (v ∷ told) later text added r q = absurd r
+RunsLines-append A n s mid s' ([] ∷ lines) more told later text added r q = RunsLines-append A n s mid s' lines more told later text added r q
+RunsLines-append A n s mid s' ((c ∷ cs) ∷ lines) more [] later text added r q = absurd r
+RunsLines-append A n s mid s' ((c ∷ cs) ∷ lines) more (v ∷ told) later text added r q =
+    (r.0, (r.1.0 ++ added, (r.1.1.0, (r.1.1.1.0, (RunsLines-append A n r.1.1.0 mid s' lines more told later r.1.0 added r.1.1.1.1.0 q, ap (λ xs. xs ++ added) r.1.1.1.1.1 ∙ append_assoc r.0 (10 ∷ r.1.0) added)))))
 
 -- lines that are done, and one more
-pub one_more : (A : Type 0) (s mid s' : Stage) (done : List (List ℕ)) (line : List ℕ) (told : List (Option Verdict)) (text new : List ℕ)
-    → RunsLines A s done told text mid → (adds : Adds text new (λ added. (later : List (Option Verdict)) × RunsLines A mid (line ∷ []) later added s'))
-    → RunsLines A s (done ++ line ∷ []) (told ++ adds.holds.0) new s'
-one_more A s mid s' done line told text new before adds =
-    subst (λ (t : List ℕ). RunsLines A s (done ++ line ∷ []) (told ++ adds.holds.0) t s') (sym adds.is)
-    (RunsLines-append A s mid s' done (line ∷ []) told adds.holds.0 text adds.added before adds.holds.1)
+pub one_more : (A : Type 0) (n : Notation A) (s mid s' : Stage) (done : List (List ℕ)) (line : List ℕ) (told : List (Option Verdict)) (text new : List ℕ)
+    → RunsLines A n s done told text mid → (adds : Adds text new (λ added. (later : List (Option Verdict)) × RunsLines A n mid (line ∷ []) later added s'))
+    → RunsLines A n s (done ++ line ∷ []) (told ++ adds.holds.0) new s'
+one_more A n s mid s' done line told text new before adds =
+    subst (λ (t : List ℕ). RunsLines A n s (done ++ line ∷ []) (told ++ adds.holds.0) t s') (sym adds.is)
+    (RunsLines-append A n s mid s' done (line ∷ []) told adds.holds.0 text adds.added before adds.holds.1)
 
 -- the line that was next is done, and those behind it are left
 pub next_done : (done : List (List ℕ)) (line : List ℕ) (left after all : List (List ℕ)) → done ++ left ≡ all → left ≡ line ∷ after → (done ++ line ∷ []) ++ after ≡ all
 next_done done line left after all is first = append_assoc done (line ∷ []) after ∙ ap (λ (ls : List (List ℕ)). done ++ ls) (sym first) ∙ is
 
 -- one line that is not empty
-pub line_runs : (A : Type 0) (s s' : Stage) (line : List ℕ) (old mid new : List ℕ) → eqb (length line) 0 ≡ false
-    → Adds old mid (λ added. (told : Option Verdict) × AnswersLine A s (ask_of (pieces_of 32 line)) told added s') → new ≡ mid ++ 10 ∷ []
-    → Adds old new (λ added. (told : List (Option Verdict)) × RunsLines A s (line ∷ []) told added s')
-line_runs A s s' [] old mid new some adds more = absurd (false≢true (sym some))
-line_runs A s s' (c ∷ cs) old mid new some adds more = record {
+pub line_runs : (A : Type 0) (n : Notation A) (s s' : Stage) (line : List ℕ) (old mid new : List ℕ) → eqb (length line) 0 ≡ false
+    → Adds old mid (λ added. (told : Option Verdict) × AnswersLine A n s (ask_of n (pieces_of 32 line)) told added s') → new ≡ mid ++ 10 ∷ []
+    → Adds old new (λ added. (told : List (Option Verdict)) × RunsLines A n s (line ∷ []) told added s')
+line_runs A n s s' [] old mid new some adds more = absurd (false≢true (sym some))
+line_runs A n s s' (c ∷ cs) old mid new some adds more = record {
   added = adds.added ++ 10 ∷ [];
   is = more ∙ ap (λ xs. xs ++ 10 ∷ []) adds.is ∙ append_assoc old adds.added (10 ∷ []);
   holds = (adds.holds.0 ∷ [], (adds.added, ([], (s', (adds.holds.1, ((refl, refl), refl))))));
@@ -104,53 +105,53 @@ IsAnswerTo-unique A s command (Replied x) (Refused fault) a b p q = absurd (smal
 IsAnswerTo-unique A s command (Refused fault) (Replied y) a b p q = absurd (small_or_not s.size command fault q.0 p.0)
 IsAnswerTo-unique A s command (Refused x) (Refused y) a b p q = (ap Refused (one_fault s.size command x y p.0 q.0), p.1 ∙ sym q.1)
 
-AnswersCommand-unique : (A : Type 0) (db : Database) (command : Command A) (t u : List ℕ) (a b : Database) → AnswersCommand A db command t a → AnswersCommand A db command u b → (t ≡ u) × (a ≡ b)
-AnswersCommand-unique A db command t u a b x y =
+AnswersCommand-unique : (A : Type 0) (n : Notation A) (db : Database) (command : Command A) (t u : List ℕ) (a b : Database) → AnswersCommand A n db command t a → AnswersCommand A n db command u b → (t ≡ u) × (a ≡ b)
+AnswersCommand-unique A n db command t u a b x y =
     let same = IsAnswerTo-unique A db command x.0 y.0 a b x.1.0 y.1.0 in
-    (x.1.1 ∙ ap (λ (answer : Answer A). answer_text answer) same.0 ∙ sym y.1.1, same.1)
+    (x.1.1 ∙ ap (λ (answer : Answer A). answer_text n answer) same.0 ∙ sym y.1.1, same.1)
 
-AnswersRun-unique : (A : Type 0) (db : Database) (command : Option (Command A)) (t u : List ℕ) (a b : Database) → AnswersRun A db command t a → AnswersRun A db command u b → (t ≡ u) × (a ≡ b)
-AnswersRun-unique A db None t u a b x y = (x.0 ∙ sym y.0, x.1 ∙ sym y.1)
-AnswersRun-unique A db (Some command) t u a b x y = AnswersCommand-unique A db command t u a b x y
+AnswersRun-unique : (A : Type 0) (n : Notation A) (db : Database) (command : Option (Command A)) (t u : List ℕ) (a b : Database) → AnswersRun A n db command t a → AnswersRun A n db command u b → (t ≡ u) × (a ≡ b)
+AnswersRun-unique A n db None t u a b x y = (x.0 ∙ sym y.0, x.1 ∙ sym y.1)
+AnswersRun-unique A n db (Some command) t u a b x y = AnswersCommand-unique A n db command t u a b x y
 
 same_stage : (x y : Stage) → x.db ≡ y.db → x.programs ≡ y.programs → x ≡ y
 same_stage x y d p = λ i. record { db = d i; programs = p i }
 
 -- what a line does, and the text of its answer, are determined by what is told of its image
-AnswersLine-unique : (A : Type 0) (s : Stage) (ask : Option (Ask A)) (told : Option Verdict) (t u : List ℕ) (a b : Stage)
-    → AnswersLine A s ask told t a → AnswersLine A s ask told u b → (t ≡ u) × (a ≡ b)
-AnswersLine-unique A s None told t u a b x y = (x.1.0 ∙ sym y.1.0, x.1.1 ∙ sym y.1.1)
-AnswersLine-unique A s (Some (Plain command)) told t u a b x y =
-    let same = AnswersCommand-unique A s.db command t u a.db b.db x.1.1 y.1.1 in
+AnswersLine-unique : (A : Type 0) (n : Notation A) (s : Stage) (ask : Option (Ask A)) (told : Option Verdict) (t u : List ℕ) (a b : Stage)
+    → AnswersLine A n s ask told t a → AnswersLine A n s ask told u b → (t ≡ u) × (a ≡ b)
+AnswersLine-unique A n s None told t u a b x y = (x.1.0 ∙ sym y.1.0, x.1.1 ∙ sym y.1.1)
+AnswersLine-unique A n s (Some (Plain command)) told t u a b x y =
+    let same = AnswersCommand-unique A n s.db command t u a.db b.db x.1.1 y.1.1 in
     (same.0, same_stage a b same.1 (x.1.0 ∙ sym y.1.0))
-AnswersLine-unique A s (Some (Run run)) told t u a b x y =
-    let same = AnswersRun-unique A s.db (run_command s.programs run.key run.prog run.arg run.blank run.now) t u a.db b.db x.1.1 y.1.1 in
+AnswersLine-unique A n s (Some (Run run)) told t u a b x y =
+    let same = AnswersRun-unique A n s.db (run_command s.programs run.key run.prog run.arg run.blank run.now) t u a.db b.db x.1.1 y.1.1 in
     (same.0, same_stage a b same.1 (x.1.0 ∙ sym y.1.0))
-AnswersLine-unique A s (Some (Program image)) None t u a b x y = absurd x
-AnswersLine-unique A s (Some (Program image)) (Some (Ok p)) t u a b x y =
+AnswersLine-unique A n s (Some (Program image)) None t u a b x y = absurd x
+AnswersLine-unique A n s (Some (Program image)) (Some (Ok p)) t u a b x y =
     let same = Numbers-unique s.programs image p x.1.0 y.1.0 a.programs b.programs x.1.1.0 y.1.1.0 in
     (x.1.1.1 ∙ ap (λ (id : ℕ). codes "program " ++ decimal id) same.0 ∙ sym y.1.1.1, same_stage a b (x.0 ∙ sym y.0) same.1)
-AnswersLine-unique A s (Some (Program image)) (Some (Err fault)) t u a b x y =
+AnswersLine-unique A n s (Some (Program image)) (Some (Err fault)) t u a b x y =
     (x.1.1.1.1 ∙ sym y.1.1.1.1, same_stage a b (x.0 ∙ sym y.0) (x.1.1.1.0 ∙ sym y.1.1.1.0))
 
-pub RunsLines-unique : (A : Type 0) (s : Stage) (lines : List (List ℕ)) (told : List (Option Verdict)) (t u : List ℕ) (a b : Stage)
-    → RunsLines A s lines told t a → RunsLines A s lines told u b → (t ≡ u) × (a ≡ b)
-RunsLines-unique A s [] [] t u a b x y = (x.0 ∙ sym y.0, x.1 ∙ sym y.1)
-RunsLines-unique A s [] (v ∷ told) t u a b x y = absurd x
-RunsLines-unique A s ([] ∷ lines) told t u a b x y = RunsLines-unique A s lines told t u a b x y
-RunsLines-unique A s ((c ∷ cs) ∷ lines) [] t u a b x y = absurd x
-RunsLines-unique A s ((c ∷ cs) ∷ lines) (v ∷ told) t u a b x y =
-    let first = AnswersLine-unique A s (ask_of (pieces_of 32 (c ∷ cs))) v x.0 y.0 x.1.1.0 y.1.1.0 x.1.1.1.0 y.1.1.1.0 in
-    let there : RunsLines A x.1.1.0 lines told y.1.0 b = subst (λ (m : Stage). RunsLines A m lines told y.1.0 b) (sym first.1) y.1.1.1.1.0 in
-    let rest = RunsLines-unique A x.1.1.0 lines told x.1.0 y.1.0 a b x.1.1.1.1.0 there in
+pub RunsLines-unique : (A : Type 0) (n : Notation A) (s : Stage) (lines : List (List ℕ)) (told : List (Option Verdict)) (t u : List ℕ) (a b : Stage)
+    → RunsLines A n s lines told t a → RunsLines A n s lines told u b → (t ≡ u) × (a ≡ b)
+RunsLines-unique A n s [] [] t u a b x y = (x.0 ∙ sym y.0, x.1 ∙ sym y.1)
+RunsLines-unique A n s [] (v ∷ told) t u a b x y = absurd x
+RunsLines-unique A n s ([] ∷ lines) told t u a b x y = RunsLines-unique A n s lines told t u a b x y
+RunsLines-unique A n s ((c ∷ cs) ∷ lines) [] t u a b x y = absurd x
+RunsLines-unique A n s ((c ∷ cs) ∷ lines) (v ∷ told) t u a b x y =
+    let first = AnswersLine-unique A n s (ask_of n (pieces_of 32 (c ∷ cs))) v x.0 y.0 x.1.1.0 y.1.1.0 x.1.1.1.0 y.1.1.1.0 in
+    let there : RunsLines A n x.1.1.0 lines told y.1.0 b = subst (λ (m : Stage). RunsLines A n m lines told y.1.0 b) (sym first.1) y.1.1.1.1.0 in
+    let rest = RunsLines-unique A n x.1.1.0 lines told x.1.0 y.1.0 a b x.1.1.1.1.0 there in
     (x.1.1.1.1.1 ∙ ap (λ xs. xs ++ 10 ∷ x.1.0) first.0 ∙ ap (λ xs. y.0 ++ 10 ∷ xs) rest.0 ∙ sym y.1.1.1.1.1, rest.1)
 
-pub IsScriptRun-from : (A : Type 0) (db : Database) (input : List ℕ) (told : List (Option Verdict)) (text : List ℕ) (s' : Database)
-    → RunsScript A db input told text s' → IsScriptRun A db input text s'
-IsScriptRun-from A db input told text s' runs = record {
+pub IsScriptRun-from : (A : Type 0) (n : Notation A) (db : Database) (input : List ℕ) (told : List (Option Verdict)) (text : List ℕ) (s' : Database)
+    → RunsScript A n db input told text s' → IsScriptRun A n db input text s'
+IsScriptRun-from A n db input told text s' runs = record {
   told = told;
   runs = runs;
   only = λ other d also.
-      let same = RunsLines-unique A (stage db []) (pieces_of 10 input) told other text (stage d also.0) (stage s' runs.0) also.1 runs.1 in
+      let same = RunsLines-unique A n (stage db []) (pieces_of 10 input) told other text (stage d also.0) (stage s' runs.0) also.1 runs.1 in
       (same.0, ap (λ (s : Stage). s.db) same.1);
 }

@@ -1,17 +1,12 @@
 -- What words ask.
 use Rattle.std.specs.Prelude.{ℕ, List, [], ◌∷◌, cond, codes, Option, Some, None}
-use Rattle.std.specs.Result.{result_ok}
 use Rattle.std.specs.Str.{bytes_eq}
-use Rattle.hex.specs.Hex.{decode_of}
 use Rattle.sdbm_addr.specs.declared.Mode.{Mode}
 use Rattle.sdbm_addr.specs.declared.Mode.TheVariants.{Insert, Replace}
 use Rattle.store_cmd.specs.declared.Command.{Command}
 use Rattle.store_cmd.specs.declared.Command.TheVariants.{Fetch, Store, Delete, Count}
-
--- bytes in hex of either case, or a dot for none; no text at all is no bytes
-abbrev pub bytes_of : List ℕ → Option (List ℕ)
-bytes_of [] = None
-bytes_of (c ∷ cs) = cond (bytes_eq (c ∷ cs) (codes ".")) (Some []) (result_ok (decode_of (c ∷ cs)))
+use Rattle.dbm_script.specs.Notation.{bytes_of}
+use Rattle.dbm_script.specs.declared.notations.Notation.{Notation}
 
 abbrev pub fetch_of : {A : Type 0} → Option (List ℕ) → Option (Command A)
 fetch_of None = None
@@ -27,13 +22,13 @@ store_of (Some key) None mode = None
 store_of (Some key) (Some value) mode = Some (Store key value mode)
 
 -- what words ask: the name of a command, and the words that it takes
-abbrev pub command_of : {A : Type 0} → List (List ℕ) → Option (Command A)
-command_of [] = None
-command_of (word ∷ []) = cond (bytes_eq word (codes "count")) (Some Count) None
-command_of (word ∷ key ∷ []) =
-    cond (bytes_eq word (codes "fetch")) (fetch_of (bytes_of key))
-    (cond (bytes_eq word (codes "delete")) (delete_of (bytes_of key)) None)
-command_of (word ∷ key ∷ value ∷ []) =
-    cond (bytes_eq word (codes "insert")) (store_of (bytes_of key) (bytes_of value) Insert)
-    (cond (bytes_eq word (codes "replace")) (store_of (bytes_of key) (bytes_of value) Replace) None)
-command_of (word ∷ key ∷ value ∷ other ∷ others) = None
+abbrev pub command_of : {A : Type 0} → Notation A → List (List ℕ) → Option (Command A)
+command_of notation [] = None
+command_of notation (word ∷ []) = cond (bytes_eq word (codes "count")) (Some Count) None
+command_of notation (word ∷ key ∷ []) =
+    cond (bytes_eq word (codes "fetch")) (fetch_of (bytes_of notation key))
+    (cond (bytes_eq word (codes "delete")) (delete_of (bytes_of notation key)) None)
+command_of notation (word ∷ key ∷ value ∷ []) =
+    cond (bytes_eq word (codes "insert")) (store_of (bytes_of notation key) (bytes_of notation value) Insert)
+    (cond (bytes_eq word (codes "replace")) (store_of (bytes_of notation key) (bytes_of notation value) Replace) None)
+command_of notation (word ∷ key ∷ value ∷ other ∷ others) = None

@@ -2,7 +2,9 @@
 use Rattle.std.specs.Prelude.{ℕ, List, [], ◌∷◌, cond, codes, Option, Some, None}
 use Rattle.std.specs.Str.{bytes_eq}
 use Rattle.store_cmd.specs.declared.Command.{Command}
-use Rattle.dbm_script.specs.Commands.{bytes_of, command_of}
+use Rattle.dbm_script.specs.Commands.{command_of}
+use Rattle.dbm_script.specs.Notation.{bytes_of, hex_bytes}
+use Rattle.dbm_script.specs.declared.notations.Notation.{Notation}
 use Rattle.dbm_script.specs.Numbers.{number_of, blank_of}
 use Rattle.dbm_script.specs.declared.lines.Ask.{Ask}
 use Rattle.dbm_script.specs.declared.lines.Ask.TheVariants.{Plain, Program, Run}
@@ -25,15 +27,15 @@ run_of (Some key) (Some prog) (Some arg) (Some blank) None = None
 run_of (Some key) (Some prog) (Some arg) (Some blank) (Some now) =
     Some (Run (record { key = key; prog = prog; arg = arg; blank = blank; now = now }))
 
--- what the words of a line ask
-abbrev pub ask_of : {A : Type 0} → List (List ℕ) → Option (Ask A)
-ask_of [] = None
-ask_of (word ∷ []) = plain (command_of (word ∷ []))
-ask_of (word ∷ first ∷ []) =
-    cond (bytes_eq word (codes "program")) (program_of (bytes_of first)) (plain (command_of (word ∷ first ∷ [])))
-ask_of (word ∷ first ∷ second ∷ []) = plain (command_of (word ∷ first ∷ second ∷ []))
-ask_of (word ∷ key ∷ prog ∷ arg ∷ []) = None
-ask_of (word ∷ key ∷ prog ∷ arg ∷ blank ∷ []) = None
-ask_of (word ∷ key ∷ prog ∷ arg ∷ blank ∷ now ∷ []) = cond (bytes_eq word (codes "run"))
-    (run_of (bytes_of key) (number_of 4294967295 prog) (bytes_of arg) (blank_of blank) (number_of 18446744073709551615 now)) None
-ask_of (word ∷ key ∷ prog ∷ arg ∷ blank ∷ now ∷ other ∷ others) = None
+-- what the words of a line ask; an image is in hex in each notation
+abbrev pub ask_of : {A : Type 0} → Notation A → List (List ℕ) → Option (Ask A)
+ask_of notation [] = None
+ask_of notation (word ∷ []) = plain (command_of notation (word ∷ []))
+ask_of notation (word ∷ first ∷ []) =
+    cond (bytes_eq word (codes "program")) (program_of (hex_bytes first)) (plain (command_of notation (word ∷ first ∷ [])))
+ask_of notation (word ∷ first ∷ second ∷ []) = plain (command_of notation (word ∷ first ∷ second ∷ []))
+ask_of notation (word ∷ key ∷ prog ∷ arg ∷ []) = None
+ask_of notation (word ∷ key ∷ prog ∷ arg ∷ blank ∷ []) = None
+ask_of notation (word ∷ key ∷ prog ∷ arg ∷ blank ∷ now ∷ []) = cond (bytes_eq word (codes "run"))
+    (run_of (bytes_of notation key) (number_of 4294967295 prog) (bytes_of notation arg) (blank_of blank) (number_of 18446744073709551615 now)) None
+ask_of notation (word ∷ key ∷ prog ∷ arg ∷ blank ∷ now ∷ other ∷ others) = None

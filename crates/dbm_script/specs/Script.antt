@@ -7,6 +7,7 @@ use Rattle.store_cmd.specs.declared.Command.{Command}
 use Rattle.store_cmd.specs.declared.Command.TheVariants as commands
 use Rattle.dbm_script.specs.Pieces.{pieces_of}
 use Rattle.dbm_script.specs.Lines.{ask_of}
+use Rattle.dbm_script.specs.declared.notations.Notation.{Notation}
 use Rattle.dbm_script.specs.Images.{Verdict, AnswersImage}
 use Rattle.dbm_script.specs.Answers.{IsAnswerTo, answer_text}
 use Rattle.dbm_script.specs.declared.answers.Answer.{Answer}
@@ -24,61 +25,61 @@ abbrev pub stage : Database → List Accepted → Stage
 stage db programs = record { db = db; programs = programs }
 
 -- what a command does, and the text of its answer
-abbrev pub AnswersCommand : (A : Type 0) → Database → Command A → List ℕ → Database → Type 0
-AnswersCommand A db command text db' = (answer : Answer A) × (IsAnswerTo A db command answer db' × (text ≡ answer_text answer))
+abbrev pub AnswersCommand : (A : Type 0) → Notation A → Database → Command A → List ℕ → Database → Type 0
+AnswersCommand A notation db command text db' = (answer : Answer A) × (IsAnswerTo A db command answer db' × (text ≡ answer_text notation answer))
 
 -- a run of the program with a number, where there is one
 abbrev pub run_command : {A : Type 0} → List Accepted → List ℕ → ℕ → List ℕ → Option ℕ → ℕ → Option (Command A)
 run_command programs key prog arg blank now = option_map (λ p. commands.Run key p.code arg blank now) (slice_get programs prog)
 
 -- what a run does, and the text of its answer; without its program it does nothing
-abbrev pub AnswersRun : (A : Type 0) → Database → Option (Command A) → List ℕ → Database → Type 0
-AnswersRun A db None text db' = (text ≡ codes "refused NoProgram") × (db' ≡ db)
-AnswersRun A db (Some command) text db' = AnswersCommand A db command text db'
+abbrev pub AnswersRun : (A : Type 0) → Notation A → Database → Option (Command A) → List ℕ → Database → Type 0
+AnswersRun A notation db None text db' = (text ≡ codes "refused NoProgram") × (db' ≡ db)
+AnswersRun A notation db (Some command) text db' = AnswersCommand A notation db command text db'
 
 -- What one line does, by what it asks and what is told of the image that it submits, and the text of its answer. A line that asks
 -- nothing does nothing.
-abbrev pub AnswersLine : (A : Type 0) → Stage → Option (Ask A) → Option Verdict → List ℕ → Stage → Type 0
-AnswersLine A s None told text s' = (told ≡ None) × ((text ≡ codes "bad line") × (s' ≡ s))
-AnswersLine A s (Some (Plain command)) told text s' =
-    (told ≡ None) × ((s'.programs ≡ s.programs) × AnswersCommand A s.db command text s'.db)
-AnswersLine A s (Some (Run run)) told text s' =
-    (told ≡ None) × ((s'.programs ≡ s.programs) × AnswersRun A s.db (run_command s.programs run.key run.prog run.arg run.blank run.now) text s'.db)
-AnswersLine A s (Some (Program image)) None text s' = ⊥
-AnswersLine A s (Some (Program image)) (Some verdict) text s' =
+abbrev pub AnswersLine : (A : Type 0) → Notation A → Stage → Option (Ask A) → Option Verdict → List ℕ → Stage → Type 0
+AnswersLine A notation s None told text s' = (told ≡ None) × ((text ≡ codes "bad line") × (s' ≡ s))
+AnswersLine A notation s (Some (Plain command)) told text s' =
+    (told ≡ None) × ((s'.programs ≡ s.programs) × AnswersCommand A notation s.db command text s'.db)
+AnswersLine A notation s (Some (Run run)) told text s' =
+    (told ≡ None) × ((s'.programs ≡ s.programs) × AnswersRun A notation s.db (run_command s.programs run.key run.prog run.arg run.blank run.now) text s'.db)
+AnswersLine A notation s (Some (Program image)) None text s' = ⊥
+AnswersLine A notation s (Some (Program image)) (Some verdict) text s' =
     (s'.db ≡ s.db) × AnswersImage s.programs image verdict text s'.programs
 
 -- What lines do in order, and the text of their answers, by what is told at each line that is not empty: an empty line has no answer,
 -- and each other line has one, with its end.
-abbrev pub RunsLines : (A : Type 0) → Stage → List (List ℕ) → List (Option Verdict) → List ℕ → Stage → Type 0
-RunsLines A s [] [] text s' = (text ≡ []) × (s' ≡ s)
-RunsLines A s [] (verdict ∷ told) text s' = ⊥
-RunsLines A s ([] ∷ lines) told text s' = RunsLines A s lines told text s'
-RunsLines A s ((c ∷ cs) ∷ lines) [] text s' = ⊥
-RunsLines A s ((c ∷ cs) ∷ lines) (verdict ∷ told) text s' =
-    (first : List ℕ) × ((rest : List ℕ) × ((mid : Stage) × (AnswersLine A s (ask_of (pieces_of 32 (c ∷ cs))) verdict first mid × (RunsLines A mid lines told rest s' × (text ≡ first ++ 10 ∷ rest)))))
+abbrev pub RunsLines : (A : Type 0) → Notation A → Stage → List (List ℕ) → List (Option Verdict) → List ℕ → Stage → Type 0
+RunsLines A notation s [] [] text s' = (text ≡ []) × (s' ≡ s)
+RunsLines A notation s [] (verdict ∷ told) text s' = ⊥
+RunsLines A notation s ([] ∷ lines) told text s' = RunsLines A notation s lines told text s'
+RunsLines A notation s ((c ∷ cs) ∷ lines) [] text s' = ⊥
+RunsLines A notation s ((c ∷ cs) ∷ lines) (verdict ∷ told) text s' =
+    (first : List ℕ) × ((rest : List ℕ) × ((mid : Stage) × (AnswersLine A notation s (ask_of notation (pieces_of 32 (c ∷ cs))) verdict first mid × (RunsLines A notation mid lines told rest s' × (text ≡ first ++ 10 ∷ rest)))))
 
 -- a script on a database and no programs: its lines end with LF, the last one may lack it
-abbrev pub RunsScript : (A : Type 0) → Database → List ℕ → List (Option Verdict) → List ℕ → Database → Type 0
-RunsScript A db input told text db' =
-    (programs : List Accepted) × RunsLines A (stage db []) (pieces_of 10 input) told text (stage db' programs)
+abbrev pub RunsScript : (A : Type 0) → Notation A → Database → List ℕ → List (Option Verdict) → List ℕ → Database → Type 0
+RunsScript A notation db input told text db' =
+    (programs : List Accepted) × RunsLines A notation (stage db []) (pieces_of 10 input) told text (stage db' programs)
 
 -- A script writes this text and leads to this database, page by page. By what is told of the images that its lines submit, it writes
 -- no other text and leads to no other database.
-pub record IsScriptRun (A : Type 0) (db : Database) (input text : List ℕ) (db' : Database) : Type 0 where
+pub record IsScriptRun (A : Type 0) (notation : Notation A) (db : Database) (input text : List ℕ) (db' : Database) : Type 0 where
   pub told : List (Option Verdict)
-  pub runs : RunsScript A db input told text db'
-  pub only : (other : List ℕ) (d : Database) → RunsScript A db input told other d → (other ≡ text) × (d ≡ db')
+  pub runs : RunsScript A notation db input told text db'
+  pub only : (other : List ℕ) (d : Database) → RunsScript A notation db input told other d → (other ≡ text) × (d ≡ db')
 
 -- The answers to the first lines of a script alone have more bytes than so many.
-pub record AnswersExceed (A : Type 0) (db : Database) (input : List ℕ) (most : ℕ) : Type 0 where
+pub record AnswersExceed (A : Type 0) (notation : Notation A) (db : Database) (input : List ℕ) (most : ℕ) : Type 0 where
   pub first : List (List ℕ)
   pub others : List (List ℕ)
   pub lines : first ++ others ≡ pieces_of 10 input
   pub told : List (Option Verdict)
   pub text : List ℕ
   pub after : Stage
-  pub ran : RunsLines A (stage db []) first told text after
+  pub ran : RunsLines A notation (stage db []) first told text after
   pub long : most < length text
 
 -- new is old and then some bytes, of which P holds

@@ -1,7 +1,8 @@
 -- Tasks: lines that ask runs of a program that is known.
-use Rattle.std.specs.Prelude.{◌≡◌, ◌⊎◌, ◌+◌, ◌++◌, ℕ, Bool, true, false, List, [], ◌∷◌, length, Option, Some, None, IsSome, ⊤}
+use Rattle.std.specs.Prelude.{◌≡◌, ◌⊎◌, ◌+◌, ◌++◌, ℕ, Bool, true, false, cond, List, [], ◌∷◌, length, Option, Some, None, IsSome, ⊤}
 use Rattle.dbm_script.specs.Pieces.{pieces_of}
-use Rattle.dbm_script.specs.Commands.{bytes_of}
+use Rattle.dbm_script.specs.Notation.{bytes_of, reads_hex}
+use Rattle.dbm_script.specs.declared.notations.Notation.{Notation}
 use Rattle.dbm_script.specs.Numbers.{number_of, blank_of}
 use Rattle.dbm_script.specs.declared.run_words.RunWords.{RunWords}
 use Rattle.dbm_script.specs.declared.run_words.WordFault.{WordFault}
@@ -17,66 +18,71 @@ all_words (Some key) (Some arg) (Some blank) None = None
 all_words (Some key) (Some arg) (Some blank) (Some now) = Some (record { key = key; arg = arg; blank = blank; now = now })
 
 -- what the words of a run mean: bytes of a key and an argument, a blank and a time
-abbrev pub run_words_of : {A : Type 0} → List ℕ → List ℕ → List ℕ → List ℕ → Option (RunWords A)
-run_words_of key arg blank now = all_words (bytes_of key) (bytes_of arg) (blank_of blank) (number_of 18446744073709551615 now)
+abbrev pub run_words_of : {A : Type 0} → Notation A → List ℕ → List ℕ → List ℕ → List ℕ → Option (RunWords A)
+run_words_of notation key arg blank now = all_words (bytes_of notation key) (bytes_of notation arg) (blank_of blank) (number_of 18446744073709551615 now)
 
 -- one of these words is no bytes
-abbrev pub HasBadBytes : List ℕ → List ℕ → Type 0
-HasBadBytes key arg = (bytes_of key ≡ None) ⊎ (bytes_of arg ≡ None)
+abbrev pub HasBadBytes : {A : Type 0} → Notation A → List ℕ → List ℕ → Type 0
+HasBadBytes notation key arg = (bytes_of notation key ≡ None) ⊎ (bytes_of notation arg ≡ None)
 
 -- those are bytes, and one of the others is no number
-abbrev pub HasBadNumber : List ℕ → List ℕ → List ℕ → List ℕ → Type 0
-HasBadNumber key arg blank now =
-    IsSome (bytes_of key) × (IsSome (bytes_of arg) × ((blank_of blank ≡ None) ⊎ (number_of 18446744073709551615 now ≡ None)))
+abbrev pub HasBadNumber : {A : Type 0} → Notation A → List ℕ → List ℕ → List ℕ → List ℕ → Type 0
+HasBadNumber notation key arg blank now =
+    IsSome (bytes_of notation key) × (IsSome (bytes_of notation arg) × ((blank_of blank ≡ None) ⊎ (number_of 18446744073709551615 now ≡ None)))
+
+-- the fault of a word that is no bytes
+abbrev pub bad_bytes : {A : Type 0} → Notation A → WordFault
+bad_bytes notation = cond (reads_hex notation) words.BadHex words.BadText
 
 -- why words mean no run
-abbrev pub IsWordFault : List ℕ → List ℕ → List ℕ → List ℕ → WordFault → Type 0
-IsWordFault key arg blank now words.BadHex = HasBadBytes key arg
-IsWordFault key arg blank now words.BadNumber = HasBadNumber key arg blank now
-IsWordFault key arg blank now words.NoMemory = ⊤
+abbrev pub IsWordFault : {A : Type 0} → Notation A → List ℕ → List ℕ → List ℕ → List ℕ → WordFault → Type 0
+IsWordFault notation key arg blank now words.BadHex = (reads_hex notation ≡ true) × HasBadBytes notation key arg
+IsWordFault notation key arg blank now words.BadText = (reads_hex notation ≡ false) × HasBadBytes notation key arg
+IsWordFault notation key arg blank now words.BadNumber = HasBadNumber notation key arg blank now
+IsWordFault notation key arg blank now words.NoMemory = ⊤
 
 -- the task that the words of a line ask
-abbrev pub task_of : {A : Type 0} → List (List ℕ) → Option (RunWords A)
-task_of [] = None
-task_of (key ∷ []) = None
-task_of (key ∷ arg ∷ []) = None
-task_of (key ∷ arg ∷ blank ∷ []) = None
-task_of (key ∷ arg ∷ blank ∷ now ∷ []) = run_words_of key arg blank now
-task_of (key ∷ arg ∷ blank ∷ now ∷ other ∷ others) = None
+abbrev pub task_of : {A : Type 0} → Notation A → List (List ℕ) → Option (RunWords A)
+task_of notation [] = None
+task_of notation (key ∷ []) = None
+task_of notation (key ∷ arg ∷ []) = None
+task_of notation (key ∷ arg ∷ blank ∷ []) = None
+task_of notation (key ∷ arg ∷ blank ∷ now ∷ []) = run_words_of notation key arg blank now
+task_of notation (key ∷ arg ∷ blank ∷ now ∷ other ∷ others) = None
 
 -- the tasks of lines, in their order: an empty line has none, and each other line has one
-abbrev pub AskTasks : (A : Type 0) → List (List ℕ) → List (RunWords A) → Type 0
-AskTasks A [] [] = ⊤
-AskTasks A [] (task ∷ tasks) = ⊥
-AskTasks A ([] ∷ lines) tasks = AskTasks A lines tasks
-AskTasks A ((c ∷ cs) ∷ lines) [] = ⊥
-AskTasks A ((c ∷ cs) ∷ lines) (task ∷ tasks) = (task_of (pieces_of 32 (c ∷ cs)) ≡ Some task) × AskTasks A lines tasks
+abbrev pub AskTasks : (A : Type 0) → Notation A → List (List ℕ) → List (RunWords A) → Type 0
+AskTasks A notation [] [] = ⊤
+AskTasks A notation [] (task ∷ tasks) = ⊥
+AskTasks A notation ([] ∷ lines) tasks = AskTasks A notation lines tasks
+AskTasks A notation ((c ∷ cs) ∷ lines) [] = ⊥
+AskTasks A notation ((c ∷ cs) ∷ lines) (task ∷ tasks) = (task_of notation (pieces_of 32 (c ∷ cs)) ≡ Some task) × AskTasks A notation lines tasks
 
 -- the tasks of a text, whose lines end with LF; the last one may lack it
-abbrev pub AreTasksOf : (A : Type 0) → List ℕ → List (RunWords A) → Type 0
-AreTasksOf A input tasks = AskTasks A (pieces_of 10 input) tasks
+abbrev pub AreTasksOf : (A : Type 0) → Notation A → List ℕ → List (RunWords A) → Type 0
+AreTasksOf A notation input tasks = AskTasks A notation (pieces_of 10 input) tasks
 
 -- a line that is not empty and asks no task
-abbrev pub IsBadLine : (A : Type 0) → List ℕ → Type 0
-IsBadLine A [] = ⊥
-IsBadLine A (c ∷ cs) = task_of {A = A} (pieces_of 32 (c ∷ cs)) ≡ None
+abbrev pub IsBadLine : (A : Type 0) → Notation A → List ℕ → Type 0
+IsBadLine A notation [] = ⊥
+IsBadLine A notation (c ∷ cs) = task_of notation (pieces_of 32 (c ∷ cs)) ≡ None
 
 -- A line's task goes behind others, where the line is good: an empty one has none.
-abbrev pub AddsTask : (A : Type 0) → List ℕ → Bool → List (RunWords A) → List (RunWords A) → Type 0
-AddsTask A line true old new = (added : List (RunWords A)) × (AskTasks A (line ∷ []) added × (new ≡ old ++ added))
-AddsTask A line false old new = IsBadLine A line
+abbrev pub AddsTask : (A : Type 0) → Notation A → List ℕ → Bool → List (RunWords A) → List (RunWords A) → Type 0
+AddsTask A notation line true old new = (added : List (RunWords A)) × (AskTasks A notation (line ∷ []) added × (new ≡ old ++ added))
+AddsTask A notation line false old new = IsBadLine A notation line
 
 -- the first such line of a text, by its number from 1 on; empty lines count too
-pub record IsFirstBad (A : Type 0) (input : List ℕ) (number : ℕ) : Type 0 where
+pub record IsFirstBad (A : Type 0) (notation : Notation A) (input : List ℕ) (number : ℕ) : Type 0 where
   pub before : List (List ℕ)
   pub line : List ℕ
   pub behind : List (List ℕ)
   pub lines : pieces_of 10 input ≡ before ++ line ∷ behind
   pub number_is : number ≡ length before + 1
-  pub bad : IsBadLine A line
+  pub bad : IsBadLine A notation line
   pub tasks : List (RunWords A)
-  pub good : AskTasks A before tasks
+  pub good : AskTasks A notation before tasks
 
-abbrev pub IsTasksFault : (A : Type 0) → List ℕ → TasksFault → Type 0
-IsTasksFault A input (BadLine number) = IsFirstBad A input number
-IsTasksFault A input NoMemory = ⊤
+abbrev pub IsTasksFault : (A : Type 0) → Notation A → List ℕ → TasksFault → Type 0
+IsTasksFault A notation input (BadLine number) = IsFirstBad A notation input number
+IsTasksFault A notation input NoMemory = ⊤

@@ -1,7 +1,8 @@
 //! Answers to commands, and their texts.
 ghost use Rattle.std.specs.Prelude.{◌≡◌, ◌++◌, OnOk};
-ghost use Rattle.dbm_script.specs.Answers.{shown, reply_text, answer_text};
+ghost use Rattle.dbm_script.specs.Answers.{reply_text, answer_text};
 
+use crate::notations::{Notation, show_value};
 use itoa::Buffer;
 use std::alloc::{AllocError, Allocator};
 use store_cmd::{Entry, Reply, SizeFault};
@@ -15,39 +16,41 @@ pub enum Answer<A: Allocator> {
     Refused(SizeFault),
 }
 
-/// Writes the text of an answer after a text.
+/// Writes the text of an answer in a notation after a text.
 ///
 /// # Errors
 /// `AllocError` where there is no memory for it. The text is of no use then.
 pub fn show_answer<A: Allocator + Copy>(
     alloc: A,
+    notation: &Notation<A>,
     answer: &Answer<A>,
     text: &mut Vec<u8, A>,
 ) -> Result<(), AllocError>
-    ensures { OnOk result (text.new.items ≡ text.old.items ++ answer_text answer.now) }
+    ensures { OnOk result (text.new.items ≡ text.old.items ++ answer_text notation.now answer.now) }
 {
     match answer {
-        Answer::Replied(entry) => show_reply(alloc, &entry.reply, text),
+        Answer::Replied(entry) => show_reply(alloc, notation, &entry.reply, text),
         Answer::Refused(SizeFault::PairTooLarge) => text.extend_from_slice(b"refused PairTooLarge"),
         Answer::Refused(SizeFault::ArgTooLong) => text.extend_from_slice(b"refused ArgTooLong"),
     }
 }
 
-/// Writes the text of a reply after a text.
+/// Writes the text of a reply in a notation after a text.
 ///
 /// # Errors
 /// `AllocError` where there is no memory for it. The text is of no use then.
 pub fn show_reply<A: Allocator + Copy>(
     alloc: A,
+    notation: &Notation<A>,
     reply: &Reply<A>,
     text: &mut Vec<u8, A>,
 ) -> Result<(), AllocError>
-    ensures { OnOk result (text.new.items ≡ text.old.items ++ reply_text reply.now) }
+    ensures { OnOk result (text.new.items ≡ text.old.items ++ reply_text notation.now reply.now) }
 {
     match reply {
         Reply::Found(value) => {
             text.extend_from_slice(b"found ")?;
-            show_bytes(alloc, value.as_slice(), text)
+            show_value(alloc, notation, value.as_slice(), text)
         }
         Reply::Missing => text.extend_from_slice(b"missing"),
         Reply::Stored => text.extend_from_slice(b"stored"),
@@ -67,22 +70,4 @@ pub fn show_reply<A: Allocator + Copy>(
             text.extend_from_slice(digits.format(*count).as_bytes())
         }
     }
-}
-
-/// Writes bytes in lower-case hex after a text, or a dot for none.
-///
-/// # Errors
-/// `AllocError` where there is no memory for them. The text is of no use then.
-pub fn show_bytes<A: Allocator + Copy>(
-    alloc: A,
-    bytes: &[u8],
-    text: &mut Vec<u8, A>,
-) -> Result<(), AllocError>
-    ensures { OnOk result (text.new.items ≡ text.old.items ++ shown bytes.now) }
-{
-    if bytes.is_empty() {
-        return text.extend_from_slice(b".");
-    }
-    let hex = hex::encode(alloc, bytes)?;
-    text.extend_from_slice(hex.as_bytes())
 }

@@ -1,22 +1,25 @@
 //! The commands that words ask: the words of a line, or those of a command line.
 ghost use Rattle.std.specs.Prelude.{◌≡◌, ◌∷◌, map, IfOk};
-ghost use Rattle.dbm_script.specs.Commands.{bytes_of, fetch_of, delete_of, store_of, command_of};
+ghost use Rattle.dbm_script.specs.Commands.{fetch_of, delete_of, store_of, command_of};
+ghost use Rattle.dbm_script.specs.Notation.{bytes_of};
 
-use hex::FromHexError;
-use sdbm_addr::{Bytes, Mode};
+use crate::notations::{Notation, read_bytes};
+use sdbm_addr::Mode;
 use std::alloc::{AllocError, Allocator};
 use store_cmd::Command;
 
-/// The command that words ask, where they ask one: by its name and the words that it takes, bytes in hex.
+/// The command that words ask, where they ask one: by its name and the words that it takes, bytes in a
+/// notation.
 ///
 /// # Errors
 /// `AllocError` where there is no memory for the command.
 pub fn read_command<A: Allocator + Copy>(
     alloc: A,
+    notation: &Notation<A>,
     name: &[u8],
     args: &[&[u8]],
 ) -> Result<Option<Command<A>>, AllocError>
-    ensures { IfOk result (λ command. command ≡ command_of (name.now ∷ map (λ x. x.now) args.now)) }
+    ensures { IfOk result (λ command. command ≡ command_of notation.now (name.now ∷ map (λ x. x.now) args.now)) }
 {
     match args {
         [] => {
@@ -28,18 +31,18 @@ pub fn read_command<A: Allocator + Copy>(
         }
         [key] => {
             if name == b"fetch".as_slice() {
-                read_fetch(alloc, key)
+                read_fetch(alloc, notation, key)
             } else if name == b"delete".as_slice() {
-                read_delete(alloc, key)
+                read_delete(alloc, notation, key)
             } else {
                 Ok(None)
             }
         }
         [key, value] => {
             if name == b"insert".as_slice() {
-                read_store(alloc, key, value, Mode::Insert)
+                read_store(alloc, notation, key, value, Mode::Insert)
             } else if name == b"replace".as_slice() {
-                read_store(alloc, key, value, Mode::Replace)
+                read_store(alloc, notation, key, value, Mode::Replace)
             } else {
                 Ok(None)
             }
@@ -48,42 +51,27 @@ pub fn read_command<A: Allocator + Copy>(
     }
 }
 
-/// Bytes in hex of either case, or a dot for none. No text at all is no bytes.
-///
-/// # Errors
-/// `AllocError` where there is no memory for the bytes.
-pub fn read_bytes<A: Allocator + Copy>(
+fn read_fetch<A: Allocator + Copy>(
     alloc: A,
-    text: &[u8],
-) -> Result<Option<Bytes<A>>, AllocError>
-    ensures { IfOk result (λ bytes. bytes ≡ bytes_of text.now) }
+    notation: &Notation<A>,
+    key: &[u8],
+) -> Result<Option<Command<A>>, AllocError>
+    ensures { IfOk result (λ command. command ≡ fetch_of (bytes_of notation.now key.now)) }
 {
-    if text.is_empty() {
-        return Ok(None);
-    }
-    if text == b".".as_slice() {
-        return Ok(Some(Bytes::new(Vec::new(alloc))));
-    }
-    match hex::decode(alloc, text) {
-        Ok(bytes) => Ok(Some(Bytes::new(bytes))),
-        Err(FromHexError::OutOfMemory) => Err(AllocError),
-        Err(_) => Ok(None),
-    }
-}
-
-fn read_fetch<A: Allocator + Copy>(alloc: A, key: &[u8]) -> Result<Option<Command<A>>, AllocError>
-    ensures { IfOk result (λ command. command ≡ fetch_of (bytes_of key.now)) }
-{
-    match read_bytes(alloc, key)? {
+    match read_bytes(alloc, notation, key)? {
         Some(key) => Ok(Some(Command::Fetch { key })),
         None => Ok(None),
     }
 }
 
-fn read_delete<A: Allocator + Copy>(alloc: A, key: &[u8]) -> Result<Option<Command<A>>, AllocError>
-    ensures { IfOk result (λ command. command ≡ delete_of (bytes_of key.now)) }
+fn read_delete<A: Allocator + Copy>(
+    alloc: A,
+    notation: &Notation<A>,
+    key: &[u8],
+) -> Result<Option<Command<A>>, AllocError>
+    ensures { IfOk result (λ command. command ≡ delete_of (bytes_of notation.now key.now)) }
 {
-    match read_bytes(alloc, key)? {
+    match read_bytes(alloc, notation, key)? {
         Some(key) => Ok(Some(Command::Delete { key })),
         None => Ok(None),
     }
@@ -91,16 +79,17 @@ fn read_delete<A: Allocator + Copy>(alloc: A, key: &[u8]) -> Result<Option<Comma
 
 fn read_store<A: Allocator + Copy>(
     alloc: A,
+    notation: &Notation<A>,
     key: &[u8],
     value: &[u8],
     mode: Mode,
 ) -> Result<Option<Command<A>>, AllocError>
-    ensures { IfOk result (λ command. command ≡ store_of (bytes_of key.now) (bytes_of value.now) mode) }
+    ensures { IfOk result (λ command. command ≡ store_of (bytes_of notation.now key.now) (bytes_of notation.now value.now) mode) }
 {
-    let Some(key) = read_bytes(alloc, key)? else {
+    let Some(key) = read_bytes(alloc, notation, key)? else {
         return Ok(None);
     };
-    let Some(value) = read_bytes(alloc, value)? else {
+    let Some(value) = read_bytes(alloc, notation, value)? else {
         return Ok(None);
     };
     Ok(Some(Command::Store { key, value, mode }))

@@ -1,15 +1,17 @@
 //! What the lines of a script ask.
 ghost use Rattle.std.specs.Prelude.{◌≡◌, ◌∷◌, [], map, IfOk};
 ghost use Rattle.dbm_script.specs.Pieces.{pieces_of};
-ghost use Rattle.dbm_script.specs.Commands.{bytes_of, command_of};
+ghost use Rattle.dbm_script.specs.Commands.{command_of};
+ghost use Rattle.dbm_script.specs.Notation.{bytes_of, hex_bytes};
 ghost use Rattle.dbm_script.specs.Numbers.{number_of, blank_of};
 ghost use Rattle.dbm_script.specs.Lines.{plain, program_of, run_of, ask_of};
 
-use crate::commands::{read_bytes, read_command};
-use crate::numbers::read_number;
+use crate::commands::read_command;
+use crate::notations::{Notation, read_hex};
 use crate::pieces::first_piece;
 use crate::run_words::words_asked;
 use crate::running::RunAsk;
+use byte_text::read_number;
 use sdbm_addr::Bytes;
 use std::alloc::{AllocError, Allocator};
 use store_cmd::Command;
@@ -25,37 +27,43 @@ pub enum Ask<A: Allocator> {
     Run(RunAsk<A>),
 }
 
-/// What a line asks, where it asks anything. A space parts two words, and no more words are looked at than decide what is asked.
+/// What a line asks in a notation, where it asks anything. A space parts two words, and no more words are looked at than decide what is
+/// asked. An image is in hex in each notation.
 ///
 /// # Errors
 /// `AllocError` where there is no memory for what is asked.
-pub fn read_line<A: Allocator + Copy>(alloc: A, line: &[u8]) -> Result<Option<Ask<A>>, AllocError>
-    ensures { IfOk result (λ ask. ask ≡ ask_of (pieces_of 32 line.now)) }
+pub fn read_line<A: Allocator + Copy>(
+    alloc: A,
+    notation: &Notation<A>,
+    line: &[u8],
+) -> Result<Option<Ask<A>>, AllocError>
+    ensures { IfOk result (λ ask. ask ≡ ask_of notation.now (pieces_of 32 line.now)) }
 {
     let (name, rest) = first_piece(b' ', line);
     let Some(rest) = rest else {
-        return read_plain(alloc, name, &[]);
+        return read_plain(alloc, notation, name, &[]);
     };
     let (first, rest) = first_piece(b' ', rest);
     let Some(rest) = rest else {
-        return read_two(alloc, name, first);
+        return read_two(alloc, notation, name, first);
     };
     let (second, rest) = first_piece(b' ', rest);
     let Some(rest) = rest else {
-        return read_plain(alloc, name, &[first, second]);
+        return read_plain(alloc, notation, name, &[first, second]);
     };
-    read_long(alloc, name, first, second, rest)
+    read_long(alloc, notation, name, first, second, rest)
 }
 
 // What a name and two words ask with those behind them.
 fn read_long<A: Allocator + Copy>(
     alloc: A,
+    notation: &Notation<A>,
     name: &[u8],
     key: &[u8],
     prog: &[u8],
     rest: &[u8],
 ) -> Result<Option<Ask<A>>, AllocError>
-    ensures { IfOk result (λ ask. ask ≡ ask_of (name.now ∷ (key.now ∷ (prog.now ∷ pieces_of 32 rest.now)))) }
+    ensures { IfOk result (λ ask. ask ≡ ask_of notation.now (name.now ∷ (key.now ∷ (prog.now ∷ pieces_of 32 rest.now)))) }
 {
     let (arg, rest) = first_piece(b' ', rest);
     let Some(rest) = rest else {
@@ -67,7 +75,7 @@ fn read_long<A: Allocator + Copy>(
     };
     let (now, rest) = first_piece(b' ', rest);
     match rest {
-        None => read_six(alloc, name, key, prog, arg, blank, now),
+        None => read_six(alloc, notation, name, key, prog, arg, blank, now),
         Some(_) => Ok(None),
     }
 }
@@ -75,6 +83,7 @@ fn read_long<A: Allocator + Copy>(
 // What a name and five words ask.
 fn read_six<A: Allocator + Copy>(
     alloc: A,
+    notation: &Notation<A>,
     name: &[u8],
     key: &[u8],
     prog: &[u8],
@@ -82,28 +91,29 @@ fn read_six<A: Allocator + Copy>(
     blank: &[u8],
     now: &[u8],
 ) -> Result<Option<Ask<A>>, AllocError>
-    ensures { IfOk result (λ ask. ask ≡ ask_of (name.now ∷ (key.now ∷ (prog.now ∷ (arg.now ∷ (blank.now ∷ (now.now ∷ []))))))) }
+    ensures { IfOk result (λ ask. ask ≡ ask_of notation.now (name.now ∷ (key.now ∷ (prog.now ∷ (arg.now ∷ (blank.now ∷ (now.now ∷ []))))))) }
 {
     if name == b"run".as_slice() {
-        return read_run(alloc, key, prog, arg, blank, now);
+        return read_run(alloc, notation, key, prog, arg, blank, now);
     }
     Ok(None)
 }
 
 fn read_run<A: Allocator + Copy>(
     alloc: A,
+    notation: &Notation<A>,
     key: &[u8],
     prog: &[u8],
     arg: &[u8],
     blank: &[u8],
     now: &[u8],
 ) -> Result<Option<Ask<A>>, AllocError>
-    ensures { IfOk result (λ ask. ask ≡ run_of (bytes_of key.now) (number_of 4294967295 prog.now) (bytes_of arg.now) (blank_of blank.now) (number_of 18446744073709551615 now.now)) }
+    ensures { IfOk result (λ ask. ask ≡ run_of (bytes_of notation.now key.now) (number_of 4294967295 prog.now) (bytes_of notation.now arg.now) (blank_of blank.now) (number_of 18446744073709551615 now.now)) }
 {
     let Some(prog) = read_prog(prog) else {
         return Ok(None);
     };
-    let Some(words) = words_asked(alloc, key, arg, blank, now)? else {
+    let Some(words) = words_asked(alloc, notation, key, arg, blank, now)? else {
         return Ok(None);
     };
     Ok(Some(Ask::Run(RunAsk {
@@ -128,21 +138,22 @@ fn read_prog(text: &[u8]) -> Option<u32>
 // What a name and one word ask.
 fn read_two<A: Allocator + Copy>(
     alloc: A,
+    notation: &Notation<A>,
     name: &[u8],
     word: &[u8],
 ) -> Result<Option<Ask<A>>, AllocError>
-    ensures { IfOk result (λ ask. ask ≡ ask_of (name.now ∷ (word.now ∷ []))) }
+    ensures { IfOk result (λ ask. ask ≡ ask_of notation.now (name.now ∷ (word.now ∷ []))) }
 {
     if name == b"program".as_slice() {
         return read_program(alloc, word);
     }
-    read_plain(alloc, name, &[word])
+    read_plain(alloc, notation, name, &[word])
 }
 
 fn read_program<A: Allocator + Copy>(alloc: A, image: &[u8]) -> Result<Option<Ask<A>>, AllocError>
-    ensures { IfOk result (λ ask. ask ≡ program_of (bytes_of image.now)) }
+    ensures { IfOk result (λ ask. ask ≡ program_of (hex_bytes image.now)) }
 {
-    match read_bytes(alloc, image)? {
+    match read_hex(alloc, image)? {
         Some(image) => Ok(Some(Ask::Program(image))),
         None => Ok(None),
     }
@@ -151,12 +162,13 @@ fn read_program<A: Allocator + Copy>(alloc: A, image: &[u8]) -> Result<Option<As
 // A command on the database, where words ask one.
 fn read_plain<A: Allocator + Copy>(
     alloc: A,
+    notation: &Notation<A>,
     name: &[u8],
     args: &[&[u8]],
 ) -> Result<Option<Ask<A>>, AllocError>
-    ensures { IfOk result (λ ask. ask ≡ plain (command_of (name.now ∷ map (λ x. x.now) args.now))) }
+    ensures { IfOk result (λ ask. ask ≡ plain (command_of notation.now (name.now ∷ map (λ x. x.now) args.now))) }
 {
-    match read_command(alloc, name, args)? {
+    match read_command(alloc, notation, name, args)? {
         Some(command) => Ok(Some(Ask::Plain(command))),
         None => Ok(None),
     }

@@ -2,6 +2,7 @@
 ghost use Rattle.std.specs.Prelude.{◌≡◌, IfOk, OnOk, option_map, slice_get};
 ghost use Rattle.dbm_script.specs.Script.{Adds, AnswersRun, run_command};
 
+use crate::notations::Notation;
 use crate::script::answer_one;
 use prog_registry::{ProgId, Registry};
 use sdbm_addr::Bytes;
@@ -27,18 +28,19 @@ pub struct RunAsk<A: Allocator> {
 /// `AllocError` where there is no memory for it. The text is of no use then.
 pub fn answer_run<A: Allocator + Copy>(
     alloc: A,
+    notation: &Notation<A>,
     image: &mut Image<A>,
     registry: &Registry<A>,
     run: RunAsk<A>,
     text: &mut Vec<u8, A>,
 ) -> Result<(), AllocError>
     ensures answer { OnOk result (Adds text.old.items text.new.items (λ added.
-        AnswersRun A image.old (run_command registry.now.programs run.key run.prog run.arg run.blank run.now) added image.new)) }
+        AnswersRun A notation.now image.old (run_command registry.now.programs run.key run.prog run.arg run.blank run.now) added image.new)) }
     ensures kept { OnOk result ((image.new.kind ≡ image.old.kind) × (image.new.size ≡ image.old.size)) }
 {
     match command_of_run(registry, run)? {
         None => text.extend_from_slice(b"refused NoProgram"),
-        Some(command) => answer_one(alloc, image, command, text),
+        Some(command) => answer_one(alloc, notation, image, command, text),
     }
 }
 

@@ -12,6 +12,7 @@ use crate::answers::{Answer, show_answer};
 use crate::fault::{LinesFault, ScriptFault};
 use crate::images::answer_image;
 use crate::lines::{Ask, read_line};
+use crate::notations::Notation;
 use crate::pieces::first_piece;
 use crate::running::answer_run;
 use crate::streams::{read_all, write_all};
@@ -25,48 +26,50 @@ use store_moves::act;
 /// The session of all commands of a script.
 const SCRIPT_SESSION: u64 = 0;
 
-/// Reads a script, runs all its lines on an image as session 0, writes the answers, and gives the image after it.
+/// Reads a script in a notation, runs all its lines on an image as session 0, writes the answers, and gives the image after it.
 ///
 /// # Errors
 /// `Read` where the reader fails, `TooLong` above 16,777,216 bytes, `Write` where the writer fails or takes no byte, and `NoMemory`.
 /// The image is gone then. Unless the fault is `Write`, nothing was written.
 pub fn run_script<A: Allocator + Copy, R: Read, W: Write>(
     alloc: A,
+    notation: &Notation<A>,
     reader: &mut R,
     writer: &mut W,
     image: Image<A>,
 ) -> Result<Image<A>, ScriptFault>
     ensures ok { IfOk result (λ after. IfSome (R.remaining reader.old) (λ input. (text : List ℕ) ×
-        (IsScriptRun A image input text after × Appends (W.contents writer.old) (W.contents writer.new) text))) }
+        (IsScriptRun A notation.now image input text after × Appends (W.contents writer.old) (W.contents writer.new) text))) }
     ensures short { IfOk result (λ _. IfSome (R.remaining reader.old) (λ input. length input ≤ 16777216)) }
     ensures part { IsErrOf result ScriptFault.Write → IfSome (R.remaining reader.old) (λ input. (text : List ℕ) × ((after : Database) ×
-        (IsScriptRun A image input text after × WritesPart (W.contents writer.old) (W.contents writer.new) text))) }
+        (IsScriptRun A notation.now image input text after × WritesPart (W.contents writer.old) (W.contents writer.new) text))) }
     ensures nothing { IfErr result (λ fault. (fault ≡ ScriptFault.Write → ⊥) → Keeps (W.contents writer.old) (W.contents writer.new)) }
     ensures kept { IfOk result (λ after. (after.kind ≡ image.kind) × (after.size ≡ image.size)) }
     ensures long { IsErrOf result ScriptFault.TooLong → IfSome (R.remaining reader.old) (λ input. 16777216 < length input) }
 {
     let input = read_all(alloc, reader)?;
-    let Ok((after, text)) = run_lines(alloc, image, input.as_slice(), u64::MAX) else {
+    let Ok((after, text)) = run_lines(alloc, notation, image, input.as_slice(), u64::MAX) else {
         return Err(ScriptFault::NoMemory);
     };
     write_all(writer, text.as_slice())?;
     Ok(after)
 }
 
-/// Runs the lines of a script on an image as session 0: the image after them, and the text of their answers, which is to have at most
+/// Runs the lines of a script in a notation on an image as session 0: the image after them, and the text of their answers, which is to have at most
 /// so many bytes. Programs that lines submit are kept from line to line, and no longer.
 ///
 /// # Errors
 /// `OutputTooLong` at the first line with whose answer there are more bytes, and `NoMemory`. The image is gone then.
 pub fn run_lines<A: Allocator + Copy>(
     alloc: A,
+    notation: &Notation<A>,
     image: Image<A>,
     input: &[u8],
     most: u64,
 ) -> Result<(Image<A>, Vec<u8, A>), LinesFault>
-    ensures runs { IfOk result (λ r. IsScriptRun A image input.now r.1.items r.0) }
+    ensures runs { IfOk result (λ r. IsScriptRun A notation.now image input.now r.1.items r.0) }
     ensures short { IfOk result (λ r. length r.1.items ≤ most) }
-    ensures long { IsErrOf result LinesFault.OutputTooLong → AnswersExceed A image input.now most }
+    ensures long { IsErrOf result LinesFault.OutputTooLong → AnswersExceed A notation.now image input.now most }
     ensures kept { IfOk result (λ r. (r.0.kind ≡ image.kind) × (r.0.size ≡ image.size)) }
 {
     let mut image = image;
@@ -75,7 +78,7 @@ pub fn run_lines<A: Allocator + Copy>(
     let mut rest = Some(input);
     while let Some(left) = rest {
         let (line, after) = first_piece(b'\n', left);
-        answer_line(alloc, &mut image, &mut registry, line, &mut text)?;
+        answer_line(alloc, notation, &mut image, &mut registry, line, &mut text)?;
         if text.len() as u64 > most {
             return Err(LinesFault::OutputTooLong);
         }
@@ -87,71 +90,75 @@ pub fn run_lines<A: Allocator + Copy>(
 // Answers one line, unless it is empty.
 fn answer_line<A: Allocator + Copy>(
     alloc: A,
+    notation: &Notation<A>,
     image: &mut Image<A>,
     registry: &mut Registry<A>,
     line: &[u8],
     text: &mut Vec<u8, A>,
 ) -> Result<(), AllocError>
     ensures answer { OnOk result (Adds text.old.items text.new.items (λ added. (told : List (Option Verdict)) ×
-        RunsLines A (stage image.old registry.old.programs) (line.now ∷ []) told added (stage image.new registry.new.programs))) }
+        RunsLines A notation.now (stage image.old registry.old.programs) (line.now ∷ []) told added (stage image.new registry.new.programs))) }
     ensures kept { OnOk result ((image.new.kind ≡ image.old.kind) × (image.new.size ≡ image.old.size)) }
 {
     if line.is_empty() {
         return Ok(());
     }
-    answer_words(alloc, image, registry, line, text)?;
+    answer_words(alloc, notation, image, registry, line, text)?;
     Ok(text.push(b'\n')?)
 }
 
 // Answers the words of a line: what they ask by its answer, and anything else by the words for a bad line.
 fn answer_words<A: Allocator + Copy>(
     alloc: A,
+    notation: &Notation<A>,
     image: &mut Image<A>,
     registry: &mut Registry<A>,
     line: &[u8],
     text: &mut Vec<u8, A>,
 ) -> Result<(), AllocError>
     ensures answer { OnOk result (Adds text.old.items text.new.items (λ added. (told : Option Verdict) ×
-        AnswersLine A (stage image.old registry.old.programs) (ask_of (pieces_of 32 line.now)) told added (stage image.new registry.new.programs))) }
+        AnswersLine A notation.now (stage image.old registry.old.programs) (ask_of notation.now (pieces_of 32 line.now)) told added (stage image.new registry.new.programs))) }
     ensures kept { OnOk result ((image.new.kind ≡ image.old.kind) × (image.new.size ≡ image.old.size)) }
 {
-    match read_line(alloc, line)? {
+    match read_line(alloc, notation, line)? {
         None => text.extend_from_slice(b"bad line"),
-        Some(ask) => answer_ask(alloc, image, registry, ask, text),
+        Some(ask) => answer_ask(alloc, notation, image, registry, ask, text),
     }
 }
 
 // Answers what a line asks.
 fn answer_ask<A: Allocator + Copy>(
     alloc: A,
+    notation: &Notation<A>,
     image: &mut Image<A>,
     registry: &mut Registry<A>,
     ask: Ask<A>,
     text: &mut Vec<u8, A>,
 ) -> Result<(), AllocError>
     ensures answer { OnOk result (Adds text.old.items text.new.items (λ added. (told : Option Verdict) ×
-        AnswersLine A (stage image.old registry.old.programs) (Some ask) told added (stage image.new registry.new.programs))) }
+        AnswersLine A notation.now (stage image.old registry.old.programs) (Some ask) told added (stage image.new registry.new.programs))) }
     ensures kept { OnOk result ((image.new.kind ≡ image.old.kind) × (image.new.size ≡ image.old.size)) }
 {
     match ask {
-        Ask::Plain(command) => answer_one(alloc, image, command, text),
+        Ask::Plain(command) => answer_one(alloc, notation, image, command, text),
         Ask::Program(bytes) => answer_image(alloc, registry, bytes.as_slice(), text),
-        Ask::Run(run) => answer_run(alloc, image, registry, run, text),
+        Ask::Run(run) => answer_run(alloc, notation, image, registry, run, text),
     }
 }
 
 // Answers a command, and writes the answer after a text.
 pub(crate) fn answer_one<A: Allocator + Copy>(
     alloc: A,
+    notation: &Notation<A>,
     image: &mut Image<A>,
     command: Command<A>,
     text: &mut Vec<u8, A>,
 ) -> Result<(), AllocError>
-    ensures answer { OnOk result (Adds text.old.items text.new.items (λ added. AnswersCommand A image.old command added image.new)) }
+    ensures answer { OnOk result (Adds text.old.items text.new.items (λ added. AnswersCommand A notation.now image.old command added image.new)) }
     ensures kept { OnOk result ((image.new.kind ≡ image.old.kind) × (image.new.size ≡ image.old.size)) }
 {
     let answer = answer_command(alloc, image, command)?;
-    show_answer(alloc, &answer, text)
+    show_answer(alloc, notation, &answer, text)
 }
 
 /// Answers a command on a database as session 0. No trail is kept.

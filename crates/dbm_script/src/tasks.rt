@@ -4,6 +4,7 @@ ghost use Rattle.dbm_script.specs.Pieces.{pieces_of};
 ghost use Rattle.dbm_script.specs.Tasks.{AreTasksOf, AddsTask, IsBadLine, IsTasksFault, task_of};
 ghost use Rattle.dbm_script.specs.declared.tasks.TasksFault.TheVariants.{NoMemory};
 
+use crate::notations::Notation;
 use crate::pieces::first_piece;
 use crate::run_words::{RunWords, words_asked};
 use std::alloc::{AllocError, Allocator};
@@ -25,16 +26,17 @@ impl From<AllocError> for TasksFault {
     }
 }
 
-/// The tasks of a text, one in each line: KEY ARG BLANK NOW, as in a line that runs a program. An empty line is skipped.
+/// The tasks of a text in a notation, one in each line: KEY ARG BLANK NOW, as in a line that runs a program. An empty line is skipped.
 ///
 /// # Errors
 /// `BadLine` with the first line that is neither empty nor a task, and `NoMemory`.
 pub fn read_tasks<A: Allocator + Copy>(
     alloc: A,
+    notation: &Notation<A>,
     input: &[u8],
 ) -> Result<Vec<RunWords<A>, A>, TasksFault>
-    ensures ok { IfOk result (λ tasks. AreTasksOf A input.now tasks.items) }
-    ensures fault { IfErr result (IsTasksFault A input.now) }
+    ensures ok { IfOk result (λ tasks. AreTasksOf A notation.now input.now tasks.items) }
+    ensures fault { IfErr result (IsTasksFault A notation.now input.now) }
 {
     let mut tasks = Vec::new(alloc);
     let mut number = 0;
@@ -42,7 +44,7 @@ pub fn read_tasks<A: Allocator + Copy>(
     while let Some(left) = rest {
         let (line, after) = first_piece(b'\n', left);
         number += 1;
-        if !add_task(alloc, line, &mut tasks)? {
+        if !add_task(alloc, notation, line, &mut tasks)? {
             return Err(TasksFault::BadLine(number));
         }
         rest = after;
@@ -53,15 +55,16 @@ pub fn read_tasks<A: Allocator + Copy>(
 // Puts the task of a line behind others, and tells whether the line is good: one that is empty has none.
 fn add_task<A: Allocator + Copy>(
     alloc: A,
+    notation: &Notation<A>,
     line: &[u8],
     tasks: &mut Vec<RunWords<A>, A>,
 ) -> Result<bool, AllocError>
-    ensures { IfOk result (λ good. AddsTask A line.now good tasks.old.items tasks.new.items) }
+    ensures { IfOk result (λ good. AddsTask A notation.now line.now good tasks.old.items tasks.new.items) }
 {
     if line.is_empty() {
         return Ok(true);
     }
-    let Some(task) = read_task(alloc, line)? else {
+    let Some(task) = read_task(alloc, notation, line)? else {
         return Ok(false);
     };
     tasks.push(task)?;
@@ -69,8 +72,12 @@ fn add_task<A: Allocator + Copy>(
 }
 
 // The task of a line, where it asks one.
-fn read_task<A: Allocator + Copy>(alloc: A, line: &[u8]) -> Result<Option<RunWords<A>>, AllocError>
-    ensures { IfOk result (λ task. task ≡ task_of (pieces_of 32 line.now)) }
+fn read_task<A: Allocator + Copy>(
+    alloc: A,
+    notation: &Notation<A>,
+    line: &[u8],
+) -> Result<Option<RunWords<A>>, AllocError>
+    ensures { IfOk result (λ task. task ≡ task_of notation.now (pieces_of 32 line.now)) }
 {
     let (key, rest) = first_piece(b' ', line);
     let Some(rest) = rest else {
@@ -86,7 +93,7 @@ fn read_task<A: Allocator + Copy>(alloc: A, line: &[u8]) -> Result<Option<RunWor
     };
     let (now, rest) = first_piece(b' ', rest);
     match rest {
-        None => words_asked(alloc, key, arg, blank, now),
+        None => words_asked(alloc, notation, key, arg, blank, now),
         Some(_) => Ok(None),
     }
 }

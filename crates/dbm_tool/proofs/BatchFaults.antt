@@ -19,6 +19,7 @@ use Rattle.worker_pool.specs.declared.task.Task.{Task}
 use Rattle.dbm_tool.specs.declared.batch.Batch.{Batch}
 use Rattle.dbm_tool.specs.declared.fault.ServeFault.{ServeFault}
 use Rattle.dbm_tool.specs.declared.fault.ServeFault.TheVariants.{NotText, ReadFile, FileTooLong, WriteFile, BadRedo, ReadClock, BadBase, Absent, Locked, Report, Submit, BadLine, Pool, Close, Write, NoMemory}
+use Rattle.dbm_script.specs.declared.notations.Notation.{Notation}
 use Rattle.dbm_script.specs.declared.run_words.RunWords.{RunWords}
 use Rattle.dbm_script.proofs.Runs.{known_read}
 use Rattle.dbm_words.specs.declared.wish.Form.{Form}
@@ -69,6 +70,8 @@ undone_fault batch tasks store calls fault result is h cases =
 -- no cause at all
 no_report : (causes : Causes) (fault : ReportFault) → IsReported no_causes fault → IsReported causes fault
 no_report causes reports.BadHex h = absurd h
+no_report causes reports.BadText h = absurd h
+no_report causes reports.BadLayout h = absurd h
 no_report causes reports.BadNumber h = absurd h
 no_report causes (reports.Open reason) h = absurd h
 no_report causes reports.NotText h = absurd h
@@ -83,6 +86,8 @@ no_report causes reports.NoMemory h = absurd h
 pub files_before : (form : Form) (given : Given) (workers : Bor (List ℕ)) (is_image : Bool) (fault : ReportFault)
     → IsSome (workers_of workers.now) → IsCaused (program_causes form given is_image) fault → HasCause (ready_causes form given workers is_image) (report_fault fault)
 files_before form given workers is_image reports.BadHex number h = absurd h
+files_before form given workers is_image reports.BadText number h = absurd h
+files_before form given workers is_image reports.BadLayout number h = absurd h
 files_before form given workers is_image reports.BadNumber number h = absurd h
 files_before form given workers is_image (reports.Open reason) number h = (number, h)
 files_before form given workers is_image reports.NotText number h = (number, h)
@@ -114,40 +119,42 @@ submitted_fault form given workers is_image image Write number opens is h = h
 submitted_fault form given workers is_image image NoMemory number opens is h = h
 
 -- a batch that may not begin
-pub unready_fault : (form : Form) (given : Given) (workers : Bor (List ℕ)) (is_image : Bool) (input : Option (List ℕ)) (fault : ServeFault)
-    → HasCause (ready_causes form given workers is_image) fault → HasCause (batch_causes form given workers is_image input) fault
-unready_fault form given workers is_image input NotText h = h
-unready_fault form given workers is_image input ReadFile h = h
-unready_fault form given workers is_image input FileTooLong h = h
-unready_fault form given workers is_image input WriteFile h = h
-unready_fault form given workers is_image input BadRedo h = h
-unready_fault form given workers is_image input ReadClock h = h
-unready_fault form given workers is_image input BadBase h = h
-unready_fault form given workers is_image input Absent h = h
-unready_fault form given workers is_image input Locked h = h
-unready_fault form given workers is_image input (Report reports.BadHex) h = h
-unready_fault form given workers is_image input (Report reports.BadNumber) h = h
-unready_fault form given workers is_image input (Report (reports.Open reason)) h = h
-unready_fault form given workers is_image input (Report reports.NotText) h = h
-unready_fault form given workers is_image input (Report (reports.Assemble fault)) h = h
-unready_fault form given workers is_image input (Report (reports.Decode fault)) h = h
-unready_fault form given workers is_image input (Report reports.Read) h = absurd h
-unready_fault form given workers is_image input (Report reports.TooLong) h = absurd h
-unready_fault form given workers is_image input (Report reports.OutputTooLong) h = absurd h
-unready_fault form given workers is_image input (Report reports.NoMemory) h = absurd h
-unready_fault form given workers is_image input (Submit fault) h = h
-unready_fault form given workers is_image input (BadLine number) h = absurd h
-unready_fault form given workers is_image input (Pool fault) h = absurd h
-unready_fault form given workers is_image input (Close fault) h = absurd h
-unready_fault form given workers is_image input Write h = h
-unready_fault form given workers is_image input NoMemory h = h
+pub unready_fault : (n : Notation Global) (form : Form) (given : Given) (workers : Bor (List ℕ)) (is_image : Bool) (input : Option (List ℕ)) (fault : ServeFault)
+    → HasCause (ready_causes form given workers is_image) fault → HasCause (batch_causes n form given workers is_image input) fault
+unready_fault n form given workers is_image input NotText h = h
+unready_fault n form given workers is_image input ReadFile h = h
+unready_fault n form given workers is_image input FileTooLong h = h
+unready_fault n form given workers is_image input WriteFile h = h
+unready_fault n form given workers is_image input BadRedo h = h
+unready_fault n form given workers is_image input ReadClock h = h
+unready_fault n form given workers is_image input BadBase h = h
+unready_fault n form given workers is_image input Absent h = h
+unready_fault n form given workers is_image input Locked h = h
+unready_fault n form given workers is_image input (Report reports.BadHex) h = h
+unready_fault n form given workers is_image input (Report reports.BadText) h = h
+unready_fault n form given workers is_image input (Report reports.BadLayout) h = h
+unready_fault n form given workers is_image input (Report reports.BadNumber) h = h
+unready_fault n form given workers is_image input (Report (reports.Open reason)) h = h
+unready_fault n form given workers is_image input (Report reports.NotText) h = h
+unready_fault n form given workers is_image input (Report (reports.Assemble fault)) h = h
+unready_fault n form given workers is_image input (Report (reports.Decode fault)) h = h
+unready_fault n form given workers is_image input (Report reports.Read) h = absurd h
+unready_fault n form given workers is_image input (Report reports.TooLong) h = absurd h
+unready_fault n form given workers is_image input (Report reports.OutputTooLong) h = absurd h
+unready_fault n form given workers is_image input (Report reports.NoMemory) h = absurd h
+unready_fault n form given workers is_image input (Submit fault) h = h
+unready_fault n form given workers is_image input (BadLine number) h = absurd h
+unready_fault n form given workers is_image input (Pool fault) h = absurd h
+unready_fault n form given workers is_image input (Close fault) h = absurd h
+unready_fault n form given workers is_image input Write h = h
+unready_fault n form given workers is_image input NoMemory h = h
 
 -- tasks that are not all done, behind the lines
-pub doing_fault : (batch : Batch) (input : List ℕ) (words : List (RunWords Global)) (tasks : List (Task Global)) (fault : ServeFault)
-    → AreShortTasks input words → tasks ≡ map (task_for batch.program) words → HasCause (doing_causes batch tasks) fault → HasCause (task_causes batch (Some input)) fault
-doing_fault batch input words tasks fault are is h = go fault (subst (λ (ts : List (Task Global)). HasCause (doing_causes batch ts) fault) is h)
+pub doing_fault : (n : Notation Global) (batch : Batch) (input : List ℕ) (words : List (RunWords Global)) (tasks : List (Task Global)) (fault : ServeFault)
+    → AreShortTasks n input words → tasks ≡ map (task_for batch.program) words → HasCause (doing_causes batch tasks) fault → HasCause (task_causes n batch (Some input)) fault
+doing_fault n batch input words tasks fault are is h = go fault (subst (λ (ts : List (Task Global)). HasCause (doing_causes batch ts) fault) is h)
   where
-    go : (fault : ServeFault) → HasCause (doing_causes batch (map (task_for batch.program) words)) fault → HasCause (task_causes batch (Some input)) fault
+    go : (fault : ServeFault) → HasCause (doing_causes batch (map (task_for batch.program) words)) fault → HasCause (task_causes n batch (Some input)) fault
     go NotText h = absurd h
     go ReadFile h = absurd h
     go FileTooLong h = absurd h
@@ -157,7 +164,7 @@ doing_fault batch input words tasks fault are is h = go fault (subst (λ (ts : L
     go BadBase h = absurd h
     go Absent h = absurd h
     go Locked h = absurd h
-    go (Report fault) h = no_report (task_causes batch (Some input)).report fault h
+    go (Report fault) h = no_report (task_causes n batch (Some input)).report fault h
     go (Submit fault) h = absurd h
     go (BadLine number) h = absurd h
     go (Pool fault) h = (words, (are, h))
@@ -166,41 +173,43 @@ doing_fault batch input words tasks fault are is h = go fault (subst (λ (ts : L
     go NoMemory h = tt
 
 -- standard input is read once a batch may begin
-pub unread_fault : (form : Form) (given : Given) (workers : Bor (List ℕ)) (is_image : Bool) (input : Option (List ℕ)) (batch : Batch) (fault : ReportFault)
-    → IsReady form given workers is_image batch → IsCaused (input_causes input) fault → HasCause (batch_causes form given workers is_image input) (report_fault fault)
-unread_fault form given workers is_image input batch reports.BadHex ready h = absurd h
-unread_fault form given workers is_image input batch reports.BadNumber ready h = absurd h
-unread_fault form given workers is_image input batch (reports.Open reason) ready h = absurd h
-unread_fault form given workers is_image input batch reports.NotText ready h = absurd h
-unread_fault form given workers is_image input batch (reports.Assemble fault) ready h = absurd h
-unread_fault form given workers is_image input batch (reports.Decode fault) ready h = absurd h
-unread_fault form given workers is_image input batch reports.Read ready h = (batch, (ready, tt))
-unread_fault form given workers is_image input batch reports.TooLong ready h = (batch, (ready, h))
-unread_fault form given workers is_image input batch reports.OutputTooLong ready h = absurd h
-unread_fault form given workers is_image input batch reports.NoMemory ready h = tt
+pub unread_fault : (n : Notation Global) (form : Form) (given : Given) (workers : Bor (List ℕ)) (is_image : Bool) (input : Option (List ℕ)) (batch : Batch) (fault : ReportFault)
+    → IsReady form given workers is_image batch → IsCaused (input_causes input) fault → HasCause (batch_causes n form given workers is_image input) (report_fault fault)
+unread_fault n form given workers is_image input batch reports.BadHex ready h = absurd h
+unread_fault n form given workers is_image input batch reports.BadText ready h = absurd h
+unread_fault n form given workers is_image input batch reports.BadLayout ready h = absurd h
+unread_fault n form given workers is_image input batch reports.BadNumber ready h = absurd h
+unread_fault n form given workers is_image input batch (reports.Open reason) ready h = absurd h
+unread_fault n form given workers is_image input batch reports.NotText ready h = absurd h
+unread_fault n form given workers is_image input batch (reports.Assemble fault) ready h = absurd h
+unread_fault n form given workers is_image input batch (reports.Decode fault) ready h = absurd h
+unread_fault n form given workers is_image input batch reports.Read ready h = (batch, (ready, tt))
+unread_fault n form given workers is_image input batch reports.TooLong ready h = (batch, (ready, h))
+unread_fault n form given workers is_image input batch reports.OutputTooLong ready h = absurd h
+unread_fault n form given workers is_image input batch reports.NoMemory ready h = tt
 
 -- what was read is what is known
-pub known_tasks : (batch : Batch) (known : Option (List ℕ)) (read : List ℕ) (P : List (Task Global) → Type 0)
-    → IfSome known (λ input. read ≡ input) → OnTasks batch (Some read) P → OnTasks batch known P
-known_tasks batch known read P is on = (on.0, (known_read known read (λ bytes. AreShortTasks bytes on.0) is on.1.0, on.1.1))
+pub known_tasks : (n : Notation Global) (batch : Batch) (known : Option (List ℕ)) (read : List ℕ) (P : List (Task Global) → Type 0)
+    → IfSome known (λ input. read ≡ input) → OnTasks n batch (Some read) P → OnTasks n batch known P
+known_tasks n batch known read P is on = (on.0, (known_read known read (λ bytes. AreShortTasks n bytes on.0) is on.1.0, on.1.1))
 
 -- the lines and the tasks, once a batch may begin
-pub ran_fault : (form : Form) (given : Given) (workers : Bor (List ℕ)) (is_image : Bool) (known : Option (List ℕ)) (read : List ℕ) (batch : Batch) (fault : ServeFault)
-    → IfSome known (λ input. read ≡ input) → IsReady form given workers is_image batch → HasCause (task_causes batch (Some read)) fault
-    → HasCause (batch_causes form given workers is_image known) fault
-ran_fault form given workers is_image known read batch NotText is ready h = absurd h
-ran_fault form given workers is_image known read batch ReadFile is ready h = absurd h
-ran_fault form given workers is_image known read batch FileTooLong is ready h = absurd h
-ran_fault form given workers is_image known read batch WriteFile is ready h = absurd h
-ran_fault form given workers is_image known read batch BadRedo is ready h = absurd h
-ran_fault form given workers is_image known read batch ReadClock is ready h = absurd h
-ran_fault form given workers is_image known read batch BadBase is ready h = absurd h
-ran_fault form given workers is_image known read batch Absent is ready h = absurd h
-ran_fault form given workers is_image known read batch Locked is ready h = absurd h
-ran_fault form given workers is_image known read batch (Report fault) is ready h = no_report (batch_causes form given workers is_image known).report fault h
-ran_fault form given workers is_image known read batch (Submit fault) is ready h = absurd h
-ran_fault form given workers is_image known read batch (BadLine number) is ready h = (batch, (ready, known_read known read (λ bytes. HasBadLine bytes number) is h))
-ran_fault form given workers is_image known read batch (Pool fault) is ready h = (batch, (ready, known_tasks batch known read (λ tasks. (doing_causes batch tasks).pool fault) is h))
-ran_fault form given workers is_image known read batch (Close fault) is ready h = (batch, (ready, known_tasks batch known read (λ tasks. (doing_causes batch tasks).closing fault) is h))
-ran_fault form given workers is_image known read batch Write is ready h = absurd h
-ran_fault form given workers is_image known read batch NoMemory is ready h = tt
+pub ran_fault : (n : Notation Global) (form : Form) (given : Given) (workers : Bor (List ℕ)) (is_image : Bool) (known : Option (List ℕ)) (read : List ℕ) (batch : Batch) (fault : ServeFault)
+    → IfSome known (λ input. read ≡ input) → IsReady form given workers is_image batch → HasCause (task_causes n batch (Some read)) fault
+    → HasCause (batch_causes n form given workers is_image known) fault
+ran_fault n form given workers is_image known read batch NotText is ready h = absurd h
+ran_fault n form given workers is_image known read batch ReadFile is ready h = absurd h
+ran_fault n form given workers is_image known read batch FileTooLong is ready h = absurd h
+ran_fault n form given workers is_image known read batch WriteFile is ready h = absurd h
+ran_fault n form given workers is_image known read batch BadRedo is ready h = absurd h
+ran_fault n form given workers is_image known read batch ReadClock is ready h = absurd h
+ran_fault n form given workers is_image known read batch BadBase is ready h = absurd h
+ran_fault n form given workers is_image known read batch Absent is ready h = absurd h
+ran_fault n form given workers is_image known read batch Locked is ready h = absurd h
+ran_fault n form given workers is_image known read batch (Report fault) is ready h = no_report (batch_causes n form given workers is_image known).report fault h
+ran_fault n form given workers is_image known read batch (Submit fault) is ready h = absurd h
+ran_fault n form given workers is_image known read batch (BadLine number) is ready h = (batch, (ready, known_read known read (λ bytes. HasBadLine n bytes number) is h))
+ran_fault n form given workers is_image known read batch (Pool fault) is ready h = (batch, (ready, known_tasks n batch known read (λ tasks. (doing_causes batch tasks).pool fault) is h))
+ran_fault n form given workers is_image known read batch (Close fault) is ready h = (batch, (ready, known_tasks n batch known read (λ tasks. (doing_causes batch tasks).closing fault) is h))
+ran_fault n form given workers is_image known read batch Write is ready h = absurd h
+ran_fault n form given workers is_image known read batch NoMemory is ready h = tt

@@ -5,10 +5,11 @@ use crate::reasons::{Shown, is_object, tell_too_long, tell_unread, tell_unwritte
 use bpf_asm::{AsmFault, FaultKind};
 use bpf_insn::DecodeFault;
 use dbm_reports::ReportFault;
-use dbm_script::{read_blank, read_bytes, read_number};
+use dbm_script::{Notation, read_blank, read_bytes, read_number};
 use dbm_words::{Form, Request, Wish};
 use prog_registry::RegFault;
 use sdbm_files::OpenFault;
+use std::alloc::Global;
 use std::fs::File;
 use std::rt::Runtime;
 use store_cmd::Refusal;
@@ -134,7 +135,9 @@ fn advise_report<R: Runtime<File = File> + AllocGlobal>(
 ) {
     let file = file_of(wish);
     match fault {
-        ReportFault::BadHex => advise_hex(rt, wish),
+        ReportFault::BadHex => advise_bytes(rt, wish, &Notation::Hex, NO_HEX),
+        ReportFault::BadText => advise_bytes(rt, wish, &Notation::Text, NO_TEXT),
+        ReportFault::BadLayout => advise_layout(rt, wish),
         ReportFault::Open(fault) => advise_open(rt, wish, fault),
         ReportFault::NotText | ReportFault::Assemble(_) | ReportFault::Decode(_)
             if is_object(rt, file) => { tell_object(rt, file) }
@@ -187,8 +190,18 @@ fn advise_input<R: Runtime>(rt: &R, fault: ReportFault) {
     };
 }
 
+const NO_HEX: &str = "is neither hex, two digits for each byte, nor . for none";
+
+const NO_TEXT: &str =
+    "is no text: docs/DBM.md has its escapes and its numbers; a backslash is written \\\\ and a comma \\,";
+
 // Of the words that are to be bytes, the first that is none.
-fn advise_hex<R: Runtime + AllocGlobal>(rt: &R, wish: &Wish<'_>) {
+fn advise_bytes<R: Runtime + AllocGlobal>(
+    rt: &R,
+    wish: &Wish<'_>,
+    notation: &Notation<Global>,
+    wrong: &str,
+) {
     let words = match *wish {
         Wish::Store { key, value, .. } => [("KEY", key), ("VALUE", value)],
         Wish::Fetch { key, .. } | Wish::Delete { key, .. } => [("KEY", key), ("KEY", key)],
@@ -196,21 +209,36 @@ fn advise_hex<R: Runtime + AllocGlobal>(rt: &R, wish: &Wish<'_>) {
         _ => return,
     };
     let [(_, key), _] = words;
-    let (name, word) = if is_bytes(rt, key) {
+    let (name, word) = if is_bytes(rt, notation, key) {
         words[1]
     } else {
         words[0]
     };
-    tell_word(
-        rt,
-        name,
-        word,
-        "is neither hex, two digits for each byte, nor . for none",
-    );
+    tell_word(rt, name, word, wrong);
 }
 
-fn is_bytes<R: Runtime + AllocGlobal>(rt: &R, word: &str) -> bool {
-    matches!(read_bytes(rt.alloc(), word.as_bytes()), Ok(Some(_)))
+fn is_bytes<R: Runtime + AllocGlobal>(rt: &R, notation: &Notation<Global>, word: &str) -> bool {
+    matches!(
+        read_bytes(rt.alloc(), notation, word.as_bytes()),
+        Ok(Some(_))
+    )
+}
+
+// Of the layout of values, which is none.
+fn advise_layout<R: Runtime>(rt: &R, wish: &Wish<'_>) {
+    let (Wish::Fetch { notation, .. }
+    | Wish::Store { notation, .. }
+    | Wish::Delete { notation, .. }
+    | Wish::Run { notation, .. }
+    | Wish::Batch { notation, .. }
+    | Wish::List { notation, .. }
+    | Wish::Script { notation, .. }) = *wish
+    else {
+        return;
+    };
+    let wrong =
+        "is no layout: write u8, u16, u32, u64 or i64 with a comma between two, and text or hex at most as the last";
+    tell_word(rt, "--as", notation.layout.unwrap_or(""), wrong);
 }
 
 // What is wrong with a word, which is shown where it is short.
@@ -272,12 +300,7 @@ fn form_of(wish: &Wish<'_>) -> Form {
         | Wish::Run { form, .. }
         | Wish::Batch { form, .. }
         | Wish::List { form, .. }
-        | Wish::Keys { form, .. }
         | Wish::Check { form, .. }
-        | Wish::Stats { form, .. }
-        | Wish::Dump { form, .. }
-        | Wish::Load { form, .. }
-        | Wish::Session { form, .. }
         | Wish::Script { form, .. } => form,
         Wish::Widen { unsigned, .. } => Form {
             unsigned,

@@ -5,13 +5,15 @@ ghost use Rattle.sdbm_addr.specs.Database.{Database};
 ghost use Rattle.store_shared.specs.Closed.{IsRefusedClose};
 ghost use Rattle.store_shared.specs.Shared.{opened_by};
 ghost use Rattle.dbm_tool.specs.Batches.{DoesTasks, IsClosedAfter, IsReady, IsSubmitted, LeadTo, OnBatch, OnTasks, batch_causes, doing_causes, ready_causes, reply_line, submit_causes, task_causes, task_for};
+ghost use Rattle.dbm_reports.specs.Notations.{notation_by};
+ghost use Rattle.dbm_tool.specs.Services.{batch_for};
 ghost use Rattle.dbm_tool.specs.declared.fault.ServeFault.TheVariants.{Close};
 ghost use Rattle.dbm_tool.specs.Causes.{HasCause, pool_fault};
 
 use crate::fault::ServeFault;
-use dbm_reports::{Given, Report, ReportFault, database_and_image, read_input};
-use dbm_script::{RunWords, read_number, read_tasks, show_reply};
-use dbm_words::Form;
+use dbm_reports::{Given, Report, ReportFault, database_and_image, notation_by, read_input};
+use dbm_script::{Notation, RunWords, read_number, read_tasks, show_reply};
+use dbm_words::{Form, Notation as Options};
 use prog_registry::{ProgId, Registry};
 use sdbm_files::Image;
 use std::alloc::{AllocError, Global};
@@ -45,7 +47,7 @@ struct Done {
 /// workers; the database is to be written after them.
 ///
 /// # Errors
-/// The first of: `BadNumber` of the workers, those of `open`, those of `file_image`, `Submit` where the program gets no number; `Read`
+/// The first of: `BadLayout` of the notation, `BadNumber` of the workers, those of `open`, those of `file_image`, `Submit` where the program gets no number; `Read`
 /// and `TooLong` of standard input, `BadLine` with the first line that asks no task; `Pool` where not all tasks were done, and `Close`
 /// where the workers' calls are not those that the store has; and `NoMemory`.
 pub fn report_batch<T: Threads + Wait + Sync, R: Read>(
@@ -53,16 +55,35 @@ pub fn report_batch<T: Threads + Wait + Sync, R: Read>(
     alloc: Global,
     given: &Given,
     form: Form,
+    options: Options<'_>,
     workers: &str,
     is_image: bool,
     reader: &mut R,
 ) -> Result<Report, ServeFault>
-    ensures ok { IfOk result (OnBatch form given.now workers.entry is_image (R.remaining reader.old)) }
-    ensures fault { IfErr result (HasCause (batch_causes form given.now workers.entry is_image (R.remaining reader.old))) }
+    ensures ok { IfOk result (λ report. (batch_for (notation_by options.entry.text options.entry.layout) form given.now workers.entry is_image (R.remaining reader.old)).reports report) }
+    ensures fault { IfErr result (HasCause (batch_for (notation_by options.entry.text options.entry.layout) form given.now workers.entry is_image (R.remaining reader.old)).causes) }
+{
+    let notation = notation_by(alloc, options)?;
+    report_in(rt, alloc, &notation, given, form, workers, is_image, reader)
+}
+
+// The replies to tasks whose bytes are in a notation.
+fn report_in<T: Threads + Wait + Sync, R: Read>(
+    rt: &T,
+    alloc: Global,
+    notation: &Notation<Global>,
+    given: &Given,
+    form: Form,
+    workers: &str,
+    is_image: bool,
+    reader: &mut R,
+) -> Result<Report, ServeFault>
+    ensures ok { IfOk result (OnBatch notation.now form given.now workers.entry is_image (R.remaining reader.old)) }
+    ensures fault { IfErr result (HasCause (batch_causes notation.now form given.now workers.entry is_image (R.remaining reader.old))) }
 {
     let batch = ready_batch(alloc, given, form, workers, is_image)?;
     let input = read_input(alloc, reader)?;
-    run_batch(rt, alloc, batch, input.as_slice())
+    run_batch(rt, alloc, notation, batch, input.as_slice())
 }
 
 // What the batch begins with, before standard input is read.
@@ -103,18 +124,19 @@ fn register(alloc: Global, image: &[u8]) -> Result<(Registry<Global>, ProgId), S
 fn run_batch<T: Threads + Wait + Sync>(
     rt: &T,
     alloc: Global,
+    notation: &Notation<Global>,
     batch: Batch,
     input: &[u8],
 ) -> Result<Report, ServeFault>
     requires { length input.now ≤ 16777216 }
-    ensures ok { IfOk result (λ report. OnTasks batch (Some input.now) (λ tasks. DoesTasks batch tasks report)) }
-    ensures fault { IfErr result (HasCause (task_causes batch (Some input.now))) }
+    ensures ok { IfOk result (λ report. OnTasks notation.now batch (Some input.now) (λ tasks. DoesTasks notation.now batch tasks report)) }
+    ensures fault { IfErr result (HasCause (task_causes notation.now batch (Some input.now))) }
 {
-    let words = read_tasks(alloc, input)?;
+    let words = read_tasks(alloc, notation, input)?;
     let tasks = tasks_for(alloc, batch.program, words)?;
     let done = do_tasks(rt, alloc, batch, tasks.as_slice())?;
     Ok(Report {
-        text: show_replies(alloc, done.replies.as_slice())?,
+        text: show_replies(alloc, notation, done.replies.as_slice())?,
         status: 0,
         database: Some(done.database),
     })
@@ -200,20 +222,29 @@ fn close(store: Store<Global, NoGate>, answers: Answers<Global>) -> Result<Done,
 }
 
 // A line for each reply.
-fn show_replies(alloc: Global, replies: &[Reply<Global>]) -> Result<Vec<u8>, AllocError>
-    ensures { IfOk result (λ text. text.items ≡ flat_map reply_line replies.now) }
+fn show_replies(
+    alloc: Global,
+    notation: &Notation<Global>,
+    replies: &[Reply<Global>],
+) -> Result<Vec<u8>, AllocError>
+    ensures { IfOk result (λ text. text.items ≡ flat_map (reply_line notation.now) replies.now) }
 {
     let mut text = Vec::new(alloc);
     for reply in replies {
-        show_line(alloc, reply, &mut text)?;
+        show_line(alloc, notation, reply, &mut text)?;
     }
     Ok(text)
 }
 
 // The line of a reply.
-fn show_line(alloc: Global, reply: &Reply<Global>, text: &mut Vec<u8>) -> Result<(), AllocError>
-    ensures { OnOk result (text.new.items ≡ text.old.items ++ reply_line reply.now) }
+fn show_line(
+    alloc: Global,
+    notation: &Notation<Global>,
+    reply: &Reply<Global>,
+    text: &mut Vec<u8>,
+) -> Result<(), AllocError>
+    ensures { OnOk result (text.new.items ≡ text.old.items ++ reply_line notation.now reply.now) }
 {
-    show_reply(alloc, reply, text)?;
+    show_reply(alloc, notation, reply, text)?;
     Ok(text.push(b'\n')?)
 }

@@ -1,6 +1,8 @@
 //! Lines of a script that ask nothing, found once it was answered.
 
-use dbm_script::read_line;
+use dbm_reports::notation_of;
+use dbm_script::{Notation, read_line};
+use dbm_words::Wish;
 use memchr::memmem;
 use std::alloc::Global;
 use std::io::{self, Read, Write};
@@ -86,12 +88,15 @@ pub fn has_bad_line(answers: &[u8]) -> bool {
     memmem::find(answers, b"bad line\n").is_some()
 }
 
-/// Says which line of a script is the first that asks nothing, and how many more there are.
-pub fn note_bad_lines<R: Runtime + AllocGlobal>(rt: &R, script: &[u8]) {
+/// Says which line of a script is the first that asks nothing in the notation of its wish, and how many more there are.
+pub fn note_bad_lines<R: Runtime + AllocGlobal>(rt: &R, wish: &Wish<'_>, script: &[u8]) {
+    let Ok(notation) = notation_of(rt.alloc(), wish) else {
+        return;
+    };
     let mut first = 0;
     let mut count = 0usize;
     for (at, line) in script.split(|byte| *byte == b'\n').enumerate() {
-        if is_bad(rt.alloc(), line) {
+        if is_bad(rt.alloc(), &notation, line) {
             if count == 0 {
                 first = at;
             }
@@ -115,6 +120,6 @@ pub fn note_bad_lines<R: Runtime + AllocGlobal>(rt: &R, script: &[u8]) {
 }
 
 // Whether a line asks nothing. An empty one is skipped.
-fn is_bad(alloc: Global, line: &[u8]) -> bool {
-    !line.is_empty() && matches!(read_line(alloc, line), Ok(None))
+fn is_bad(alloc: Global, notation: &Notation<Global>, line: &[u8]) -> bool {
+    !line.is_empty() && matches!(read_line(alloc, notation, line), Ok(None))
 }

@@ -107,7 +107,7 @@ fn note<R: Runtime<File = File> + AllocGlobal, I: Read>(
         note_object(rt, wish);
     }
     if input.has_bad_line {
-        note_bad_lines(rt, input.text());
+        note_bad_lines(rt, wish, input.text());
     }
 }
 

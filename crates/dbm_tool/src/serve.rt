@@ -43,7 +43,8 @@ struct Served {
 /// is a fault. A database is given exactly for a wish that writes (`Wish::writes`), and none where there is a fault.
 ///
 /// # Errors
-/// The first that is met, in this order; those that a `ReportFault` names come within `Report`. `BadHex` where a word is no bytes,
+/// The first that is met, in this order; those that a `ReportFault` names come within `Report`. `BadLayout` where the
+/// layout is none, `BadHex`, or as text `BadText`, where a word is no bytes,
 /// `BadNumber` where one is no number; `Open` where the files do not open; `NotText` and `Assemble` where a program's file is no text
 /// of one, `Decode` where it is no image, and of a batch `Submit` where its program gets no number; of a script or a batch, `Read`
 /// where it could not be read and `TooLong` above 16,777,216 bytes; of a batch, `BadLine` with the first line that asks no task,
@@ -135,10 +136,11 @@ fn report_wish<T: Threads + Wait + Sync, R: Read>(
     match wish {
         Wish::Batch {
             form,
+            notation,
             workers,
             image,
             ..
-        } => report_batch(rt, alloc, given, form, workers, image, reader),
+        } => report_batch(rt, alloc, given, form, notation, workers, image, reader),
         wish => report_other(alloc, wish, given, reader),
     }
 }

@@ -14,10 +14,6 @@ required_word id = record (new_rule id) { required = true }
 abbrev pub flag : Text → Rule
 flag id = record (new_rule id) { long = Some id; action = Some SetTrue }
 
--- the option `--null`, also as `-0`
-abbrev pub null_flag : Rule
-null_flag = record (flag (codes "null")) { short = Some 48 }
-
 -- the option `--id VALUE`
 abbrev pub valued_option : Text → Rule
 valued_option id = record (new_rule id) { long = Some id; value_names = 1 }
@@ -66,28 +62,13 @@ abbrev pub batch : Shape
 batch = subcommand (codes "batch") (required_word (codes "BASE") ∷ required_word (codes "FILE") ∷ required_word (codes "WORKERS") ∷ flag (codes "image") ∷ writing_in)
 
 abbrev pub list : Shape
-list = with_alias (codes "ls") (subcommand (codes "list") (required_word (codes "BASE") ∷ valued_option (codes "prefix") ∷ null_flag ∷ flag (codes "json") ∷ reading_in))
-
-abbrev pub keys : Shape
-keys = subcommand (codes "keys") (required_word (codes "BASE") ∷ valued_option (codes "prefix") ∷ null_flag ∷ flag (codes "text") ∷ reading_options)
+list = with_alias (codes "ls") (subcommand (codes "list") (required_word (codes "BASE") ∷ reading_in))
 
 abbrev pub check : Shape
-check = subcommand (codes "check") (required_word (codes "BASE") ∷ flag (codes "json") ∷ reading_options)
-
-abbrev pub stats : Shape
-stats = subcommand (codes "stats") (required_word (codes "BASE") ∷ flag (codes "json") ∷ reading_options)
-
-abbrev pub dump : Shape
-dump = subcommand (codes "dump") (required_word (codes "BASE") ∷ valued_option (codes "format") ∷ reading_options)
-
-abbrev pub load : Shape
-load = subcommand (codes "load") (required_word (codes "BASE") ∷ valued_option (codes "format") ∷ writing_options)
+check = subcommand (codes "check") (required_word (codes "BASE") ∷ reading_options)
 
 abbrev pub script : Shape
 script = subcommand (codes "script") (valued_option (codes "base") ∷ valued_option (codes "max-output") ∷ writing_in)
-
-abbrev pub session : Shape
-session = subcommand (codes "session") (required_word (codes "BASE") ∷ valued_option (codes "save-every") ∷ writing_in)
 
 abbrev pub widen : Shape
 widen = subcommand (codes "widen") (required_word (codes "BASE") ∷ flag (codes "unsigned") ∷ writing_access)
@@ -99,7 +80,7 @@ abbrev pub disasm : Shape
 disasm = subcommand (codes "disasm") (required_word (codes "FILE") ∷ [])
 
 abbrev pub verify : Shape
-verify = subcommand (codes "verify") (required_word (codes "FILE") ∷ flag (codes "image") ∷ flag (codes "explain") ∷ flag (codes "json") ∷ [])
+verify = subcommand (codes "verify") (required_word (codes "FILE") ∷ flag (codes "image") ∷ [])
 
 -- the program's name, with a version
 abbrev pub titled : Shape
@@ -117,7 +98,7 @@ bare = record titled {
 abbrev pub tool : App
 tool = record {
   top = record bare { is_leaf = false };
-  subs = fetch ∷ store ∷ delete ∷ list ∷ keys ∷ check ∷ stats ∷ script ∷ session ∷ dump ∷ load ∷ widen ∷ asm ∷ disasm ∷ verify ∷ run ∷ batch ∷ [];
+  subs = fetch ∷ store ∷ delete ∷ list ∷ check ∷ script ∷ widen ∷ asm ∷ disasm ∷ verify ∷ run ∷ batch ∷ [];
 }
 
 -- a command with these rules, none of whose arguments holds for its subcommands too

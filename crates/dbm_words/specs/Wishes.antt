@@ -46,18 +46,13 @@ base_of (wish.Store base form notation key value insert) = Some base.now
 base_of (wish.Delete base form notation key) = Some base.now
 base_of (wish.Run base form notation key file arg blank now expect image) = Some base.now
 base_of (wish.Batch base form notation file workers image) = Some base.now
-base_of (wish.List base form notation prefix null json) = Some base.now
-base_of (wish.Keys base form notation prefix null) = Some base.now
-base_of (wish.Check base form json) = Some base.now
-base_of (wish.Stats base form json) = Some base.now
-base_of (wish.Dump base form format) = Some base.now
-base_of (wish.Load base form format) = Some base.now
-base_of (wish.Session base form notation save_every) = Some base.now
+base_of (wish.List base form notation) = Some base.now
+base_of (wish.Check base form) = Some base.now
 base_of (wish.Script base form notation max_output) = option_map (λ text. text.now) base
 base_of (wish.Widen base unsigned) = Some base.now
 base_of (wish.Asm file) = None
 base_of (wish.Disasm file) = None
-base_of (wish.Verify file image explain json) = None
+base_of (wish.Verify file image) = None
 
 -- the program's file that a wish is about
 abbrev pub file_of : Wish → Option Text
@@ -65,7 +60,7 @@ file_of (wish.Run base form notation key file arg blank now expect image) = Some
 file_of (wish.Batch base form notation file workers image) = Some file.now
 file_of (wish.Asm file) = Some file.now
 file_of (wish.Disasm file) = Some file.now
-file_of (wish.Verify file image explain json) = Some file.now
+file_of (wish.Verify file image) = Some file.now
 file_of _ = None
 
 -- the files of its database are written once it was served, also where nothing has changed
@@ -75,18 +70,13 @@ writes_files (wish.Store base form notation key value insert) = true
 writes_files (wish.Delete base form notation key) = true
 writes_files (wish.Run base form notation key file arg blank now expect image) = true
 writes_files (wish.Batch base form notation file workers image) = true
-writes_files (wish.List base form notation prefix null json) = false
-writes_files (wish.Keys base form notation prefix null) = false
-writes_files (wish.Check base form json) = false
-writes_files (wish.Stats base form json) = false
-writes_files (wish.Dump base form format) = false
-writes_files (wish.Load base form format) = true
-writes_files (wish.Session base form notation save_every) = true
+writes_files (wish.List base form notation) = false
+writes_files (wish.Check base form) = false
 writes_files (wish.Script base form notation max_output) = is_some base
 writes_files (wish.Widen base unsigned) = true
 writes_files (wish.Asm file) = false
 writes_files (wish.Disasm file) = false
-writes_files (wish.Verify file image explain json) = false
+writes_files (wish.Verify file image) = false
 
 -- the unit that a word for the time names, where it asks for the clock's
 abbrev pub unit_named : Text → Option TimeUnit
@@ -114,20 +104,10 @@ SubcommandAsks name rows (wish.Run base form notation key file arg blank now exp
     (name ≡ codes "run") × (IsWord (codes "BASE") rows base × (IsForm rows form × (IsNotation rows notation × (IsWord (codes "KEY") rows key × (IsWord (codes "FILE") rows file × (IsWord (codes "ARG") rows arg × (IsWord (codes "BLANK") rows blank × (IsWord (codes "NOW") rows now × (IsGiven (codes "expect") rows expect × (image ≡ is_given (codes "image") rows))))))))))
 SubcommandAsks name rows (wish.Batch base form notation file workers image) =
     (name ≡ codes "batch") × (IsWord (codes "BASE") rows base × (IsForm rows form × (IsNotation rows notation × (IsWord (codes "FILE") rows file × (IsWord (codes "WORKERS") rows workers × (image ≡ is_given (codes "image") rows))))))
-SubcommandAsks name rows (wish.List base form notation prefix null json) =
-    (name ≡ codes "list") × (IsWord (codes "BASE") rows base × (IsForm rows form × (IsNotation rows notation × (IsGiven (codes "prefix") rows prefix × ((null ≡ is_given (codes "null") rows) × (json ≡ is_given (codes "json") rows))))))
-SubcommandAsks name rows (wish.Keys base form notation prefix null) =
-    (name ≡ codes "keys") × (IsWord (codes "BASE") rows base × (IsForm rows form × (IsNotation rows notation × (IsGiven (codes "prefix") rows prefix × (null ≡ is_given (codes "null") rows)))))
-SubcommandAsks name rows (wish.Check base form json) =
-    (name ≡ codes "check") × (IsWord (codes "BASE") rows base × (IsForm rows form × (json ≡ is_given (codes "json") rows)))
-SubcommandAsks name rows (wish.Stats base form json) =
-    (name ≡ codes "stats") × (IsWord (codes "BASE") rows base × (IsForm rows form × (json ≡ is_given (codes "json") rows)))
-SubcommandAsks name rows (wish.Dump base form format) =
-    (name ≡ codes "dump") × (IsWord (codes "BASE") rows base × (IsForm rows form × IsGiven (codes "format") rows format))
-SubcommandAsks name rows (wish.Load base form format) =
-    (name ≡ codes "load") × (IsWord (codes "BASE") rows base × (IsForm rows form × IsGiven (codes "format") rows format))
-SubcommandAsks name rows (wish.Session base form notation save_every) =
-    (name ≡ codes "session") × (IsWord (codes "BASE") rows base × (IsForm rows form × (IsNotation rows notation × IsGiven (codes "save-every") rows save_every)))
+SubcommandAsks name rows (wish.List base form notation) =
+    (name ≡ codes "list") × (IsWord (codes "BASE") rows base × (IsForm rows form × IsNotation rows notation))
+SubcommandAsks name rows (wish.Check base form) =
+    (name ≡ codes "check") × (IsWord (codes "BASE") rows base × IsForm rows form)
 SubcommandAsks name rows (wish.Script base form notation max_output) =
     (name ≡ codes "script") × (IsGiven (codes "base") rows base × (IsGiven (codes "max-output") rows max_output × (IsForm rows form × IsNotation rows notation)))
 SubcommandAsks name rows (wish.Widen base unsigned) =
@@ -136,8 +116,8 @@ SubcommandAsks name rows (wish.Asm file) =
     (name ≡ codes "asm") × IsWord (codes "FILE") rows file
 SubcommandAsks name rows (wish.Disasm file) =
     (name ≡ codes "disasm") × IsWord (codes "FILE") rows file
-SubcommandAsks name rows (wish.Verify file image explain json) =
-    (name ≡ codes "verify") × (IsWord (codes "FILE") rows file × ((image ≡ is_given (codes "image") rows) × ((explain ≡ is_given (codes "explain") rows) × (json ≡ is_given (codes "json") rows))))
+SubcommandAsks name rows (wish.Verify file image) =
+    (name ≡ codes "verify") × (IsWord (codes "FILE") rows file × (image ≡ is_given (codes "image") rows))
 
 -- the matches name a subcommand, and the wish is what it asks
 abbrev pub IsAsked : Option (Text × List Row) → Wish → Type 0

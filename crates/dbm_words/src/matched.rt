@@ -18,13 +18,8 @@ pub fn asked<'a>(name: &str, matches: &ArgMatches<'a>) -> Option<Wish<'a>>
         "store" => store(matches),
         "delete" => delete(matches),
         "list" => list(matches),
-        "keys" => keys(matches),
         "check" => check(matches),
-        "stats" => stats(matches),
         "script" => script(matches),
-        "session" => session(matches),
-        "dump" => dump(matches),
-        "load" => load(matches),
         "widen" => widen(matches),
         "asm" => asm(matches),
         "disasm" => disasm(matches),
@@ -126,22 +121,6 @@ fn list<'a>(matches: &ArgMatches<'a>) -> Option<Wish<'a>>
         base: word(matches, "BASE")?,
         form: form(matches),
         notation: notation(matches),
-        prefix: word(matches, "prefix"),
-        null: has_flag(matches, "null"),
-        json: has_flag(matches, "json"),
-    })
-}
-
-fn keys<'a>(matches: &ArgMatches<'a>) -> Option<Wish<'a>>
-    ensures some { IfSome result (SubcommandAsks (codes "keys") (rows_of (found_of matches.now))) }
-    ensures none { IsNone result → has_words spec.keys.rules (rows_of (found_of matches.now)) ≡ false }
-{
-    Some(Wish::Keys {
-        base: word(matches, "BASE")?,
-        form: form(matches),
-        notation: notation(matches),
-        prefix: word(matches, "prefix"),
-        null: has_flag(matches, "null"),
     })
 }
 
@@ -152,40 +131,6 @@ fn check<'a>(matches: &ArgMatches<'a>) -> Option<Wish<'a>>
     Some(Wish::Check {
         base: word(matches, "BASE")?,
         form: form(matches),
-        json: has_flag(matches, "json"),
-    })
-}
-
-fn stats<'a>(matches: &ArgMatches<'a>) -> Option<Wish<'a>>
-    ensures some { IfSome result (SubcommandAsks (codes "stats") (rows_of (found_of matches.now))) }
-    ensures none { IsNone result → has_words spec.stats.rules (rows_of (found_of matches.now)) ≡ false }
-{
-    Some(Wish::Stats {
-        base: word(matches, "BASE")?,
-        form: form(matches),
-        json: has_flag(matches, "json"),
-    })
-}
-
-fn dump<'a>(matches: &ArgMatches<'a>) -> Option<Wish<'a>>
-    ensures some { IfSome result (SubcommandAsks (codes "dump") (rows_of (found_of matches.now))) }
-    ensures none { IsNone result → has_words spec.dump.rules (rows_of (found_of matches.now)) ≡ false }
-{
-    Some(Wish::Dump {
-        base: word(matches, "BASE")?,
-        form: form(matches),
-        format: word(matches, "format"),
-    })
-}
-
-fn load<'a>(matches: &ArgMatches<'a>) -> Option<Wish<'a>>
-    ensures some { IfSome result (SubcommandAsks (codes "load") (rows_of (found_of matches.now))) }
-    ensures none { IsNone result → has_words spec.load.rules (rows_of (found_of matches.now)) ≡ false }
-{
-    Some(Wish::Load {
-        base: word(matches, "BASE")?,
-        form: form(matches),
-        format: word(matches, "format"),
     })
 }
 
@@ -198,18 +143,6 @@ fn script<'a>(matches: &ArgMatches<'a>) -> Option<Wish<'a>>
         max_output: word(matches, "max-output"),
         form: form(matches),
         notation: notation(matches),
-    })
-}
-
-fn session<'a>(matches: &ArgMatches<'a>) -> Option<Wish<'a>>
-    ensures some { IfSome result (SubcommandAsks (codes "session") (rows_of (found_of matches.now))) }
-    ensures none { IsNone result → has_words spec.session.rules (rows_of (found_of matches.now)) ≡ false }
-{
-    Some(Wish::Session {
-        base: word(matches, "BASE")?,
-        form: form(matches),
-        notation: notation(matches),
-        save_every: word(matches, "save-every"),
     })
 }
 
@@ -248,8 +181,6 @@ fn verify<'a>(matches: &ArgMatches<'a>) -> Option<Wish<'a>>
     Some(Wish::Verify {
         file: word(matches, "FILE")?,
         image: has_flag(matches, "image"),
-        explain: has_flag(matches, "explain"),
-        json: has_flag(matches, "json"),
     })
 }
 

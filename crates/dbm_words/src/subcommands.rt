@@ -6,8 +6,8 @@ ghost use Rattle.dbm_words.specs.CommandLine.{IsCommand, IsSubcommand, tool};
 ghost use Rattle.dbm_words.specs.CommandLine as spec;
 
 use crate::arguments::{
-    base, file, flag, format, image, json, key, layout, must_exist, null, prefix, required_word,
-    text, timeout, unsigned, valued_option, wide,
+    base, file, flag, image, key, layout, must_exist, required_word, text, timeout, unsigned,
+    valued_option, wide,
 };
 use clap::{Arg, Command};
 use std::alloc::{AllocError, Global};
@@ -21,13 +21,8 @@ pub fn tool_command<'a>(alloc: Global) -> Result<Command<'a>, AllocError>
         .subcommand(store_command(alloc)?)?
         .subcommand(delete_command(alloc)?)?
         .subcommand(list_command(alloc)?)?
-        .subcommand(keys_command(alloc)?)?
         .subcommand(check_command(alloc)?)?
-        .subcommand(stats_command(alloc)?)?
         .subcommand(script_command(alloc)?)?
-        .subcommand(session_command(alloc)?)?
-        .subcommand(dump_command(alloc)?)?
-        .subcommand(load_command(alloc)?)?
         .subcommand(widen_command(alloc)?)?
         .subcommand(asm_command(alloc)?)?
         .subcommand(disasm_command(alloc)?)?
@@ -169,9 +164,6 @@ fn list_command<'a>(alloc: Global) -> Result<Command<'a>, AllocError>
 {
     let args = vec![in alloc;
         base(alloc),
-        prefix(alloc),
-        null(alloc),
-        json(alloc),
         text(alloc),
         layout(alloc),
         unsigned(alloc),
@@ -179,102 +171,21 @@ fn list_command<'a>(alloc: Global) -> Result<Command<'a>, AllocError>
         timeout(alloc),
     ]?;
     let about = "Print all pairs, sorted by the bytes of their keys";
-    let notes =
-        "Prints KEY VALUE for each pair, both in hex, or . for no bytes; with --json an object\n\
-         for each in a line of its own.\n\n\
+    let notes = "Prints KEY VALUE for each pair, both in hex, or . for no bytes.\n\n\
          Example: dbm list users --text";
     aliased_subcommand(alloc, "list", "ls", about, notes, args)
-}
-
-fn keys_command<'a>(alloc: Global) -> Result<Command<'a>, AllocError>
-    ensures { IfOk result (IsSubcommand spec.keys) }
-{
-    let args = vec![in alloc;
-        base(alloc),
-        prefix(alloc),
-        null(alloc),
-        text(alloc),
-        unsigned(alloc),
-        wide(alloc),
-        timeout(alloc),
-    ]?;
-    let about = "Print all keys, sorted by their bytes";
-    let notes = "Prints each key in a line, in hex, or . for no bytes.\n\n\
-         Example: dbm keys users --text --prefix user:";
-    subcommand(alloc, "keys", about, notes, args)
 }
 
 fn check_command<'a>(alloc: Global) -> Result<Command<'a>, AllocError>
     ensures { IfOk result (IsSubcommand spec.check) }
 {
-    let args = vec![in alloc;
-        base(alloc),
-        json(alloc),
-        unsigned(alloc),
-        wide(alloc),
-        timeout(alloc),
-    ]?;
+    let args = vec![in alloc; base(alloc), unsigned(alloc), wide(alloc), timeout(alloc)]?;
     let about = "Check that the files are a database";
     let notes =
         "Prints ok N for a database of N pairs. Where the files are none, standard error names\n\
          the fault, and the status is 2. Where neither file is there, the database is empty.\n\n\
          Example: dbm check users";
     subcommand(alloc, "check", about, notes, args)
-}
-
-fn stats_command<'a>(alloc: Global) -> Result<Command<'a>, AllocError>
-    ensures { IfOk result (IsSubcommand spec.stats) }
-{
-    let args = vec![in alloc;
-        base(alloc),
-        json(alloc),
-        unsigned(alloc),
-        wide(alloc),
-        timeout(alloc),
-    ]?;
-    let about = "Print what is in a database, in numbers";
-    let notes =
-        "Prints how many pairs and bytes there are, how full the pages are, and how deep the directory is.\n\n\
-         Example: dbm stats users";
-    subcommand(alloc, "stats", about, notes, args)
-}
-
-fn dump_command<'a>(alloc: Global) -> Result<Command<'a>, AllocError>
-    ensures { IfOk result (IsSubcommand spec.dump) }
-{
-    let help =
-        "gdbm for gdbm_load, redis for redis-cli --pipe; without it, the form that load takes back";
-    let args = vec![in alloc;
-        base(alloc),
-        format(alloc, help),
-        unsigned(alloc),
-        wide(alloc),
-        timeout(alloc),
-    ]?;
-    let about = "Print all pairs in a form that load, or another program, takes back";
-    let notes = "Prints a header and a line for each pair, sorted by the bytes of their keys.\n\n\
-         Example: dbm dump users > users.dump";
-    subcommand(alloc, "dump", about, notes, args)
-}
-
-fn load_command<'a>(alloc: Global) -> Result<Command<'a>, AllocError>
-    ensures { IfOk result (IsSubcommand spec.load) }
-{
-    let help = "gdbm for what gdbm_dump prints; without it, the first line says which form it is";
-    let args = vec![in alloc;
-        base(alloc),
-        format(alloc, help),
-        unsigned(alloc),
-        wide(alloc),
-        must_exist(alloc),
-        timeout(alloc),
-    ]?;
-    let about = "Store the pairs of a dump on standard input, in one save";
-    let notes =
-        "Prints loaded N for a dump of N pairs, which may have any length. A pair replaces that of its key;\n\
-         the pairs of other keys stay. At a fault nothing is stored.\n\n\
-         Example: dbm load users < users.dump";
-    subcommand(alloc, "load", about, notes, args)
 }
 
 fn script_command<'a>(alloc: Global) -> Result<Command<'a>, AllocError>
@@ -301,29 +212,6 @@ fn script_command<'a>(alloc: Global) -> Result<Command<'a>, AllocError>
          and their answers up to 2,003 times as much. Where that is more than BYTES, the fault is OutputTooLong.\n\n\
          Example: dbm script --base users < first.script";
     subcommand(alloc, "script", about, notes, args)
-}
-
-fn session_command<'a>(alloc: Global) -> Result<Command<'a>, AllocError>
-    ensures { IfOk result (IsSubcommand spec.session) }
-{
-    let help =
-        "Save after so many changes too, or with an s behind the number, after so many seconds";
-    let args = vec![in alloc;
-        base(alloc),
-        valued_option(alloc, "save-every", "N", help),
-        text(alloc),
-        layout(alloc),
-        unsigned(alloc),
-        wide(alloc),
-        must_exist(alloc),
-        timeout(alloc),
-    ]?;
-    let about = "Answer each line on standard input before the next is read";
-    let notes =
-        "The lines are those of a script, and save, which answers saved once all changes are kept. They are\n\
-         saved at the end too. The database is locked until then.\n\n\
-         Example: dbm session users --text";
-    subcommand(alloc, "session", about, notes, args)
 }
 
 fn widen_command<'a>(alloc: Global) -> Result<Command<'a>, AllocError>
@@ -370,12 +258,6 @@ fn verify_command<'a>(alloc: Global) -> Result<Command<'a>, AllocError>
     let args = vec![in alloc;
         file(alloc, "The program as text, one instruction a line"),
         image(alloc),
-        flag(
-            alloc,
-            "explain",
-            "Print what is known before each instruction, and in words why the program is refused"
-        ),
-        json(alloc),
     ]?;
     let about = "Say whether a program is accepted, or why it is refused";
     let notes =

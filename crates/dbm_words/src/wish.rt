@@ -87,55 +87,16 @@ pub enum Wish<'a> {
         workers: &'a str,
         image: bool,
     },
-    /// All pairs, or those whose keys begin with a prefix: with `null` as raw bytes, each key and value ended by a zero byte, with
-    /// `json` as objects.
+    /// All pairs.
     List {
         base: &'a str,
         form: Form,
         notation: Notation<'a>,
-        prefix: Option<&'a str>,
-        null: bool,
-        json: bool,
-    },
-    /// All keys, or those that begin with a prefix: with `null` as raw bytes, each ended by a zero byte.
-    Keys {
-        base: &'a str,
-        form: Form,
-        notation: Notation<'a>,
-        prefix: Option<&'a str>,
-        null: bool,
     },
     /// Whether the files are a database, and how many pairs it has.
     Check {
         base: &'a str,
         form: Form,
-        json: bool,
-    },
-    /// What is in a database, in numbers.
-    Stats {
-        base: &'a str,
-        form: Form,
-        json: bool,
-    },
-    /// All pairs in a text form that `load` takes back, or in a format of another program.
-    Dump {
-        base: &'a str,
-        form: Form,
-        format: Option<&'a str>,
-    },
-    /// The pairs of a dump on standard input are to be stored.
-    Load {
-        base: &'a str,
-        form: Form,
-        format: Option<&'a str>,
-    },
-    /// The lines on standard input are to be answered one by one, and what they change is saved at the lines that ask for it, as often
-    /// as `save_every` says, and at the end.
-    Session {
-        base: &'a str,
-        form: Form,
-        notation: Notation<'a>,
-        save_every: Option<&'a str>,
     },
     /// The script on standard input is to be run, without a base on an empty database that is not kept. Its answers are to have at
     /// most `max_output` bytes.
@@ -158,12 +119,10 @@ pub enum Wish<'a> {
     Disasm {
         file: &'a str,
     },
-    /// Whether a program is accepted: that of a text, or with `image` that of an image. With `explain` it is told why.
+    /// Whether a program is accepted: that of a text, or with `image` that of an image.
     Verify {
         file: &'a str,
         image: bool,
-        explain: bool,
-        json: bool,
     },
 }
 
@@ -186,12 +145,7 @@ impl<'a> Wish<'a> {
             | Wish::Run { base, .. }
             | Wish::Batch { base, .. }
             | Wish::List { base, .. }
-            | Wish::Keys { base, .. }
             | Wish::Check { base, .. }
-            | Wish::Stats { base, .. }
-            | Wish::Dump { base, .. }
-            | Wish::Load { base, .. }
-            | Wish::Session { base, .. }
             | Wish::Widen { base, .. } => Some(base),
             Wish::Script { base, .. } => base,
             Wish::Asm { .. } | Wish::Disasm { .. } | Wish::Verify { .. } => None,
@@ -212,8 +166,8 @@ impl<'a> Wish<'a> {
         }
     }
 
-    /// Whether the files of its database are written once it was served: by `store`, `delete`, `run`, `batch`, `load`, `session`,
-    /// `widen`, and `script` with a base. A `store`, `delete` or `run` that changed nothing writes them too.
+    /// Whether the files of its database are written once it was served: by `store`, `delete`, `run`, `batch`, `widen`, and `script`
+    /// with a base. A `store`, `delete` or `run` that changed nothing writes them too.
     pub fn writes(&self) -> bool
         ensures { result ≡ writes_files self.now }
     {
@@ -222,16 +176,11 @@ impl<'a> Wish<'a> {
             | Wish::Delete { .. }
             | Wish::Run { .. }
             | Wish::Batch { .. }
-            | Wish::Load { .. }
-            | Wish::Session { .. }
             | Wish::Widen { .. } => true,
             Wish::Script { base, .. } => base.is_some(),
             Wish::Fetch { .. }
             | Wish::List { .. }
-            | Wish::Keys { .. }
             | Wish::Check { .. }
-            | Wish::Stats { .. }
-            | Wish::Dump { .. }
             | Wish::Asm { .. }
             | Wish::Disasm { .. }
             | Wish::Verify { .. } => false,

@@ -15,6 +15,10 @@
 //! | `lines COUNT` | the same of so many empty lines |
 //! | `within BYTES` | `said` and the answers of the script of that line, where they have at most so many bytes, or the fault |
 //! | `heaps COUNT` | of that script whether it is refused in each heap up to one of more bytes than that, and then answered as with ample memory |
+//! | `read WORD` | the bytes for which a word stands as text, in hex, or `none` |
+//! | `show HEX` | those bytes as text, and `back` where that is read as them |
+//! | `by LAYOUT HEX` | the same by a layout, or `no layout` |
+//! | `text LAYOUT TEXT` | `said`, and the answers of a script whose bytes are text, and whose values are printed by a layout where it is not `.` |
 //! | `# TEXT` | the line itself |
 //!
 //! In texts `\n`, `\r` and `\t` stand for a line feed, a carriage return and a tab. A script runs on an empty database. The answers
@@ -22,10 +26,12 @@
 #![tactic(auto)]
 
 mod heaps;
+mod notations;
 mod scripts;
 mod streams;
 mod words;
 
+use notations::notation_line;
 use scripts::script_line;
 use std::alloc::{AllocError, Global};
 use std::io;
@@ -36,6 +42,7 @@ fn answer(global: Global, script: &mut String, line: &str) -> Option<String> {
     match word {
         "#" => String::from_str(global, line).ok(),
         "words" | "help" | "part" | "time" | "faults" => word_line(global, word, rest),
+        "read" | "show" | "by" | "text" => notation_line(global, word, rest),
         _ => script_line(global, script, word, rest),
     }
 }

@@ -3,7 +3,7 @@
 use crate::heaps::heaps_text;
 use crate::streams::{EmptyLines, Given, Taken, run};
 use crate::words::unescaped;
-use dbm_script::{ScriptFault, run_lines};
+use dbm_script::{Notation, ScriptFault, run_lines};
 use sdbm_addr::{KeyBytes, PageSize};
 use sdbm_files::Image;
 use std::alloc::Global;
@@ -115,7 +115,7 @@ fn empty_lines(global: Global, count: &str) -> Option<String> {
 fn within_text(global: Global, script: &[u8], most: &str) -> Option<String> {
     let most = most.parse::<u64>().ok()?;
     let image = Image::empty(global, KeyBytes::Signed, PageSize::Small);
-    match run_lines(global, image, script, most) {
+    match run_lines(global, &Notation::Hex, image, script, most) {
         Ok((_after, text)) => {
             let text = escaped(global, text.as_slice())?;
             format!(in global; "said {text}").ok()

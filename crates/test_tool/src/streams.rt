@@ -1,6 +1,6 @@
 //! Readers and writers of every kind, and scripts from one to the other.
 
-use dbm_script::{ScriptFault, run_script};
+use dbm_script::{Notation, ScriptFault, run_script};
 use sdbm_addr::{KeyBytes, PageSize};
 use sdbm_files::Image;
 use std::alloc::{Allocator, Global};
@@ -92,7 +92,7 @@ pub fn run<A: Allocator + Copy, R: Read>(
     writer: &mut Taken,
 ) -> Result<usize, ScriptFault> {
     let image = Image::empty(alloc, KeyBytes::Signed, PageSize::Small);
-    match run_script(alloc, reader, writer, image) {
+    match run_script(alloc, &Notation::Hex, reader, writer, image) {
         Ok(after) => Ok(after.count()),
         Err(fault) => Err(fault),
     }

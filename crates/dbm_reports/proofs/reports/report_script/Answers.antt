@@ -9,25 +9,25 @@ use Rattle.dbm_reports.proofs.reports.report_script.Goals as goal
 pub returns-in_default-clause-fault : goal.returns-in_default-clause-fault
 returns-in_default-clause-fault g c =
     let is : output_limit c.args.max_output ≡ None = search rules in
-    unlimited c.args.base c.args.form c.args.notation c.args.max_output c.args.given.now _ is
+    unlimited c.args.notation.now c.args.base c.args.form c.args.options c.args.max_output c.args.given.now _ is
 
 pub returns-in-None-clause-ok : goal.returns-in-None-clause-ok
 returns-in-None-clause-ok g c =
     let is : output_limit c.args.max_output ≡ Some c.in-Some.most = search rules in
-    rw (c.in-None.is) (IfOk-weaker c.report_alone.result _ _ (λ report plays. limited_alone c.args.form c.args.notation c.args.max_output c.args.given.now _ c.in-Some.most report is plays) c.report_alone.ensures.ok)
+    rw (c.in-None.is) (IfOk-weaker c.report_alone.result _ _ (λ report plays. limited_alone c.args.notation.now c.args.form c.args.options c.args.max_output c.args.given.now _ c.in-Some.most report is plays) c.report_alone.ensures.ok)
 
 pub returns-in-None-clause-fault : goal.returns-in-None-clause-fault
 returns-in-None-clause-fault g c =
     let is : output_limit c.args.max_output ≡ Some c.in-Some.most = search rules in
-    rw (c.in-None.is) (IfErr-weaker c.report_alone.result _ _ (λ fault h. numbered (output_limit c.args.max_output) c.in-Some.most (alone_causes c.args.form (g.R.Read.remaining c.args.reader.now)) fault is h) c.report_alone.ensures.fault)
+    rw (c.in-None.is) (IfErr-weaker c.report_alone.result _ _ (λ fault h. numbered (output_limit c.args.max_output) c.in-Some.most (alone_causes c.args.notation.now c.args.form (g.R.Read.remaining c.args.reader.now)) fault is h) c.report_alone.ensures.fault)
 
 pub returns-in-Some-base-clause-ok : goal.returns-in-Some-base-clause-ok
 returns-in-Some-base-clause-ok g c =
     let is : output_limit c.args.max_output ≡ Some c.in-Some.most = search rules in
-    rw (c.in-Some-base.is) (IfOk-weaker c.report_played.result _ _ (λ report plays. limited_on c.in-Some-base.field-0 c.args.form c.args.notation c.args.max_output c.args.given.now _ c.in-Some.most report is plays) c.report_played.ensures.ok)
+    rw (c.in-Some-base.is) (IfOk-weaker c.report_played.result _ _ (λ report plays. limited_on c.args.notation.now c.in-Some-base.field-0 c.args.form c.args.options c.args.max_output c.args.given.now _ c.in-Some.most report is plays) c.report_played.ensures.ok)
 
 pub returns-in-Some-base-clause-fault : goal.returns-in-Some-base-clause-fault
 returns-in-Some-base-clause-fault g c =
     let is : output_limit c.args.max_output ≡ Some c.in-Some.most = search rules in
     rw (c.in-Some-base.is)
-    (IfErr-weaker c.report_played.result _ _ (λ fault h. numbered (output_limit c.args.max_output) c.in-Some.most (script_causes c.args.form c.args.given.now (g.R.Read.remaining c.args.reader.now)) fault is h) c.report_played.ensures.fault)
+    (IfErr-weaker c.report_played.result _ _ (λ fault h. numbered (output_limit c.args.max_output) c.in-Some.most (script_causes c.args.notation.now c.args.form c.args.given.now (g.R.Read.remaining c.args.reader.now)) fault is h) c.report_played.ensures.fault)

@@ -12,7 +12,7 @@ returns c =
           answers = c.in_ok-image.ensures.answer;
           kind = c.in_ok-image.ensures.kind;
           size = c.in_ok-image.ensures.size;
-          text_is = c.in_ok-push.ensures.items ∙ ap (λ (text : List ℕ). text ++ 10 ∷ []) (c.in_ok-show_answer.ensures ∙ ap (λ (text : List ℕ). text ++ answer_text answer) c.new-text.ensures.items);
+          text_is = c.in_ok-push.ensures.items ∙ ap (λ (text : List ℕ). text ++ 10 ∷ []) (c.in_ok-show_answer.ensures ∙ ap (λ (text : List ℕ). text ++ answer_text c.args.notation.now answer) c.new-text.ensures.items);
           status_is = c.status_of.ensures;
         },
         refl,

@@ -5,8 +5,8 @@ use Rattle.dbm_reports.proofs.subcommands.play.Goals as goal
 
 pub returns-in_err-image-clause-fault : goal.returns-in_err-image-clause-fault
 returns-in_err-image-clause-fault c =
-    as_err (IsCaused (play_causes c.args.image (Some c.args.script.now) c.args.most)) _ c.from_residual.ensures.1
-    (lines_caused c.args.image c.args.script.now c.args.most _ (λ is. c.in_err-image.ensures.long (ap Err is)))
+    as_err (IsCaused (play_causes c.args.notation.now c.args.image (Some c.args.script.now) c.args.most)) _ c.from_residual.ensures.1
+    (lines_caused c.args.notation.now c.args.image c.args.script.now c.args.most _ (λ is. c.in_err-image.ensures.long (ap Err is)))
 
 pub returns-clause-ok : goal.returns-clause-ok
 returns-clause-ok c = (

@@ -28,7 +28,7 @@ loop-rest-preserved g c =
       done = before.done ++ line ∷ [];
       lines = next_done before.done line _ _ _ before.lines left;
       told = before.told ++ adds.holds.0;
-      ran = one_more g.row.A.Denot (stage c.args.image []) _ _ before.done line before.told _ _ before.ran adds;
+      ran = one_more g.row.A.Denot c.args.notation.now (stage c.args.image []) _ _ before.done line before.told _ _ before.ran adds;
       short = search rules;
       kind = kept.0 ∙ before.kind;
       size = kept.1 ∙ before.size;
@@ -48,13 +48,13 @@ returns-then-len-most-clause-long g c = λ _.
       told = before.told ++ adds.holds.0;
       text = c.answer_line.new.text.items;
       after = stage c.answer_line.new.image c.answer_line.new.registry.programs;
-      ran = one_more g.row.A.Denot (stage c.args.image []) _ _ before.done line before.told _ _ before.ran adds;
+      ran = one_more g.row.A.Denot c.args.notation.now (stage c.args.image []) _ _ before.done line before.told _ _ before.ran adds;
       long = search rules;
     }
 
 pub returns-clause-runs : goal.returns-clause-runs
 returns-clause-runs g c =
     let before = c.loop-rest.invariant in
-    let all : RunsLines g.row.A.Denot (stage c.args.image []) (pieces_of 10 c.args.input.now) before.told c.loop-rest.text.items (stage c.loop-rest.image c.loop-rest.registry.programs) = search rules in
-    let runs : RunsScript g.row.A.Denot c.args.image c.args.input.now before.told c.loop-rest.text.items c.loop-rest.image = (c.loop-rest.registry.programs, all) in
-    IsScriptRun-from g.row.A.Denot c.args.image c.args.input.now before.told c.loop-rest.text.items c.loop-rest.image runs
+    let all : RunsLines g.row.A.Denot c.args.notation.now (stage c.args.image []) (pieces_of 10 c.args.input.now) before.told c.loop-rest.text.items (stage c.loop-rest.image c.loop-rest.registry.programs) = search rules in
+    let runs : RunsScript g.row.A.Denot c.args.notation.now c.args.image c.args.input.now before.told c.loop-rest.text.items c.loop-rest.image = (c.loop-rest.registry.programs, all) in
+    IsScriptRun-from g.row.A.Denot c.args.notation.now c.args.image c.args.input.now before.told c.loop-rest.text.items c.loop-rest.image runs

@@ -10,7 +10,7 @@ invariant-loop-rest g l = record {
   done : List (List ℕ);
   lines : done ++ pieces_left 10 l.rest ≡ pieces_of 10 l.input;
   told : List (Option Verdict);
-  ran : RunsLines g.row.A.Denot (stage l.fn.image []) done told l.text.items (stage l.image l.registry.programs);
+  ran : RunsLines g.row.A.Denot l.notation (stage l.fn.image []) done told l.text.items (stage l.image l.registry.programs);
   short : length l.text.items ≤ l.most;
   kind : l.image.kind ≡ l.fn.image.kind;
   size : l.image.size ≡ l.fn.image.size;

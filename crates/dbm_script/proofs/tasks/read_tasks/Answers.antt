@@ -20,11 +20,11 @@ loop-rest-preserved g c =
     let line = c.first_piece.result.0.now in
     let after = c.first_piece.result.1 in
     let left : pieces_left 10 c.loop-rest.rest ≡ line ∷ pieces_left 10 after = ap (pieces_left 10) c.in-Some.is ∙ c.first_piece.ensures in
-    let adds = subst (λ (good : Bool). AddsTask g.row.A.Denot line good c.loop-rest.tasks.items c.add_task.new.tasks.items) c.if-not-branch.false c.in_ok-add_task.ensures in
+    let adds = subst (λ (good : Bool). AddsTask g.row.A.Denot c.args.notation.now line good c.loop-rest.tasks.items c.add_task.new.tasks.items) c.if-not-branch.false c.in_ok-add_task.ensures in
     record {
       done = before.done ++ line ∷ [];
       lines = append_assoc before.done (line ∷ []) (pieces_left 10 after) ∙ ap (λ (lines : List (List ℕ)). before.done ++ lines) (sym left) ∙ before.lines;
       counted = ap (λ (n : ℕ). n + 1) before.counted ∙ sym (length-append before.done (line ∷ []));
-      asked = subst (λ (tasks : List (RunWords g.row.A.Denot)). AskTasks g.row.A.Denot (before.done ++ line ∷ []) tasks) (sym adds.1.1)
-          (AskTasks-append g.row.A.Denot before.done (line ∷ []) c.loop-rest.tasks.items adds.0 before.asked adds.1.0);
+      asked = subst (λ (tasks : List (RunWords g.row.A.Denot)). AskTasks g.row.A.Denot c.args.notation.now (before.done ++ line ∷ []) tasks) (sym adds.1.1)
+          (AskTasks-append g.row.A.Denot c.args.notation.now before.done (line ∷ []) c.loop-rest.tasks.items adds.0 before.asked adds.1.0);
     }

@@ -9,7 +9,7 @@ invariant-loop-rest g l = record {
   done : List (List ℕ);
   lines : done ++ pieces_left 10 l.rest ≡ pieces_of 10 l.input;
   counted : l.number ≡ length done;
-  asked : AskTasks g.row.A.Denot done l.tasks.items;
+  asked : AskTasks g.row.A.Denot l.notation done l.tasks.items;
 }
 
 abbrev pub decreases-loop-rest : goal.decreases-loop-rest

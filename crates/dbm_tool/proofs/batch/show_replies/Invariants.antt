@@ -5,4 +5,4 @@ use Rattle.dbm_tool.proofs.batch.show_replies.Given as goal
 
 -- the first replies are shown
 abbrev pub invariant-loop-reply : goal.invariant-loop-reply
-invariant-loop-reply l = l.text.items ≡ flat_map reply_line (take l.reply-index l.replies)
+invariant-loop-reply l = l.text.items ≡ flat_map (reply_line l.notation) (take l.reply-index l.replies)

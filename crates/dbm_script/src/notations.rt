@@ -1,0 +1,125 @@
+//! The notation of bytes in words and answers.
+ghost use Rattle.std.specs.Prelude.{◌≡◌, ◌++◌, IfOk, OnOk};
+ghost use Rattle.dbm_script.specs.Notation.{bytes_of, hex_bytes, hex_shown, reads_hex, shown, value_shown};
+
+use byte_text::{Layout, read_text, show_by, show_text};
+use hex::FromHexError;
+use sdbm_addr::Bytes;
+use std::alloc::{AllocError, Allocator};
+
+/// How bytes are written in words and in answers.
+#[derive(Drop)]
+pub enum Notation<A: Allocator> {
+    /// In hex.
+    Hex,
+    /// As text.
+    Text,
+    /// As text, and in answers the values by a layout, where they fit it.
+    Layout(Layout<A>),
+}
+
+impl<A: Allocator> Notation<A> {
+    /// Whether words are read as hex.
+    pub fn is_hex(&self) -> bool
+        ensures { result ≡ reads_hex self.now }
+    {
+        match self {
+            Notation::Hex => true,
+            Notation::Text | Notation::Layout(_) => false,
+        }
+    }
+}
+
+/// The bytes of a word: in hex of either case, or as text. A dot is none, and no text at all is no bytes.
+///
+/// # Errors
+/// `AllocError` where there is no memory for the bytes.
+pub fn read_bytes<A: Allocator + Copy>(
+    alloc: A,
+    notation: &Notation<A>,
+    text: &[u8],
+) -> Result<Option<Bytes<A>>, AllocError>
+    ensures { IfOk result (λ bytes. bytes ≡ bytes_of notation.now text.now) }
+{
+    match notation {
+        Notation::Hex => read_hex(alloc, text),
+        Notation::Text | Notation::Layout(_) => match read_text(alloc, text)? {
+            Some(bytes) => Ok(Some(Bytes::new(bytes))),
+            None => Ok(None),
+        },
+    }
+}
+
+/// Bytes in hex of either case, or a dot for none. No text at all is no bytes.
+///
+/// # Errors
+/// `AllocError` where there is no memory for the bytes.
+pub(crate) fn read_hex<A: Allocator + Copy>(
+    alloc: A,
+    text: &[u8],
+) -> Result<Option<Bytes<A>>, AllocError>
+    ensures { IfOk result (λ bytes. bytes ≡ hex_bytes text.now) }
+{
+    if text.is_empty() {
+        return Ok(None);
+    }
+    if text == b".".as_slice() {
+        return Ok(Some(Bytes::new(Vec::new(alloc))));
+    }
+    match hex::decode(alloc, text) {
+        Ok(bytes) => Ok(Some(Bytes::new(bytes))),
+        Err(FromHexError::OutOfMemory) => Err(AllocError),
+        Err(_) => Ok(None),
+    }
+}
+
+/// Writes bytes after a text, in lower-case hex or as text, or a dot for none.
+///
+/// # Errors
+/// `AllocError` where there is no memory for them. The text is of no use then.
+pub fn show_bytes<A: Allocator + Copy>(
+    alloc: A,
+    notation: &Notation<A>,
+    bytes: &[u8],
+    text: &mut Vec<u8, A>,
+) -> Result<(), AllocError>
+    ensures { OnOk result (text.new.items ≡ text.old.items ++ shown notation.now bytes.now) }
+{
+    match notation {
+        Notation::Hex => show_hex(alloc, bytes, text),
+        Notation::Text | Notation::Layout(_) => show_text(bytes, text),
+    }
+}
+
+/// Writes the bytes of a value after a text, by the layout where there is one, and else as other bytes.
+///
+/// # Errors
+/// `AllocError` where there is no memory for them. The text is of no use then.
+pub fn show_value<A: Allocator + Copy>(
+    alloc: A,
+    notation: &Notation<A>,
+    bytes: &[u8],
+    text: &mut Vec<u8, A>,
+) -> Result<(), AllocError>
+    ensures { OnOk result (text.new.items ≡ text.old.items ++ value_shown notation.now bytes.now) }
+{
+    match notation {
+        Notation::Hex => show_hex(alloc, bytes, text),
+        Notation::Text => show_text(bytes, text),
+        Notation::Layout(layout) => show_by(alloc, layout, bytes, text),
+    }
+}
+
+fn show_hex<A: Allocator + Copy>(
+    alloc: A,
+    bytes: &[u8],
+    text: &mut Vec<u8, A>,
+) -> Result<(), AllocError>
+    ensures { OnOk result (text.new.items ≡ text.old.items ++ hex_shown bytes.now) }
+{
+    if bytes.is_empty() {
+        return text.extend_from_slice(b".");
+    }
+    let hex = hex::encode(alloc, bytes)?;
+    text.extend_from_slice(hex.as_bytes())
+}

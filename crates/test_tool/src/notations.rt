@@ -24,9 +24,11 @@ fn read_line(global: Global, word: &str) -> Option<String> {
 
 // A text, and whether it is read as these bytes.
 fn told(global: Global, text: &[u8], bytes: &[u8]) -> Option<String> {
-    let back = match read_text(global, text).ok()? {
-        Some(read) if read.as_slice() == bytes => "back",
-        _ => "another",
+    let read = read_text(global, text).ok()??;
+    let back = if read.as_slice() == bytes {
+        "back"
+    } else {
+        "another"
     };
     format!(in global; "{} {back}", str::from_utf8(text).ok()?).ok()
 }

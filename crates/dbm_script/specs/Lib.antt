@@ -6,3 +6,6 @@ pub mod Answers
 pub mod Tasks
 pub mod Images
 pub mod Script
+pub mod Reading
+pub mod Every
+pub mod Sessions

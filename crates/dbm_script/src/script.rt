@@ -84,8 +84,12 @@ pub fn run_lines<A: Allocator + Copy>(
     Ok((image, text))
 }
 
-// Answers one line, unless it is empty.
-fn answer_line<A: Allocator + Copy>(
+/// Answers one line of a script on an image as session 0, and writes the answer and its end after a text; an empty line has none. Programs
+/// that lines submit are kept in the registry.
+///
+/// # Errors
+/// `AllocError` where there is no memory for it. The text and the image are of no use then.
+pub fn answer_line<A: Allocator + Copy>(
     alloc: A,
     image: &mut Image<A>,
     registry: &mut Registry<A>,
@@ -115,7 +119,23 @@ fn answer_words<A: Allocator + Copy>(
         AnswersLine A (stage image.old registry.old.programs) (ask_of (pieces_of 32 line.now)) told added (stage image.new registry.new.programs))) }
     ensures kept { OnOk result ((image.new.kind ≡ image.old.kind) × (image.new.size ≡ image.old.size)) }
 {
-    match read_line(alloc, line)? {
+    let ask = read_line(alloc, line)?;
+    answer_asked(alloc, image, registry, ask, text)
+}
+
+// Answers what a line asks, where it asks anything.
+pub(crate) fn answer_asked<A: Allocator + Copy>(
+    alloc: A,
+    image: &mut Image<A>,
+    registry: &mut Registry<A>,
+    ask: Option<Ask<A>>,
+    text: &mut Vec<u8, A>,
+) -> Result<(), AllocError>
+    ensures answer { OnOk result (Adds text.old.items text.new.items (λ added. (told : Option Verdict) ×
+        AnswersLine A (stage image.old registry.old.programs) ask told added (stage image.new registry.new.programs))) }
+    ensures kept { OnOk result ((image.new.kind ≡ image.old.kind) × (image.new.size ≡ image.old.size)) }
+{
+    match ask {
         None => text.extend_from_slice(b"bad line"),
         Some(ask) => answer_ask(alloc, image, registry, ask, text),
     }

@@ -5,3 +5,4 @@ pub mod Outcomes
 pub mod FaultText
 pub mod Clocks
 pub mod Endings
+pub mod Sessions

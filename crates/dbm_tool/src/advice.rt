@@ -21,6 +21,17 @@ pub fn advise<R: Runtime<File = File> + AllocGlobal>(
     fault: ServeFault,
 ) {
     match (request, fault) {
+        (
+            Some(Request {
+                wish: Wish::Session { .. },
+                ..
+            }),
+            ServeFault::Write,
+        ) => {
+            let _ = eprintln!(rt;
+                "  Standard output is closed or cannot be written: what was answered since the last save is not kept."
+            );
+        }
         (_, ServeFault::Write) => {
             let _ = eprintln!(rt;
                 "  Standard output is closed or cannot be written, as where a disk is full; nothing was changed."
@@ -141,7 +152,7 @@ fn advise_report<R: Runtime<File = File> + AllocGlobal>(
         ReportFault::NotText => advise_no_text(rt, wish),
         ReportFault::Assemble(fault) => advise_assemble(rt, file, fault),
         ReportFault::Decode(fault) => advise_decode(rt, wish, fault),
-        fault => advise_input(rt, fault),
+        fault => advise_input(rt, wish, fault),
     }
 }
 
@@ -168,8 +179,13 @@ fn advise_no_text<R: Runtime>(rt: &R, wish: &Wish<'_>) {
     };
 }
 
-fn advise_input<R: Runtime>(rt: &R, fault: ReportFault) {
+fn advise_input<R: Runtime>(rt: &R, wish: &Wish<'_>, fault: ReportFault) {
     let _ = match fault {
+        ReportFault::TooLong if matches!(wish, Wish::Session { .. }) => {
+            eprintln!(rt;
+                "  A line has more than 16 MiB: what was answered since the last save is not kept."
+            )
+        }
         ReportFault::Read => {
             eprintln!(rt; "  Standard input is closed or cannot be read, as where it is a folder.")
         }
@@ -245,6 +261,13 @@ fn advise_number<R: Runtime>(rt: &R, request: &Request<'_>) {
             max_output: Some(most),
             ..
         } => tell_word(rt, "--max-output", most, BELOW),
+        Wish::Session {
+            save_every: Some(every),
+            ..
+        } => {
+            let wrong = "is neither a number of changes, as 100, nor one of seconds, as 5s";
+            tell_word(rt, "--save-every", every, wrong);
+        }
         _ => (),
     }
 }

@@ -75,6 +75,23 @@ fn take_to_write<R: Files<File = File> + Clock + AllocGlobal>(
     Ok(Taken { given, held })
 }
 
+/// What the files of a wish that writes have in them now, once a save that was cut off is ended. Its lock has to be held.
+///
+/// # Errors
+/// `WriteFile` where a save cannot be ended, those of `read_given`, and `BadRedo` where the redo file is marked and no save has left it.
+pub fn read_to_write<R: Files<File = File> + AllocGlobal>(
+    rt: &R,
+    wish: &Wish<'_>,
+    names: &Names,
+) -> Result<Found, ServeFault> {
+    let (given, redo) = read_database(rt, wish, names, true)?;
+    Ok(Found {
+        pages: given.pag,
+        directory: given.dir,
+        redo,
+    })
+}
+
 // Reads the files of a wish that changes nothing, under a lock where there is one.
 fn read_under_lock<R: Files<File = File> + Clock + AllocGlobal>(
     rt: &R,

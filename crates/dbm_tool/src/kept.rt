@@ -14,17 +14,25 @@ pub struct Kept<R: Read> {
     has_lost: bool,
     /// Whether `bad line` is among the answers to what was read.
     pub has_bad_line: bool,
+    /// Whether the reader is a terminal.
+    pub is_terminal: bool,
 }
 
 impl<R: Read> Kept<R> {
     /// The reader, of which nothing was read.
-    pub fn new(alloc: Global, reader: R) -> Self {
+    pub fn new(alloc: Global, reader: R, is_terminal: bool) -> Self {
         Kept {
             reader,
             text: Vec::new(alloc),
             has_lost: false,
             has_bad_line: false,
+            is_terminal,
         }
+    }
+
+    /// The reader, of which nothing is kept.
+    pub fn reader(&mut self) -> &mut R {
+        &mut self.reader
     }
 
     /// What was read, and nothing where memory ran out.

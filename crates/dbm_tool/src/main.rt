@@ -13,24 +13,29 @@ mod host;
 mod kept;
 mod links;
 mod lock;
+mod prompt;
 mod reasons;
 mod saving;
 mod serve;
+mod session;
 
 use advice::{advise, note_absent, note_object};
 use clock::read_clock;
 use dbm_reports::{Given, ReportFault};
-use dbm_script::read_number;
-use dbm_words::{Request, ToolFault, Wish, read_words};
+use dbm_script::{Saver, read_number};
+use dbm_words::{Form, Request, ToolFault, Wish, read_words};
 use ending::{Ending, ending_of, exit_status};
 use fault::ServeFault;
 use files::{Held, Taken, save_files, take_files};
 use kept::{Kept, Watched, has_bad_line, note_bad_lines};
+use prompt::Prompted;
 use reasons::has_no_files;
 use sdbm_saves::Found;
 use serve::serve;
+use session::{FileSaver, serve_session};
+use std::alloc::Global;
 use std::fs::File;
-use std::io::{ErrorKind, Read};
+use std::io::{ErrorKind, IsTerminal, Read};
 use std::process::ExitCode;
 use std::rt::{Files, Runtime};
 use std::sync::Wait;
@@ -41,7 +46,7 @@ use std::{env, fs, io};
 fn main(rt: HostRuntime) -> ExitCode {
     let _standard = hold_standard(&rt);
     let ending = match read_args(&rt) {
-        Ok(args) => run(&rt, args.as_slice()),
+        Ok(args) => run(&rt, args.as_slice(), rt.stdin().is_terminal()),
         Err(fault) => tell(&rt, None, Ending::Failed(fault)),
     };
     ExitCode::from(exit_status(&ending))
@@ -66,6 +71,7 @@ fn read_args<R: Runtime + AllocGlobal>(rt: &R) -> Result<Vec<String>, ServeFault
 fn run<R: Runtime<File = File> + AllocGlobal + Threads + Wait + Sync>(
     rt: &R,
     args: &[String],
+    is_terminal: bool,
 ) -> Ending {
     let alloc = rt.alloc();
     let mut words: Vec<&str> = Vec::new(alloc);
@@ -76,7 +82,7 @@ fn run<R: Runtime<File = File> + AllocGlobal + Threads + Wait + Sync>(
     }
     match read_words(alloc, words.as_slice()) {
         Ok(request) => {
-            let mut reader = Kept::new(alloc, rt.reader());
+            let mut reader = Kept::new(alloc, rt.reader(), is_terminal);
             let ending = match serve_request(rt, request, &mut reader) {
                 Ok(ending) => ending,
                 Err(fault) => Ending::Failed(fault),
@@ -177,7 +183,15 @@ fn serve_taken<R: Runtime<File = File> + AllocGlobal + Threads + Wait + Sync, I:
 ) -> Result<Ending, ServeFault> {
     let Taken { given, held } = taken;
     match held {
-        Some(held) => serve_change(rt, wish, given, held, reader),
+        Some(held) => match wish {
+            Wish::Session {
+                form, save_every, ..
+            } => {
+                let saver = &mut FileSaver::new(rt, wish, &held.names);
+                serve_lines(rt, given, form, save_every, reader, saver)
+            }
+            wish => serve_change(rt, wish, given, held, reader),
+        },
         None => {
             let alloc = rt.alloc();
             let mut writer = Watched::new(io::writer(rt));
@@ -219,6 +233,26 @@ fn serve_change<R: Runtime<File = File> + AllocGlobal + Threads + Wait + Sync, I
         Some(ServeFault::Write) => Err(ServeFault::NoMemory),
         _ => Ok(ending_of(&outcome)),
     }
+}
+
+// Serves a session, at a terminal with a prompt.
+fn serve_lines<R: Runtime<File = File> + AllocGlobal, I: Read, S: Saver<Global, Fault = ServeFault>>(
+    rt: &R,
+    given: Given,
+    form: Form,
+    save_every: Option<&str>,
+    input: &mut Kept<I>,
+    saver: &mut S,
+) -> Result<Ending, ServeFault> {
+    let alloc = rt.alloc();
+    let writer = &mut io::writer(rt);
+    if input.is_terminal {
+        let reader = &mut Prompted::new(rt, input.reader());
+        serve_session(alloc, given, form, save_every, reader, writer, saver)?;
+    } else {
+        serve_session(alloc, given, form, save_every, input.reader(), writer, saver)?;
+    }
+    Ok(Ending::Served(0))
 }
 
 // Prints why the words ask nothing, or the help or the version that they ask for, or the fault and what to do. Where standard output

@@ -1,5 +1,5 @@
 -- Wishes after which files are written.
-use Rattle.std.proofs.Common.{◌≡◌, ℕ, List, Option, Some, None, is_some, IsSomeAnd, true, false, inl, inr, ap}
+use Rattle.std.proofs.Common.{◌≡◌, ◌∙◌, ℕ, Bool, List, Option, Some, None, is_some, IsSomeAnd, true, false, inl, inr, ap}
 use Rattle.sdbm_addr.specs.Database.{Database}
 use Rattle.dbm_words.specs.Wishes.{writes_files}
 use Rattle.dbm_words.specs.declared.wish.Wish.{Wish}
@@ -9,13 +9,21 @@ use Rattle.dbm_reports.specs.declared.databases.Given.{Given}
 use Rattle.std.specs.declared.alloc.Global.{Global}
 use Rattle.dbm_script.specs.declared.run_words.RunWords.{RunWords}
 use Rattle.dbm_reports.specs.Options.{output_limit}
-use Rattle.dbm_reports.specs.Reports.{Judges, OnDatabase, PlaysAlone, PlaysOn, RunsImage}
+use Rattle.dbm_reports.specs.Reports.{IsExplained, Judges, OnDatabase, PlaysAlone, PlaysOn, RunsImage, VerifyReports}
 use Rattle.dbm_reports.specs.Subcommands.{subcommand_for}
 
 -- what is said of an image changes no file
 judged_alone : (image : List ℕ) (report : Report) → Judges image report → report.database ≡ None
 judged_alone image report (inl h) = h.1.written
 judged_alone image report (inr h) = h.1.1.written
+
+explained_alone : (image : List ℕ) (report : Report) → IsExplained image report → report.database ≡ None
+explained_alone image report (inl h) = h.1.1.written ∙ judged_alone image h.0 h.1.0
+explained_alone image report (inr h) = judged_alone image report h.1
+
+verified_alone : (explain is_image : Bool) (file : List ℕ) (report : Report) → VerifyReports explain is_image file report → report.database ≡ None
+verified_alone false is_image file report comes = judged_alone comes.0 report comes.1.1
+verified_alone true is_image file report comes = explained_alone comes.0 report comes.1.1
 
 -- after a run there is a database to be written
 ran_on : (before : Database) (words : RunWords Global) (expect : Option ℕ) (image : List ℕ) (report : Report) → RunsImage before words expect image report → is_some report.database ≡ true
@@ -49,4 +57,4 @@ database_given (wish.Script (Some base) form notation max_output) given input re
 database_given (wish.Widen base unsigned) given input report comes = ap (λ (db : Option Database). is_some db) comes.1.1.written
 database_given (wish.Asm file) given input report comes = ap (λ (db : Option Database). is_some db) comes.1.written
 database_given (wish.Disasm file) given input report comes = ap (λ (db : Option Database). is_some db) comes.1.written
-database_given (wish.Verify file image explain json) given input report comes = ap (λ (db : Option Database). is_some db) (judged_alone comes.0 report comes.1.1)
+database_given (wish.Verify file image explain json) given input report comes = ap (λ (db : Option Database). is_some db) (verified_alone explain image given.file.items report comes)

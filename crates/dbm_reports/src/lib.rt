@@ -2,6 +2,7 @@
 #![tactic(auto)]
 
 mod databases;
+mod explaining;
 mod fault;
 mod listing;
 mod names;
@@ -12,6 +13,7 @@ mod running;
 mod subcommands;
 
 pub use databases::{Given, PAG_LIMIT, is_too_long};
+pub use explaining::refusal_of;
 pub use fault::ReportFault;
 pub use names::{Names, Part, Source, names_of, put, sources};
 pub use reports::{read_input, report_on};

@@ -9,7 +9,8 @@ use Rattle.dbm_reports.specs.declared.databases.Given.{Given}
 use Rattle.std.specs.declared.alloc.Global.{Global}
 use Rattle.dbm_script.specs.declared.run_words.RunWords.{RunWords}
 use Rattle.dbm_reports.specs.Options.{output_limit}
-use Rattle.dbm_reports.specs.Reports.{Judges, OnDatabase, PlaysAlone, PlaysOn, RunsImage}
+use Rattle.dbm_reports.specs.Rows.{keys_listing, pairs_listing, prefix_asked}
+use Rattle.dbm_reports.specs.Reports.{Judges, Lists, OnDatabase, PlaysAlone, PlaysOn, RunsImage}
 use Rattle.dbm_reports.specs.Subcommands.{subcommand_for}
 
 -- what is said of an image changes no file
@@ -23,7 +24,7 @@ ran_on before words expect image report (inl h) = ap (λ (db : Option Database).
 ran_on before words expect image report (inr h) = ap (λ (db : Option Database). is_some db) h.1.1.written
 
 -- what follows from a limit, whichever it is
-on_limit : (limit : Option ℕ) (P : ℕ → Type 0) (Q : Type 0) → ((most : ℕ) → P most → Q) → IsSomeAnd limit P → Q
+on_limit : {X : Type 0} (limit : Option X) (P : X → Type 0) (Q : Type 0) → ((most : X) → P most → Q) → IsSomeAnd limit P → Q
 on_limit None P Q f h = absurd h
 on_limit (Some most) P Q f h = f most h
 
@@ -35,10 +36,14 @@ database_given (wish.Store base form notation key value insert) given input repo
 database_given (wish.Delete base form notation key) given input report comes = ap (λ (db : Option Database). is_some db) comes.holds.1.1
 database_given (wish.Run base form notation key file arg blank now expect image) given input report comes = ran_on comes.before comes.words comes.expect comes.image report comes.runs
 database_given (wish.Batch base form notation file workers image) given input report comes = absurd comes
-database_given (wish.List base form notation prefix null json) given input report comes = ap (λ (db : Option Database). is_some db) comes.1.1.written
+database_given (wish.List base form notation prefix null json) given input report comes =
+    on_limit (prefix_asked prefix) (λ begin. OnDatabase form given (Lists (pairs_listing null json) begin report)) (is_some report.database ≡ false)
+    (λ begin lists. ap (λ (db : Option Database). is_some db) lists.1.1.written) comes
 database_given (wish.Check base form json) given input report comes = ap (λ (db : Option Database). is_some db) comes.1.1.written
-database_given (wish.Keys base form notation prefix null) given input report comes = absurd comes
-database_given (wish.Stats base form json) given input report comes = absurd comes
+database_given (wish.Keys base form notation prefix null) given input report comes =
+    on_limit (prefix_asked prefix) (λ begin. OnDatabase form given (Lists (keys_listing null) begin report)) (is_some report.database ≡ false)
+    (λ begin lists. ap (λ (db : Option Database). is_some db) lists.1.1.written) comes
+database_given (wish.Stats base form json) given input report comes = ap (λ (db : Option Database). is_some db) comes.1.1.1.1.written
 database_given (wish.Dump base form format) given input report comes = absurd comes
 database_given (wish.Load base form format) given input report comes = absurd comes
 database_given (wish.Session base form notation save_every) given input report comes = absurd comes

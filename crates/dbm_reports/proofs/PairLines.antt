@@ -1,11 +1,27 @@
 -- Pairs listed one by one.
-use Rattle.std.proofs.Common.{◌≡◌, ℕ, ◌+◌, ◌<◌, List, [], ◌∷◌, ◌++◌, length, take, get_or, sym, ap, ◌∙◌}
+use Rattle.std.proofs.Common.{◌≡◌, ℕ, ◌+◌, ◌<◌, nat_eq, Bool, true, false, cond, List, [], ◌∷◌, ◌++◌, length, take, get_or, sym, ap, ◌∙◌}
 use Rattle.std.proofs.lemmas.Grind.{flat_map-append}
 use Rattle.std.proofs.lemmas.List.{take_more, append-nil}
+use Rattle.std.proofs.lemmas.List.Elements.{filter-append}
+use Rattle.std.specs.List.{flat_map, starts_with}
 use Rattle.sdbm_addr.specs.Pairs.{Pair}
-use Rattle.dbm_reports.specs.Reports.{pair_line, listed}
+use Rattle.dbm_reports.specs.Rows.{chosen, row_of, rows}
+use Rattle.dbm_reports.specs.declared.rows.Listing.{Listing}
 
-pub listed_more : (pairs : List Pair) (i : ℕ) (e : Pair) → i < length pairs → e ≡ get_or pairs i e → listed (take (i + 1) pairs) ≡ listed (take i pairs) ++ pair_line e
-listed_more pairs i e h is =
-    ap listed (take_more pairs i e h) ∙ flat_map-append pair_line (take i pairs) (get_or pairs i e ∷ [])
-    ∙ ap (λ (line : List ℕ). listed (take i pairs) ++ line) (append-nil (pair_line (get_or pairs i e)) ∙ ap pair_line (sym is))
+rows-append : (listing : Listing) (prefix : List ℕ) (xs ys : List Pair) → rows listing prefix (xs ++ ys) ≡ rows listing prefix xs ++ rows listing prefix ys
+rows-append listing prefix xs ys =
+    ap (flat_map (row_of listing)) (filter-append (λ (e : Pair). starts_with nat_eq e.0 prefix) xs ys)
+    ∙ flat_map-append (row_of listing) (chosen prefix xs) (chosen prefix ys)
+
+pub rows_more : (listing : Listing) (prefix : List ℕ) (pairs : List Pair) (i : ℕ) (e : Pair) → i < length pairs → e ≡ get_or pairs i e
+    → rows listing prefix (take (i + 1) pairs) ≡ rows listing prefix (take i pairs) ++ rows listing prefix (e ∷ [])
+rows_more listing prefix pairs i e h is =
+    ap (rows listing prefix) (take_more pairs i e h) ∙ rows-append listing prefix (take i pairs) (get_or pairs i e ∷ [])
+    ∙ ap (λ (p : Pair). rows listing prefix (take i pairs) ++ rows listing prefix (p ∷ [])) (sym is)
+
+-- a pair alone, whose key begins with the prefix or not
+pub row_not_chosen : (listing : Listing) (prefix : List ℕ) (e : Pair) → starts_with nat_eq e.0 prefix ≡ false → rows listing prefix (e ∷ []) ≡ []
+row_not_chosen listing prefix e other = ap (λ (b : Bool). flat_map (row_of listing) (cond b (e ∷ []) [])) other
+
+pub row_chosen : (listing : Listing) (prefix : List ℕ) (e : Pair) → starts_with nat_eq e.0 prefix ≡ true → rows listing prefix (e ∷ []) ≡ row_of listing e
+row_chosen listing prefix e begins = ap (λ (b : Bool). flat_map (row_of listing) (cond b (e ∷ []) [])) begins ∙ append-nil (row_of listing e)

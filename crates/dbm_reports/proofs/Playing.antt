@@ -40,8 +40,8 @@ plays_text before known most after report other text status plays = record {
 pub overlong_known : (before : Database) (known : Option (List ℕ)) (read : List ℕ) (most : ℕ) → IfSome known (λ input. read ≡ input) → IsOverlong before (Some read) most → IsOverlong before known most
 overlong_known before known read most is long = known_read known read (λ bytes. AnswersExceed Global before bytes most) is long
 
-within : (limit : Option ℕ) (most : ℕ) (P : ℕ → Type 0) → limit ≡ Some most → P most → IsSomeAnd limit P
-within limit most P is holds = subst (λ (o : Option ℕ). IsSomeAnd o P) (sym is) holds
+pub within : {X : Type 0} (limit : Option X) (most : X) (P : X → Type 0) → limit ≡ Some most → P most → IsSomeAnd limit P
+within {X} limit most P is holds = subst (λ (o : Option X). IsSomeAnd o P) (sym is) holds
 
 -- a limit of a script on an empty database, and on one of files
 pub limited_alone : (form : Form) (notation : Notation) (max_output : Option (Bor (List ℕ))) (given : Given) (input : Option (List ℕ)) (most : ℕ) (report : Report) → output_limit max_output ≡ Some most

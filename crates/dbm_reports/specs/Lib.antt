@@ -1,6 +1,7 @@
 pub mod Names
 pub mod Databases
 pub mod Options
+pub mod Rows
 pub mod Causes
 pub mod Reports
 pub mod Subcommands

@@ -4,9 +4,10 @@ use Rattle.dbm_words.specs.declared.wish.Wish.{Wish}
 use Rattle.dbm_words.specs.declared.wish.Wish.TheVariants as wish
 use Rattle.dbm_reports.specs.declared.subcommands.Report.{Report}
 use Rattle.dbm_reports.specs.declared.databases.Given.{Given}
-use Rattle.dbm_reports.specs.Reports.{OnCommand, OnDatabase, Looks, Changes, Lists, Counts, PlaysAlone, PlaysOn, Widens, PrintsOf, IsAssembled, IsDisassembled, Verifies, OnRun, fetch_words, store_words, delete_words, small_form}
+use Rattle.dbm_reports.specs.Reports.{OnCommand, OnDatabase, Looks, Changes, Lists, Counts, Figures, PlaysAlone, PlaysOn, Widens, PrintsOf, IsAssembled, IsDisassembled, Verifies, OnRun, fetch_words, store_words, delete_words, small_form}
 use Rattle.dbm_reports.specs.Options.{output_limit}
-use Rattle.dbm_reports.specs.Causes.{Causes, no_causes, command_causes, opening_causes, alone_causes, script_causes, numbered_causes, text_causes, image_causes, file_causes, run_causes}
+use Rattle.dbm_reports.specs.Rows.{keys_listing, pairs_listing, prefix_asked}
+use Rattle.dbm_reports.specs.Causes.{Causes, no_causes, command_causes, listing_causes, opening_causes, alone_causes, script_causes, numbered_causes, text_causes, image_causes, file_causes, run_causes}
 
 pub record Subcommand : Type 1 where
   -- what comes of it
@@ -37,20 +38,20 @@ subcommand_for (wish.Batch base form notation file workers image) given input = 
   causes = no_causes;
 }
 subcommand_for (wish.List base form notation prefix null json) given input = record {
-  reports = λ report. OnDatabase form given (Lists report);
-  causes = opening_causes form given;
+  reports = λ report. IsSomeAnd (prefix_asked prefix) (λ begin. OnDatabase form given (Lists (pairs_listing null json) begin report));
+  causes = listing_causes form given prefix;
 }
 subcommand_for (wish.Check base form json) given input = record {
-  reports = λ report. OnDatabase form given (Counts report);
+  reports = λ report. OnDatabase form given (Counts json report);
   causes = opening_causes form given;
 }
 subcommand_for (wish.Keys base form notation prefix null) given input = record {
-  reports = λ report. ⊥;
-  causes = no_causes;
+  reports = λ report. IsSomeAnd (prefix_asked prefix) (λ begin. OnDatabase form given (Lists (keys_listing null) begin report));
+  causes = listing_causes form given prefix;
 }
 subcommand_for (wish.Stats base form json) given input = record {
-  reports = λ report. ⊥;
-  causes = no_causes;
+  reports = λ report. OnDatabase form given (Figures json report);
+  causes = opening_causes form given;
 }
 subcommand_for (wish.Dump base form format) given input = record {
   reports = λ report. ⊥;

@@ -8,6 +8,7 @@ mod names;
 mod options;
 mod programs;
 mod reports;
+mod rows;
 mod running;
 mod subcommands;
 

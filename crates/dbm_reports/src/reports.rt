@@ -1,22 +1,25 @@
 //! What comes of each subcommand, from its words, the bytes of its files and standard input.
-ghost use Rattle.std.specs.Prelude.{◌≡◌, ◌≤◌, ◌∷◌, false, length, map, IfOk, IfErr, IfSome, Some};
+ghost use Rattle.std.specs.Prelude.{◌≡◌, ◌≤◌, ◌∷◌, false, length, map, IfOk, IfErr, IfSome, IsSomeAnd, Some};
 ghost use Rattle.dbm_script.specs.Commands.{command_of};
 ghost use Rattle.dbm_words.specs.declared.wish.Wish.TheVariants as wish;
-ghost use Rattle.dbm_reports.specs.Causes.{IsCaused, command_causes, alone_causes, opening_causes, input_causes, script_causes};
+ghost use Rattle.dbm_reports.specs.Causes.{IsCaused, command_causes, alone_causes, listing_causes, opening_causes, input_causes, script_causes};
 ghost use Rattle.dbm_reports.specs.Databases.{IsOpened};
-ghost use Rattle.dbm_reports.specs.Reports.{OnCommand, OnDatabase, Looks, Changes, Lists, Counts, PlaysAlone, PlaysOn, Widens, delete_words, fetch_words, small_form, store_name, store_words};
+ghost use Rattle.dbm_reports.specs.Reports.{OnCommand, OnDatabase, Looks, Changes, Lists, Counts, Figures, PlaysAlone, PlaysOn, Widens, delete_words, fetch_words, small_form, store_name, store_words};
+ghost use Rattle.dbm_reports.specs.Rows.{keys_listing, pairs_listing, prefix_asked};
 ghost use Rattle.dbm_reports.specs.Subcommands.{is_batch, is_script, subcommand_for};
 
 use crate::databases::{Given, key_bytes_of, open, page_size_of};
 use crate::fault::ReportFault;
 use crate::options::output_limit;
 use crate::programs::{assemble_file, disassemble_file, verify_file};
+use crate::rows::{Listing, keys_listing, pairs_listing};
 use crate::running::{RunTexts, report_run};
-use crate::subcommands::{Report, change, check, list, look, play, printed, widen_pages};
-use dbm_script::{ScriptFault, read_all, read_command};
+use crate::subcommands::{Report, change, check, figures, list, look, play, printed, widen_pages};
+use dbm_script::{ScriptFault, read_all, read_bytes, read_command};
 use dbm_words::{Form, Notation, Wish};
+use sdbm_addr::Bytes;
 use sdbm_files::Image;
-use std::alloc::Global;
+use std::alloc::{AllocError, Global};
 use std::io::Read;
 use store_cmd::Command;
 
@@ -86,8 +89,21 @@ pub fn report_on<R: Read>(
             };
             report_run(alloc, given, form, texts, image)
         }
-        Wish::List { form, .. } => report_list(alloc, given, form),
-        Wish::Check { form, .. } => report_check(alloc, given, form),
+        Wish::List {
+            form,
+            prefix,
+            null,
+            json,
+            ..
+        } => report_list(alloc, given, form, prefix, null, json),
+        Wish::Keys {
+            form,
+            prefix,
+            null,
+            ..
+        } => report_keys(alloc, given, form, prefix, null),
+        Wish::Check { form, json, .. } => report_check(alloc, given, form, json),
+        Wish::Stats { form, json, .. } => report_stats(alloc, given, form, json),
         Wish::Script {
             base,
             form,
@@ -99,11 +115,7 @@ pub fn report_on<R: Read>(
         Wish::Disasm { .. } => disassemble_file(alloc, given.file.as_slice()),
         Wish::Verify { image, .. } => verify_file(alloc, given.file.as_slice(), image),
         Wish::Batch { .. } => unreachable!(),
-        Wish::Keys { .. }
-        | Wish::Stats { .. }
-        | Wish::Dump { .. }
-        | Wish::Load { .. }
-        | Wish::Session { .. } => Err(ReportFault::NoMemory),
+        Wish::Dump { .. } | Wish::Load { .. } | Wish::Session { .. } => Err(ReportFault::NoMemory),
     }
 }
 
@@ -165,20 +177,75 @@ fn report_delete(alloc: Global, given: &Given, form: Form, key: &str) -> Result<
     Ok(change(alloc, image, command, None)?)
 }
 
-fn report_list(alloc: Global, given: &Given, form: Form) -> Result<Report, ReportFault>
-    ensures ok { IfOk result (λ report. OnDatabase form given.now (Lists report)) }
-    ensures fault { IfErr result (IsCaused (opening_causes form given.now)) }
+fn report_list(
+    alloc: Global,
+    given: &Given,
+    form: Form,
+    prefix: Option<&str>,
+    null: bool,
+    json: bool,
+) -> Result<Report, ReportFault>
+    ensures ok { IfOk result (λ report. IsSomeAnd (prefix_asked prefix.entry) (λ begin. OnDatabase form given.now (Lists (pairs_listing null json) begin report))) }
+    ensures fault { IfErr result (IsCaused (listing_causes form given.now prefix.entry)) }
 {
-    let image = open(alloc, given, form)?;
-    Ok(list(alloc, &image)?)
+    report_rows(alloc, given, form, prefix, pairs_listing(null, json))
 }
 
-fn report_check(alloc: Global, given: &Given, form: Form) -> Result<Report, ReportFault>
-    ensures ok { IfOk result (λ report. OnDatabase form given.now (Counts report)) }
+fn report_keys(
+    alloc: Global,
+    given: &Given,
+    form: Form,
+    prefix: Option<&str>,
+    null: bool,
+) -> Result<Report, ReportFault>
+    ensures ok { IfOk result (λ report. IsSomeAnd (prefix_asked prefix.entry) (λ begin. OnDatabase form given.now (Lists (keys_listing null) begin report))) }
+    ensures fault { IfErr result (IsCaused (listing_causes form given.now prefix.entry)) }
+{
+    report_rows(alloc, given, form, prefix, keys_listing(null))
+}
+
+// The pairs whose keys begin with a prefix, a row each. The prefix is read first.
+fn report_rows(
+    alloc: Global,
+    given: &Given,
+    form: Form,
+    prefix: Option<&str>,
+    listing: Listing,
+) -> Result<Report, ReportFault>
+    ensures ok { IfOk result (λ report. IsSomeAnd (prefix_asked prefix.entry) (λ begin. OnDatabase form given.now (Lists listing begin report))) }
+    ensures fault { IfErr result (IsCaused (listing_causes form given.now prefix.entry)) }
+{
+    let Some(begin) = read_prefix(alloc, prefix)? else {
+        return Err(ReportFault::BadHex);
+    };
+    let image = open(alloc, given, form)?;
+    Ok(list(alloc, &image, listing, begin.as_slice())?)
+}
+
+// The prefix that a word asks; without one it has no bytes.
+fn read_prefix(alloc: Global, prefix: Option<&str>) -> Result<Option<Bytes<Global>>, AllocError>
+    ensures { IfOk result (λ begin. begin ≡ prefix_asked prefix.entry) }
+{
+    match prefix {
+        None => Ok(Some(Bytes::new(Vec::new(alloc)))),
+        Some(word) => read_bytes(alloc, word.as_bytes()),
+    }
+}
+
+fn report_check(alloc: Global, given: &Given, form: Form, json: bool) -> Result<Report, ReportFault>
+    ensures ok { IfOk result (λ report. OnDatabase form given.now (Counts json report)) }
     ensures fault { IfErr result (IsCaused (opening_causes form given.now)) }
 {
     let image = open(alloc, given, form)?;
-    Ok(check(alloc, &image)?)
+    Ok(check(alloc, &image, json)?)
+}
+
+fn report_stats(alloc: Global, given: &Given, form: Form, json: bool) -> Result<Report, ReportFault>
+    ensures ok { IfOk result (λ report. OnDatabase form given.now (Figures json report)) }
+    ensures fault { IfErr result (IsCaused (opening_causes form given.now)) }
+{
+    let image = open(alloc, given, form)?;
+    Ok(figures(alloc, &image, json)?)
 }
 
 fn report_script<R: Read>(

@@ -193,6 +193,14 @@ fn advise_hex<R: Runtime + AllocGlobal>(rt: &R, wish: &Wish<'_>) {
         Wish::Store { key, value, .. } => [("KEY", key), ("VALUE", value)],
         Wish::Fetch { key, .. } | Wish::Delete { key, .. } => [("KEY", key), ("KEY", key)],
         Wish::Run { key, arg, .. } => [("KEY", key), ("ARG", arg)],
+        Wish::List {
+            prefix: Some(prefix),
+            ..
+        }
+        | Wish::Keys {
+            prefix: Some(prefix),
+            ..
+        } => [("--prefix", prefix), ("--prefix", prefix)],
         _ => return,
     };
     let [(_, key), _] = words;

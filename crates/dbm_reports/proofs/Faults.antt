@@ -11,7 +11,7 @@ use Rattle.dbm_words.specs.declared.wish.Notation.{Notation}
 use Rattle.dbm_words.specs.declared.wish.Wish.TheVariants as wish
 use Rattle.dbm_reports.specs.declared.databases.Given.{Given}
 use Rattle.dbm_reports.specs.declared.fault.ReportFault.{ReportFault}
-use Rattle.dbm_reports.specs.declared.fault.ReportFault.TheVariants.{BadHex, BadNumber, Open, NotText, Assemble, Decode, Read, TooLong, OutputTooLong, NoMemory}
+use Rattle.dbm_reports.specs.declared.fault.ReportFault.TheVariants.{BadHex, BadNumber, Open, NotText, Assemble, Decode, Read, TooLong, OutputTooLong, BadFormat, Load, NoMemory}
 use Rattle.sdbm_addr.specs.declared.KeyBytes.{KeyBytes}
 use Rattle.sdbm_addr.specs.declared.PageSize.{PageSize}
 use Rattle.sdbm_files.specs.Opened.{IsOpenFault}
@@ -54,6 +54,8 @@ input_fault form given input most (Decode fault) opens h = h
 input_fault form given input most Read opens h = opens
 input_fault form given input most TooLong opens h = (opens, h)
 input_fault form given input most OutputTooLong opens h = absurd h
+input_fault form given input most BadFormat opens h = absurd h
+input_fault form given input most (Load reason) opens h = absurd h
 input_fault form given input most NoMemory opens h = tt
 
 -- standard input is read for a script on an empty database
@@ -67,6 +69,8 @@ alone_fault form input most (Decode fault) h = h
 alone_fault form input most Read h = h
 alone_fault form input most TooLong h = h
 alone_fault form input most OutputTooLong h = absurd h
+alone_fault form input most BadFormat h = absurd h
+alone_fault form input most (Load reason) h = absurd h
 alone_fault form input most NoMemory h = h
 
 -- a script that was read is played behind other steps
@@ -80,6 +84,8 @@ played_fault causes db input most (Decode fault) f h = absurd h
 played_fault causes db input most Read f h = absurd h
 played_fault causes db input most TooLong f h = absurd h
 played_fault causes db input most OutputTooLong f h = f h
+played_fault causes db input most BadFormat f h = absurd h
+played_fault causes db input most (Load reason) f h = absurd h
 played_fault causes db input most NoMemory f h = tt
 
 -- the fault of lines that were not all run

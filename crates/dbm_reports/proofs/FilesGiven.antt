@@ -8,6 +8,8 @@ use Rattle.dbm_reports.specs.declared.subcommands.Report.{Report}
 use Rattle.dbm_reports.specs.declared.databases.Given.{Given}
 use Rattle.std.specs.declared.alloc.Global.{Global}
 use Rattle.dbm_script.specs.declared.run_words.RunWords.{RunWords}
+use Rattle.dbm_dump.specs.Formats.{format_of, start_of}
+use Rattle.dbm_reports.specs.Dumps.{Dumps, Loads}
 use Rattle.dbm_reports.specs.Options.{output_limit}
 use Rattle.dbm_reports.specs.Reports.{Judges, OnDatabase, PlaysAlone, PlaysOn, RunsImage}
 use Rattle.dbm_reports.specs.Subcommands.{subcommand_for}
@@ -22,8 +24,8 @@ ran_on : (before : Database) (words : RunWords Global) (expect : Option ℕ) (im
 ran_on before words expect image report (inl h) = ap (λ (db : Option Database). is_some db) h.1.1.1.1
 ran_on before words expect image report (inr h) = ap (λ (db : Option Database). is_some db) h.1.1.written
 
--- what follows from a limit, whichever it is
-on_limit : (limit : Option ℕ) (P : ℕ → Type 0) (Q : Type 0) → ((most : ℕ) → P most → Q) → IsSomeAnd limit P → Q
+-- what follows from the value of an option, whichever it is
+on_limit : {X : Type 0} (limit : Option X) (P : X → Type 0) (Q : Type 0) → ((most : X) → P most → Q) → IsSomeAnd limit P → Q
 on_limit None P Q f h = absurd h
 on_limit (Some most) P Q f h = f most h
 
@@ -39,8 +41,10 @@ database_given (wish.List base form notation prefix null json) given input repor
 database_given (wish.Check base form json) given input report comes = ap (λ (db : Option Database). is_some db) comes.1.1.written
 database_given (wish.Keys base form notation prefix null) given input report comes = absurd comes
 database_given (wish.Stats base form json) given input report comes = absurd comes
-database_given (wish.Dump base form format) given input report comes = absurd comes
-database_given (wish.Load base form format) given input report comes = absurd comes
+database_given (wish.Dump base form format) given input report comes =
+    on_limit (format_of format) (λ f. OnDatabase form given (Dumps f report)) (is_some report.database ≡ false) (λ f dumps. ap (λ (db : Option Database). is_some db) dumps.1.1.written) comes
+database_given (wish.Load base form format) given input report comes =
+    on_limit (start_of format) (λ start. OnDatabase form given (Loads start input report)) (is_some report.database ≡ true) (λ start loads. ap (λ (db : Option Database). is_some db) loads.1.1.written) comes
 database_given (wish.Session base form notation save_every) given input report comes = absurd comes
 database_given (wish.Script None form notation max_output) given input report comes =
     on_limit (output_limit max_output) (λ most. PlaysAlone form input most report) (is_some report.database ≡ false) (λ most plays. ap (λ (db : Option Database). is_some db) plays.1.1) comes

@@ -17,7 +17,7 @@ use Rattle.dbm_script.specs.Images.{Denies}
 use Rattle.dbm_words.specs.declared.wish.Form.{Form}
 use Rattle.dbm_reports.specs.declared.databases.Given.{Given}
 use Rattle.dbm_reports.specs.declared.fault.ReportFault.{ReportFault}
-use Rattle.dbm_reports.specs.declared.fault.ReportFault.TheVariants.{BadHex, BadNumber, Open, NotText, Assemble, Decode, Read, TooLong, OutputTooLong, NoMemory}
+use Rattle.dbm_reports.specs.declared.fault.ReportFault.TheVariants.{BadHex, BadNumber, Open, NotText, Assemble, Decode, Read, TooLong, OutputTooLong, BadFormat, Load, NoMemory}
 use Rattle.dbm_reports.specs.Databases.{IsOpened, Opens}
 use Rattle.dbm_reports.specs.Causes.{Causes, IsCaused, no_causes, file_causes, program_causes}
 
@@ -32,6 +32,8 @@ no_fault causes (Decode fault) h = absurd h
 no_fault causes Read h = absurd h
 no_fault causes TooLong h = absurd h
 no_fault causes OutputTooLong h = absurd h
+no_fault causes BadFormat h = absurd h
+no_fault causes (Load reason) h = absurd h
 no_fault causes NoMemory h = h
 
 -- the program's file, behind the opening
@@ -46,6 +48,8 @@ opened_fault form given false (Decode fault) opens h = h
 opened_fault form given false Read opens h = h
 opened_fault form given false TooLong opens h = h
 opened_fault form given false OutputTooLong opens h = h
+opened_fault form given false BadFormat opens h = absurd h
+opened_fault form given false (Load reason) opens h = absurd h
 opened_fault form given false NoMemory opens h = h
 
 -- the same database, whatever the program's file is

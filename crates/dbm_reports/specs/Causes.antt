@@ -19,11 +19,16 @@ use Rattle.dbm_script.specs.declared.fault.LinesFault.TheVariants as lines
 use Rattle.dbm_script.specs.declared.run_words.RunWords.{RunWords}
 use Rattle.dbm_script.specs.declared.run_words.WordFault.{WordFault}
 use Rattle.dbm_script.specs.declared.run_words.WordFault.TheVariants as meant
+use Rattle.dbm_dump.specs.Loading.{IsLoadFault}
+use Rattle.dbm_dump.specs.declared.fault.LoadFault.{LoadFault}
+use Rattle.dbm_dump.specs.declared.fault.LoadFault.TheVariants as load
+use Rattle.dbm_dump.specs.declared.format.Format.{Format}
+use Rattle.dbm_dump.specs.declared.stage.Stage.{Stage}
 use Rattle.dbm_words.specs.declared.wish.Form.{Form}
 use Rattle.dbm_reports.specs.declared.databases.Given.{Given}
 use Rattle.dbm_reports.specs.declared.running.RunTexts.{RunTexts}
 use Rattle.dbm_reports.specs.declared.fault.ReportFault.{ReportFault}
-use Rattle.dbm_reports.specs.declared.fault.ReportFault.TheVariants.{BadHex, BadNumber, Open, NotText, Assemble, Decode, Read, TooLong, OutputTooLong, NoMemory}
+use Rattle.dbm_reports.specs.declared.fault.ReportFault.TheVariants.{BadHex, BadNumber, Open, NotText, Assemble, Decode, Read, TooLong, OutputTooLong, BadFormat, Load, NoMemory}
 use Rattle.dbm_reports.specs.Databases.{IsOpened, IsShut, Opens, key_bytes_of, page_size_of}
 use Rattle.dbm_reports.specs.Options.{expected_code}
 
@@ -43,6 +48,9 @@ pub record Causes : Type 1 where
   pub long : Type 0
   -- the answers to a script have too many bytes
   pub overlong : Type 0
+  -- the format of a dump is none, or a dump is not loaded
+  pub format : Type 0
+  pub loading : LoadFault → Type 0
 
 abbrev pub no_causes : Causes
 no_causes = record {
@@ -55,6 +63,8 @@ no_causes = record {
   reading = ⊥;
   long = ⊥;
   overlong = ⊥;
+  format = ⊥;
+  loading = λ reason. ⊥;
 }
 
 -- A fault comes only for its cause. Memory may be wanted at any time.
@@ -68,6 +78,8 @@ IsCaused causes (Decode fault) = causes.decoding fault
 IsCaused causes Read = causes.reading
 IsCaused causes TooLong = causes.long
 IsCaused causes OutputTooLong = causes.overlong
+IsCaused causes BadFormat = causes.format
+IsCaused causes (Load reason) = causes.loading reason
 IsCaused causes NoMemory = ⊤
 
 -- files that do not open
@@ -190,3 +202,31 @@ word_fault meant.NoMemory = NoMemory
 abbrev pub lines_fault : LinesFault → ReportFault
 lines_fault lines.OutputTooLong = OutputTooLong
 lines_fault lines.NoMemory = NoMemory
+
+-- ---- dumps
+
+-- a dump is not loaded into a database; a reader that fails and want of memory have names of their own
+abbrev pub IsUnloaded : Stage → Database → List ℕ → LoadFault → Type 0
+IsUnloaded start db bytes load.Read = ⊥
+IsUnloaded start db bytes load.NoMemory = ⊥
+IsUnloaded start db bytes reason = IsLoadFault start db bytes reason
+
+-- the format of a dump that is written comes before the files
+abbrev pub dump_causes : Option Format → Form → Given → Causes
+dump_causes None form given = record no_causes { format = ⊤ }
+dump_causes (Some format) form given = opening_causes form given
+
+-- and so does that of one that is loaded
+abbrev pub load_causes : Option Stage → Form → Given → Option (List ℕ) → Causes
+load_causes None form given input = record no_causes { format = ⊤ }
+load_causes (Some start) form given input = record no_causes {
+  opening = IsShut form given;
+  reading = Opens form given;
+  loading = λ reason. (db : Database) × (IsOpened form given db × IfSome input (λ bytes. IsUnloaded start db bytes reason));
+}
+
+-- the fault of a dump
+abbrev pub load_fault : LoadFault → ReportFault
+load_fault load.Read = Read
+load_fault load.NoMemory = NoMemory
+load_fault reason = Load reason

@@ -5,3 +5,4 @@ pub mod Causes
 pub mod Reports
 pub mod Subcommands
 pub mod FaultText
+pub mod Dumps

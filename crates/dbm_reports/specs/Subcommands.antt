@@ -2,11 +2,13 @@
 use Rattle.std.specs.Prelude.{ℕ, Bool, true, false, List, Option, Some, None, IsSomeAnd}
 use Rattle.dbm_words.specs.declared.wish.Wish.{Wish}
 use Rattle.dbm_words.specs.declared.wish.Wish.TheVariants as wish
+use Rattle.dbm_dump.specs.Formats.{format_of, start_of}
 use Rattle.dbm_reports.specs.declared.subcommands.Report.{Report}
 use Rattle.dbm_reports.specs.declared.databases.Given.{Given}
 use Rattle.dbm_reports.specs.Reports.{OnCommand, OnDatabase, Looks, Changes, Lists, Counts, PlaysAlone, PlaysOn, Widens, PrintsOf, IsAssembled, IsDisassembled, Verifies, OnRun, fetch_words, store_words, delete_words, small_form}
+use Rattle.dbm_reports.specs.Dumps.{Dumps, Loads}
 use Rattle.dbm_reports.specs.Options.{output_limit}
-use Rattle.dbm_reports.specs.Causes.{Causes, no_causes, command_causes, opening_causes, alone_causes, script_causes, numbered_causes, text_causes, image_causes, file_causes, run_causes}
+use Rattle.dbm_reports.specs.Causes.{Causes, no_causes, command_causes, opening_causes, alone_causes, script_causes, numbered_causes, text_causes, image_causes, file_causes, run_causes, dump_causes, load_causes}
 
 pub record Subcommand : Type 1 where
   -- what comes of it
@@ -53,12 +55,12 @@ subcommand_for (wish.Stats base form json) given input = record {
   causes = no_causes;
 }
 subcommand_for (wish.Dump base form format) given input = record {
-  reports = λ report. ⊥;
-  causes = no_causes;
+  reports = λ report. IsSomeAnd (format_of format) (λ f. OnDatabase form given (Dumps f report));
+  causes = dump_causes (format_of format) form given;
 }
 subcommand_for (wish.Load base form format) given input = record {
-  reports = λ report. ⊥;
-  causes = no_causes;
+  reports = λ report. IsSomeAnd (start_of format) (λ start. OnDatabase form given (Loads start input report));
+  causes = load_causes (start_of format) form given input;
 }
 subcommand_for (wish.Session base form notation save_every) given input = record {
   reports = λ report. ⊥;
@@ -89,9 +91,10 @@ subcommand_for (wish.Verify file image explain json) given input = record {
   causes = file_causes image given.file.items;
 }
 
--- the subcommand but a batch that reads standard input
+-- the subcommands but a batch that read standard input
 abbrev pub is_script : Wish → Bool
 is_script (wish.Script base form notation max_output) = true
+is_script (wish.Load base form format) = true
 is_script _ = false
 
 -- the subcommand that is none of these

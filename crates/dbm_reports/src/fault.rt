@@ -4,6 +4,7 @@ ghost use Rattle.dbm_reports.specs.declared.fault.ReportFault.TheVariants.{NoMem
 
 use bpf_asm::AsmFault;
 use bpf_insn::DecodeFault;
+use dbm_dump::LoadFault;
 use dbm_script::{LinesFault, WordFault};
 use sdbm_files::OpenFault;
 use std::alloc::{AllocError, AllocFailed};
@@ -33,6 +34,10 @@ pub enum ReportFault {
     TooLong,
     /// The answers to a script would have more bytes than `--max-output` allows.
     OutputTooLong,
+    /// The format of a dump is none that `dump` writes, or none that `load` reads.
+    BadFormat,
+    /// A dump was not loaded.
+    Load(LoadFault),
     /// No memory is left.
     NoMemory,
 }
@@ -54,6 +59,8 @@ impl fmt::Display for ReportFault {
             ReportFault::Read => write!(f, "Read"),
             ReportFault::TooLong => write!(f, "TooLong"),
             ReportFault::OutputTooLong => write!(f, "OutputTooLong"),
+            ReportFault::BadFormat => write!(f, "BadFormat"),
+            ReportFault::Load(fault) => write!(f, "{fault}"),
             ReportFault::NoMemory => write!(f, "NoMemory"),
         }
     }
@@ -113,6 +120,20 @@ impl From<LinesFault> for ReportFault {
         match fault {
             LinesFault::OutputTooLong => ReportFault::OutputTooLong,
             LinesFault::NoMemory => ReportFault::NoMemory,
+        }
+    }
+}
+
+impl From<LoadFault> for ReportFault {
+    ghost use Rattle.dbm_reports.specs.Causes.{load_fault};
+
+    ghost from_gives = { λ reason fault. fault ≡ load_fault reason };
+
+    fn from(fault: LoadFault) -> ReportFault {
+        match fault {
+            LoadFault::Read => ReportFault::Read,
+            LoadFault::NoMemory => ReportFault::NoMemory,
+            fault => ReportFault::Load(fault),
         }
     }
 }

@@ -2,6 +2,7 @@
 #![tactic(auto)]
 
 mod databases;
+mod dumps;
 mod fault;
 mod listing;
 mod names;

@@ -8,6 +8,7 @@ ghost use Rattle.dbm_reports.specs.Reports.{OnCommand, OnDatabase, Looks, Change
 ghost use Rattle.dbm_reports.specs.Subcommands.{is_batch, is_script, subcommand_for};
 
 use crate::databases::{Given, key_bytes_of, open, page_size_of};
+use crate::dumps::{report_dump, report_load};
 use crate::fault::ReportFault;
 use crate::options::output_limit;
 use crate::programs::{assemble_file, disassemble_file, verify_file};
@@ -39,13 +40,14 @@ pub fn read_input<R: Read>(alloc: Global, reader: &mut R) -> Result<Vec<u8>, Rep
     }
 }
 
-/// What comes of a wish that asks no batch. It is found before a line is written, and standard input is read for a script alone.
+/// What comes of a wish that asks no batch. It is found before a line is written, and standard input is read for a script and for a
+/// dump that is loaded alone.
 ///
 /// # Errors
-/// The first that is met, in this order: `BadHex` where a word is no bytes, `BadNumber` where one is no number; `Open` where the
-/// files do not open; `NotText` and `Assemble` where a program's file is no text of one, `Decode` where it is no image; of a script,
-/// those of `read_input`, and `OutputTooLong` where its answers have more bytes than they may. `NoMemory` may come at any step. The
-/// files are only lent, and nothing else changes.
+/// The first that is met, in this order: `BadHex` where a word is no bytes, `BadNumber` where one is no number, `BadFormat` where one
+/// is no format of a dump; `Open` where the files do not open; `NotText` and `Assemble` where a program's file is no text of one,
+/// `Decode` where it is no image; of a script, those of `read_input`, and `OutputTooLong` where its answers have more bytes than they
+/// may; of a dump that is loaded, `Read` and `Load`. `NoMemory` may come at any step. The files are only lent, and nothing else changes.
 pub fn report_on<R: Read>(
     alloc: Global,
     wish: Wish<'_>,
@@ -94,16 +96,14 @@ pub fn report_on<R: Read>(
             notation,
             max_output,
         } => report_script(alloc, given, base, form, notation, max_output, reader),
+        Wish::Dump { form, format, .. } => report_dump(alloc, given, form, format),
+        Wish::Load { form, format, .. } => report_load(alloc, given, form, format, reader),
         Wish::Widen { unsigned, .. } => report_widen(alloc, given, unsigned),
         Wish::Asm { .. } => assemble_file(alloc, given.file.as_slice()),
         Wish::Disasm { .. } => disassemble_file(alloc, given.file.as_slice()),
         Wish::Verify { image, .. } => verify_file(alloc, given.file.as_slice(), image),
         Wish::Batch { .. } => unreachable!(),
-        Wish::Keys { .. }
-        | Wish::Stats { .. }
-        | Wish::Dump { .. }
-        | Wish::Load { .. }
-        | Wish::Session { .. } => Err(ReportFault::NoMemory),
+        Wish::Keys { .. } | Wish::Stats { .. } | Wish::Session { .. } => Err(ReportFault::NoMemory),
     }
 }
 

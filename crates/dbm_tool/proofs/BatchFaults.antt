@@ -77,6 +77,8 @@ no_report causes (reports.Decode fault) h = absurd h
 no_report causes reports.Read h = absurd h
 no_report causes reports.TooLong h = absurd h
 no_report causes reports.OutputTooLong h = absurd h
+no_report causes reports.BadFormat h = absurd h
+no_report causes (reports.Load reason) h = absurd h
 no_report causes reports.NoMemory h = absurd h
 
 -- the files and the program's file, behind the number of workers
@@ -91,6 +93,8 @@ files_before form given workers is_image (reports.Decode fault) number h = absur
 files_before form given workers is_image reports.Read number h = absurd h
 files_before form given workers is_image reports.TooLong number h = absurd h
 files_before form given workers is_image reports.OutputTooLong number h = absurd h
+files_before form given workers is_image reports.BadFormat number h = absurd h
+files_before form given workers is_image (reports.Load reason) number h = absurd h
 files_before form given workers is_image reports.NoMemory number h = tt
 
 -- an image whose program gets no number, behind the words and the files
@@ -134,6 +138,8 @@ unready_fault form given workers is_image input (Report (reports.Decode fault)) 
 unready_fault form given workers is_image input (Report reports.Read) h = absurd h
 unready_fault form given workers is_image input (Report reports.TooLong) h = absurd h
 unready_fault form given workers is_image input (Report reports.OutputTooLong) h = absurd h
+unready_fault form given workers is_image input (Report reports.BadFormat) h = absurd h
+unready_fault form given workers is_image input (Report (reports.Load reason)) h = absurd h
 unready_fault form given workers is_image input (Report reports.NoMemory) h = absurd h
 unready_fault form given workers is_image input (Submit fault) h = h
 unready_fault form given workers is_image input (BadLine number) h = absurd h
@@ -177,6 +183,8 @@ unread_fault form given workers is_image input batch (reports.Decode fault) read
 unread_fault form given workers is_image input batch reports.Read ready h = (batch, (ready, tt))
 unread_fault form given workers is_image input batch reports.TooLong ready h = (batch, (ready, h))
 unread_fault form given workers is_image input batch reports.OutputTooLong ready h = absurd h
+unread_fault form given workers is_image input batch reports.BadFormat ready h = absurd h
+unread_fault form given workers is_image input batch (reports.Load reason) ready h = absurd h
 unread_fault form given workers is_image input batch reports.NoMemory ready h = tt
 
 -- what was read is what is known

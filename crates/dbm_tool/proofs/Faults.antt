@@ -32,6 +32,8 @@ raised causes (reports.Decode fault) h = h
 raised causes reports.Read h = h
 raised causes reports.TooLong h = h
 raised causes reports.OutputTooLong h = h
+raised causes reports.BadFormat h = h
+raised causes (reports.Load reason) h = h
 raised causes reports.NoMemory h = tt
 
 -- what comes of a wish that asks no batch, and why nothing does

@@ -4,6 +4,7 @@ use crate::fault::ServeFault;
 use crate::reasons::{Shown, is_object, tell_too_long, tell_unread, tell_unwritten};
 use bpf_asm::{AsmFault, FaultKind};
 use bpf_insn::DecodeFault;
+use dbm_dump::LoadFault;
 use dbm_reports::ReportFault;
 use dbm_script::{read_blank, read_bytes, read_number};
 use dbm_words::{Form, Request, Wish};
@@ -141,6 +142,8 @@ fn advise_report<R: Runtime<File = File> + AllocGlobal>(
         ReportFault::NotText => advise_no_text(rt, wish),
         ReportFault::Assemble(fault) => advise_assemble(rt, file, fault),
         ReportFault::Decode(fault) => advise_decode(rt, wish, fault),
+        ReportFault::BadFormat => advise_format(rt, wish),
+        ReportFault::Load(fault) => advise_load(rt, wish, fault),
         fault => advise_input(rt, fault),
     }
 }
@@ -184,6 +187,55 @@ fn advise_input<R: Runtime>(rt: &R, fault: ReportFault) {
             )
         }
         _ => return no_memory(rt),
+    };
+}
+
+// Of the format of a dump.
+fn advise_format<R: Runtime>(rt: &R, wish: &Wish<'_>) {
+    match *wish {
+        Wish::Dump {
+            format: Some(name),
+            ..
+        } => tell_word(rt, "--format", name, "is none of boddurci, gdbm and redis"),
+        Wish::Load {
+            format: Some(name),
+            ..
+        } => tell_word(rt, "--format", name, "is neither boddurci nor gdbm"),
+        _ => (),
+    }
+}
+
+// Of a dump that was not loaded.
+fn advise_load<R: Runtime>(rt: &R, wish: &Wish<'_>, fault: LoadFault) {
+    let _ = match fault {
+        LoadFault::BadDump(1) => {
+            eprintln!(rt;
+                "  Line 1 is neither \"boddurci dump 1\" nor that of a dump of gdbm, which begins with #. Nothing was changed."
+            )
+        }
+        LoadFault::BadDump(line) => {
+            eprintln!(rt; "  Line {line} of the dump may not stand there. Nothing was changed.")
+        }
+        LoadFault::TooLarge(line) if form_of(wish).wide => {
+            eprintln!(rt;
+                "  Line {line} of the dump brings more than 8008 bytes, key and value together. Nothing was changed."
+            )
+        }
+        LoadFault::TooLarge(line) => {
+            eprintln!(rt;
+                "  Line {line} of the dump brings more than 1008 bytes, key and value together. Nothing was changed. With --wide they may have 8008."
+            )
+        }
+        LoadFault::Crowded(line) => {
+            eprintln!(rt;
+                "  The pair of line {line} finds no room, since too many keys share its hash. Nothing was changed."
+            )
+        }
+        _ => {
+            eprintln!(rt;
+                "  The dump ends before its end, as where it was cut off on its way. Nothing was changed."
+            )
+        }
     };
 }
 

@@ -1,12 +1,12 @@
 //! Lines of a script that ask nothing, found once it was answered.
 
-use dbm_script::read_line;
+use dbm_script::{SCRIPT_LIMIT, read_line};
 use memchr::memmem;
 use std::alloc::Global;
 use std::io::{self, Read, Write};
 use std::rt::Runtime;
 
-/// A reader that keeps what it gives. Where memory runs out it keeps nothing.
+/// A reader that keeps what it gives, and no more than a script may have. Where memory runs out it keeps nothing.
 #[derive(Drop)]
 pub struct Kept<R: Read> {
     reader: R,
@@ -27,6 +27,14 @@ impl<R: Read> Kept<R> {
         }
     }
 
+    // Keeps what was read, unless that is more than a script.
+    fn keep(&mut self, piece: &[u8]) {
+        if self.has_lost || self.text.len() > SCRIPT_LIMIT {
+            return;
+        }
+        self.has_lost = self.text.extend_from_slice(piece).is_err();
+    }
+
     /// What was read, and nothing where memory ran out.
     pub fn text(&self) -> &[u8] {
         if self.has_lost {
@@ -41,7 +49,7 @@ impl<R: Read> Read for Kept<R> {
 
     fn read(&mut self, buf: &mut [u8]) -> io::Result<usize> {
         let count = self.reader.read(buf)?;
-        self.has_lost = self.has_lost || self.text.extend_from_slice(&buf[..count]).is_err();
+        self.keep(&buf[..count]);
         Ok(count)
     }
 }

@@ -10,6 +10,8 @@ use Rattle.sdbm_files.specs.Opened.{IsOpenFault}
 use Rattle.sdbm_files.specs.declared.opening.OpenFault.{OpenFault}
 use Rattle.sdbm_files.specs.declared.opening.OpenFault.TheVariants as opening
 use Rattle.dbm_words.specs.declared.wish.Form.{Form}
+use Rattle.dbm_words.specs.declared.wish.Wish.{Wish}
+use Rattle.dbm_words.specs.declared.wish.Wish.TheVariants as wish
 use Rattle.dbm_reports.specs.declared.databases.Given.{Given}
 
 -- how keys hash and how large pages are, by the options
@@ -19,13 +21,41 @@ key_bytes_of unsigned = cond unsigned Unsigned Signed
 abbrev pub page_size_of : Bool → PageSize
 page_size_of wide = cond wide Wide Small
 
+-- how large the pages are of the database that a wish reads
+abbrev pub size_read : Wish → PageSize
+size_read (wish.Fetch base form notation key) = page_size_of form.wide
+size_read (wish.Store base form notation key value insert) = page_size_of form.wide
+size_read (wish.Delete base form notation key) = page_size_of form.wide
+size_read (wish.Run base form notation key file arg blank now expect image) = page_size_of form.wide
+size_read (wish.Batch base form notation file workers image) = page_size_of form.wide
+size_read (wish.List base form notation prefix null json) = page_size_of form.wide
+size_read (wish.Keys base form notation prefix null) = page_size_of form.wide
+size_read (wish.Check base form json) = page_size_of form.wide
+size_read (wish.Stats base form json) = page_size_of form.wide
+size_read (wish.Dump base form format) = page_size_of form.wide
+size_read (wish.Load base form format) = page_size_of form.wide
+size_read (wish.Session base form notation save_every) = page_size_of form.wide
+size_read (wish.Script base form notation max_output) = page_size_of form.wide
+size_read (wish.Widen base unsigned) = Small
+size_read (wish.Asm file) = Small
+size_read (wish.Disasm file) = Small
+size_read (wish.Verify file image explain json) = Small
+
+-- the pages were read as large as the form says
+abbrev pub IsSized : Form → Given → Type 0
+IsSized form given = given.pag.size ≡ page_size_of form.wide
+
+-- the pages were read as large as a wish takes them to be
+abbrev pub IsSizedFor : Wish → Given → Type 0
+IsSizedFor wish given = given.pag.size ≡ size_read wish
+
 -- the files, read as the form says, spell this database and no other
 pub record IsOpened (form : Form) (given : Given) (db : Database) : Type 0 where
-  pub spells : SpellsDatabase db given.dir.items given.pag.items
+  pub spells : SpellsDatabase db given.dir.items given.pag.bytes
   pub kind : db.kind ≡ key_bytes_of form.unsigned
   pub size : db.size ≡ page_size_of form.wide
   pub only : (other : Database) → other.kind ≡ key_bytes_of form.unsigned → other.size ≡ page_size_of form.wide
-      → SpellsDatabase other given.dir.items given.pag.items → other ≡ db
+      → SpellsDatabase other given.dir.items given.pag.bytes → other ≡ db
 
 -- the files open
 abbrev pub Opens : Form → Given → Type 0
@@ -34,7 +64,7 @@ Opens form given = (db : Database) × IsOpened form given db
 -- Why the files do not open. Want of memory has a name of its own.
 abbrev pub IsShut : Form → Given → OpenFault → Type 0
 IsShut form given opening.NoMemory = ⊥
-IsShut form given reason = IsOpenFault (key_bytes_of form.unsigned) (page_size_of form.wide) given.dir.items given.pag.items reason
+IsShut form given reason = IsOpenFault (key_bytes_of form.unsigned) (page_size_of form.wide) given.dir.items given.pag.bytes reason
 
 -- the program writes no `.pag` that is longer
 abbrev pub pag_limit : ℕ

@@ -45,10 +45,10 @@ named_files None None = []
 abbrev pub files_read : Wish → List FileRead
 files_read wish = named_files (base_of wish) (file_of wish)
 
--- the bytes of one file, beside those that are there
+-- the bytes of one file, beside those that are there; pages are read otherwise
 abbrev pub with_part : Part → Vec ℕ → Given → Given
 with_part Dir bytes given = record given { dir = bytes }
-with_part Pag bytes given = record given { pag = bytes }
+with_part Pag bytes given = given
 with_part Program bytes given = record given { file = bytes }
 
 -- the names of the files of a base that are written, and of the one on which its runs wait for each other

@@ -11,7 +11,7 @@ mod reports;
 mod running;
 mod subcommands;
 
-pub use databases::{Given, PAG_LIMIT, is_too_long};
+pub use databases::{Given, PAG_LIMIT, is_too_long, size_read};
 pub use fault::ReportFault;
 pub use names::{Names, Part, Source, names_of, put, sources};
 pub use reports::{read_input, report_on};

@@ -100,13 +100,13 @@ fn program_source(alloc: Global, file: &str) -> Result<Source, AllocError>
     })
 }
 
-/// Puts the bytes of a file where they belong; those of the others stay.
+/// Puts the bytes of a file but that of the pages where they belong; those of the others stay.
 pub fn put(given: &mut Given, part: Part, bytes: Vec<u8>)
     ensures { given.new ≡ with_part part bytes given.old }
 {
     match part {
         Part::Dir => given.dir = bytes,
-        Part::Pag => given.pag = bytes,
+        Part::Pag => (),
         Part::Program => given.file = bytes,
     }
 }

@@ -3,7 +3,7 @@ ghost use Rattle.std.specs.Prelude.{◌≡◌, ◌≤◌, ◌∷◌, false, leng
 ghost use Rattle.dbm_script.specs.Commands.{command_of};
 ghost use Rattle.dbm_words.specs.declared.wish.Wish.TheVariants as wish;
 ghost use Rattle.dbm_reports.specs.Causes.{IsCaused, command_causes, alone_causes, opening_causes, input_causes, script_causes};
-ghost use Rattle.dbm_reports.specs.Databases.{IsOpened};
+ghost use Rattle.dbm_reports.specs.Databases.{IsOpened, IsSized, IsSizedFor};
 ghost use Rattle.dbm_reports.specs.Reports.{OnCommand, OnDatabase, Looks, Changes, Lists, Counts, PlaysAlone, PlaysOn, Widens, delete_words, fetch_words, small_form, store_name, store_words};
 ghost use Rattle.dbm_reports.specs.Subcommands.{is_batch, is_script, subcommand_for};
 
@@ -52,7 +52,8 @@ pub fn report_on<R: Read>(
     given: &Given,
     reader: &mut R,
 ) -> Result<Report, ReportFault>
-    requires { is_batch wish ≡ false }
+    requires batch { is_batch wish ≡ false }
+    requires sized { IsSizedFor wish given.now }
     ensures ok { IfOk result (λ report. (subcommand_for wish.entry given.now (R.remaining reader.old)).reports report) }
     ensures fault { IfErr result (IsCaused (subcommand_for wish.entry given.now (R.remaining reader.old)).causes) }
     ensures unread { is_script wish.entry ≡ false → R.remaining reader.new ≡ R.remaining reader.old }
@@ -115,6 +116,7 @@ fn command_on(
     name: &[u8],
     args: &[&[u8]],
 ) -> Result<(Image<Global>, Command<Global>), ReportFault>
+    requires { IsSized form given.now }
     ensures ok { IfOk result (λ r. IsOpened form given.now r.0 × (command_of (name.now ∷ map (λ x. x.now) args.now) ≡ Some r.1)) }
     ensures fault { IfErr result (IsCaused (command_causes form given.now (name.now ∷ map (λ x. x.now) args.now))) }
 {
@@ -126,6 +128,7 @@ fn command_on(
 }
 
 fn report_fetch(alloc: Global, given: &Given, form: Form, key: &str) -> Result<Report, ReportFault>
+    requires { IsSized form given.now }
     ensures ok { IfOk result (λ report. OnCommand form given.now (fetch_words key.entry) (λ db command. Looks db command report)) }
     ensures fault { IfErr result (IsCaused (command_causes form given.now (fetch_words key.entry))) }
 {
@@ -141,6 +144,7 @@ fn report_store<'a>(
     value: &'a str,
     insert: bool,
 ) -> Result<Report, ReportFault>
+    requires { IsSized form given.now }
     ensures ok { IfOk result (λ report. OnCommand form given.now (store_words key.entry value.entry insert) (λ db command. Changes db command None report)) }
     ensures fault { IfErr result (IsCaused (command_causes form given.now (store_words key.entry value.entry insert))) }
 {
@@ -158,6 +162,7 @@ fn store_name(insert: bool) -> &'static [u8]
 }
 
 fn report_delete(alloc: Global, given: &Given, form: Form, key: &str) -> Result<Report, ReportFault>
+    requires { IsSized form given.now }
     ensures ok { IfOk result (λ report. OnCommand form given.now (delete_words key.entry) (λ db command. Changes db command None report)) }
     ensures fault { IfErr result (IsCaused (command_causes form given.now (delete_words key.entry))) }
 {
@@ -166,6 +171,7 @@ fn report_delete(alloc: Global, given: &Given, form: Form, key: &str) -> Result<
 }
 
 fn report_list(alloc: Global, given: &Given, form: Form) -> Result<Report, ReportFault>
+    requires { IsSized form given.now }
     ensures ok { IfOk result (λ report. OnDatabase form given.now (Lists report)) }
     ensures fault { IfErr result (IsCaused (opening_causes form given.now)) }
 {
@@ -174,6 +180,7 @@ fn report_list(alloc: Global, given: &Given, form: Form) -> Result<Report, Repor
 }
 
 fn report_check(alloc: Global, given: &Given, form: Form) -> Result<Report, ReportFault>
+    requires { IsSized form given.now }
     ensures ok { IfOk result (λ report. OnDatabase form given.now (Counts report)) }
     ensures fault { IfErr result (IsCaused (opening_causes form given.now)) }
 {
@@ -190,6 +197,7 @@ fn report_script<R: Read>(
     max_output: Option<&str>,
     reader: &mut R,
 ) -> Result<Report, ReportFault>
+    requires { IsSized form given.now }
     ensures ok { IfOk result (λ report. (subcommand_for (wish.Script base.entry form notation.entry max_output.entry) given.now (R.remaining reader.old)).reports report) }
     ensures fault { IfErr result (IsCaused (subcommand_for (wish.Script base.entry form notation.entry max_output.entry) given.now (R.remaining reader.old)).causes) }
 {
@@ -226,6 +234,7 @@ fn report_played<R: Read>(
     most: u64,
     reader: &mut R,
 ) -> Result<Report, ReportFault>
+    requires { IsSized form given.now }
     ensures ok { IfOk result (λ report. OnDatabase form given.now (PlaysOn (R.remaining reader.old) most report)) }
     ensures fault { IfErr result (IsCaused (script_causes form given.now (R.remaining reader.old) most)) }
 {
@@ -235,6 +244,7 @@ fn report_played<R: Read>(
 }
 
 fn report_widen(alloc: Global, given: &Given, unsigned: bool) -> Result<Report, ReportFault>
+    requires { IsSized (small_form unsigned) given.now }
     ensures ok { IfOk result (λ report. OnDatabase (small_form unsigned) given.now (Widens report)) }
     ensures fault { IfErr result (IsCaused (opening_causes (small_form unsigned) given.now)) }
 {

@@ -3,7 +3,7 @@ ghost use Rattle.std.specs.Prelude.{◌≡◌, ◌⊎◌, IfOk, IfErr, None, Som
 ghost use Rattle.bpf_verify.specs.Verified.{Accepted};
 ghost use Rattle.store_cmd.specs.declared.Command.TheVariants as command;
 ghost use Rattle.dbm_reports.specs.Causes.{AreRunWords, IsCaused, no_causes, program_causes, run_causes, word_causes};
-ghost use Rattle.dbm_reports.specs.Databases.{IsOpened};
+ghost use Rattle.dbm_reports.specs.Databases.{IsOpened, IsSized};
 ghost use Rattle.dbm_reports.specs.Reports.{Changes, IsFileImage, OnRun, RunsImage};
 
 use crate::databases::{Given, open};
@@ -39,6 +39,7 @@ pub fn report_run(
     texts: RunTexts<'_>,
     is_image: bool,
 ) -> Result<Report, ReportFault>
+    requires { IsSized form given.now }
     ensures ok { IfOk result (OnRun form given.now texts.entry is_image) }
     ensures fault { IfErr result (IsCaused (run_causes form given.now texts.entry is_image)) }
 {
@@ -74,6 +75,7 @@ pub fn database_and_image(
     form: Form,
     is_image: bool,
 ) -> Result<(Image<Global>, Vec<u8>), ReportFault>
+    requires { IsSized form given.now }
     ensures ok { IfOk result (λ r. IsOpened form given.now r.0 × IsFileImage is_image given.now.file.items r.1.items) }
     ensures fault { IfErr result (IsCaused (program_causes form given.now is_image)) }
 {

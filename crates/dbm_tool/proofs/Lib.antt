@@ -3,3 +3,4 @@ pub mod FilesGiven
 pub mod BatchFaults
 pub mod Examples
 pub mod SaveMoments
+pub mod SizesRead

@@ -4,6 +4,7 @@ ghost use Rattle.std.specs.List.{flat_map};
 ghost use Rattle.sdbm_addr.specs.Database.{Database};
 ghost use Rattle.store_shared.specs.Closed.{IsRefusedClose};
 ghost use Rattle.store_shared.specs.Shared.{opened_by};
+ghost use Rattle.dbm_reports.specs.Databases.{IsSized};
 ghost use Rattle.dbm_tool.specs.Batches.{DoesTasks, IsClosedAfter, IsReady, IsSubmitted, LeadTo, OnBatch, OnTasks, batch_causes, doing_causes, ready_causes, reply_line, submit_causes, task_causes, task_for};
 ghost use Rattle.dbm_tool.specs.declared.fault.ServeFault.TheVariants.{Close};
 ghost use Rattle.dbm_tool.specs.Causes.{HasCause, pool_fault};
@@ -57,6 +58,7 @@ pub fn report_batch<T: Threads + Wait + Sync, R: Read>(
     is_image: bool,
     reader: &mut R,
 ) -> Result<Report, ServeFault>
+    requires { IsSized form given.now }
     ensures ok { IfOk result (OnBatch form given.now workers.entry is_image (R.remaining reader.old)) }
     ensures fault { IfErr result (HasCause (batch_causes form given.now workers.entry is_image (R.remaining reader.old))) }
 {
@@ -73,6 +75,7 @@ fn ready_batch(
     workers: &str,
     is_image: bool,
 ) -> Result<Batch, ServeFault>
+    requires { IsSized form given.now }
     ensures ok { IfOk result (IsReady form given.now workers.entry is_image) }
     ensures fault { IfErr result (HasCause (ready_causes form given.now workers.entry is_image)) }
 {

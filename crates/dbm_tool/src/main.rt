@@ -1,6 +1,7 @@
 //! A program over the files of a store: pairs fetched, stored and listed, scripts, and programs as text and images.
 #![tactic(auto)]
 
+ghost use Rattle.dbm_reports.specs.Databases.{IsSizedFor};
 ghost use Rattle.dbm_tool.specs.Endings.{IsTold};
 
 mod advice;
@@ -174,7 +175,9 @@ fn serve_taken<R: Runtime<File = File> + AllocGlobal + Threads + Wait + Sync, I:
     wish: Wish<'_>,
     taken: Taken,
     reader: &mut Kept<I>,
-) -> Result<Ending, ServeFault> {
+) -> Result<Ending, ServeFault>
+    requires { IsSizedFor wish taken.given }
+{
     let Taken { given, held } = taken;
     match held {
         Some(held) => serve_change(rt, wish, given, held, reader),
@@ -195,7 +198,9 @@ fn serve_change<R: Runtime<File = File> + AllocGlobal + Threads + Wait + Sync, I
     given: Given,
     held: Held,
     reader: &mut Kept<I>,
-) -> Result<Ending, ServeFault> {
+) -> Result<Ending, ServeFault>
+    requires { IsSizedFor wish given }
+{
     let alloc = rt.alloc();
     let Held {
         names,

@@ -10,14 +10,14 @@ ghost use Rattle.dbm_tool.specs.declared.fault.ServeFault.TheVariants as fault;
 use crate::fault::ServeFault;
 use dbm_script::write_all;
 use sdbm_files::Image;
-use sdbm_saves::{Contents, Disk, commit, finish, plan_save, recover, stage};
+use sdbm_saves::{ReadFiles, Disk, commit, finish, plan_read, recover, stage};
 use std::alloc::Global;
 use std::io::Write;
 
 /// What a save changes: both data files as they were read, the bytes of the redo file, and the database that is to be in them.
 #[derive(Clone, Copy)]
 pub struct Change<'a> {
-    pub before: Contents<'a>,
+    pub before: ReadFiles<'a, Global>,
     pub redo: &'a [u8],
     pub after: &'a Image<Global>,
 }
@@ -38,10 +38,10 @@ pub fn save_change<D: Disk, W: Write>(
     lines: &[u8],
     writer: &mut W,
 ) -> Result<(), ServeFault>
-    requires read { D.seen disk.old ≡ record { pages = change.before.pages.now; directory = change.before.directory.now; redo = change.redo.now } }
+    requires read { D.seen disk.old ≡ record { pages = change.before.pages.now.bytes; directory = change.before.directory.now; redo = change.redo.now } }
     requires unmarked { get_or change.redo.now 0 0 ≢ 1 }
 
-    ensures saved { OnOk result (IsSaved change.entry.after.now (change.entry.before.pages.now, change.entry.before.directory.now) D.may_leave disk.old disk.new) }
+    ensures saved { OnOk result (IsSaved change.entry.after.now (change.entry.before.pages.now.bytes, change.entry.before.directory.now) D.may_leave disk.old disk.new) }
     ensures printed { OnOk result (Appends (W.contents writer.old) (W.contents writer.new) lines.now) }
     ensures part { IsErrOf result fault.Write → WritesPart (W.contents writer.old) (W.contents writer.new) lines.now }
     ensures unprinted { IsErrOf result fault.NoMemory → W.contents writer.new ≡ W.contents writer.old }
@@ -49,13 +49,13 @@ pub fn save_change<D: Disk, W: Write>(
     // A crash at any moment of the call leaves what it might have left before, or the files before the change, or those of the database
     // after it.
     ensures any_moment { LeavesOnly D.moment D.left_since disk.old disk.new
-        (λ c. D.may_leave disk.old c ⊎ IsOldOrSaved (change.entry.before.pages.now, change.entry.before.directory.now) change.entry.after.now c) }
+        (λ c. D.may_leave disk.old c ⊎ IsOldOrSaved (change.entry.before.pages.now.bytes, change.entry.before.directory.now) change.entry.after.now c) }
 
     // Where the lines could not be printed, nothing is committed.
     ensures uncommitted { IsErrOf result fault.Write → LeavesOnly D.moment D.left_since disk.old disk.new
-        (λ c. D.may_leave disk.old c ⊎ (stands_for c ≡ (change.entry.before.pages.now, change.entry.before.directory.now))) }
+        (λ c. D.may_leave disk.old c ⊎ (stands_for c ≡ (change.entry.before.pages.now.bytes, change.entry.before.directory.now))) }
 {
-    match plan_save(alloc, change.before, change.after)? {
+    match plan_read(alloc, change.before, change.after)? {
         Some(plan) => save_plan(disk, change, plan.as_slice(), lines, writer),
         None => print(writer, lines),
     }
@@ -80,18 +80,18 @@ fn save_plan<D: Disk, W: Write>(
     lines: &[u8],
     writer: &mut W,
 ) -> Result<(), ServeFault>
-    requires read { D.seen disk.old ≡ record { pages = change.before.pages.now; directory = change.before.directory.now; redo = change.redo.now } }
+    requires read { D.seen disk.old ≡ record { pages = change.before.pages.now.bytes; directory = change.before.directory.now; redo = change.redo.now } }
     requires unmarked { get_or change.redo.now 0 0 ≢ 1 }
-    requires plan { IsSaving change.after.now plan.now change.before.pages.now change.before.directory.now }
+    requires plan { IsSaving change.after.now plan.now change.before.pages.now.bytes change.before.directory.now }
 
     ensures saved { OnOk result (LeavesDatabase change.entry.after.now D.may_leave disk.new) }
     ensures printed { OnOk result (Appends (W.contents writer.old) (W.contents writer.new) lines.now) }
     ensures part { IsErrOf result fault.Write → WritesPart (W.contents writer.old) (W.contents writer.new) lines.now }
     ensures unprinted { IsErrOf result fault.NoMemory → W.contents writer.new ≡ W.contents writer.old }
     ensures any_moment { LeavesOnly D.moment D.left_since disk.old disk.new
-        (λ c. D.may_leave disk.old c ⊎ IsOldOrSaved (change.entry.before.pages.now, change.entry.before.directory.now) change.entry.after.now c) }
+        (λ c. D.may_leave disk.old c ⊎ IsOldOrSaved (change.entry.before.pages.now.bytes, change.entry.before.directory.now) change.entry.after.now c) }
     ensures uncommitted { IsErrOf result fault.Write → LeavesOnly D.moment D.left_since disk.old disk.new
-        (λ c. D.may_leave disk.old c ⊎ (stands_for c ≡ (change.entry.before.pages.now, change.entry.before.directory.now))) }
+        (λ c. D.may_leave disk.old c ⊎ (stands_for c ≡ (change.entry.before.pages.now.bytes, change.entry.before.directory.now))) }
 {
     recover(disk, change.redo)?;
     announce(disk, plan, lines, writer)?;

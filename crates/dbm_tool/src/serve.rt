@@ -3,7 +3,7 @@ ghost use Rattle.std.specs.Prelude.{◌≡◌, false, IfOk, IfErr, OnOk, IfSome,
 ghost use Rattle.dbm_words.specs.Wishes.{writes_files};
 ghost use Rattle.dbm_reports.specs.Subcommands.{is_batch, is_script};
 ghost use Rattle.sdbm_addr.specs.Database.{Database, IsDatabase};
-ghost use Rattle.dbm_reports.specs.Databases.{IsTooLong, MayBeWritten};
+ghost use Rattle.dbm_reports.specs.Databases.{IsSizedFor, IsTooLong, MayBeWritten};
 ghost use Rattle.dbm_tool.specs.declared.fault.ServeFault.TheVariants.{FileTooLong};
 ghost use Rattle.dbm_tool.specs.Causes.{HasCause};
 ghost use Rattle.dbm_tool.specs.Outcomes.{IsServed, IsUnserved};
@@ -58,6 +58,7 @@ pub fn serve<T: Threads + Wait + Sync, R: Read, W: Write>(
     reader: &mut R,
     writer: &mut W,
 ) -> Outcome
+    requires { IsSizedFor wish given.now }
     ensures served { IsNone result.err → IsServed wish.entry given.now (R.remaining reader.old) (W.contents writer.old) (W.contents writer.new) result.status result.database }
     ensures fault { IfSome result.err (IsUnserved wish.entry given.now (R.remaining reader.old) (W.contents writer.old) (W.contents writer.new)) }
     ensures unread { reads_input wish.entry ≡ false → R.remaining reader.new ≡ R.remaining reader.old }
@@ -88,6 +89,7 @@ fn serve_wish<T: Threads + Wait + Sync, R: Read, W: Write>(
     reader: &mut R,
     writer: &mut W,
 ) -> Result<Served, ServeFault>
+    requires { IsSizedFor wish given.now }
     ensures ok { IfOk result (λ served. IsServed wish.entry given.now (R.remaining reader.old) (W.contents writer.old) (W.contents writer.new) served.status served.database) }
     ensures fault { IfErr result (IsUnserved wish.entry given.now (R.remaining reader.old) (W.contents writer.old) (W.contents writer.new)) }
     ensures database { IfOk result (λ served. is_some served.database ≡ writes_files wish.entry) }
@@ -128,6 +130,7 @@ fn report_wish<T: Threads + Wait + Sync, R: Read>(
     given: &Given,
     reader: &mut R,
 ) -> Result<Report, ServeFault>
+    requires { IsSizedFor wish given.now }
     ensures ok { IfOk result (λ report. (service_for wish.entry given.now (R.remaining reader.old)).reports report) }
     ensures fault { IfErr result (HasCause (service_for wish.entry given.now (R.remaining reader.old)).causes) }
     ensures unread { reads_input wish.entry ≡ false → R.remaining reader.new ≡ R.remaining reader.old }
@@ -150,7 +153,8 @@ fn report_other<R: Read>(
     given: &Given,
     reader: &mut R,
 ) -> Result<Report, ServeFault>
-    requires { is_batch wish ≡ false }
+    requires batch { is_batch wish ≡ false }
+    requires sized { IsSizedFor wish given.now }
     ensures ok { IfOk result (λ report. (service_for wish.entry given.now (R.remaining reader.old)).reports report) }
     ensures fault { IfErr result (HasCause (service_for wish.entry given.now (R.remaining reader.old)).causes) }
     ensures unread { is_script wish.entry ≡ false → R.remaining reader.new ≡ R.remaining reader.old }

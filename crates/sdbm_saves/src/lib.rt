@@ -8,13 +8,15 @@ mod drafting;
 mod overlay;
 mod plan;
 mod planning;
+mod reading;
 mod recorded;
 mod redo;
 
 pub use call_log::CallLog;
 pub use disk::{Disk, DiskError, File};
-pub use overlay::read_through;
+pub use overlay::{DataFiles, read_through};
 pub use plan::{is_plan, is_whole, plan_in};
 pub use planning::{Contents, PlanFault, plan_save};
+pub use reading::{ReadFiles, plan_read};
 pub use recorded::{Found, Host, Past, Recorded, Unknown};
 pub use redo::{commit, finish, recover, stage};

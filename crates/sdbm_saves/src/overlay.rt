@@ -1,25 +1,33 @@
 // What the files of a save that was cut off stand for, where they may not be written.
 ghost use Rattle.std.specs.Prelude.{◌≡◌, ◌≢◌, ◌≤◌, ◌+◌, length, IfOk};
 ghost use Rattle.sdbm_saves.specs.Disk.{resized, written};
-ghost use Rattle.sdbm_saves.specs.Redo.{file_of, offset_of, size_of, data_of, effect, renewed, files, stands_for, IsPlan, IsWhole};
-ghost use Rattle.sdbm_saves.specs.Recording.{image_of};
+ghost use Rattle.sdbm_saves.specs.Redo.{file_of, offset_of, size_of, data_of, effect, renewed, stands_for, IsPlan, IsWhole};
 ghost use Rattle.sdbm_saves.specs.declared.disk.File.TheVariants.{Redo};
 
+use crate::File;
 use crate::plan::{file_of, number, plan_in, rest_of};
-use crate::{File, Found};
 use std::alloc::{AllocError, Allocator, Global};
 
+/// The bytes of both data files.
+#[derive(Drop)]
+pub struct DataFiles {
+    /// The bytes of `.pag`.
+    pub pages: Vec<u8>,
+    /// The bytes of `.dir`.
+    pub directory: Vec<u8>,
+}
+
 /// What three files stand for, in memory, for a reader that may not write them: where a save was cut off behind its mark, the data files
-/// with its plan laid over them, else copies of them. There is no redo file in it. It takes memory for both data files.
+/// with its plan laid over them, else copies of them. It takes memory for both data files.
 ///
 /// # Errors
 ///
 /// `AllocError` where memory runs out.
-pub fn read_through(alloc: Global, found: &Found) -> Result<Found, AllocError>
-    requires whole { IsWhole found.now.redo.items }
-    ensures { IfOk result (λ laid. files (image_of laid) ≡ stands_for (image_of found.now)) }
+pub fn read_through(alloc: Global, found: &DataFiles, redo: &[u8]) -> Result<DataFiles, AllocError>
+    requires whole { IsWhole redo.now }
+    ensures { IfOk result (λ laid. (laid.pages.items, laid.directory.items) ≡ stands_for (record { pages = found.now.pages.items; directory = found.now.directory.items; redo = redo.now })) }
 {
-    let (pages, directory) = match plan_in(found.redo.as_slice()) {
+    let (pages, directory) = match plan_in(redo) {
         Some(plan) => (
             lay_over(alloc, plan, File::Pages, found.pages.as_slice())?,
             lay_over(alloc, plan, File::Directory, found.directory.as_slice())?,
@@ -29,12 +37,7 @@ pub fn read_through(alloc: Global, found: &Found) -> Result<Found, AllocError>
             found.directory.as_slice().to_vec(alloc)?,
         ),
     };
-    let redo = Vec::new(alloc);
-    Ok(Found {
-        pages,
-        directory,
-        redo,
-    })
+    Ok(DataFiles { pages, directory })
 }
 
 // The bytes of a data file with a plan laid over them.

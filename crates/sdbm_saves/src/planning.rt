@@ -3,7 +3,7 @@ ghost use Rattle.std.specs.Prelude.{◌≡◌, ◌≢◌, ◌<◌, ◌≤◌, �
 ghost use Rattle.sdbm_saves.specs.declared.disk.File.{File};
 ghost use Rattle.sdbm_saves.specs.declared.disk.File.TheVariants.{Pages, Directory, Redo};
 ghost use Rattle.sdbm_saves.specs.declared.planning.PlanFault.TheVariants.{NoMemory, TooLong};
-ghost use Rattle.sdbm_saves.specs.Disk.{resized};
+ghost use Rattle.sdbm_saves.specs.Disk.{resized, written};
 ghost use Rattle.sdbm_saves.specs.Redo.{replayed};
 ghost use Rattle.sdbm_saves.specs.Drafts.{AreChanges, RenewsBlock, length_in};
 ghost use Rattle.sdbm_saves.specs.Saves.{AreFilesFor, IsSaving, HasLongFile};
@@ -17,10 +17,10 @@ use sdbm_files::Image;
 use std::alloc::{AllocError, Allocator};
 
 /// What is compared and written of the directory at once, in bytes.
-const BLOCK: usize = 1024;
+pub(crate) const BLOCK: usize = 1024;
 
 /// A file has fewer bytes than this, so that its offsets stand in four bytes.
-const LIMIT: usize = 4294967296;
+pub(crate) const LIMIT: usize = 4294967296;
 
 /// Why there is no plan.
 #[derive(Clone, Copy, Debug, PartialEq, Eq)]
@@ -121,8 +121,8 @@ fn draft_pages<A: Allocator + Copy>(
     Ok(())
 }
 
-// The changes that make one file the new one, behind those of a draft that does not touch it.
-fn draft_file<A: Allocator>(
+/// The changes that make one file the new one, behind those of a draft that does not touch it.
+pub(crate) fn draft_file<A: Allocator>(
     draft: &mut Draft<A>,
     file: File,
     old: &[u8],
@@ -175,6 +175,30 @@ fn draft_block<A: Allocator>(
     if reads_as(old, at, block) {
         return Ok(());
     }
+    push_block(draft, file, at, block)?;
+    Ok(())
+}
+
+/// The change that writes one block of a file.
+pub(crate) fn push_block<A: Allocator>(
+    draft: &mut Draft<A>,
+    file: File,
+    at: usize,
+    block: &[u8],
+) -> Result<(), AllocError>
+    requires data { file ≢ Redo }
+    requires near { at + length block.now < 2 ^ 32 }
+    requires few { draft.old.count < 2 ^ 32 }
+    requires fits { at + length block.now ≤ length_in draft.old.pages draft.old.directory file }
+    requires changes { AreChanges draft.old.pages draft.old.directory draft.old.count draft.old.changes.items }
+
+    ensures changes { OnOk result (AreChanges draft.new.pages draft.new.directory draft.new.count draft.new.changes.items) }
+    ensures file { OnOk result ((x : List ℕ) → replayed file draft.new.count draft.new.changes.items x ≡ written at block.now (replayed file draft.old.count draft.old.changes.items x)) }
+    ensures others { OnOk result ((g : File) → g ≢ file → (x : List ℕ) → replayed g draft.new.count draft.new.changes.items x ≡ replayed g draft.old.count draft.old.changes.items x) }
+    ensures few { OnOk result (draft.new.count ≤ draft.old.count + 1) }
+    ensures pages { OnOk result (draft.new.pages ≡ draft.old.pages) }
+    ensures directory { OnOk result (draft.new.directory ≡ draft.old.directory) }
+{
     push(draft, file, at, block)?;
     Ok(())
 }
@@ -191,8 +215,8 @@ fn reads_as(old: &[u8], at: usize, block: &[u8]) -> bool
     is_padded(&old[start..], block)
 }
 
-// Whether two lists of bytes are the same.
-fn is_same(one: &[u8], other: &[u8]) -> bool
+/// Whether two lists of bytes are the same.
+pub(crate) fn is_same(one: &[u8], other: &[u8]) -> bool
     ensures { IsTrue result ↔ one.now ≡ other.now }
 {
     one == other

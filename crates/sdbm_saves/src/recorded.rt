@@ -6,13 +6,15 @@ ghost use Rattle.sdbm_saves.specs.Disk.{Image};
 ghost use Rattle.sdbm_saves.specs.Acts.{Act, write, resize, sync, clear, Notes};
 
 use crate::{Disk, DiskError, File};
+use sdbm_files::ReadPages;
+use std::alloc::Global;
 use std::marker::PhantomData;
 
-/// The bytes of the three files as they were read.
+/// The three files as they were read.
 #[derive(Drop)]
 pub struct Found {
-    /// The bytes of `.pag`.
-    pub pages: Vec<u8>,
+    /// The pages of `.pag`.
+    pub pages: ReadPages<Global>,
     /// The bytes of `.dir`.
     pub directory: Vec<u8>,
     /// The bytes of the redo file.

@@ -3,5 +3,5 @@ use Rattle.dbm_tool.proofs.saving.save_change.Goals as goal
 
 pub returns-in-None-clause-any_moment : goal.returns-in-None-clause-any_moment
 returns-in-None-clause-any_moment g c =
-    at_rest g.D.Disk.moment g.D.Disk.left_since g.D.Disk.may_leave (c.args.change.before.pages.now, c.args.change.before.directory.now) c.args.change.after.now c.args.disk.now
+    at_rest g.D.Disk.moment g.D.Disk.left_since g.D.Disk.may_leave (c.args.change.before.pages.now.bytes, c.args.change.before.directory.now) c.args.change.after.now c.args.disk.now
     (g.met.D.Disk.only_now c.args.disk.now)

@@ -1,7 +1,7 @@
 //! Measurements, and what is said of them.
 
 use crate::calls::{Call, by_desk, by_sessions};
-use crate::programs::{KEYS, counter, four_pages, long};
+use crate::programs::{KEYS, MIXED, counter, four_pages, long};
 use std::alloc::Global;
 use std::io;
 use std::rt::Clock;
@@ -16,6 +16,7 @@ enum Callers {
     One,
     Apart,
     Together,
+    Mixed,
 }
 
 /// What is asked to be measured.
@@ -32,6 +33,7 @@ fn read_callers(word: &str) -> Option<Callers> {
         "one" => Some(Callers::One),
         "apart" => Some(Callers::Apart),
         "together" => Some(Callers::Together),
+        "mixed" => Some(Callers::Mixed),
         _ => None,
     }
 }
@@ -69,6 +71,7 @@ fn measure<R: Threads + Wait + Sync>(rt: &R, alloc: Global, asked: &Measurement)
         Callers::One => by_sessions(rt, alloc, image, &KEYS[..1], call, asked.count),
         Callers::Apart => by_sessions(rt, alloc, image, &KEYS, call, asked.count),
         Callers::Together => by_sessions(rt, alloc, image, &[KEYS[0]; 4], call, asked.count),
+        Callers::Mixed => by_sessions(rt, alloc, image, &MIXED, call, asked.count),
     }
 }
 

@@ -12,6 +12,9 @@ use store_cmd::{Command, Program};
 /// The keys that are called, each on a page of its own.
 pub const KEYS: [&[u8]; 4] = [b"a", b"b", b"c", b"d"];
 
+/// A key of two callers, and one of its own for each of two others.
+pub const MIXED: [&[u8]; 4] = [b"a", b"a", b"b", b"c"];
+
 // Keys that lead to the same pages, in the same order. Their values leave no room for one another.
 const OTHERS: [&[u8]; 4] = [b"e", b"f", b"g", b"h"];
 

@@ -2,8 +2,9 @@
 ghost use Rattle.std.specs.Prelude.{◌≡◌, ◌↔◌, IsTrue, IfNone, IfSome, Some};
 ghost use Rattle.std.specs.List.{All, slice_get};
 ghost use Rattle.store_shared.specs.Shared.{Opened};
-ghost use Rattle.store_shared.specs.Closed.{is_among, Agrees, AreOwn, Covers, IsFirstStrange, IsFirstMissing, IsFirstTorn, IsCloseFault, MayClose, IsStartedSo};
+ghost use Rattle.store_shared.specs.Closed.{is_among, Agrees, AreOwn, Covers, AreDistinct, IsFirstApart, IsFirstStrange, IsFirstMissing, IsFirstTorn, IsCloseFault, MayClose, IsStartedSo};
 
+use crate::one_pass::all_agree;
 use crate::session::Calls;
 use desk_core::Desk;
 use sdbm_addr::{Bytes, KeyBytes, PageSize};
@@ -27,6 +28,7 @@ pub enum CloseFault {
 
 /// Why these calls do not close a store with this desk and so many sessions, which was opened so.
 pub(crate) fn close_fault<A: Allocator + Copy>(
+    alloc: A,
     desk: &Desk<A>,
     made: u64,
     kind: KeyBytes,
@@ -41,16 +43,38 @@ pub(crate) fn close_fault<A: Allocator + Copy>(
     if let Some(fault) = first_strange(handed, made) {
         return Some(fault);
     }
-    if let Some(session) = first_missing(entries, handed) {
-        return Some(CloseFault::Missing(session));
-    }
-    if let Some(session) = first_torn(entries, handed) {
-        return Some(CloseFault::Torn(session));
+    if let Some(fault) = first_apart(alloc, made, entries, handed) {
+        return Some(fault);
     }
     if !has_started_so(desk, kind, size, opening) {
         return Some(CloseFault::Opening);
     }
     None
+}
+
+// The first session that is missing, or whose calls are torn. Only where there may be one the list is gone through for each entry, and
+// the entries for each in the list.
+fn first_apart<A: Allocator + Copy>(
+    alloc: A,
+    made: u64,
+    entries: &[Entry<A>],
+    handed: &[Calls<A>],
+) -> Option<CloseFault>
+    requires { AreDistinct handed.now }
+    ensures covers { IfNone result (Covers entries.now handed.now) }
+    ensures agree { IfNone result (All (Agrees entries.now) handed.now) }
+    ensures some { IfSome result (IsFirstApart entries.now handed.now) }
+{
+    if all_agree(alloc, made, entries, handed) {
+        return None;
+    }
+    if let Some(session) = first_missing(entries, handed) {
+        return Some(CloseFault::Missing(session));
+    }
+    match first_torn(entries, handed) {
+        Some(session) => Some(CloseFault::Torn(session)),
+        None => None,
+    }
 }
 
 // Whether one of them has the number.

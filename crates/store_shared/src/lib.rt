@@ -4,6 +4,8 @@
 
 mod close;
 mod fault_text;
+mod one_pass;
+mod rooms;
 mod serving;
 mod session;
 mod store;

@@ -9,6 +9,7 @@ ghost use Rattle.store_shared.specs.Shared.{opened_by};
 ghost use Rattle.store_shared.specs.Closed.{Agrees, AreDistinct, Covers, IsRefusedClose};
 
 use crate::close::{CloseFault, close_fault};
+use crate::rooms::{ROOMS, empty_rooms};
 use crate::session::{Calls, Session};
 use desk_core::{Desk, Done, Job};
 use sdbm_addr::{Bytes, KeyBytes, PageSize, clone_pairs};
@@ -61,8 +62,8 @@ pub(crate) struct Core<A: Allocator> {
     pub(crate) desk: Desk<A>,
     // how many sessions were made
     sessions: u64,
-    // somebody waits for the desk to change
-    pub(crate) waited_for: bool,
+    // in which rooms somebody waits for a page
+    pub(crate) waited_for: [bool; ROOMS],
 }
 
 /// A database that sessions share, seen as how its keys hash, how large its pages are, and the pairs with which it was opened.
@@ -74,7 +75,7 @@ pub struct Store<A: Allocator, G: Gate> {
     size: PageSize,
     opening: Vec<(Bytes<A>, Bytes<A>), A>,
     pub(crate) core: Mutex<Core<A>>,
-    pub(crate) changed: Condvar,
+    pub(crate) rooms: [Condvar; ROOMS],
 }
 
 impl<A: Allocator, G: Gate> Model for Store<A, G> {
@@ -134,9 +135,9 @@ impl<A: Allocator + Copy, G: Gate> Store<A, G> {
             core: Mutex::new(Core {
                 desk,
                 sessions: 0,
-                waited_for: false,
+                waited_for: [false; ROOMS],
             }),
-            changed: Condvar::new(),
+            rooms: empty_rooms(),
         })
     }
 
@@ -165,7 +166,8 @@ impl<A: Allocator + Copy, G: Gate> Store<A, G> {
     }
 
     /// Takes the database and the trail out, where the calls that are handed in are those that the trail has. Every session is gone
-    /// by then, since each of them borrows the store. It takes no memory, and time in the entries times the sessions.
+    /// by then, since each of them borrows the store. It takes time in the entries and in the pairs of the opening, and memory for two
+    /// numbers a session; where that is refused, or the store does not close, it takes time in the entries times the sessions.
     ///
     /// # Errors
     /// `Stranger` or `Double`, whichever is first in the list: a number that no session of this store has, or one that stood in the
@@ -194,10 +196,11 @@ impl<A: Allocator + Copy, G: Gate> Store<A, G> {
             size,
             opening,
             core,
-            changed,
+            rooms,
         } = self;
         let core = core.into_inner();
         let fault = close_fault(
+            alloc,
             &core.desk,
             core.sessions,
             kind,
@@ -214,7 +217,7 @@ impl<A: Allocator + Copy, G: Gate> Store<A, G> {
                 size,
                 opening,
                 core,
-                changed,
+                rooms,
             };
             return Err((fault, store, calls));
         }

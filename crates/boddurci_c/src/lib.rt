@@ -251,7 +251,8 @@ fn blank_of(has_blank: u32, blank: usize) -> Option<usize>
 }
 
 /// Runs the program with a number on the record of a key, or on so many zeros where the key is not there and there is a blank. It
-/// tells the number with which the program ended, and its word; both are 0 where it did not run.
+/// tells the number with which the program ended, and its word; both are 0 after MISSING and CROWDED, and
+/// as they were after any other refusal.
 #[unsafe(no_mangle)]
 pub extern "C" fn boddurci_run(
     alloc: Global,

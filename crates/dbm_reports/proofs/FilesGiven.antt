@@ -1,5 +1,5 @@
 -- Wishes after which files are written.
-use Rattle.std.proofs.Common.{◌≡◌, ℕ, List, Option, Some, None, is_some, IsSomeAnd, true, false, inl, inr, ap}
+use Rattle.std.proofs.Common.{◌≡◌, ◌∙◌, ℕ, Bool, List, Option, Some, None, is_some, IsSomeAnd, true, false, inl, inr, ap}
 use Rattle.sdbm_addr.specs.Database.{Database}
 use Rattle.dbm_words.specs.Wishes.{writes_files}
 use Rattle.dbm_words.specs.declared.wish.Wish.{Wish}
@@ -11,13 +11,21 @@ use Rattle.std.specs.declared.alloc.Global.{Global}
 use Rattle.dbm_script.specs.declared.run_words.RunWords.{RunWords}
 use Rattle.dbm_reports.specs.Notations.{notation_for}
 use Rattle.dbm_reports.specs.Options.{output_limit}
-use Rattle.dbm_reports.specs.Reports.{Judges, OnDatabase, PlaysAlone, PlaysOn, RunsImage}
+use Rattle.dbm_reports.specs.Reports.{IsExplained, Judges, OnDatabase, PlaysAlone, PlaysOn, RunsImage, VerifyReports}
 use Rattle.dbm_reports.specs.Subcommands.{noted, subcommand_for, subcommand_in}
 
 -- what is said of an image changes no file
 judged_alone : (image : List ℕ) (report : Report) → Judges image report → report.database ≡ None
 judged_alone image report (inl h) = h.1.written
 judged_alone image report (inr h) = h.1.1.written
+
+explained_alone : (image : List ℕ) (report : Report) → IsExplained image report → report.database ≡ None
+explained_alone image report (inl h) = h.1.1.written ∙ judged_alone image h.0 h.1.0
+explained_alone image report (inr h) = judged_alone image report h.1
+
+verified_alone : (explain is_image : Bool) (file : List ℕ) (report : Report) → VerifyReports explain is_image file report → report.database ≡ None
+verified_alone false is_image file report comes = judged_alone comes.0 report comes.1.1
+verified_alone true is_image file report comes = explained_alone comes.0 report comes.1.1
 
 -- after a run there is a database to be written
 ran_on : (n : Notation Global) (before : Database) (words : RunWords Global) (expect : Option ℕ) (image : List ℕ) (report : Report) → RunsImage n before words expect image report → is_some report.database ≡ true
@@ -46,7 +54,7 @@ given_in n (wish.Script (Some base) form notation max_output) given input report
 given_in n (wish.Widen base unsigned) given input report comes = ap (λ (db : Option Database). is_some db) comes.1.1.written
 given_in n (wish.Asm file) given input report comes = ap (λ (db : Option Database). is_some db) comes.1.written
 given_in n (wish.Disasm file) given input report comes = ap (λ (db : Option Database). is_some db) comes.1.written
-given_in n (wish.Verify file image) given input report comes = ap (λ (db : Option Database). is_some db) (judged_alone comes.0 report comes.1.1)
+given_in n (wish.Verify file image explain) given input report comes = ap (λ (db : Option Database). is_some db) (verified_alone explain image given.file.items report comes)
 
 pub database_given : (wish : Wish) (given : Given) (input : Option (List ℕ)) (report : Report)
     → (subcommand_for wish given input).reports report → is_some report.database ≡ writes_files wish

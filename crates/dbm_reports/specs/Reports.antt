@@ -216,6 +216,30 @@ Judges image report =
 abbrev pub Verifies : Bool → List ℕ → Report → Type 0
 Verifies is_image file report = (image : List ℕ) × (IsFileImage is_image file image × Judges image report)
 
+-- Rows of a text, and then what is said in another report.
+pub record EndsAs (last report : Report) : Type 0 where
+  pub rows : List ℕ
+  pub text_is : report.text.items ≡ rows ++ 10 ∷ last.text.items
+  pub status_is : report.status ≡ last.status
+  pub written : report.database ≡ last.database
+
+-- Rows, and then what is said of an image without them.
+abbrev pub EndsJudged : List ℕ → Report → Type 0
+EndsJudged image report = (last : Report) × (Judges image last × EndsAs last report)
+
+-- what is said of an image whose program is explained: of one that is the image of no code, that alone
+abbrev pub IsExplained : List ℕ → Report → Type 0
+IsExplained image report = EndsJudged image report ⊎ (((code : List Insn) → IsImage code image → ⊥) × Judges image report)
+
+-- what is said of the image of a program's file, explained
+abbrev pub Explains : Bool → List ℕ → Report → Type 0
+Explains is_image file report = (image : List ℕ) × (IsFileImage is_image file image × IsExplained image report)
+
+-- the same, explained or not
+abbrev pub VerifyReports : Bool → Bool → List ℕ → Report → Type 0
+VerifyReports false is_image file report = Verifies is_image file report
+VerifyReports true is_image file report = Explains is_image file report
+
 -- The run of an image's accepted program answers a command, after which the files are written; or the image gets no number in a
 -- registry without programs, and the files are written as they are.
 abbrev pub RunsImage : Notation Global → Database → RunWords Global → Option ℕ → List ℕ → Report → Type 0

@@ -6,7 +6,7 @@ use Rattle.dbm_words.specs.declared.wish.Wish.{Wish}
 use Rattle.dbm_words.specs.declared.wish.Wish.TheVariants as wish
 use Rattle.dbm_reports.specs.declared.subcommands.Report.{Report}
 use Rattle.dbm_reports.specs.declared.databases.Given.{Given}
-use Rattle.dbm_reports.specs.Reports.{OnCommand, OnDatabase, Looks, Changes, Lists, Counts, PlaysAlone, PlaysOn, Widens, PrintsOf, IsAssembled, IsDisassembled, Verifies, OnRun, fetch_words, store_words, delete_words, small_form}
+use Rattle.dbm_reports.specs.Reports.{OnCommand, OnDatabase, Looks, Changes, Lists, Counts, PlaysAlone, PlaysOn, Widens, PrintsOf, IsAssembled, IsDisassembled, VerifyReports, OnRun, fetch_words, store_words, delete_words, small_form}
 use Rattle.dbm_reports.specs.Notations.{notation_for}
 use Rattle.dbm_reports.specs.Options.{output_limit}
 use Rattle.dbm_reports.specs.Causes.{Causes, no_causes, command_causes, opening_causes, alone_causes, script_causes, numbered_causes, text_causes, image_causes, file_causes, run_causes}
@@ -80,8 +80,8 @@ subcommand_in n (wish.Disasm file) given input = record {
   reports = PrintsOf IsDisassembled given.file.items;
   causes = image_causes given.file.items;
 }
-subcommand_in n (wish.Verify file image) given input = record {
-  reports = Verifies image given.file.items;
+subcommand_in n (wish.Verify file image explain) given input = record {
+  reports = VerifyReports explain image given.file.items;
   causes = file_causes image given.file.items;
 }
 

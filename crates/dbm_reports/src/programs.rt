@@ -71,8 +71,11 @@ pub fn verify_file(alloc: Global, file: &[u8], is_image: bool) -> Result<Report,
     Ok(judge_image(alloc, image.as_slice())?)
 }
 
-// Whether an image is that of an accepted program.
-fn judge_image(alloc: Global, image: &[u8]) -> Result<Report, AllocError>
+/// Whether an image is that of an accepted program.
+///
+/// # Errors
+/// `AllocError` where no memory is left.
+pub fn judge_image(alloc: Global, image: &[u8]) -> Result<Report, AllocError>
     ensures { IfOk result (Judges image.now) }
 {
     let mut registry = Registry::new(alloc)?;

@@ -9,10 +9,11 @@ ghost use Rattle.dbm_reports.specs.Reports.{OnCommand, OnDatabase, Looks, Change
 ghost use Rattle.dbm_reports.specs.Subcommands.{is_batch, is_script, subcommand_for, subcommand_in};
 
 use crate::databases::{Given, key_bytes_of, open, page_size_of};
+use crate::explaining::report_verify;
 use crate::fault::ReportFault;
 use crate::notations::notation_of;
 use crate::options::output_limit;
-use crate::programs::{assemble_file, disassemble_file, verify_file};
+use crate::programs::{assemble_file, disassemble_file};
 use crate::running::{RunTexts, report_run};
 use crate::subcommands::{Report, change, check, list, look, play, printed, widen_pages};
 use dbm_script::{Notation, ScriptFault, read_all, read_command};
@@ -118,7 +119,9 @@ fn report_in<R: Read>(
         Wish::Widen { unsigned, .. } => report_widen(alloc, given, unsigned),
         Wish::Asm { .. } => assemble_file(alloc, given.file.as_slice()),
         Wish::Disasm { .. } => disassemble_file(alloc, given.file.as_slice()),
-        Wish::Verify { image, .. } => verify_file(alloc, given.file.as_slice(), image),
+        Wish::Verify { image, explain, .. } => {
+            report_verify(alloc, given.file.as_slice(), image, explain)
+        }
         Wish::Batch { .. } => unreachable!(),
     }
 }

@@ -451,6 +451,17 @@ pub fn note_absent<R: Runtime>(rt: &R, wish: &Wish<'_>) {
     );
 }
 
+/// Says why a program is refused that was to be run, and how to see more.
+pub fn note_refusal<R: Runtime>(rt: &R, wish: &Wish<'_>, refusal: &str) {
+    let file = Shown(file_of(wish));
+    let option = if matches!(wish, Wish::Run { image: true, .. }) {
+        " --image"
+    } else {
+        ""
+    };
+    let _ = eprintln!(rt; "dbm: note: {refusal}. See dbm verify --explain{option} {file}");
+}
+
 /// Says of a program's image that was refused that it is an object, where it is one.
 pub fn note_object<R: Runtime<File = File>>(rt: &R, wish: &Wish<'_>) {
     if let Wish::Run {

@@ -16,6 +16,8 @@ pub struct Kept<R: Read> {
     has_lost: bool,
     /// Whether `bad line` is among the answers to what was read.
     pub has_bad_line: bool,
+    /// Why a program was refused that was to be run.
+    pub refusal: Option<String>,
 }
 
 impl<R: Read> Kept<R> {
@@ -26,6 +28,7 @@ impl<R: Read> Kept<R> {
             text: Vec::new(alloc),
             has_lost: false,
             has_bad_line: false,
+            refusal: None,
         }
     }
 
@@ -86,6 +89,11 @@ impl<W: Write> Write for Watched<W> {
 /// Whether `bad line` is among some answers.
 pub fn has_bad_line(answers: &[u8]) -> bool {
     memmem::find(answers, b"bad line\n").is_some()
+}
+
+/// Whether an answer is that the verifier refuses a program.
+pub fn is_refused(answer: &[u8]) -> bool {
+    answer.starts_with(b"refused Verify(")
 }
 
 /// Says which line of a script is the first that asks nothing in the notation of its wish, and how many more there are.

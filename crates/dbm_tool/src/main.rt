@@ -17,15 +17,15 @@ mod reasons;
 mod saving;
 mod serve;
 
-use advice::{advise, note_absent, note_object};
+use advice::{advise, note_absent, note_object, note_refusal};
 use clock::read_clock;
-use dbm_reports::{Given, ReportFault};
+use dbm_reports::{Given, ReportFault, refusal_of};
 use dbm_script::read_number;
 use dbm_words::{Request, ToolFault, Wish, read_words};
 use ending::{Ending, ending_of, exit_status};
 use fault::ServeFault;
 use files::{Held, Taken, save_files, take_files};
-use kept::{Kept, Watched, has_bad_line, note_bad_lines};
+use kept::{Kept, Watched, has_bad_line, is_refused, note_bad_lines};
 use reasons::has_no_files;
 use sdbm_saves::Found;
 use serve::serve;
@@ -89,8 +89,8 @@ fn run<R: Runtime<File = File> + AllocGlobal + Threads + Wait + Sync>(
     }
 }
 
-// Says what stands behind an answer that may not be what was meant: files that are not there, an object in place of an image, and the
-// lines of a script that ask nothing.
+// Says what stands behind an answer that may not be what was meant: files that are not there, an object in place of an image, a program
+// that is refused, and the lines of a script that ask nothing.
 fn note<R: Runtime<File = File> + AllocGlobal, I: Read>(
     rt: &R,
     wish: &Wish<'_>,
@@ -105,6 +105,9 @@ fn note<R: Runtime<File = File> + AllocGlobal, I: Read>(
     }
     if matches!(ending, Ending::Served(1)) {
         note_object(rt, wish);
+    }
+    if let Some(refusal) = &input.refusal {
+        note_refusal(rt, wish, refusal.as_str());
     }
     if input.has_bad_line {
         note_bad_lines(rt, wish, input.text());
@@ -205,6 +208,11 @@ fn serve_change<R: Runtime<File = File> + AllocGlobal + Threads + Wait + Sync, I
     let mut lines = Vec::new(alloc);
     let outcome = serve(rt, alloc, wish, &given, reader, &mut lines);
     reader.has_bad_line = has_bad_line(lines.as_slice());
+    if let Wish::Run { image, .. } = wish
+        && is_refused(lines.as_slice())
+    {
+        reader.refusal = refusal_of(alloc, given.file.as_slice(), image).unwrap_or(None);
+    }
     let old = Found {
         pages: given.pag,
         directory: given.dir,

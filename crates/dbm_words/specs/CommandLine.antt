@@ -80,7 +80,7 @@ abbrev pub disasm : Shape
 disasm = subcommand (codes "disasm") (required_word (codes "FILE") ∷ [])
 
 abbrev pub verify : Shape
-verify = subcommand (codes "verify") (required_word (codes "FILE") ∷ flag (codes "image") ∷ [])
+verify = subcommand (codes "verify") (required_word (codes "FILE") ∷ flag (codes "image") ∷ flag (codes "explain") ∷ [])
 
 -- the program's name, with a version
 abbrev pub titled : Shape

@@ -52,7 +52,7 @@ base_of (wish.Script base form notation max_output) = option_map (λ text. text.
 base_of (wish.Widen base unsigned) = Some base.now
 base_of (wish.Asm file) = None
 base_of (wish.Disasm file) = None
-base_of (wish.Verify file image) = None
+base_of (wish.Verify file image explain) = None
 
 -- the program's file that a wish is about
 abbrev pub file_of : Wish → Option Text
@@ -60,7 +60,7 @@ file_of (wish.Run base form notation key file arg blank now expect image) = Some
 file_of (wish.Batch base form notation file workers image) = Some file.now
 file_of (wish.Asm file) = Some file.now
 file_of (wish.Disasm file) = Some file.now
-file_of (wish.Verify file image) = Some file.now
+file_of (wish.Verify file image explain) = Some file.now
 file_of _ = None
 
 -- the files of its database are written once it was served, also where nothing has changed
@@ -76,7 +76,7 @@ writes_files (wish.Script base form notation max_output) = is_some base
 writes_files (wish.Widen base unsigned) = true
 writes_files (wish.Asm file) = false
 writes_files (wish.Disasm file) = false
-writes_files (wish.Verify file image) = false
+writes_files (wish.Verify file image explain) = false
 
 -- the unit that a word for the time names, where it asks for the clock's
 abbrev pub unit_named : Text → Option TimeUnit
@@ -116,8 +116,8 @@ SubcommandAsks name rows (wish.Asm file) =
     (name ≡ codes "asm") × IsWord (codes "FILE") rows file
 SubcommandAsks name rows (wish.Disasm file) =
     (name ≡ codes "disasm") × IsWord (codes "FILE") rows file
-SubcommandAsks name rows (wish.Verify file image) =
-    (name ≡ codes "verify") × (IsWord (codes "FILE") rows file × (image ≡ is_given (codes "image") rows))
+SubcommandAsks name rows (wish.Verify file image explain) =
+    (name ≡ codes "verify") × (IsWord (codes "FILE") rows file × ((image ≡ is_given (codes "image") rows) × (explain ≡ is_given (codes "explain") rows)))
 
 -- the matches name a subcommand, and the wish is what it asks
 abbrev pub IsAsked : Option (Text × List Row) → Wish → Type 0

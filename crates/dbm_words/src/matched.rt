@@ -181,6 +181,7 @@ fn verify<'a>(matches: &ArgMatches<'a>) -> Option<Wish<'a>>
     Some(Wish::Verify {
         file: word(matches, "FILE")?,
         image: has_flag(matches, "image"),
+        explain: has_flag(matches, "explain"),
     })
 }
 

@@ -258,6 +258,11 @@ fn verify_command<'a>(alloc: Global) -> Result<Command<'a>, AllocError>
     let args = vec![in alloc;
         file(alloc, "The program as text, one instruction a line"),
         image(alloc),
+        flag(
+            alloc,
+            "explain",
+            "Print what is known before each instruction, and in words why the program is refused"
+        ),
     ]?;
     let about = "Say whether a program is accepted, or why it is refused";
     let notes =

@@ -119,10 +119,11 @@ pub enum Wish<'a> {
     Disasm {
         file: &'a str,
     },
-    /// Whether a program is accepted: that of a text, or with `image` that of an image.
+    /// Whether a program is accepted: that of a text, or with `image` that of an image. With `explain` it is told why.
     Verify {
         file: &'a str,
         image: bool,
+        explain: bool,
     },
 }
 

@@ -12,6 +12,8 @@
 //! | `ends TEXT` | the same, of the text with `mov r0, 0 / exit` behind it |
 //! | `filled COUNT TEXT` | the same, where `*` stands for so many times `mov r0, 0` |
 //! | `kinds UNIT TEXT` | what is known of the registers before the instruction at a unit, but for those that may hold anything; `nothing` where no state stands |
+//! | `why TEXT` | why a program is refused, in a sentence |
+//! | `explain TEXT` | the explanation of a program, ` / ` between its lines |
 //! | `submit TEXT` | `program ID`, or `refused FAULT` |
 //! | `offer BYTES` | the same of an image |
 //! | `each FROM TO TEXT` | the answers for the first and the last number from FROM up to TO in the place of `#`, and how many are refused |
@@ -51,7 +53,9 @@ fn answer_alone(alloc: Global, registry: &mut Registry, line: &str) -> Result<St
         "form" => show_form(alloc, rest),
         "image" => show_image(alloc, rest),
         "text" => show_text(alloc, unescaped(alloc, rest)?.as_str()),
-        "program" | "ends" | "filled" | "kinds" => show_verified(alloc, word, rest),
+        "program" | "ends" | "filled" | "kinds" | "why" | "explain" => show_verified(
+            alloc, word, rest,
+        ),
         _ => show_submission(alloc, registry, line),
     }
 }

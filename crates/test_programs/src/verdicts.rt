@@ -1,8 +1,9 @@
 //! Verdicts, and what is known of registers.
 
 use bpf_asm::assemble;
+use bpf_explain::{Explanation, explain_accepted, explain_refused};
 use bpf_range::Kind;
-use bpf_verify::{Verified, verify};
+use bpf_verify::{Verified, examine, verify};
 use std::alloc::{AllocError, Global};
 use std::fmt::Write;
 
@@ -103,12 +104,41 @@ fn show_kinds(alloc: Global, words: &str) -> Result<String, AllocError> {
     }
 }
 
+// What is told of a program, and its text.
+fn explained(alloc: Global, text: &str) -> Result<Option<(Explanation, String)>, AllocError> {
+    let text = if text == "." { "" } else { text };
+    let lines = text.replace(alloc, " / ", "\n")?;
+    let Ok(code) = assemble(alloc, lines.as_str()) else {
+        return Ok(None);
+    };
+    let explanation = match examine(alloc, code) {
+        Ok(verified) => explain_accepted(alloc, &verified)?,
+        Err(refused) => explain_refused(alloc, &refused)?,
+    };
+    Ok(Some((explanation, lines)))
+}
+
+// The whole explanation, with its lines in a row, or why a program is refused.
+fn show_explained(alloc: Global, text: &str, is_whole: bool) -> Result<String, AllocError> {
+    let Some((explanation, lines)) = explained(alloc, text)? else {
+        return String::from_str(alloc, "no program");
+    };
+    let source = Some(lines.as_str());
+    if !is_whole {
+        return explanation.refusal(alloc, source);
+    }
+    let told = explanation.text(alloc, source)?;
+    told.as_str().trim_end().replace(alloc, "\n", " / ")
+}
+
 /// The answer to a line, by its word and the words behind.
 pub fn show_verified(alloc: Global, word: &str, rest: &str) -> Result<String, AllocError> {
     match word {
         "program" => show_verdict(alloc, rest),
         "ends" => show_ended(alloc, rest),
         "filled" => show_filled(alloc, rest),
+        "explain" => show_explained(alloc, rest, true),
+        "why" => show_explained(alloc, rest, false),
         _ => show_kinds(alloc, rest),
     }
 }

@@ -1,5 +1,5 @@
 -- What the definitions of files make of wishes that are written out.
-use Rattle.std.proofs.Common.{◌≡◌, ℕ, List, [], ◌∷◌, Option, None, Bor, true, false, refl, codes}
+use Rattle.std.proofs.Common.{◌≡◌, ℕ, Bool, List, [], ◌∷◌, Option, None, Bor, true, false, refl, codes}
 use Rattle.dbm_words.specs.declared.wish.Form.{Form}
 use Rattle.dbm_words.specs.declared.wish.Notation.{Notation}
 use Rattle.dbm_words.specs.declared.wish.Wish.TheVariants as wish
@@ -16,8 +16,8 @@ pag = record { part = Pag; name = codes "db.pag"; limit = 1073741824; may_be_abs
 abbrev program : FileRead
 program = record { part = Program; name = codes "counter.s"; limit = 1048576; may_be_absent = false }
 
-pub check_reads_both : (base : Bor (List ℕ)) (form : Form) → base.now ≡ codes "db" → files_read (wish.Check base form) ≡ dir ∷ pag ∷ []
-check_reads_both base form h = rw h refl
+pub check_reads_both : (base : Bor (List ℕ)) (form : Form) (json : Bool) → base.now ≡ codes "db" → files_read (wish.Check base form json) ≡ dir ∷ pag ∷ []
+check_reads_both base form json h = rw h refl
 
 pub asm_reads_its_program : (file : Bor (List ℕ)) → file.now ≡ codes "counter.s" → files_read (wish.Asm file) ≡ program ∷ []
 asm_reads_its_program file h = rw h refl

@@ -25,7 +25,8 @@ use Rattle.sdbm_files.specs.declared.opening.OpenFault.TheVariants as opening
 use Rattle.dbm_reports.specs.Databases.{Opens, key_bytes_of, page_size_of}
 use Rattle.dbm_reports.specs.Notations.{notation_for}
 use Rattle.dbm_reports.specs.Options.{output_limit}
-use Rattle.dbm_reports.specs.Causes.{Causes, IsCaused, command_causes, IsOverlong, alone_causes, input_causes, lines_fault, numbered_causes, open_fault, opening_causes, play_causes, script_causes}
+use Rattle.dbm_reports.specs.Rows.{prefix_asked}
+use Rattle.dbm_reports.specs.Causes.{Causes, IsCaused, command_causes, listing_causes, IsOverlong, alone_causes, input_causes, lines_fault, numbered_causes, open_fault, opening_causes, play_causes, script_causes}
 use Rattle.dbm_reports.specs.Subcommands.{layout_causes, noted, subcommand_for, subcommand_in}
 
 -- the fault is this one, of which Q holds
@@ -121,6 +122,14 @@ pub no_command : (n : Notation Global) (form : Form) (given : Given) (words : Li
 no_command n form given words none = by_reading (reads_hex n) refl
   where
     by_reading : (hex : Bool) → reads_hex n ≡ hex → IsCaused (command_causes n form given words) (cond hex BadHex BadText)
+    by_reading true is = (is, none)
+    by_reading false is = (is, none)
+
+-- a prefix that is no bytes, in hex or as text
+pub no_prefix : (n : Notation Global) (form : Form) (given : Given) (prefix : Option (Bor (List ℕ))) → prefix_asked n prefix ≡ None → IsCaused (listing_causes n form given prefix) (cond (reads_hex n) BadHex BadText)
+no_prefix n form given prefix none = by_reading (reads_hex n) refl
+  where
+    by_reading : (hex : Bool) → reads_hex n ≡ hex → IsCaused (listing_causes n form given prefix) (cond hex BadHex BadText)
     by_reading true is = (is, none)
     by_reading false is = (is, none)
 

@@ -11,7 +11,8 @@ use Rattle.std.specs.declared.alloc.Global.{Global}
 use Rattle.dbm_script.specs.declared.run_words.RunWords.{RunWords}
 use Rattle.dbm_reports.specs.Notations.{notation_for}
 use Rattle.dbm_reports.specs.Options.{output_limit}
-use Rattle.dbm_reports.specs.Reports.{IsExplained, Judges, OnDatabase, PlaysAlone, PlaysOn, RunsImage, VerifyReports}
+use Rattle.dbm_reports.specs.Rows.{keys_listing, pairs_listing, prefix_asked}
+use Rattle.dbm_reports.specs.Reports.{IsExplained, Judges, Lists, OnDatabase, PlaysAlone, PlaysOn, RunsImage, VerifyReports}
 use Rattle.dbm_reports.specs.Subcommands.{noted, subcommand_for, subcommand_in}
 
 -- what is said of an image changes no file
@@ -33,7 +34,7 @@ ran_on n before words expect image report (inl h) = ap (λ (db : Option Database
 ran_on n before words expect image report (inr h) = ap (λ (db : Option Database). is_some db) h.1.1.written
 
 -- what follows from a limit, whichever it is
-on_limit : (limit : Option ℕ) (P : ℕ → Type 0) (Q : Type 0) → ((most : ℕ) → P most → Q) → IsSomeAnd limit P → Q
+on_limit : {X : Type 0} (limit : Option X) (P : X → Type 0) (Q : Type 0) → ((most : X) → P most → Q) → IsSomeAnd limit P → Q
 on_limit None P Q f h = absurd h
 on_limit (Some most) P Q f h = f most h
 
@@ -45,8 +46,14 @@ given_in n (wish.Store base form notation key value insert) given input report c
 given_in n (wish.Delete base form notation key) given input report comes = ap (λ (db : Option Database). is_some db) comes.holds.1.1
 given_in n (wish.Run base form notation key file arg blank now expect image) given input report comes = ran_on n comes.before comes.words comes.expect comes.image report comes.runs
 given_in n (wish.Batch base form notation file workers image) given input report comes = absurd comes
-given_in n (wish.List base form notation) given input report comes = ap (λ (db : Option Database). is_some db) comes.1.1.written
-given_in n (wish.Check base form) given input report comes = ap (λ (db : Option Database). is_some db) comes.1.1.written
+given_in n (wish.List base form notation prefix null json) given input report comes =
+    on_limit (prefix_asked n prefix) (λ begin. OnDatabase form given (Lists n (pairs_listing null json) begin report)) (is_some report.database ≡ false)
+    (λ begin lists. ap (λ (db : Option Database). is_some db) lists.1.1.written) comes
+given_in n (wish.Keys base form notation prefix null) given input report comes =
+    on_limit (prefix_asked n prefix) (λ begin. OnDatabase form given (Lists n (keys_listing null) begin report)) (is_some report.database ≡ false)
+    (λ begin lists. ap (λ (db : Option Database). is_some db) lists.1.1.written) comes
+given_in n (wish.Check base form json) given input report comes = ap (λ (db : Option Database). is_some db) comes.1.1.written
+given_in n (wish.Stats base form json) given input report comes = ap (λ (db : Option Database). is_some db) comes.1.1.1.1.written
 given_in n (wish.Script None form notation max_output) given input report comes =
     on_limit (output_limit max_output) (λ most. PlaysAlone n form input most report) (is_some report.database ≡ false) (λ most plays. ap (λ (db : Option Database). is_some db) plays.1.1) comes
 given_in n (wish.Script (Some base) form notation max_output) given input report comes =

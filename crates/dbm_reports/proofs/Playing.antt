@@ -41,8 +41,8 @@ plays_text n before known most after report other text status plays = record {
 pub overlong_known : (n : Notation Global) (before : Database) (known : Option (List ℕ)) (read : List ℕ) (most : ℕ) → IfSome known (λ input. read ≡ input) → IsOverlong n before (Some read) most → IsOverlong n before known most
 overlong_known n before known read most is long = known_read known read (λ bytes. AnswersExceed Global n before bytes most) is long
 
-within : (limit : Option ℕ) (most : ℕ) (P : ℕ → Type 0) → limit ≡ Some most → P most → IsSomeAnd limit P
-within limit most P is holds = subst (λ (o : Option ℕ). IsSomeAnd o P) (sym is) holds
+pub within : {X : Type 0} (limit : Option X) (most : X) (P : X → Type 0) → limit ≡ Some most → P most → IsSomeAnd limit P
+within {X} limit most P is holds = subst (λ (o : Option X). IsSomeAnd o P) (sym is) holds
 
 -- a limit of a script on an empty database, and on one of files
 pub limited_alone : (n : Notation Global) (form : Form) (notation : Options) (max_output : Option (Bor (List ℕ))) (given : Given) (input : Option (List ℕ)) (most : ℕ) (report : Report) → output_limit max_output ≡ Some most

@@ -1,5 +1,6 @@
 -- Why nothing comes of a wish: the causes of each fault.
 use Rattle.std.specs.Prelude.{◌≡◌, ◌≢◌, ◌⊎◌, ℕ, ◌<◌, Bool, true, false, List, Option, Some, None, IfSome, IsSome, length, ⊤}
+use Rattle.std.specs.Borrow.{Bor}
 use Rattle.std.specs.declared.alloc.Global.{Global}
 use Rattle.std.specs.Str.{IsUtf8}
 use Rattle.sdbm_files.specs.declared.opening.OpenFault.{OpenFault}
@@ -28,6 +29,7 @@ use Rattle.dbm_reports.specs.declared.fault.ReportFault.{ReportFault}
 use Rattle.dbm_reports.specs.declared.fault.ReportFault.TheVariants.{BadHex, BadText, BadLayout, BadNumber, Open, NotText, Assemble, Decode, Read, TooLong, OutputTooLong, NoMemory}
 use Rattle.dbm_reports.specs.Databases.{IsOpened, IsShut, Opens, key_bytes_of, page_size_of}
 use Rattle.dbm_reports.specs.Options.{expected_code}
+use Rattle.dbm_reports.specs.Rows.{prefix_asked}
 
 -- the causes for which nothing comes of a wish
 pub record Causes : Type 1 where
@@ -88,6 +90,14 @@ command_causes notation form given words = record no_causes {
   words = (reads_hex notation ≡ true) × (command_of notation words ≡ None);
   texts = (reads_hex notation ≡ false) × (command_of notation words ≡ None);
   opening = λ reason. (command_of notation words ≢ None) × IsShut form given reason;
+}
+
+-- a listing: its prefix comes before the files
+abbrev pub listing_causes : Notation Global → Form → Given → Option (Bor (List ℕ)) → Causes
+listing_causes notation form given prefix = record no_causes {
+  words = (reads_hex notation ≡ true) × (prefix_asked notation prefix ≡ None);
+  texts = (reads_hex notation ≡ false) × (prefix_asked notation prefix ≡ None);
+  opening = λ reason. (prefix_asked notation prefix ≢ None) × IsShut form given reason;
 }
 
 -- a script: at most 16,777,216 bytes

@@ -2,6 +2,7 @@ pub mod Names
 pub mod Databases
 pub mod Notations
 pub mod Options
+pub mod Rows
 pub mod Causes
 pub mod Reports
 pub mod Subcommands

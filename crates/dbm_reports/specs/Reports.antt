@@ -5,9 +5,12 @@ use Rattle.std.specs.List.{flat_map}
 use Rattle.std.specs.Borrow.{Bor}
 use Rattle.std.specs.declared.alloc.Global.{Global}
 use Rattle.hex.specs.Hex.{encode_lower}
-use Rattle.sdbm_addr.specs.Pairs.{Pair}
 use Rattle.sdbm_addr.specs.Database.{Database, empty_database, map_of}
 use Rattle.sdbm_files.specs.Widened.{widened}
+use Rattle.sdbm_stats.specs.Stats.{AreStats}
+use Rattle.sdbm_stats.specs.declared.Stats.{Stats}
+use Rattle.dbm_stats.specs.Figures.{figures_object, figures_text}
+use Rattle.dbm_stats.specs.Json.{count_object}
 use Rattle.store_cmd.specs.declared.Command.{Command}
 use Rattle.store_cmd.specs.declared.Command.TheVariants.{Run}
 use Rattle.store_cmd.specs.declared.Reply.{Reply}
@@ -24,7 +27,6 @@ use Rattle.prog_registry.specs.declared.fault.RegFault.{RegFault}
 use Rattle.dbm_script.specs.declared.answers.Answer.{Answer}
 use Rattle.dbm_script.specs.declared.answers.Answer.TheVariants.{Replied, Refused}
 use Rattle.dbm_script.specs.Answers.{IsAnswerTo, answer_text}
-use Rattle.dbm_script.specs.Notation.{shown, value_shown}
 use Rattle.dbm_script.specs.declared.notations.Notation.{Notation}
 use Rattle.dbm_script.specs.Commands.{command_of}
 use Rattle.dbm_script.specs.Images.{Denies}
@@ -36,6 +38,8 @@ use Rattle.dbm_reports.specs.declared.running.RunTexts.{RunTexts}
 use Rattle.dbm_script.specs.declared.run_words.RunWords.{RunWords}
 use Rattle.dbm_reports.specs.Causes.{AreRunWords}
 use Rattle.dbm_reports.specs.Databases.{IsOpened, key_bytes_of, page_size_of}
+use Rattle.dbm_reports.specs.Rows.{rows}
+use Rattle.dbm_reports.specs.declared.rows.Listing.{Listing}
 
 -- a text is printed, and that is all
 pub record Prints (text : List ℕ) (report : Report) : Type 0 where
@@ -115,13 +119,6 @@ delete_words key = codes "delete" ∷ (key.now ∷ [])
 
 -- ---- the whole database
 
--- a pair in a line: key and value
-abbrev pub pair_line : {A : Type 0} → Notation A → Pair → List ℕ
-pair_line notation e = shown notation e.0 ++ (32 ∷ (value_shown notation e.1 ++ 10 ∷ []))
-
-abbrev pub listed : {A : Type 0} → Notation A → List Pair → List ℕ
-listed notation = flat_map (pair_line notation)
-
 -- a number of pairs in a line
 abbrev pub ok_line : ℕ → List ℕ
 ok_line n = codes "ok " ++ (decimal n ++ 10 ∷ [])
@@ -130,13 +127,25 @@ ok_line n = codes "ok " ++ (decimal n ++ 10 ∷ [])
 abbrev pub OnDatabase : Form → Given → (Database → Type 0) → Type 0
 OnDatabase form given P = (db : Database) × (IsOpened form given db × P db)
 
--- all pairs, sorted by their keys
-abbrev pub Lists : Notation Global → Report → Database → Type 0
-Lists notation report db = Prints (listed notation (map.entries (map_of db))) report
+-- the pairs whose keys begin with a prefix, sorted by their keys
+abbrev pub Lists : Notation Global → Listing → List ℕ → Report → Database → Type 0
+Lists notation listing prefix report db = Prints (rows notation listing prefix (map.entries (map_of db))) report
+
+-- a number of pairs, in a line or as an object
+abbrev pub count_shown : Bool → ℕ → List ℕ
+count_shown json n = cond json (count_object (codes "ok") n) (ok_line n)
 
 -- how many pairs there are
-abbrev pub Counts : Report → Database → Type 0
-Counts report db = Prints (ok_line (map.len (map_of db))) report
+abbrev pub Counts : Bool → Report → Database → Type 0
+Counts json report db = Prints (count_shown json (map.len (map_of db))) report
+
+-- the numbers of a database, as text or as an object
+abbrev pub figures_shown : Bool → Stats Global → List ℕ
+figures_shown json stats = cond json (figures_object stats) (figures_text stats)
+
+-- what is in a database, in numbers
+abbrev pub Figures : Bool → Report → Database → Type 0
+Figures json report db = (stats : Stats Global) × (AreStats db stats × Prints (figures_shown json stats) report)
 
 -- how many pairs there are, and the files are written with wide pages
 pub record Widens (report : Report) (db : Database) : Type 0 where

@@ -6,10 +6,11 @@ use Rattle.dbm_words.specs.declared.wish.Wish.{Wish}
 use Rattle.dbm_words.specs.declared.wish.Wish.TheVariants as wish
 use Rattle.dbm_reports.specs.declared.subcommands.Report.{Report}
 use Rattle.dbm_reports.specs.declared.databases.Given.{Given}
-use Rattle.dbm_reports.specs.Reports.{OnCommand, OnDatabase, Looks, Changes, Lists, Counts, PlaysAlone, PlaysOn, Widens, PrintsOf, IsAssembled, IsDisassembled, VerifyReports, OnRun, fetch_words, store_words, delete_words, small_form}
+use Rattle.dbm_reports.specs.Reports.{OnCommand, OnDatabase, Looks, Changes, Lists, Counts, Figures, PlaysAlone, PlaysOn, Widens, PrintsOf, IsAssembled, IsDisassembled, VerifyReports, OnRun, fetch_words, store_words, delete_words, small_form}
 use Rattle.dbm_reports.specs.Notations.{notation_for}
 use Rattle.dbm_reports.specs.Options.{output_limit}
-use Rattle.dbm_reports.specs.Causes.{Causes, no_causes, command_causes, opening_causes, alone_causes, script_causes, numbered_causes, text_causes, image_causes, file_causes, run_causes}
+use Rattle.dbm_reports.specs.Rows.{keys_listing, pairs_listing, prefix_asked}
+use Rattle.dbm_reports.specs.Causes.{Causes, no_causes, command_causes, listing_causes, opening_causes, alone_causes, script_causes, numbered_causes, text_causes, image_causes, file_causes, run_causes}
 
 pub record Subcommand : Type 1 where
   -- what comes of it
@@ -52,12 +53,20 @@ subcommand_in n (wish.Batch base form notation file workers image) given input =
   reports = λ report. ⊥;
   causes = no_causes;
 }
-subcommand_in n (wish.List base form notation) given input = record {
-  reports = λ report. OnDatabase form given (Lists n report);
+subcommand_in n (wish.List base form notation prefix null json) given input = record {
+  reports = λ report. IsSomeAnd (prefix_asked n prefix) (λ begin. OnDatabase form given (Lists n (pairs_listing null json) begin report));
+  causes = listing_causes n form given prefix;
+}
+subcommand_in n (wish.Check base form json) given input = record {
+  reports = λ report. OnDatabase form given (Counts json report);
   causes = opening_causes form given;
 }
-subcommand_in n (wish.Check base form) given input = record {
-  reports = λ report. OnDatabase form given (Counts report);
+subcommand_in n (wish.Keys base form notation prefix null) given input = record {
+  reports = λ report. IsSomeAnd (prefix_asked n prefix) (λ begin. OnDatabase form given (Lists n (keys_listing null) begin report));
+  causes = listing_causes n form given prefix;
+}
+subcommand_in n (wish.Stats base form json) given input = record {
+  reports = λ report. OnDatabase form given (Figures json report);
   causes = opening_causes form given;
 }
 subcommand_in n (wish.Script None form notation max_output) given input = record {

@@ -10,6 +10,7 @@ mod notations;
 mod options;
 mod programs;
 mod reports;
+mod rows;
 mod running;
 mod subcommands;
 

@@ -25,8 +25,10 @@ pub fn notation_of(alloc: Global, wish: &Wish<'_>) -> Result<Notation<Global>, R
         | Wish::Run { notation, .. }
         | Wish::Batch { notation, .. }
         | Wish::List { notation, .. }
+        | Wish::Keys { notation, .. }
         | Wish::Script { notation, .. } => notation_by(alloc, notation),
         Wish::Check { .. }
+        | Wish::Stats { .. }
         | Wish::Widen { .. }
         | Wish::Asm { .. }
         | Wish::Disasm { .. }

@@ -1,11 +1,12 @@
 //! What comes of each subcommand, from its words, the bytes of its files and standard input.
-ghost use Rattle.std.specs.Prelude.{◌≡◌, cond, ◌≤◌, ◌∷◌, false, length, map, IfOk, IfErr, IfSome, Some};
+ghost use Rattle.std.specs.Prelude.{◌≡◌, cond, ◌≤◌, ◌∷◌, false, length, map, IfOk, IfErr, IfSome, IsSomeAnd, Some};
 ghost use Rattle.dbm_script.specs.Commands.{command_of};
 ghost use Rattle.dbm_script.specs.Notation.{reads_hex};
 ghost use Rattle.dbm_words.specs.declared.wish.Wish.TheVariants as wish;
-ghost use Rattle.dbm_reports.specs.Causes.{IsCaused, command_causes, alone_causes, opening_causes, input_causes, script_causes};
+ghost use Rattle.dbm_reports.specs.Causes.{IsCaused, command_causes, alone_causes, listing_causes, opening_causes, input_causes, script_causes};
 ghost use Rattle.dbm_reports.specs.Databases.{IsOpened};
-ghost use Rattle.dbm_reports.specs.Reports.{OnCommand, OnDatabase, Looks, Changes, Lists, Counts, PlaysAlone, PlaysOn, Widens, delete_words, fetch_words, small_form, store_name, store_words};
+ghost use Rattle.dbm_reports.specs.Reports.{OnCommand, OnDatabase, Looks, Changes, Lists, Counts, Figures, PlaysAlone, PlaysOn, Widens, delete_words, fetch_words, small_form, store_name, store_words};
+ghost use Rattle.dbm_reports.specs.Rows.{keys_listing, pairs_listing, prefix_asked};
 ghost use Rattle.dbm_reports.specs.Subcommands.{is_batch, is_script, subcommand_for, subcommand_in};
 
 use crate::databases::{Given, key_bytes_of, open, page_size_of};
@@ -14,12 +15,14 @@ use crate::fault::ReportFault;
 use crate::notations::notation_of;
 use crate::options::output_limit;
 use crate::programs::{assemble_file, disassemble_file};
+use crate::rows::{Listing, keys_listing, pairs_listing};
 use crate::running::{RunTexts, report_run};
-use crate::subcommands::{Report, change, check, list, look, play, printed, widen_pages};
-use dbm_script::{Notation, ScriptFault, read_all, read_command};
+use crate::subcommands::{Report, change, check, figures, list, look, play, printed, widen_pages};
+use dbm_script::{Notation, ScriptFault, read_all, read_bytes, read_command};
 use dbm_words::{Form, Notation as Options, Wish};
+use sdbm_addr::Bytes;
 use sdbm_files::Image;
-use std::alloc::Global;
+use std::alloc::{AllocError, Global};
 use std::io::Read;
 use store_cmd::Command;
 
@@ -106,8 +109,21 @@ fn report_in<R: Read>(
             };
             report_run(alloc, notation, given, form, texts, image)
         }
-        Wish::List { form, .. } => report_list(alloc, notation, given, form),
-        Wish::Check { form, .. } => report_check(alloc, given, form),
+        Wish::List {
+            form,
+            prefix,
+            null,
+            json,
+            ..
+        } => report_list(alloc, notation, given, form, prefix, null, json),
+        Wish::Keys {
+            form,
+            prefix,
+            null,
+            ..
+        } => report_keys(alloc, notation, given, form, prefix, null),
+        Wish::Check { form, json, .. } => report_check(alloc, given, form, json),
+        Wish::Stats { form, json, .. } => report_stats(alloc, given, form, json),
         Wish::Script {
             base,
             form,
@@ -213,20 +229,84 @@ fn report_list(
     notation: &Notation<Global>,
     given: &Given,
     form: Form,
+    prefix: Option<&str>,
+    null: bool,
+    json: bool,
 ) -> Result<Report, ReportFault>
-    ensures ok { IfOk result (λ report. OnDatabase form given.now (Lists notation.now report)) }
-    ensures fault { IfErr result (IsCaused (opening_causes form given.now)) }
+    ensures ok { IfOk result (λ report. IsSomeAnd (prefix_asked notation.now prefix.entry) (λ begin. OnDatabase form given.now (Lists notation.now (pairs_listing null json) begin report))) }
+    ensures fault { IfErr result (IsCaused (listing_causes notation.now form given.now prefix.entry)) }
 {
-    let image = open(alloc, given, form)?;
-    Ok(list(alloc, notation, &image)?)
+    report_rows(
+        alloc,
+        notation,
+        given,
+        form,
+        prefix,
+        pairs_listing(null, json),
+    )
 }
 
-fn report_check(alloc: Global, given: &Given, form: Form) -> Result<Report, ReportFault>
-    ensures ok { IfOk result (λ report. OnDatabase form given.now (Counts report)) }
+fn report_keys(
+    alloc: Global,
+    notation: &Notation<Global>,
+    given: &Given,
+    form: Form,
+    prefix: Option<&str>,
+    null: bool,
+) -> Result<Report, ReportFault>
+    ensures ok { IfOk result (λ report. IsSomeAnd (prefix_asked notation.now prefix.entry) (λ begin. OnDatabase form given.now (Lists notation.now (keys_listing null) begin report))) }
+    ensures fault { IfErr result (IsCaused (listing_causes notation.now form given.now prefix.entry)) }
+{
+    report_rows(alloc, notation, given, form, prefix, keys_listing(null))
+}
+
+// The pairs whose keys begin with a prefix, a row each. The prefix is read first.
+fn report_rows(
+    alloc: Global,
+    notation: &Notation<Global>,
+    given: &Given,
+    form: Form,
+    prefix: Option<&str>,
+    listing: Listing,
+) -> Result<Report, ReportFault>
+    ensures ok { IfOk result (λ report. IsSomeAnd (prefix_asked notation.now prefix.entry) (λ begin. OnDatabase form given.now (Lists notation.now listing begin report))) }
+    ensures fault { IfErr result (IsCaused (listing_causes notation.now form given.now prefix.entry)) }
+{
+    let Some(begin) = read_prefix(alloc, notation, prefix)? else {
+        return Err(bad_words(notation));
+    };
+    let image = open(alloc, given, form)?;
+    Ok(list(alloc, notation, &image, listing, begin.as_slice())?)
+}
+
+// The prefix that a word asks; without one it has no bytes.
+fn read_prefix(
+    alloc: Global,
+    notation: &Notation<Global>,
+    prefix: Option<&str>,
+) -> Result<Option<Bytes<Global>>, AllocError>
+    ensures { IfOk result (λ begin. begin ≡ prefix_asked notation.now prefix.entry) }
+{
+    match prefix {
+        None => Ok(Some(Bytes::new(Vec::new(alloc)))),
+        Some(word) => read_bytes(alloc, notation, word.as_bytes()),
+    }
+}
+
+fn report_check(alloc: Global, given: &Given, form: Form, json: bool) -> Result<Report, ReportFault>
+    ensures ok { IfOk result (λ report. OnDatabase form given.now (Counts json report)) }
     ensures fault { IfErr result (IsCaused (opening_causes form given.now)) }
 {
     let image = open(alloc, given, form)?;
-    Ok(check(alloc, &image)?)
+    Ok(check(alloc, &image, json)?)
+}
+
+fn report_stats(alloc: Global, given: &Given, form: Form, json: bool) -> Result<Report, ReportFault>
+    ensures ok { IfOk result (λ report. OnDatabase form given.now (Figures json report)) }
+    ensures fault { IfErr result (IsCaused (opening_causes form given.now)) }
+{
+    let image = open(alloc, given, form)?;
+    Ok(figures(alloc, &image, json)?)
 }
 
 fn report_script<R: Read>(

@@ -1,14 +1,17 @@
 //! What comes of each subcommand on a database that is open.
-ghost use Rattle.std.specs.Prelude.{◌≡◌, ◌++◌, ◌∷◌, [], None, Some, IfOk, IfErr};
+ghost use Rattle.std.specs.Prelude.{◌≡◌, ◌++◌, ◌∷◌, [], length, None, Some, IfOk, IfErr};
 ghost use Rattle.sdbm_addr.specs.Database.{Database};
 ghost use Rattle.dbm_script.specs.Answers.{IsAnswerTo};
 ghost use Rattle.dbm_reports.specs.Causes.{IsCaused, play_causes};
-ghost use Rattle.dbm_reports.specs.Reports.{Looks, Changes, Lists, Counts, Plays, Widens, answer_status, code_status, ended_with, status_of};
+ghost use Rattle.dbm_reports.specs.Reports.{Looks, Changes, Lists, Counts, Figures, Plays, Widens, figures_shown, answer_status, code_status, ended_with, status_of};
 
 use crate::fault::ReportFault;
-use crate::listing::{list_pairs, show_ok};
+use crate::listing::show_ok;
+use crate::rows::{Listing, show_rows};
 use dbm_script::{Answer, Notation, answer_command, run_lines, show_answer};
+use dbm_stats::{figures_object, figures_text, show_count_object};
 use sdbm_files::{Image, widen};
+use sdbm_stats::{Stats, stats_of};
 use std::alloc::{AllocError, Global};
 use store_cmd::{Command, Reply};
 
@@ -122,7 +125,7 @@ fn ended_with(reply: &Reply<Global>, code: u64) -> bool
     }
 }
 
-/// All pairs, a line each.
+/// The pairs whose keys begin with a prefix, or their keys alone, a row each.
 ///
 /// # Errors
 /// `AllocError` where no memory is left.
@@ -130,22 +133,50 @@ pub fn list(
     alloc: Global,
     notation: &Notation<Global>,
     image: &Image<Global>,
+    listing: Listing,
+    prefix: &[u8],
 ) -> Result<Report, AllocError>
-    ensures { IfOk result (λ report. Lists notation.now report image.now) }
+    ensures { IfOk result (λ report. Lists notation.now listing prefix.now report image.now) }
 {
     let pairs = image.pairs()?;
-    let text = list_pairs(alloc, notation, pairs.as_slice())?;
+    let text = show_rows(alloc, notation, listing, prefix, pairs.as_slice())?;
     Ok(printed(text))
 }
 
-/// How many pairs there are.
+/// How many pairs there are, in a line or as a JSON object.
 ///
 /// # Errors
 /// `AllocError` where no memory is left.
-pub fn check(alloc: Global, image: &Image<Global>) -> Result<Report, AllocError>
-    ensures { IfOk result (λ report. Counts report image.now) }
+pub fn check(alloc: Global, image: &Image<Global>, json: bool) -> Result<Report, AllocError>
+    ensures { IfOk result (λ report. Counts json report image.now) }
 {
+    if json {
+        return Ok(printed(show_count_object(alloc, b"ok", image.count() as u64)?));
+    }
     Ok(printed(show_ok(alloc, image.count())?))
+}
+
+/// What is in a database, in numbers, as text or as a JSON object.
+///
+/// # Errors
+/// `AllocError` where no memory is left.
+pub fn figures(alloc: Global, image: &Image<Global>, json: bool) -> Result<Report, AllocError>
+    ensures { IfOk result (λ report. Figures json report image.now) }
+{
+    let stats = stats_of(alloc, image)?;
+    let text = show_figures(alloc, &stats, json)?;
+    Ok(printed(text))
+}
+
+// The numbers of a database as text or as a JSON object.
+fn show_figures(alloc: Global, stats: &Stats<Global>, json: bool) -> Result<Vec<u8>, AllocError>
+    requires { length stats.now.bars.items ≡ 10 }
+    ensures { IfOk result (λ text. text.items ≡ figures_shown json stats.now) }
+{
+    if json {
+        return figures_object(alloc, stats);
+    }
+    figures_text(alloc, stats)
 }
 
 /// The answers to a script, which are to have at most so many bytes, and the database after it, which is to be written.

@@ -206,6 +206,14 @@ fn advise_bytes<R: Runtime + AllocGlobal>(
         Wish::Store { key, value, .. } => [("KEY", key), ("VALUE", value)],
         Wish::Fetch { key, .. } | Wish::Delete { key, .. } => [("KEY", key), ("KEY", key)],
         Wish::Run { key, arg, .. } => [("KEY", key), ("ARG", arg)],
+        Wish::List {
+            prefix: Some(prefix),
+            ..
+        }
+        | Wish::Keys {
+            prefix: Some(prefix),
+            ..
+        } => [("--prefix", prefix), ("--prefix", prefix)],
         _ => return,
     };
     let [(_, key), _] = words;
@@ -232,6 +240,7 @@ fn advise_layout<R: Runtime>(rt: &R, wish: &Wish<'_>) {
     | Wish::Run { notation, .. }
     | Wish::Batch { notation, .. }
     | Wish::List { notation, .. }
+    | Wish::Keys { notation, .. }
     | Wish::Script { notation, .. }) = *wish
     else {
         return;
@@ -300,7 +309,9 @@ fn form_of(wish: &Wish<'_>) -> Form {
         | Wish::Run { form, .. }
         | Wish::Batch { form, .. }
         | Wish::List { form, .. }
+        | Wish::Keys { form, .. }
         | Wish::Check { form, .. }
+        | Wish::Stats { form, .. }
         | Wish::Script { form, .. } => form,
         Wish::Widen { unsigned, .. } => Form {
             unsigned,

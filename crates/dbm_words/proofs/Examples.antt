@@ -52,3 +52,7 @@ script_on_files_writes_them base form notation most = refl
 pub get_fetches : option_map (λ p. p.0) (subcommand_of tool (codes "get" ∷ codes "db" ∷ codes "61" ∷ [])) ≡ Some (codes "fetch")
 unfolding clap_on_literals
 get_fetches = refl
+
+pub zero_is_null : option_map (λ p. is_given (codes "null") p.1) (subcommand_of tool (codes "keys" ∷ codes "db" ∷ codes "-0" ∷ [])) ≡ Some true
+unfolding clap_on_literals
+zero_is_null = refl

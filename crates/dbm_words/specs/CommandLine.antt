@@ -14,6 +14,10 @@ required_word id = record (new_rule id) { required = true }
 abbrev pub flag : Text → Rule
 flag id = record (new_rule id) { long = Some id; action = Some SetTrue }
 
+-- the option `--null`, also as `-0`
+abbrev pub null_flag : Rule
+null_flag = record (flag (codes "null")) { short = Some 48 }
+
 -- the option `--id VALUE`
 abbrev pub valued_option : Text → Rule
 valued_option id = record (new_rule id) { long = Some id; value_names = 1 }
@@ -62,10 +66,16 @@ abbrev pub batch : Shape
 batch = subcommand (codes "batch") (required_word (codes "BASE") ∷ required_word (codes "FILE") ∷ required_word (codes "WORKERS") ∷ flag (codes "image") ∷ writing_in)
 
 abbrev pub list : Shape
-list = with_alias (codes "ls") (subcommand (codes "list") (required_word (codes "BASE") ∷ reading_in))
+list = with_alias (codes "ls") (subcommand (codes "list") (required_word (codes "BASE") ∷ valued_option (codes "prefix") ∷ null_flag ∷ flag (codes "json") ∷ reading_in))
+
+abbrev pub keys : Shape
+keys = subcommand (codes "keys") (required_word (codes "BASE") ∷ valued_option (codes "prefix") ∷ null_flag ∷ flag (codes "text") ∷ reading_options)
 
 abbrev pub check : Shape
-check = subcommand (codes "check") (required_word (codes "BASE") ∷ reading_options)
+check = subcommand (codes "check") (required_word (codes "BASE") ∷ flag (codes "json") ∷ reading_options)
+
+abbrev pub stats : Shape
+stats = subcommand (codes "stats") (required_word (codes "BASE") ∷ flag (codes "json") ∷ reading_options)
 
 abbrev pub script : Shape
 script = subcommand (codes "script") (valued_option (codes "base") ∷ valued_option (codes "max-output") ∷ writing_in)
@@ -98,7 +108,7 @@ bare = record titled {
 abbrev pub tool : App
 tool = record {
   top = record bare { is_leaf = false };
-  subs = fetch ∷ store ∷ delete ∷ list ∷ check ∷ script ∷ widen ∷ asm ∷ disasm ∷ verify ∷ run ∷ batch ∷ [];
+  subs = fetch ∷ store ∷ delete ∷ list ∷ keys ∷ check ∷ stats ∷ script ∷ widen ∷ asm ∷ disasm ∷ verify ∷ run ∷ batch ∷ [];
 }
 
 -- a command with these rules, none of whose arguments holds for its subcommands too

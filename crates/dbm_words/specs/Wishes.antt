@@ -46,8 +46,10 @@ base_of (wish.Store base form notation key value insert) = Some base.now
 base_of (wish.Delete base form notation key) = Some base.now
 base_of (wish.Run base form notation key file arg blank now expect image) = Some base.now
 base_of (wish.Batch base form notation file workers image) = Some base.now
-base_of (wish.List base form notation) = Some base.now
-base_of (wish.Check base form) = Some base.now
+base_of (wish.List base form notation prefix null json) = Some base.now
+base_of (wish.Keys base form notation prefix null) = Some base.now
+base_of (wish.Check base form json) = Some base.now
+base_of (wish.Stats base form json) = Some base.now
 base_of (wish.Script base form notation max_output) = option_map (λ text. text.now) base
 base_of (wish.Widen base unsigned) = Some base.now
 base_of (wish.Asm file) = None
@@ -70,8 +72,10 @@ writes_files (wish.Store base form notation key value insert) = true
 writes_files (wish.Delete base form notation key) = true
 writes_files (wish.Run base form notation key file arg blank now expect image) = true
 writes_files (wish.Batch base form notation file workers image) = true
-writes_files (wish.List base form notation) = false
-writes_files (wish.Check base form) = false
+writes_files (wish.List base form notation prefix null json) = false
+writes_files (wish.Keys base form notation prefix null) = false
+writes_files (wish.Check base form json) = false
+writes_files (wish.Stats base form json) = false
 writes_files (wish.Script base form notation max_output) = is_some base
 writes_files (wish.Widen base unsigned) = true
 writes_files (wish.Asm file) = false
@@ -104,10 +108,14 @@ SubcommandAsks name rows (wish.Run base form notation key file arg blank now exp
     (name ≡ codes "run") × (IsWord (codes "BASE") rows base × (IsForm rows form × (IsNotation rows notation × (IsWord (codes "KEY") rows key × (IsWord (codes "FILE") rows file × (IsWord (codes "ARG") rows arg × (IsWord (codes "BLANK") rows blank × (IsWord (codes "NOW") rows now × (IsGiven (codes "expect") rows expect × (image ≡ is_given (codes "image") rows))))))))))
 SubcommandAsks name rows (wish.Batch base form notation file workers image) =
     (name ≡ codes "batch") × (IsWord (codes "BASE") rows base × (IsForm rows form × (IsNotation rows notation × (IsWord (codes "FILE") rows file × (IsWord (codes "WORKERS") rows workers × (image ≡ is_given (codes "image") rows))))))
-SubcommandAsks name rows (wish.List base form notation) =
-    (name ≡ codes "list") × (IsWord (codes "BASE") rows base × (IsForm rows form × IsNotation rows notation))
-SubcommandAsks name rows (wish.Check base form) =
-    (name ≡ codes "check") × (IsWord (codes "BASE") rows base × IsForm rows form)
+SubcommandAsks name rows (wish.List base form notation prefix null json) =
+    (name ≡ codes "list") × (IsWord (codes "BASE") rows base × (IsForm rows form × (IsNotation rows notation × (IsGiven (codes "prefix") rows prefix × ((null ≡ is_given (codes "null") rows) × (json ≡ is_given (codes "json") rows))))))
+SubcommandAsks name rows (wish.Keys base form notation prefix null) =
+    (name ≡ codes "keys") × (IsWord (codes "BASE") rows base × (IsForm rows form × (IsNotation rows notation × (IsGiven (codes "prefix") rows prefix × (null ≡ is_given (codes "null") rows)))))
+SubcommandAsks name rows (wish.Check base form json) =
+    (name ≡ codes "check") × (IsWord (codes "BASE") rows base × (IsForm rows form × (json ≡ is_given (codes "json") rows)))
+SubcommandAsks name rows (wish.Stats base form json) =
+    (name ≡ codes "stats") × (IsWord (codes "BASE") rows base × (IsForm rows form × (json ≡ is_given (codes "json") rows)))
 SubcommandAsks name rows (wish.Script base form notation max_output) =
     (name ≡ codes "script") × (IsGiven (codes "base") rows base × (IsGiven (codes "max-output") rows max_output × (IsForm rows form × IsNotation rows notation)))
 SubcommandAsks name rows (wish.Widen base unsigned) =

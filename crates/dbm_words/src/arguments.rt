@@ -23,6 +23,15 @@ pub fn flag<'a>(alloc: Global, id: &'a str, help: &'a str) -> Arg<'a>
     option.action(ArgAction::SetTrue)
 }
 
+/// The option `--null`, also as `-0`.
+pub fn null<'a>(alloc: Global) -> Arg<'a>
+    ensures rule { rule_of result ≡ spec.null_flag }
+    ensures local { result.global ≡ false }
+{
+    let help = "Print raw bytes, a zero byte behind each, for xargs -0";
+    flag(alloc, "null", help).short('0')
+}
+
 /// The option `--id VALUE`.
 pub fn valued_option<'a>(alloc: Global, id: &'a str, value: &'a str, help: &'a str) -> Arg<'a>
     ensures rule { rule_of result ≡ spec.valued_option id.entry.now }
@@ -103,6 +112,27 @@ pub fn layout<'a>(alloc: Global) -> Arg<'a>
         "LAYOUT",
         "With --text, print values by their layout where they fit it: u64, or u64,u64,text",
     )
+}
+
+/// The option for keys that begin so.
+pub fn prefix<'a>(alloc: Global) -> Arg<'a>
+    ensures rule { rule_of result ≡ spec.valued_option (codes "prefix") }
+    ensures local { result.global ≡ false }
+{
+    valued_option(
+        alloc,
+        "prefix",
+        "BYTES",
+        "Only keys that begin with these bytes",
+    )
+}
+
+/// The option for an answer in JSON.
+pub fn json<'a>(alloc: Global) -> Arg<'a>
+    ensures rule { rule_of result ≡ spec.flag (codes "json") }
+    ensures local { result.global ≡ false }
+{
+    flag(alloc, "json", "Print JSON")
 }
 
 /// The option for the longest wait for the lock.

@@ -18,7 +18,9 @@ pub fn asked<'a>(name: &str, matches: &ArgMatches<'a>) -> Option<Wish<'a>>
         "store" => store(matches),
         "delete" => delete(matches),
         "list" => list(matches),
+        "keys" => keys(matches),
         "check" => check(matches),
+        "stats" => stats(matches),
         "script" => script(matches),
         "widen" => widen(matches),
         "asm" => asm(matches),
@@ -121,6 +123,22 @@ fn list<'a>(matches: &ArgMatches<'a>) -> Option<Wish<'a>>
         base: word(matches, "BASE")?,
         form: form(matches),
         notation: notation(matches),
+        prefix: word(matches, "prefix"),
+        null: has_flag(matches, "null"),
+        json: has_flag(matches, "json"),
+    })
+}
+
+fn keys<'a>(matches: &ArgMatches<'a>) -> Option<Wish<'a>>
+    ensures some { IfSome result (SubcommandAsks (codes "keys") (rows_of (found_of matches.now))) }
+    ensures none { IsNone result → has_words spec.keys.rules (rows_of (found_of matches.now)) ≡ false }
+{
+    Some(Wish::Keys {
+        base: word(matches, "BASE")?,
+        form: form(matches),
+        notation: notation(matches),
+        prefix: word(matches, "prefix"),
+        null: has_flag(matches, "null"),
     })
 }
 
@@ -131,6 +149,18 @@ fn check<'a>(matches: &ArgMatches<'a>) -> Option<Wish<'a>>
     Some(Wish::Check {
         base: word(matches, "BASE")?,
         form: form(matches),
+        json: has_flag(matches, "json"),
+    })
+}
+
+fn stats<'a>(matches: &ArgMatches<'a>) -> Option<Wish<'a>>
+    ensures some { IfSome result (SubcommandAsks (codes "stats") (rows_of (found_of matches.now))) }
+    ensures none { IsNone result → has_words spec.stats.rules (rows_of (found_of matches.now)) ≡ false }
+{
+    Some(Wish::Stats {
+        base: word(matches, "BASE")?,
+        form: form(matches),
+        json: has_flag(matches, "json"),
     })
 }
 

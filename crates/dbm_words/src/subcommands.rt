@@ -6,8 +6,8 @@ ghost use Rattle.dbm_words.specs.CommandLine.{IsCommand, IsSubcommand, tool};
 ghost use Rattle.dbm_words.specs.CommandLine as spec;
 
 use crate::arguments::{
-    base, file, flag, image, key, layout, must_exist, required_word, text, timeout, unsigned,
-    valued_option, wide,
+    base, file, flag, image, json, key, layout, must_exist, null, prefix, required_word, text,
+    timeout, unsigned, valued_option, wide,
 };
 use clap::{Arg, Command};
 use std::alloc::{AllocError, Global};
@@ -21,7 +21,9 @@ pub fn tool_command<'a>(alloc: Global) -> Result<Command<'a>, AllocError>
         .subcommand(store_command(alloc)?)?
         .subcommand(delete_command(alloc)?)?
         .subcommand(list_command(alloc)?)?
+        .subcommand(keys_command(alloc)?)?
         .subcommand(check_command(alloc)?)?
+        .subcommand(stats_command(alloc)?)?
         .subcommand(script_command(alloc)?)?
         .subcommand(widen_command(alloc)?)?
         .subcommand(asm_command(alloc)?)?
@@ -164,6 +166,9 @@ fn list_command<'a>(alloc: Global) -> Result<Command<'a>, AllocError>
 {
     let args = vec![in alloc;
         base(alloc),
+        prefix(alloc),
+        null(alloc),
+        json(alloc),
         text(alloc),
         layout(alloc),
         unsigned(alloc),
@@ -171,21 +176,64 @@ fn list_command<'a>(alloc: Global) -> Result<Command<'a>, AllocError>
         timeout(alloc),
     ]?;
     let about = "Print all pairs, sorted by the bytes of their keys";
-    let notes = "Prints KEY VALUE for each pair, both in hex, or . for no bytes.\n\n\
+    let notes =
+        "Prints KEY VALUE for each pair, both in hex, or . for no bytes; with --json an object\n\
+         for each in a line of its own.\n\n\
          Example: dbm list users --text";
     aliased_subcommand(alloc, "list", "ls", about, notes, args)
+}
+
+fn keys_command<'a>(alloc: Global) -> Result<Command<'a>, AllocError>
+    ensures { IfOk result (IsSubcommand spec.keys) }
+{
+    let args = vec![in alloc;
+        base(alloc),
+        prefix(alloc),
+        null(alloc),
+        text(alloc),
+        unsigned(alloc),
+        wide(alloc),
+        timeout(alloc),
+    ]?;
+    let about = "Print all keys, sorted by their bytes";
+    let notes = "Prints each key in a line, in hex, or . for no bytes.\n\n\
+         Example: dbm keys users --text --prefix user:";
+    subcommand(alloc, "keys", about, notes, args)
 }
 
 fn check_command<'a>(alloc: Global) -> Result<Command<'a>, AllocError>
     ensures { IfOk result (IsSubcommand spec.check) }
 {
-    let args = vec![in alloc; base(alloc), unsigned(alloc), wide(alloc), timeout(alloc)]?;
+    let args = vec![in alloc;
+        base(alloc),
+        json(alloc),
+        unsigned(alloc),
+        wide(alloc),
+        timeout(alloc),
+    ]?;
     let about = "Check that the files are a database";
     let notes =
         "Prints ok N for a database of N pairs. Where the files are none, standard error names\n\
          the fault, and the status is 2. Where neither file is there, the database is empty.\n\n\
          Example: dbm check users";
     subcommand(alloc, "check", about, notes, args)
+}
+
+fn stats_command<'a>(alloc: Global) -> Result<Command<'a>, AllocError>
+    ensures { IfOk result (IsSubcommand spec.stats) }
+{
+    let args = vec![in alloc;
+        base(alloc),
+        json(alloc),
+        unsigned(alloc),
+        wide(alloc),
+        timeout(alloc),
+    ]?;
+    let about = "Print what is in a database, in numbers";
+    let notes =
+        "Prints how many pairs and bytes there are, how full the pages are, and how deep the directory is.\n\n\
+         Example: dbm stats users";
+    subcommand(alloc, "stats", about, notes, args)
 }
 
 fn script_command<'a>(alloc: Global) -> Result<Command<'a>, AllocError>

@@ -87,16 +87,35 @@ pub enum Wish<'a> {
         workers: &'a str,
         image: bool,
     },
-    /// All pairs.
+    /// All pairs, or those whose keys begin with a prefix: with `null` as raw bytes, each key and value ended by a zero byte, with
+    /// `json` as objects.
     List {
         base: &'a str,
         form: Form,
         notation: Notation<'a>,
+        prefix: Option<&'a str>,
+        null: bool,
+        json: bool,
+    },
+    /// All keys, or those that begin with a prefix: with `null` as raw bytes, each ended by a zero byte.
+    Keys {
+        base: &'a str,
+        form: Form,
+        notation: Notation<'a>,
+        prefix: Option<&'a str>,
+        null: bool,
     },
     /// Whether the files are a database, and how many pairs it has.
     Check {
         base: &'a str,
         form: Form,
+        json: bool,
+    },
+    /// What is in a database, in numbers.
+    Stats {
+        base: &'a str,
+        form: Form,
+        json: bool,
     },
     /// The script on standard input is to be run, without a base on an empty database that is not kept. Its answers are to have at
     /// most `max_output` bytes.
@@ -146,7 +165,9 @@ impl<'a> Wish<'a> {
             | Wish::Run { base, .. }
             | Wish::Batch { base, .. }
             | Wish::List { base, .. }
+            | Wish::Keys { base, .. }
             | Wish::Check { base, .. }
+            | Wish::Stats { base, .. }
             | Wish::Widen { base, .. } => Some(base),
             Wish::Script { base, .. } => base,
             Wish::Asm { .. } | Wish::Disasm { .. } | Wish::Verify { .. } => None,
@@ -181,7 +202,9 @@ impl<'a> Wish<'a> {
             Wish::Script { base, .. } => base.is_some(),
             Wish::Fetch { .. }
             | Wish::List { .. }
+            | Wish::Keys { .. }
             | Wish::Check { .. }
+            | Wish::Stats { .. }
             | Wish::Asm { .. }
             | Wish::Disasm { .. }
             | Wish::Verify { .. } => false,

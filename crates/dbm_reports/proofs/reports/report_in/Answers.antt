@@ -12,8 +12,14 @@ returns-in-Delete-clause-ok g c = rw (c.in-Delete.is) c.report_delete.ensures.ok
 pub returns-in-List-clause-ok : goal.returns-in-List-clause-ok
 returns-in-List-clause-ok g c = rw (c.in-List.is) c.report_list.ensures.ok
 
+pub returns-in-Keys-clause-ok : goal.returns-in-Keys-clause-ok
+returns-in-Keys-clause-ok g c = rw (c.in-Keys.is) c.report_keys.ensures.ok
+
 pub returns-in-Check-clause-ok : goal.returns-in-Check-clause-ok
 returns-in-Check-clause-ok g c = rw (c.in-Check.is) c.report_check.ensures.ok
+
+pub returns-in-Stats-clause-ok : goal.returns-in-Stats-clause-ok
+returns-in-Stats-clause-ok g c = rw (c.in-Stats.is) c.report_stats.ensures.ok
 
 pub returns-in-Script-clause-ok : goal.returns-in-Script-clause-ok
 returns-in-Script-clause-ok g c = rw (c.in-Script.is, c.in-Script.base-is) c.report_script.ensures.ok

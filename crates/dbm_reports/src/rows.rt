@@ -1,0 +1,202 @@
+//! Pairs and keys in rows.
+ghost use Rattle.std.specs.Prelude.{◌≡◌, ◌++◌, ◌∷◌, [], IfOk, OnOk};
+ghost use Rattle.dbm_reports.specs.Rows.{key_line, keys_listing, pair_line, pair_object, pairs_listing, raw, row_of, rows};
+ghost use Rattle.dbm_stats.specs.Json.{quoted};
+ghost use Rattle.dbm_script.specs.Notation.{shown, value_shown};
+
+use dbm_script::{Notation, show_bytes, show_value};
+use dbm_stats::show_string;
+use sdbm_addr::Bytes;
+use std::alloc::{AllocError, Allocator};
+
+/// How pairs are listed, each in a row.
+#[derive(Clone, Copy, Debug, PartialEq, Eq)]
+pub enum Listing {
+    /// Key and value in a line.
+    Pairs,
+    /// The bytes of the key and of the value, a zero byte behind each.
+    RawPairs,
+    /// An object in a line.
+    Objects,
+    /// The key in a line.
+    Keys,
+    /// The bytes of the key, and a zero byte.
+    RawKeys,
+}
+
+/// How `list` lists pairs, by its options. JSON objects stand in lines.
+pub fn pairs_listing(null: bool, json: bool) -> Listing
+    ensures { result ≡ pairs_listing null json }
+{
+    if json {
+        return Listing::Objects;
+    }
+    if null {
+        return Listing::RawPairs;
+    }
+    Listing::Pairs
+}
+
+/// How `keys` lists pairs, by its option.
+pub fn keys_listing(null: bool) -> Listing
+    ensures { result ≡ keys_listing null }
+{
+    if null {
+        return Listing::RawKeys;
+    }
+    Listing::Keys
+}
+
+/// A row for each pair whose key begins with a prefix.
+///
+/// # Errors
+/// `AllocError` where no memory is left for the text.
+pub fn show_rows<A: Allocator + Copy>(
+    alloc: A,
+    notation: &Notation<A>,
+    listing: Listing,
+    prefix: &[u8],
+    pairs: &[(Bytes<A>, Bytes<A>)],
+) -> Result<Vec<u8, A>, AllocError>
+    ensures { IfOk result (λ text. text.items ≡ rows notation.now listing prefix.now pairs.now) }
+{
+    let mut text = Vec::new(alloc);
+    for pair in pairs {
+        show_chosen(
+            alloc, notation, listing, prefix, &pair.0, &pair.1, &mut text,
+        )?;
+    }
+    Ok(text)
+}
+
+// The row of a pair, where its key begins with a prefix.
+fn show_chosen<A: Allocator + Copy>(
+    alloc: A,
+    notation: &Notation<A>,
+    listing: Listing,
+    prefix: &[u8],
+    key: &Bytes<A>,
+    value: &Bytes<A>,
+    text: &mut Vec<u8, A>,
+) -> Result<(), AllocError>
+    ensures { OnOk result (text.new.items ≡ text.old.items ++ rows notation.now listing prefix.now ((key.now, value.now) ∷ [])) }
+{
+    if !key.as_slice().starts_with(prefix) {
+        return Ok(());
+    }
+    show_row(alloc, notation, listing, key, value, text)
+}
+
+// The row of a pair.
+fn show_row<A: Allocator + Copy>(
+    alloc: A,
+    notation: &Notation<A>,
+    listing: Listing,
+    key: &Bytes<A>,
+    value: &Bytes<A>,
+    text: &mut Vec<u8, A>,
+) -> Result<(), AllocError>
+    ensures { OnOk result (text.new.items ≡ text.old.items ++ row_of notation.now listing (key.now, value.now)) }
+{
+    match listing {
+        Listing::Pairs => show_line(alloc, notation, key, value, text),
+        Listing::RawPairs => show_raw_pair(key, value, text),
+        Listing::Objects => show_object(alloc, notation, key, value, text),
+        Listing::Keys => show_key(alloc, notation, key, text),
+        Listing::RawKeys => show_raw(key, text),
+    }
+}
+
+// A pair in a line.
+fn show_line<A: Allocator + Copy>(
+    alloc: A,
+    notation: &Notation<A>,
+    key: &Bytes<A>,
+    value: &Bytes<A>,
+    text: &mut Vec<u8, A>,
+) -> Result<(), AllocError>
+    ensures { OnOk result (text.new.items ≡ text.old.items ++ pair_line notation.now (key.now, value.now)) }
+{
+    show_bytes(alloc, notation, key.as_slice(), text)?;
+    text.push(b' ')?;
+    show_value(alloc, notation, value.as_slice(), text)?;
+    Ok(text.push(b'\n')?)
+}
+
+// A key in a line.
+fn show_key<A: Allocator + Copy>(
+    alloc: A,
+    notation: &Notation<A>,
+    key: &Bytes<A>,
+    text: &mut Vec<u8, A>,
+) -> Result<(), AllocError>
+    ensures { OnOk result (text.new.items ≡ text.old.items ++ key_line notation.now key.now) }
+{
+    show_bytes(alloc, notation, key.as_slice(), text)?;
+    Ok(text.push(b'\n')?)
+}
+
+// The bytes of a key and a value, a zero byte behind each.
+fn show_raw_pair<A: Allocator>(
+    key: &Bytes<A>,
+    value: &Bytes<A>,
+    text: &mut Vec<u8, A>,
+) -> Result<(), AllocError>
+    ensures { OnOk result (text.new.items ≡ text.old.items ++ (raw key.now ++ raw value.now)) }
+{
+    show_raw(key, text)?;
+    show_raw(value, text)
+}
+
+// Bytes, and a zero byte.
+fn show_raw<A: Allocator>(bytes: &Bytes<A>, text: &mut Vec<u8, A>) -> Result<(), AllocError>
+    ensures { OnOk result (text.new.items ≡ text.old.items ++ raw bytes.now) }
+{
+    text.extend_from_slice(bytes.as_slice())?;
+    Ok(text.push(0)?)
+}
+
+// A pair as an object, in a line.
+fn show_object<A: Allocator + Copy>(
+    alloc: A,
+    notation: &Notation<A>,
+    key: &Bytes<A>,
+    value: &Bytes<A>,
+    text: &mut Vec<u8, A>,
+) -> Result<(), AllocError>
+    ensures { OnOk result (text.new.items ≡ text.old.items ++ pair_object notation.now (key.now, value.now)) }
+{
+    text.extend_from_slice(b"{\"key\":")?;
+    show_quoted_bytes(alloc, notation, key, text)?;
+    text.extend_from_slice(b",\"value\":")?;
+    show_quoted_value(alloc, notation, value, text)?;
+    text.extend_from_slice(b"}\n")
+}
+
+// Bytes as a JSON string: as they are shown in a line.
+fn show_quoted_bytes<A: Allocator + Copy>(
+    alloc: A,
+    notation: &Notation<A>,
+    bytes: &Bytes<A>,
+    text: &mut Vec<u8, A>,
+) -> Result<(), AllocError>
+    ensures { OnOk result (text.new.items ≡ text.old.items ++ quoted (shown notation.now bytes.now)) }
+{
+    let mut word = Vec::new(alloc);
+    show_bytes(alloc, notation, bytes.as_slice(), &mut word)?;
+    show_string(word.as_slice(), text)
+}
+
+// The bytes of a value as a JSON string.
+fn show_quoted_value<A: Allocator + Copy>(
+    alloc: A,
+    notation: &Notation<A>,
+    bytes: &Bytes<A>,
+    text: &mut Vec<u8, A>,
+) -> Result<(), AllocError>
+    ensures { OnOk result (text.new.items ≡ text.old.items ++ quoted (value_shown notation.now bytes.now)) }
+{
+    let mut word = Vec::new(alloc);
+    show_value(alloc, notation, bytes.as_slice(), &mut word)?;
+    show_string(word.as_slice(), text)
+}

@@ -1,5 +1,5 @@
 -- The faults of instructions that are reached, and the text of a fault (own).
-use Rattle.std.specs.Prelude.{ℕ, List, codes}
+use Rattle.std.specs.Prelude.{ℕ, List, Option, Some, None, codes}
 use Rattle.bpf_insn.specs.Decoding.{with_place}
 use Rattle.bpf_verify.specs.declared.fault.FlowFault.{FlowFault}
 use Rattle.bpf_verify.specs.declared.fault.FlowFault.TheVariants as flow
@@ -19,6 +19,11 @@ placed_fault flow.ArgumentWritten at = ArgumentWritten at
 placed_fault flow.OutOfRecord at = OutOfRecord at
 placed_fault flow.OutOfArgument at = OutOfArgument at
 placed_fault flow.OutOfStack at = OutOfStack at
+
+-- a name, and in brackets a place where there is one
+abbrev pub placed_text : List ℕ → Option ℕ → List ℕ
+placed_text name None = name
+placed_text name (Some at) = with_place name at
 
 -- A fault's text: its name, and its place in brackets.
 abbrev pub fault_text : VerifyFault → List ℕ

@@ -49,18 +49,18 @@ impl fmt::Display for ReportFault {
 
     fn fmt<W: fmt::Write>(&self, f: &mut fmt::Formatter<W>) -> fmt::Result {
         match self {
-            ReportFault::BadHex => write!(f, "BadHex"),
-            ReportFault::BadText => write!(f, "BadText"),
-            ReportFault::BadLayout => write!(f, "BadLayout"),
-            ReportFault::BadNumber => write!(f, "BadNumber"),
-            ReportFault::Open(fault) => write!(f, "{fault}"),
-            ReportFault::NotText => write!(f, "NotText"),
-            ReportFault::Assemble(fault) => write!(f, "{fault}"),
-            ReportFault::Decode(fault) => write!(f, "{fault}"),
-            ReportFault::Read => write!(f, "Read"),
-            ReportFault::TooLong => write!(f, "TooLong"),
-            ReportFault::OutputTooLong => write!(f, "OutputTooLong"),
-            ReportFault::NoMemory => write!(f, "NoMemory"),
+            ReportFault::BadHex => f.write_str("BadHex"),
+            ReportFault::BadText => f.write_str("BadText"),
+            ReportFault::BadLayout => f.write_str("BadLayout"),
+            ReportFault::BadNumber => f.write_str("BadNumber"),
+            ReportFault::Open(fault) => fmt::Display::fmt(fault, f),
+            ReportFault::NotText => f.write_str("NotText"),
+            ReportFault::Assemble(fault) => fmt::Display::fmt(fault, f),
+            ReportFault::Decode(fault) => fmt::Display::fmt(fault, f),
+            ReportFault::Read => f.write_str("Read"),
+            ReportFault::TooLong => f.write_str("TooLong"),
+            ReportFault::OutputTooLong => f.write_str("OutputTooLong"),
+            ReportFault::NoMemory => f.write_str("NoMemory"),
         }
     }
 }

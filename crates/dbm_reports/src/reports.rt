@@ -2,9 +2,11 @@
 ghost use Rattle.std.specs.Prelude.{◌≡◌, cond, ◌≤◌, ◌∷◌, false, length, map, IfOk, IfErr, IfSome, IsSomeAnd, Some};
 ghost use Rattle.dbm_script.specs.Commands.{command_of};
 ghost use Rattle.dbm_script.specs.Notation.{reads_hex};
+ghost use Rattle.dbm_words.specs.declared.wish.Form.{Form};
 ghost use Rattle.dbm_words.specs.declared.wish.Wish.TheVariants as wish;
 ghost use Rattle.dbm_reports.specs.Causes.{IsCaused, command_causes, alone_causes, listing_causes, opening_causes, input_causes, script_causes};
 ghost use Rattle.dbm_reports.specs.Databases.{IsOpened};
+ghost use Rattle.dbm_reports.specs.declared.databases.Given.{Given};
 ghost use Rattle.dbm_reports.specs.Reports.{OnCommand, OnDatabase, Looks, Changes, Lists, Counts, Figures, PlaysAlone, PlaysOn, Widens, delete_words, fetch_words, small_form, store_name, store_words};
 ghost use Rattle.dbm_reports.specs.Rows.{keys_listing, pairs_listing, prefix_asked};
 ghost use Rattle.dbm_reports.specs.Subcommands.{is_batch, is_script, subcommand_for, subcommand_in};
@@ -154,11 +156,25 @@ fn command_on(
     ensures ok { IfOk result (λ r. IsOpened form given.now r.0 × (command_of notation.now (name.now ∷ map (λ x. x.now) args.now) ≡ Some r.1)) }
     ensures fault { IfErr result (IsCaused (command_causes notation.now form given.now (name.now ∷ map (λ x. x.now) args.now))) }
 {
+    let command = command_in(alloc, notation, name, args)?;
+    let image = open(alloc, given, form)?;
+    Ok((image, command))
+}
+
+// The command that words ask.
+fn command_in(
+    alloc: Global,
+    notation: &Notation<Global>,
+    name: &[u8],
+    args: &[&[u8]],
+) -> Result<Command<Global>, ReportFault>
+    ensures ok { IfOk result (λ command. command_of notation.now (name.now ∷ map (λ x. x.now) args.now) ≡ Some command) }
+    ensures fault { (form : Form) → (given : Given) → IfErr result (IsCaused (command_causes notation.now form given (name.now ∷ map (λ x. x.now) args.now))) }
+{
     let Some(command) = read_command(alloc, notation, name, args)? else {
         return Err(bad_words(notation));
     };
-    let image = open(alloc, given, form)?;
-    Ok((image, command))
+    Ok(command)
 }
 
 // The fault of a word that is no bytes.

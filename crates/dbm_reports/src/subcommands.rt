@@ -1,9 +1,9 @@
 //! What comes of each subcommand on a database that is open.
 ghost use Rattle.std.specs.Prelude.{◌≡◌, ◌++◌, ◌∷◌, [], length, None, Some, IfOk, IfErr};
 ghost use Rattle.sdbm_addr.specs.Database.{Database};
-ghost use Rattle.dbm_script.specs.Answers.{IsAnswerTo};
+ghost use Rattle.dbm_script.specs.Answers.{answer_text};
 ghost use Rattle.dbm_reports.specs.Causes.{IsCaused, play_causes};
-ghost use Rattle.dbm_reports.specs.Reports.{Looks, Changes, Lists, Counts, Figures, Plays, Widens, figures_shown, answer_status, code_status, ended_with, status_of};
+ghost use Rattle.dbm_reports.specs.Reports.{IsCommandReport, Looks, Changes, Lists, Counts, Figures, Plays, Widens, figures_shown, answer_status, code_status, ended_with, status_of};
 
 use crate::fault::ReportFault;
 use crate::listing::show_ok;
@@ -35,7 +35,8 @@ pub fn look(
 ) -> Result<Report, AllocError>
     ensures { IfOk result (Looks notation.now image command) }
 {
-    let Report { text, status, .. } = change(alloc, notation, image, command, None)?;
+    let mut image = image;
+    let (text, status) = answer_line(alloc, notation, &mut image, command, None)?;
     Ok(Report {
         text,
         status,
@@ -56,30 +57,42 @@ pub fn change(
 ) -> Result<Report, AllocError>
     ensures { IfOk result (Changes notation.now image command expect) }
 {
-    let (image, answer) = answer_one(alloc, image, command)?;
-    let mut text = Vec::new(alloc);
-    show_answer(alloc, notation, &answer, &mut text)?;
-    text.push(b'\n')?;
+    let mut image = image;
+    let (text, status) = answer_line(alloc, notation, &mut image, command, expect)?;
     Ok(Report {
         text,
-        status: status_of(&answer, expect),
+        status,
         database: Some(image),
     })
 }
 
-// The database after a command, and the answer.
-fn answer_one(
+// Answers a command: the line that is printed, and the status that goes with it.
+fn answer_line(
     alloc: Global,
-    image: Image<Global>,
+    notation: &Notation<Global>,
+    image: &mut Image<Global>,
     command: Command<Global>,
-) -> Result<(Image<Global>, Answer<Global>), AllocError>
-    ensures answer { IfOk result (λ r. IsAnswerTo _ image command r.1 r.0) }
-    ensures kind { IfOk result (λ r. r.0.kind ≡ image.kind) }
-    ensures size { IfOk result (λ r. r.0.size ≡ image.size) }
+    expect: Option<u64>,
+) -> Result<(Vec<u8>, u8), AllocError>
+    ensures { IfOk result (λ r. IsCommandReport notation.now image.old command expect image.new (record { text = r.0; status = r.1; database = None })) }
 {
-    let mut image = image;
-    let answer = answer_command(alloc, &mut image, command)?;
-    Ok((image, answer))
+    let answer = answer_command(alloc, image, command)?;
+    let line = shown(alloc, notation, &answer)?;
+    Ok((line, status_of(&answer, expect)))
+}
+
+// The text of an answer, as a line.
+fn shown(
+    alloc: Global,
+    notation: &Notation<Global>,
+    answer: &Answer<Global>,
+) -> Result<Vec<u8>, AllocError>
+    ensures { IfOk result (λ line. line.items ≡ answer_text notation.now answer.now ++ 10 ∷ []) }
+{
+    let mut text = Vec::new(alloc);
+    show_answer(alloc, notation, answer, &mut text)?;
+    text.push(b'\n')?;
+    Ok(text)
 }
 
 // The status that goes with an answer, where a run is to end with a code, or where nothing is asked of it.

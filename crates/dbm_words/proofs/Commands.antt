@@ -2,7 +2,7 @@
 use Rattle.std.proofs.Common.{◌≡◌, ◌++◌, ◌∷◌, ◌&&◌, not, is_some, [], List, Bool, Bor, true, false, map, refl, ap, ◌∙◌, arith, append_assoc, append-nil}
 use Rattle.std.proofs.lemmas.List.{map-append}
 use Rattle.std.specs.List.{list_all}
-use Rattle.clap.specs.Words.{AddsArg, AddsCommandAliases, AddsInTurn, AddsSubcommand, App, Rule, Shape, Text, app_of, rule_of, with_rule, with_subcommand}
+use Rattle.clap.specs.Words.{AddsArg, AddsCommandAliases, AddsInTurn, App, Rule, Shape, Text, app_of, rule_of, with_rule}
 use Rattle.clap.specs.Simple.{app_of_fields}
 use Rattle.clap.specs.Walk.{is_empty}
 use Rattle.clap.specs.declared.Arg.{Arg}
@@ -27,13 +27,6 @@ pub gains : (old new : Command) (x : Arg) (a : App) → AddsArg old x new → (r
 gains old new x a step simple h = (
   step.shape (is_local x simple) ∙ ap (λ (b : App). with_rule b (rule_of x)) h.0,
   (let local : x.global ≡ false = is_local x simple in rw (step.globals, h.1, local) refl),
-)
-
--- one more subcommand
-pub joins : (old sub new : Command) (a : App) (s : Shape) → AddsSubcommand old sub new → IsCommand a old → IsSubcommand s sub → IsCommand (with_subcommand a s) new
-joins old sub new a s step h part = (
-  step.shape part.1 ∙ ap (λ (b : App). with_subcommand b (app_of sub).top) h.0 ∙ ap (λ (b : App). with_subcommand a b.top) part.0,
-  rw (step.globals, h.1, part.1) refl,
 )
 
 -- arguments in turn

@@ -1,7 +1,8 @@
 //! The command line as `clap` is told it: each subcommand with its words, its options and its help.
 ghost use Rattle.std.specs.Prelude.{◌≡◌, IfOk, true, map};
 ghost use Rattle.std.specs.List.{list_all};
-ghost use Rattle.clap.specs.Words.{rule_of};
+ghost use Rattle.clap.specs.Words.{App, Shape, rule_of};
+ghost use Rattle.clap.specs.Words as rules;
 ghost use Rattle.dbm_words.specs.CommandLine.{IsCommand, IsSubcommand, tool};
 ghost use Rattle.dbm_words.specs.CommandLine as spec;
 
@@ -16,21 +17,31 @@ use std::alloc::{AllocError, Global};
 pub fn tool_command<'a>(alloc: Global) -> Result<Command<'a>, AllocError>
     ensures { IfOk result (IsCommand tool) }
 {
-    bare_command(alloc)?
-        .subcommand(fetch_command(alloc)?)?
-        .subcommand(store_command(alloc)?)?
-        .subcommand(delete_command(alloc)?)?
-        .subcommand(list_command(alloc)?)?
-        .subcommand(keys_command(alloc)?)?
-        .subcommand(check_command(alloc)?)?
-        .subcommand(stats_command(alloc)?)?
-        .subcommand(script_command(alloc)?)?
-        .subcommand(widen_command(alloc)?)?
-        .subcommand(asm_command(alloc)?)?
-        .subcommand(disasm_command(alloc)?)?
-        .subcommand(verify_command(alloc)?)?
-        .subcommand(run_command(alloc)?)?
-        .subcommand(batch_command(alloc)?)
+    let command = bare_command(alloc);
+    let command = with_subcommand(command, fetch_command(alloc));
+    let command = with_subcommand(command, store_command(alloc));
+    let command = with_subcommand(command, delete_command(alloc));
+    let command = with_subcommand(command, list_command(alloc));
+    let command = with_subcommand(command, keys_command(alloc));
+    let command = with_subcommand(command, check_command(alloc));
+    let command = with_subcommand(command, stats_command(alloc));
+    let command = with_subcommand(command, script_command(alloc));
+    let command = with_subcommand(command, widen_command(alloc));
+    let command = with_subcommand(command, asm_command(alloc));
+    let command = with_subcommand(command, disasm_command(alloc));
+    let command = with_subcommand(command, verify_command(alloc));
+    let command = with_subcommand(command, run_command(alloc));
+    with_subcommand(command, batch_command(alloc))
+}
+
+// A command with one more subcommand, where memory was left for both.
+fn with_subcommand<'a>(
+    command: Result<Command<'a>, AllocError>,
+    more: Result<Command<'a>, AllocError>,
+) -> Result<Command<'a>, AllocError>
+    ensures { (app : App) → (shape : Shape) → IfOk command.entry (IsCommand app) → IfOk more.entry (IsSubcommand shape) → IfOk result (IsCommand (rules.with_subcommand app shape)) }
+{
+    command?.subcommand(more?)
 }
 
 // The program's name, version and help.

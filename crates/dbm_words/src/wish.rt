@@ -38,7 +38,7 @@ pub enum TimeUnit {
 
 /// What a command line asks: one subcommand with its words and options, as they were given. No word is read as bytes or as a
 /// number yet. A `base` names the files of a database, `BASE.dir` and `BASE.pag`.
-#[derive(Clone, Copy, Debug, PartialEq, Eq)]
+#[derive(Clone, Copy, Debug)]
 pub enum Wish<'a> {
     /// The value of a key.
     Fetch {
@@ -147,7 +147,7 @@ pub enum Wish<'a> {
 }
 
 /// What a command line asks, and how its database is come by.
-#[derive(Clone, Copy, Debug, PartialEq, Eq)]
+#[derive(Clone, Copy, Debug)]
 pub struct Request<'a> {
     pub wish: Wish<'a>,
     pub access: Access<'a>,

@@ -2,8 +2,11 @@
 //! map.
 #![tactic(auto)]
 
-ghost use Rattle.std.specs.Prelude.{◌≡◌, ◌≢◌, Some, None, IfOk, IfErr, OnOk, OnErr};
+ghost use Rattle.std.specs.Prelude.{◌≡◌, ◌≢◌, ◌≤◌, ◌+◌, ◌++◌, ◌∷◌, [], true, false, Some, None, IfOk, IfErr, OnOk, OnErr, vec_len, vec_capacity};
 ghost use Rattle.std.specs.FinMap as map;
+ghost use Rattle.std.specs.List.{list_any};
+ghost use Rattle.slab.specs.Slab.{HasRoomFor, slab_len};
+ghost use Rattle.hold_modes.specs.Held.{bars, is_of, obeys_rule};
 ghost use Rattle.sdbm_addr.specs.Database.{map_of};
 ghost use Rattle.store_cmd.specs.declared.Command.TheVariants.{Count};
 ghost use Rattle.store_moves.specs.Works.{key_of};
@@ -290,10 +293,15 @@ impl<A: Allocator + Copy> Desk<A> {
         ensures ok { IfOk result (λ ticket. Opens self.old own.command (record { ticket = ticket.0; asked = own }) self.new) }
         ensures err { OnErr result (self.new ≡ self.old) }
     {
-        self.trail.entries.reserve(self.tickets.len() + 1)?;
-        self.tickets.reserve(1)?;
         let ticket = Ticket(self.tickets.vacant_key());
-        self.holds.take_free(own.place.page, mode, ticket)?;
+        make_room(
+            &mut self.trail.entries,
+            &mut self.tickets,
+            &mut self.holds,
+            own.place.page,
+            mode,
+            ticket,
+        )?;
         let _key = self.tickets.insert_reserved(own);
         Ok(ticket)
     }
@@ -508,4 +516,32 @@ fn ask_fault(fault: SizeFault) -> AskFault
         SizeFault::PairTooLarge => AskFault::PairTooLarge,
         SizeFault::ArgTooLong => AskFault::ArgTooLong,
     }
+}
+
+// Takes all the memory that one more ticket needs, and its hold.
+fn make_room<A: Allocator + Copy>(
+    entries: &mut Vec<Entry<A>, A>,
+    tickets: &mut Slab<Open<A>, A>,
+    holds: &mut Holds<A>,
+    page: u32,
+    mode: Hold,
+    ticket: Ticket,
+) -> Result<(), AllocError>
+    requires fits { vec_len entries.old + slab_len tickets.old ≤ vec_capacity entries.old }
+    requires ticket { list_any (is_of ticket) holds.old ≡ false }
+    requires free { list_any (bars page mode) holds.old ≡ false }
+    ensures items { entries.new.items ≡ entries.old.items }
+    ensures len { vec_len entries.new ≡ vec_len entries.old }
+    ensures capacity { vec_capacity entries.old ≤ vec_capacity entries.new }
+    ensures rest_kept { tickets.new ≡ record tickets.old { capacity = tickets.new.capacity } }
+    ensures count { slab_len tickets.new ≡ slab_len tickets.old }
+    ensures entry { OnOk result (vec_len entries.new + (slab_len tickets.old + 1) ≤ vec_capacity entries.new) }
+    ensures slot { OnOk result (HasRoomFor tickets.new 1) }
+    ensures hold { OnOk result (holds.new ≡ holds.old ++ record { page = page; mode = mode; ticket = ticket } ∷ []) }
+    ensures rule { OnOk result (obeys_rule holds.new ≡ true) }
+    ensures err { OnErr result (holds.new ≡ holds.old) }
+{
+    entries.reserve(tickets.len() + 1)?;
+    tickets.reserve(1)?;
+    holds.take_free(page, mode, ticket)
 }

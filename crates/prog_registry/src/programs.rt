@@ -99,15 +99,28 @@ impl<A: Allocator> Programs<A> {
     {
         let alloc = *self.list.allocator();
         self.list.reserve(1)?;
-        let key = Vec::from_slice(alloc, image)?;
-        let Ok(shared) = Arc::new(alloc, program) else {
-            return Err(AllocError);
-        };
+        let (key, shared) = keyed(alloc, image, program)?;
         let number = self.list.len() as u32;
         if self.numbers.insert(key, number).is_err() {
             return Err(AllocError);
         }
         self.list.push_reserved(shared);
         Ok(number)
+    }
+}
+
+// An image that is copied, and its program to be shared.
+fn keyed<A: Allocator + Copy>(
+    alloc: A,
+    image: &[u8],
+    program: Verified<A>,
+) -> Result<(Vec<u8, A>, Arc<Verified<A>, A>), AllocError>
+    ensures key { IfOk result (λ r. r.0.items ≡ image.now) }
+    ensures shared { IfOk result (λ r. arc_value r.1 ≡ program) }
+{
+    let key = Vec::from_slice(alloc, image)?;
+    match Arc::new(alloc, program) {
+        Ok(shared) => Ok((key, shared)),
+        Err(_) => Err(AllocError),
     }
 }

@@ -176,11 +176,14 @@ impl<A: Allocator + Copy> Command<A> {
             Command::Fetch { key } => Ok(Command::Fetch {
                 key: key.try_clone(alloc)?,
             }),
-            Command::Store { key, value, mode } => Ok(Command::Store {
-                key: key.try_clone(alloc)?,
-                value: value.try_clone(alloc)?,
-                mode: *mode,
-            }),
+            Command::Store { key, value, mode } => {
+                let (key, value) = clone_both(alloc, key, value)?;
+                Ok(Command::Store {
+                    key,
+                    value,
+                    mode: *mode,
+                })
+            }
             Command::Delete { key } => Ok(Command::Delete {
                 key: key.try_clone(alloc)?,
             }),
@@ -190,13 +193,16 @@ impl<A: Allocator + Copy> Command<A> {
                 arg,
                 blank,
                 now,
-            } => Ok(Command::Run {
-                key: key.try_clone(alloc)?,
-                prog: prog.try_clone()?,
-                arg: arg.try_clone(alloc)?,
-                blank: *blank,
-                now: *now,
-            }),
+            } => {
+                let (key, arg) = clone_both(alloc, key, arg)?;
+                Ok(Command::Run {
+                    key,
+                    prog: prog.try_clone()?,
+                    arg,
+                    blank: *blank,
+                    now: *now,
+                })
+            }
             Command::Count => Ok(Command::Count),
         }
     }
@@ -247,6 +253,19 @@ impl<A: Allocator + Copy> Trail<A> {
             entries: clone_entries(alloc, self.entries.as_slice())?,
         })
     }
+}
+
+// Equal bytes of both.
+fn clone_both<A: Allocator + Copy>(
+    alloc: A,
+    one: &Bytes<A>,
+    other: &Bytes<A>,
+) -> Result<(Bytes<A>, Bytes<A>), AllocError>
+    ensures { IfOk result (λ copies. (copies.0 ≡ one.now) × (copies.1 ≡ other.now)) }
+{
+    let one = one.try_clone(alloc)?;
+    let other = other.try_clone(alloc)?;
+    Ok((one, other))
 }
 
 // Equal entries, in the same order.

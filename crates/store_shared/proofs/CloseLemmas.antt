@@ -2,8 +2,9 @@
 use Rattle.std.proofs.Common.{◌≡◌, ◌∙◌, sym, ap, refl, ℕ, ◌<◌, ◌≤◌, ◌+◌, Bool, true, false, length, List, [], ◌∷◌, ◌++◌, arith, slice_index_or}
 use Rattle.std.specs.Prelude.{◌≢◌, ◌==◌, ◌&&◌, nat_eq, take, drop, map, Some}
 use Rattle.std.specs.List.{IsDistinct, list_any, slice_get}
+use Rattle.std.proofs.lemmas.Bool.{eqb-false}
 use Rattle.std.proofs.lemmas.Cmp.{nat_eq_equiv}
-use Rattle.std.proofs.lemmas.List.{take_more, length-take-le, take-append-drop, append-nil, append_assoc, map-append}
+use Rattle.std.proofs.lemmas.List.{take_all, take_more, length-take-le, take-append-drop, append-nil, append_assoc, map-append}
 use Rattle.std.proofs.lemmas.List.Elements.{All-more, All-nil, filter-append}
 use Rattle.std.proofs.lemmas.Map.Keys.{IsDistinct-push}
 use Rattle.std.proofs.lemmas.Option.{slice_get-get_or, slice_get_within, get_or_from_slice_get}
@@ -71,6 +72,19 @@ calls_short {A} n xs made at few same whole =
     let l : length made ≡ at = ap length (sym whole ∙ same) ∙ length-take-le at made (omega arith) in
     absurd (omega arith)
 
+-- once every entry is counted, they are all those of the trail where their number is
+pub calls_whole : {A : Type 0} (n : ℕ) (xs made : List (Entry A)) (i at : ℕ) → length xs ≤ i → at ≤ length made → calls_of n (take i xs) ≡ take at made → Decides (at == length made) (calls_of n xs ≡ made)
+calls_whole {A} n xs made i at over few same = (λ h. whole ∙ take_all at made (enough h), λ here. by_test here (at == length made) refl) where
+  whole : calls_of n xs ≡ take at made
+  whole = ap (calls_of n) (sym (take_all i xs over)) ∙ same
+
+  enough : (at == length made) ≡ true → length made ≤ at
+  enough h = grind arith
+
+  by_test : calls_of n xs ≡ made → (b : Bool) → (at == length made) ≡ b → b ≡ true
+  by_test here true is = refl
+  by_test here false is = absurd (calls_short n xs made at (omega (arith, eqb-false at (length made) is)) whole here)
+
 -- one more of them stands in the trail
 pub calls_next : {A : Type 0} (n : ℕ) (xs made : List (Entry A)) (i at : ℕ) (d : Entry A) → i < length xs → calls_of n (take i xs) ≡ take at made → ((slice_index_or xs i d).session == n) ≡ true → slice_get made at ≡ Some (slice_index_or xs i d) → (calls_of n (take (i + 1) xs) ≡ take (at + 1) made) × (at + 1 ≤ length made)
 calls_next {A} n xs made i at d within same its_own here =
@@ -85,8 +99,6 @@ pub same_pair : (a b : Pair) → Decides (bytes_eq a.0 b.0 && bytes_eq a.1 b.1) 
 same_pair a b =
     let whole : (a.0 ≡ b.0) × (a.1 ≡ b.1) → a ≡ b = λ h. ap (λ x. (x, a.1)) h.0 ∙ ap (λ y. (b.0, y)) h.1 in
     Decides-like (bytes_eq a.0 b.0 && bytes_eq a.1 b.1) whole (λ e. (ap (λ p. p.0) e, ap (λ p. p.1) e)) (Decides-and (bytes_eq a.0 b.0) (bytes_eq a.1 b.1) (bytes_eq-Decides a.0 b.0) (bytes_eq-Decides a.1 b.1))
-
-pub ruleset Called = (calls_skip, calls_more, calls_apart, calls_short, take_more)
 
 -- a number that is strange, or comes twice, is a fault of closing
 pub strange_fault : {A : Type 0} (s : DeskState A) (made : ℕ) (opened : Opened) (handed : List (CallsState A)) (fault : CloseFault) → IsFirstStrange made handed fault → IsCloseFault s made opened handed fault

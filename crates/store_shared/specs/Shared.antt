@@ -1,5 +1,5 @@
 -- What a store was opened with, and the sessions that share it.
-use Rattle.std.specs.Prelude.{◌≡◌, ℕ, ◌++◌, ◌⊎◌, List, [], ◌∷◌, Option, Some, None}
+use Rattle.std.specs.Prelude.{◌≡◌, ℕ, ◌++◌, ◌⊎◌, List, [], ◌∷◌, Option, Some, None, Ok, Err}
 use Rattle.std.specs.FinMap as map
 use Rattle.sdbm_addr.specs.declared.KeyBytes.{KeyBytes}
 use Rattle.sdbm_addr.specs.declared.PageSize.{PageSize}
@@ -19,6 +19,8 @@ use Rattle.desk_core.specs.declared.job.Open.{Open}
 use Rattle.desk_core.specs.declared.Settled.{Settled}
 use Rattle.store_shared.specs.declared.serving.Closing.{Closing}
 use Rattle.store_shared.specs.declared.serving.Closing.TheVariants.{Commit, GiveUp}
+use Rattle.store_shared.specs.declared.serving.Tried.{Tried}
+use Rattle.store_shared.specs.declared.serving.Tried.TheVariants.{Ended, Busy}
 use Rattle.store_moves.specs.Works.{HasKey, HasEnd}
 use Rattle.desk_core.specs.Jobs.{worked}
 use Rattle.desk_core.specs.Desk.{DeskState, ticket_of}
@@ -79,12 +81,6 @@ abbrev pub IsAskedFor : {A : Type 0} → ℕ → Command A → Asked A → Type 
 IsAskedFor session command (asked.Job job) = HasKey command × ((job.asked.session ≡ session) × (job.asked.command ≡ command))
 IsAskedFor session command (asked.Answered reply) = IsCounted command reply
 
--- What closing a ticket comes to on a desk: what was worked is committed, or the ticket is given up, if it is still open.
-abbrev pub ClosesTicket : {A : Type 0} → Closing A → DeskState A → Option (Settled A) → DeskState A → Type 0
-ClosesTicket (Commit done) s None s' = ⊥
-ClosesTicket (Commit done) s (Some settled) s' = Finishes s done settled.reply s' × (settled.command ≡ done.asked.command)
-ClosesTicket (GiveUp ticket) s settled s' = Abandons s ticket.0 s' ⊎ ((ticket_of s ticket.0 ≡ None) × (s' ≡ s))
-
 -- a refusal of a call that is not for its size
 abbrev pub IsNotForSize : Refusal → Type 0
 IsNotForSize PairTooLarge = ⊥
@@ -92,6 +88,18 @@ IsNotForSize ArgTooLong = ⊥
 IsNotForSize TrailFull = Unit {0}
 IsNotForSize NoMemory = Unit {0}
 IsNotForSize Strayed = Unit {0}
+
+-- What an ask comes to: this command of this session is asked, or refused for no size, or it comes back.
+abbrev pub IsTried : {A : Type 0} → ℕ → Command A → Tried A → Type 0
+IsTried session command (Ended (Ok asked)) = IsAskedFor session command asked
+IsTried session command (Ended (Err refusal)) = IsNotForSize refusal
+IsTried session command (Busy refused) = refused ≡ command
+
+-- What closing a ticket comes to on a desk: what was worked is committed, or the ticket is given up, if it is still open.
+abbrev pub ClosesTicket : {A : Type 0} → Closing A → DeskState A → Option (Settled A) → DeskState A → Type 0
+ClosesTicket (Commit done) s None s' = ⊥
+ClosesTicket (Commit done) s (Some settled) s' = Finishes s done settled.reply s' × (settled.command ≡ done.asked.command)
+ClosesTicket (GiveUp ticket) s settled s' = Abandons s ticket.0 s' ⊎ ((ticket_of s ticket.0 ≡ None) × (s' ≡ s))
 
 -- Why a call is refused: for a size exactly where that is too large, and for that of the pair before that of the argument.
 abbrev pub IsRefusal : {A : Type 0} → PageSize → Command A → Refusal → Type 0

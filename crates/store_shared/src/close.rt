@@ -107,7 +107,6 @@ fn first_torn<A: Allocator>(entries: &[Entry<A>], handed: &[Calls<A>]) -> Option
 }
 
 // Whether the calls are those of their number among the entries.
-#[tactic(auto, using(crate::proofs::CloseLemmas::Called))]
 fn agrees<A: Allocator>(entries: &[Entry<A>], calls: &Calls<A>) -> bool
     ensures { IsTrue result ↔ Agrees entries.now calls.now }
 {

@@ -6,7 +6,7 @@ ghost use Rattle.desk_core.specs.declared.ConvertFault.TheVariants as faults;
 ghost use Rattle.desk_core.specs.Desk.{DeskState};
 ghost use Rattle.desk_core.specs.Jobs.{worked};
 ghost use Rattle.store_moves.specs.Works.{HasEnd};
-ghost use Rattle.store_shared.specs.Shared.{entry_of, ClosesTicket, IsReplyTo, IsAskedFor, IsNotForSize};
+ghost use Rattle.store_shared.specs.Shared.{entry_of, ClosesTicket, IsReplyTo, IsAskedFor, IsNotForSize, IsTried};
 
 use crate::store::{Core, Gate, Store};
 use desk_core::{AskFault, Asked, ConvertFault, Desk, Done, FinishFault, Job, Settled, Ticket};
@@ -27,6 +27,13 @@ pub(crate) struct Served<A: Allocator> {
 pub(crate) enum Closing<A: Allocator> {
     Commit(Done<A>),
     GiveUp(Ticket),
+}
+
+// What comes of an ask: an end, or the desk is busy, and the command comes back.
+#[derive(Drop)]
+enum Tried<A: Allocator> {
+    Ended(Result<Asked<A>, Refusal>),
+    Busy(Command<A>),
 }
 
 /// Asks a session's command, works it and commits it.
@@ -79,17 +86,35 @@ fn ask<R: Wait, A: Allocator + Copy, G: Gate>(
     let mut command = command;
     let mut core = store.core.lock(rt);
     for _ in rt.forever() {
-        match core.desk.ask(session, command) {
-            Ok(asked) => return Ok(asked),
-            Err((AskFault::Busy, refused)) => command = refused,
-            Err((AskFault::TrailFull, _)) => return Err(Refusal::TrailFull),
-            Err((AskFault::NoMemory, _)) => return Err(Refusal::NoMemory),
-            Err((AskFault::PairTooLarge, _)) => return Err(Refusal::Strayed),
-            Err((AskFault::ArgTooLong, _)) => return Err(Refusal::Strayed),
+        match ask_on(&mut core.desk, session, command) {
+            Tried::Ended(ended) => return ended,
+            Tried::Busy(refused) => command = refused,
         }
         core = wait(rt, store, core);
     }
     unreachable!()
+}
+
+// Asks a desk.
+fn ask_on<A: Allocator + Copy>(desk: &mut Desk<A>, session: u64, command: Command<A>) -> Tried<A>
+    ensures { IsTried session command result }
+{
+    match desk.ask(session, command) {
+        Ok(asked) => Tried::Ended(Ok(asked)),
+        Err((AskFault::Busy, refused)) => Tried::Busy(refused),
+        Err((fault, _)) => Tried::Ended(Err(refusal_of(fault))),
+    }
+}
+
+// Why a call is refused whose ask is.
+fn refusal_of(fault: AskFault) -> Refusal
+    ensures { IsNotForSize result }
+{
+    match fault {
+        AskFault::TrailFull => Refusal::TrailFull,
+        AskFault::NoMemory => Refusal::NoMemory,
+        AskFault::Busy | AskFault::PairTooLarge | AskFault::ArgTooLong => Refusal::Strayed,
+    }
 }
 
 // Works a job with no lock held, and commits what comes of it.
@@ -144,22 +169,59 @@ fn finish<R: Wait, A: Allocator + Copy, G: Gate>(
     ensures refused { IfErr result IsNotForSize }
 {
     let ticket = done.ticket();
-    let mut core = store.core.lock(rt);
-    if done.changes() {
-        core = match convert_once_free(rt, store, core, ticket) {
-            Ok(core) => core,
-            Err(ConvertFault::NotUpdating) => {
-                return Err(give_up(rt, store, ticket, Refusal::Strayed));
-            }
-            Err(_) => return Err(Refusal::Strayed),
-        };
+    match commit(rt, store, done) {
+        Ok(settled) => Ok(settled),
+        Err(fault) => Err(take_back(rt, store, ticket, fault)),
     }
+}
+
+// Gives up what is not committed for this fault, if its ticket is still open.
+fn take_back<R: Wait, A: Allocator + Copy, G: Gate>(
+    rt: &R,
+    store: &Store<A, G>,
+    ticket: Ticket,
+    fault: FinishFault,
+) -> Refusal
+    ensures { IsNotForSize result }
+{
+    match fault {
+        FinishFault::NoMemory => give_up(rt, store, ticket, Refusal::NoMemory),
+        FinishFault::NotExclusive => give_up(rt, store, ticket, Refusal::Strayed),
+        FinishFault::NoTicket | FinishFault::Foreign => Refusal::Strayed,
+    }
+}
+
+// Commits what was worked, or leaves its ticket as it was.
+fn commit<R: Wait, A: Allocator + Copy, G: Gate>(
+    rt: &R,
+    store: &Store<A, G>,
+    done: Done<A>,
+) -> Result<Settled<A>, FinishFault>
+    ensures ok { IfOk result (λ settled. settled.reply ≡ (worked done.asked).reply) }
+    ensures command { IfOk result (λ settled. settled.command ≡ done.asked.command) }
+{
+    let core = lock_to_commit(rt, store, &done)?;
     match close_ticket(store, core, Closing::Commit(done)) {
         Ok(Some(settled)) => Ok(settled),
         Ok(None) => unreachable!(),
-        Err((FinishFault::NoMemory, _)) => Err(give_up(rt, store, ticket, Refusal::NoMemory)),
-        Err((FinishFault::NotExclusive, _)) => Err(give_up(rt, store, ticket, Refusal::Strayed)),
-        Err(_) => Err(Refusal::Strayed),
+        Err(fault) => Err(fault),
+    }
+}
+
+// Takes the lock to commit what was worked, and makes its ticket's hold exclusive where it changes the page.
+fn lock_to_commit<'s, R: Wait, A: Allocator + Copy, G: Gate>(
+    rt: &R,
+    store: &'s Store<A, G>,
+    done: &Done<A>,
+) -> Result<MutexGuard<'s, Core<A>>, FinishFault> {
+    let core = store.core.lock(rt);
+    if !done.changes() {
+        return Ok(core);
+    }
+    match convert_once_free(rt, store, core, done.ticket()) {
+        Ok(core) => Ok(core),
+        Err(ConvertFault::NotUpdating) => Err(FinishFault::NotExclusive),
+        Err(_) => Err(FinishFault::NoTicket),
     }
 }
 
@@ -204,7 +266,7 @@ fn close_ticket<'s, A: Allocator + Copy, G: Gate>(
     store: &'s Store<A, G>,
     core: MutexGuard<'s, Core<A>>,
     closing: Closing<A>,
-) -> Result<Option<Settled<A>>, (FinishFault, Done<A>)>
+) -> Result<Option<Settled<A>>, FinishFault>
     ensures { IfOk result (λ settled. (before : DeskState A) × ((after : DeskState A) × ClosesTicket closing before settled after)) }
 {
     let mut core = core;
@@ -221,13 +283,13 @@ fn close_ticket<'s, A: Allocator + Copy, G: Gate>(
 fn close_on<A: Allocator + Copy>(
     desk: &mut Desk<A>,
     closing: Closing<A>,
-) -> Result<Option<Settled<A>>, (FinishFault, Done<A>)>
+) -> Result<Option<Settled<A>>, FinishFault>
     ensures { IfOk result (λ settled. ClosesTicket closing desk.old settled desk.new) }
 {
     match closing {
         Closing::Commit(done) => match desk.settle(done) {
             Ok(settled) => Ok(Some(settled)),
-            Err(refused) => Err(refused),
+            Err((fault, _)) => Err(fault),
         },
         Closing::GiveUp(ticket) => {
             let _abandoned = desk.abandon(ticket);

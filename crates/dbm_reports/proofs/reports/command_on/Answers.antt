@@ -1,13 +1,9 @@
-use Rattle.std.proofs.Common.{◌≡◌, ◌∷◌, List, ℕ, Bor, None, map, sym, subst, rules}
-use Rattle.dbm_script.specs.Commands.{command_of}
+use Rattle.std.proofs.Common.{◌∷◌, List, ℕ, Bor, map}
 use Rattle.dbm_reports.specs.Causes.{IsCaused, command_causes}
-use Rattle.dbm_reports.specs.declared.fault.ReportFault.{ReportFault}
-use Rattle.dbm_reports.proofs.Faults.{no_command}
+use Rattle.dbm_reports.proofs.Faults.{as_err}
 use Rattle.dbm_reports.proofs.reports.command_on.Goals as goal
 
-pub returns-in_default-clause-fault : goal.returns-in_default-clause-fault
-returns-in_default-clause-fault c =
-    let n = c.args.notation.now in
+pub returns-in_err-command-clause-fault : goal.returns-in_err-command-clause-fault
+returns-in_err-command-clause-fault c =
     let words : List (List ℕ) = c.args.name.now ∷ map (λ (x : Bor (List ℕ)). x.now) c.args.args.now in
-    let none : command_of n words ≡ None = search rules in
-    subst (λ (fault : ReportFault). IsCaused (command_causes n c.args.form c.args.given.now words) fault) (sym c.bad_words.ensures) (no_command n c.args.form c.args.given.now words none)
+    as_err (IsCaused (command_causes c.args.notation.now c.args.form c.args.given.now words)) _ c.from_residual.ensures.1 (c.in_err-command.ensures.fault c.args.form c.args.given.now)

@@ -3,6 +3,5 @@ use Rattle.dbm_reports.proofs.subcommands.look.Goals as goal
 
 pub returns : goal.returns
 returns c =
-    let changed = c.in_ok-text.ensures in
-    let answered = changed.1.0 in
-    (changed.0, (record { answer = answered.answer; answers = answered.answers; kind = answered.kind; size = answered.size; text_is = answered.text_is; status_is = answered.status_is }, refl))
+    let told = c.in_ok-text.ensures in
+    (c.answer_line.new.image, (record { answer = told.answer; answers = told.answers; kind = told.kind; size = told.size; text_is = told.text_is; status_is = told.status_is }, refl))

@@ -14,7 +14,10 @@ use std::alloc::{AllocError, Allocator};
 const RANGE_WIDTH: usize = 10;
 
 /// How wide an instruction is, mostly.
-const INSN_WIDTH: usize = 28;
+const INSN_WIDTH: usize = 20;
+
+/// How wide a row may be.
+const ROW_WIDTH: usize = 100;
 
 // Spaces up to a width, and two.
 fn pad<A: Allocator>(out: &mut String<A>, start: usize, width: usize) -> Result<(), AllocError> {
@@ -36,22 +39,72 @@ fn write_bounds<A: Allocator>(out: &mut String<A>, range: Option<Range>) -> Resu
 }
 
 // What is known of each register that an instruction reads, and where it may jump.
-fn write_reads<A: Allocator>(
-    out: &mut String<A>,
-    line: &Line,
-    state: &State,
-) -> Result<(), AllocError> {
-    write_facts(out, line.insn, state, "; ")?;
+fn reads_of<A: Allocator>(alloc: A, line: &Line) -> Result<String<A>, AllocError> {
+    let mut out = String::new(alloc);
+    let Some(state) = &line.state else {
+        out.push_str("nothing leads here")?;
+        return Ok(out);
+    };
+    write_facts(&mut out, line.insn, state, "; ")?;
     if let Some(unit) = target_of(line.at, line.insn) {
         let mark = if reads(line) { "; " } else { "" };
-        write!(out, "{mark}jumps to {unit}")?;
+        write!(&mut out, "{mark}jumps to {unit}")?;
+    }
+    Ok(out)
+}
+
+// The last column of a row, which may go on in lines below, and where in the text its present line begins.
+#[derive(Clone, Copy)]
+struct Column {
+    indent: usize,
+    line: usize,
+}
+
+impl Column {
+    // A space before so many bytes, or a new line where the present one has no room for them and a semicolon.
+    fn space<A: Allocator>(&mut self, out: &mut String<A>, more: usize) -> Result<(), AllocError> {
+        let used = out.len().saturating_sub(self.line);
+        if used.saturating_add(more) < ROW_WIDTH - 1 {
+            return Ok(out.push(' ')?);
+        }
+        out.push('\n')?;
+        self.line = out.len();
+        for _ in 0..self.indent {
+            out.push(' ')?;
+        }
+        Ok(())
+    }
+}
+
+// What is known, in the last column of a row that begins at `row`. A fact for which a line has no room begins the next one, in the
+// column `indent`.
+fn write_facts_in<A: Allocator>(
+    out: &mut String<A>,
+    row: usize,
+    indent: usize,
+    known: &str,
+) -> Result<(), AllocError> {
+    let mut column = Column { indent, line: row };
+    for (index, fact) in known.split("; ").enumerate() {
+        if index > 0 {
+            out.push(';')?;
+            column.space(out, fact.len())?;
+        }
+        for (place, word) in fact.split(' ').enumerate() {
+            if place > 0 {
+                column.space(out, word.len())?;
+            }
+            out.push_str(word)?;
+        }
     }
     Ok(())
 }
 
-// What is known before an instruction, in the columns behind its numbers: its text stands among them.
-fn write_known<A: Allocator>(
+// What is known before an instruction, in the columns behind its numbers: its text stands among them. The row begins at `row`.
+fn write_known<A: Allocator + Copy>(
+    alloc: A,
     out: &mut String<A>,
+    row: usize,
     line: &Line,
     text: &str,
 ) -> Result<(), AllocError> {
@@ -59,27 +112,19 @@ fn write_known<A: Allocator>(
     write_bounds(out, line.state.map(|state| state.argument))?;
     let start = out.len();
     out.push_str(text)?;
-    match &line.state {
-        Some(state) if reads(line) || jumps(line) => {
-            pad(out, start, INSN_WIDTH)?;
-            write_reads(out, line, state)
-        }
-        Some(_) => Ok(()),
-        None => {
-            pad(out, start, INSN_WIDTH)?;
-            out.push_str("nothing leads here")
-        }
+    let known = reads_of(alloc, line)?;
+    if known.is_empty() {
+        return Ok(());
     }
+    let indent = start.saturating_sub(row).saturating_add(INSN_WIDTH + 2);
+    pad(out, start, INSN_WIDTH)?;
+    write_facts_in(out, row, indent, known.as_str())
 }
 
 // Whether an instruction reads a register.
 fn reads(line: &Line) -> bool {
     let [first, _, _] = registers_read(line.insn);
     first.is_some()
-}
-
-fn jumps(line: &Line) -> bool {
-    target_of(line.at, line.insn).is_some()
 }
 
 // The unit of an instruction, and the line of the text in which it stands.
@@ -97,6 +142,24 @@ fn write_numbers<A: Allocator>(
 }
 
 impl<A: Allocator + Copy> Explanation<A> {
+    fn write_row(
+        &self,
+        alloc: A,
+        out: &mut String<A>,
+        line: &Line,
+        number: Option<usize>,
+        text: &str,
+    ) -> Result<(), AllocError> {
+        out.push_str("\n")?;
+        let row = out.len();
+        write_numbers(out, line, number)?;
+        if self.has_states() {
+            write_known(alloc, out, row, line, text)
+        } else {
+            out.push_str(text)
+        }
+    }
+
     /// The explanation as a text without a line feed at its end. Each line has an instruction with its unit, in which line of the source it stands, where that is
     /// given, the lengths that record and argument may have before it, and what is known of each register that it reads. Of a refused
     /// program the last line says what was needed; where its structure is at fault, the text says nothing of registers and lengths.
@@ -116,7 +179,7 @@ impl<A: Allocator + Copy> Explanation<A> {
         for (index, line) in self.lines.iter().enumerate() {
             let text = texts.next().unwrap_or("");
             let number = number_at(&numbers, index);
-            self.write_row(&mut out, line, number, text)?;
+            self.write_row(alloc, &mut out, line, number, text)?;
         }
         if self.fault.is_some() && !self.lines.is_empty() {
             out.push_str("\n")?;
@@ -171,22 +234,6 @@ impl<A: Allocator> Explanation<A> {
             return out.push_str("what is known of what it reads");
         }
         out.push_str("instruction")
-    }
-
-    fn write_row(
-        &self,
-        out: &mut String<A>,
-        line: &Line,
-        number: Option<usize>,
-        text: &str,
-    ) -> Result<(), AllocError> {
-        out.push_str("\n")?;
-        write_numbers(out, line, number)?;
-        if self.has_states() {
-            write_known(out, line, text)
-        } else {
-            out.push_str(text)
-        }
     }
 
     // The sentence that says what is wrong with the last instruction.

@@ -5,7 +5,7 @@ use dbm_script::{Notation, read_line};
 use dbm_words::Wish;
 use memchr::memmem;
 use std::alloc::Global;
-use std::io::{self, Read, Write};
+use std::io::{self, ErrorKind, Read, Write};
 use std::rt::Runtime;
 
 /// A reader that keeps what it gives. Where memory runs out it keeps nothing.
@@ -18,6 +18,8 @@ pub struct Kept<R: Read> {
     pub has_bad_line: bool,
     /// Why a program was refused that was to be run.
     pub refusal: Option<String>,
+    /// Whether the reader of a pipe was gone to which answers were written.
+    pub has_no_reader: bool,
 }
 
 impl<R: Read> Kept<R> {
@@ -29,6 +31,7 @@ impl<R: Read> Kept<R> {
             has_lost: false,
             has_bad_line: false,
             refusal: None,
+            has_no_reader: false,
         }
     }
 
@@ -51,11 +54,12 @@ impl<R: Read> Read for Kept<R> {
     }
 }
 
-/// A writer that looks for `bad line` in what it is given.
+/// A writer that looks for `bad line` in what it is given, and whether a pipe has a reader.
 #[derive(Drop)]
 pub struct Watched<W: Write> {
     writer: W,
     has_bad_line: bool,
+    has_no_reader: bool,
 }
 
 impl<W: Write> Watched<W> {
@@ -64,12 +68,18 @@ impl<W: Write> Watched<W> {
         Watched {
             writer,
             has_bad_line: false,
+            has_no_reader: false,
         }
     }
 
     /// Whether it was given that answer.
     pub fn has_bad_line(&self) -> bool {
         self.has_bad_line
+    }
+
+    /// Whether it is a pipe, and its reader was gone.
+    pub fn has_no_reader(&self) -> bool {
+        self.has_no_reader
     }
 }
 
@@ -78,7 +88,11 @@ impl<W: Write> Write for Watched<W> {
 
     fn write(&mut self, buf: &[u8]) -> io::Result<usize> {
         self.has_bad_line = self.has_bad_line || has_bad_line(buf);
-        self.writer.write(buf)
+        let written = self.writer.write(buf);
+        if let Err(error) = &written {
+            self.has_no_reader = error.kind() == ErrorKind::BrokenPipe;
+        }
+        written
     }
 
     fn flush(&mut self) -> io::Result<()> {

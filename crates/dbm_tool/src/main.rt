@@ -81,6 +81,10 @@ fn run<R: Runtime<File = File> + AllocGlobal + Threads + Wait + Sync>(
                 Ok(ending) => ending,
                 Err(fault) => Ending::Failed(fault),
             };
+            // A command such as `head` has what it wants and is gone: that is no fault to tell of.
+            if reader.has_no_reader {
+                return ending;
+            }
             note(rt, &request.wish, &ending, &reader);
             tell(rt, Some(&request), ending)
         }
@@ -186,6 +190,7 @@ fn serve_taken<R: Runtime<File = File> + AllocGlobal + Threads + Wait + Sync, I:
             let mut writer = Watched::new(io::writer(rt));
             let outcome = serve(rt, alloc, wish, &given, reader, &mut writer);
             reader.has_bad_line = writer.has_bad_line();
+            reader.has_no_reader = writer.has_no_reader();
             Ok(ending_of(&outcome))
         }
     }

@@ -13,3 +13,21 @@ returns-in-Ok-encode-clause-structure g c = λ fault is. built_not c.args.code f
 
 pub returns-in-Err-clause-stopped : goal.returns-in-Err-clause-stopped
 returns-in-Err-clause-stopped g c = λ built. absurd (built_not c.args.code c.in-Err.fault built c.in-Err.ensures.err)
+
+pub returns-in-Err-states_of-clause-structure : goal.returns-in-Err-states_of-clause-structure
+returns-in-Err-states_of-clause-structure g c = λ fault is. absurd (built_not c.args.code fault c.in_default.ensures.ok is)
+
+pub returns-in-Err-states_of-clause-unknown : goal.returns-in-Err-states_of-clause-unknown
+returns-in-Err-states_of-clause-unknown g c = λ is. absurd (built_not c.args.code _ c.in_default.ensures.ok is)
+
+pub returns-in_default-flatten-clause-structure : goal.returns-in_default-flatten-clause-structure
+returns-in_default-flatten-clause-structure g c = λ fault is. absurd (built_not c.args.code fault c.in_default.ensures.ok is)
+
+pub returns-in_default-flatten-clause-unknown : goal.returns-in_default-flatten-clause-unknown
+returns-in_default-flatten-clause-unknown g c = λ is. absurd (built_not c.args.code _ c.in_default.ensures.ok is)
+
+pub returns-in-Err-encode-clause-structure : goal.returns-in-Err-encode-clause-structure
+returns-in-Err-encode-clause-structure g c = λ fault is. absurd (built_not c.args.code fault c.in_default.ensures.ok is)
+
+pub returns-in-Err-encode-clause-unknown : goal.returns-in-Err-encode-clause-unknown
+returns-in-Err-encode-clause-unknown g c = λ is. absurd (built_not c.args.code _ c.in_default.ensures.ok is)

@@ -1,4 +1,4 @@
-use Rattle.std.proofs.Common.{◌≡◌, ◌<◌, ℕ, List, Some, length, sym, ◌∙◌, ap, subst}
+use Rattle.std.proofs.Common.{arith, ◌≡◌, ◌<◌, ℕ, List, Some, length, sym, ◌∙◌, ap, subst}
 use Rattle.std.proofs.lemmas.List.{length-map}
 use Rattle.bpf_verify.specs.Verified.{Accepted}
 use Rattle.prog_registry.specs.Programs.{IsNew, program_limit}
@@ -27,3 +27,21 @@ pub returns-clause-number : goal.returns-clause-number
 returns-clause-number g c =
     let next : c.len-number.result ≡ length (values_of c.self.inside.list.items) = simp length-map (c.len-number.ensures ∙ (c.reserve.ensures.len ∙ c.self.inside.list.ok.0)) in
     rw (← c.self.view_is) next
+
+pub invariant_of-self : goal.invariant_of-self
+invariant_of-self g c = rw c.reserve.ensures.items c.self.invariant
+
+pub invariant_of-self-in_err-key : goal.invariant_of-self-in_err-key
+invariant_of-self-in_err-key g c = rw c.reserve.ensures.items c.self.invariant
+
+pub overflow_cast-number : goal.overflow_cast-number
+overflow_cast-number g c =
+    let next : c.len-number.result ≡ length (values_of c.self.inside.list.items) = simp length-map (c.len-number.ensures ∙ (c.reserve.ensures.len ∙ c.self.inside.list.ok.0)) in
+    let room : length (values_of c.self.inside.list.items) < program_limit = rw c.self.view_is c.requires.room in
+    omega (arith, next, room)
+
+pub returns-then-is_err-clause-err : goal.returns-then-is_err-clause-err
+returns-then-is_err-clause-err g c = ap values_of c.reserve.ensures.items ∙ c.self.view_is
+
+pub push_reserved-requires : goal.push_reserved-requires
+push_reserved-requires g c = let room = c.in_ok-reserve.ensures.ok in omega (arith, room)

@@ -1,12 +1,12 @@
 //! Pairs and keys in rows.
 ghost use Rattle.std.specs.Prelude.{◌≡◌, ◌++◌, ◌∷◌, [], IfOk, OnOk};
 ghost use Rattle.dbm_reports.specs.Rows.{key_line, keys_listing, pair_line, pair_object, pairs_listing, raw, row_of, rows};
+ghost use Rattle.sdbm_files.specs.Lent.{pair_lent, pairs_lent};
 ghost use Rattle.dbm_stats.specs.Json.{quoted};
 ghost use Rattle.dbm_script.specs.Notation.{shown, value_shown};
 
 use dbm_script::{Notation, show_bytes, show_value};
 use dbm_stats::show_string;
-use sdbm_addr::Bytes;
 use std::alloc::{AllocError, Allocator};
 
 /// How pairs are listed, each in a row.
@@ -56,15 +56,13 @@ pub fn show_rows<A: Allocator + Copy>(
     notation: &Notation<A>,
     listing: Listing,
     prefix: &[u8],
-    pairs: &[(Bytes<A>, Bytes<A>)],
+    pairs: &[(&[u8], &[u8])],
 ) -> Result<Vec<u8, A>, AllocError>
-    ensures { IfOk result (λ text. text.items ≡ rows notation.now listing prefix.now pairs.now) }
+    ensures { IfOk result (λ text. text.items ≡ rows notation.now listing prefix.now (pairs_lent pairs.now)) }
 {
     let mut text = Vec::new(alloc);
     for pair in pairs {
-        show_chosen(
-            alloc, notation, listing, prefix, &pair.0, &pair.1, &mut text,
-        )?;
+        show_chosen(alloc, notation, listing, prefix, pair, &mut text)?;
     }
     Ok(text)
 }
@@ -75,13 +73,13 @@ fn show_chosen<A: Allocator + Copy>(
     notation: &Notation<A>,
     listing: Listing,
     prefix: &[u8],
-    key: &Bytes<A>,
-    value: &Bytes<A>,
+    pair: &(&[u8], &[u8]),
     text: &mut Vec<u8, A>,
 ) -> Result<(), AllocError>
-    ensures { OnOk result (text.new.items ≡ text.old.items ++ rows notation.now listing prefix.now ((key.now, value.now) ∷ [])) }
+    ensures { OnOk result (text.new.items ≡ text.old.items ++ rows notation.now listing prefix.now (pair_lent pair.now ∷ [])) }
 {
-    if !key.as_slice().starts_with(prefix) {
+    let (key, value) = *pair;
+    if !key.starts_with(prefix) {
         return Ok(());
     }
     show_row(alloc, notation, listing, key, value, text)
@@ -92,8 +90,8 @@ fn show_row<A: Allocator + Copy>(
     alloc: A,
     notation: &Notation<A>,
     listing: Listing,
-    key: &Bytes<A>,
-    value: &Bytes<A>,
+    key: &[u8],
+    value: &[u8],
     text: &mut Vec<u8, A>,
 ) -> Result<(), AllocError>
     ensures { OnOk result (text.new.items ≡ text.old.items ++ row_of notation.now listing (key.now, value.now)) }
@@ -111,15 +109,15 @@ fn show_row<A: Allocator + Copy>(
 fn show_line<A: Allocator + Copy>(
     alloc: A,
     notation: &Notation<A>,
-    key: &Bytes<A>,
-    value: &Bytes<A>,
+    key: &[u8],
+    value: &[u8],
     text: &mut Vec<u8, A>,
 ) -> Result<(), AllocError>
     ensures { OnOk result (text.new.items ≡ text.old.items ++ pair_line notation.now (key.now, value.now)) }
 {
-    show_bytes(alloc, notation, key.as_slice(), text)?;
+    show_bytes(alloc, notation, key, text)?;
     text.push(b' ')?;
-    show_value(alloc, notation, value.as_slice(), text)?;
+    show_value(alloc, notation, value, text)?;
     Ok(text.push(b'\n')?)
 }
 
@@ -127,19 +125,19 @@ fn show_line<A: Allocator + Copy>(
 fn show_key<A: Allocator + Copy>(
     alloc: A,
     notation: &Notation<A>,
-    key: &Bytes<A>,
+    key: &[u8],
     text: &mut Vec<u8, A>,
 ) -> Result<(), AllocError>
     ensures { OnOk result (text.new.items ≡ text.old.items ++ key_line notation.now key.now) }
 {
-    show_bytes(alloc, notation, key.as_slice(), text)?;
+    show_bytes(alloc, notation, key, text)?;
     Ok(text.push(b'\n')?)
 }
 
 // The bytes of a key and a value, a zero byte behind each.
 fn show_raw_pair<A: Allocator>(
-    key: &Bytes<A>,
-    value: &Bytes<A>,
+    key: &[u8],
+    value: &[u8],
     text: &mut Vec<u8, A>,
 ) -> Result<(), AllocError>
     ensures { OnOk result (text.new.items ≡ text.old.items ++ (raw key.now ++ raw value.now)) }
@@ -149,10 +147,10 @@ fn show_raw_pair<A: Allocator>(
 }
 
 // Bytes, and a zero byte.
-fn show_raw<A: Allocator>(bytes: &Bytes<A>, text: &mut Vec<u8, A>) -> Result<(), AllocError>
+fn show_raw<A: Allocator>(bytes: &[u8], text: &mut Vec<u8, A>) -> Result<(), AllocError>
     ensures { OnOk result (text.new.items ≡ text.old.items ++ raw bytes.now) }
 {
-    text.extend_from_slice(bytes.as_slice())?;
+    text.extend_from_slice(bytes)?;
     Ok(text.push(0)?)
 }
 
@@ -160,8 +158,8 @@ fn show_raw<A: Allocator>(bytes: &Bytes<A>, text: &mut Vec<u8, A>) -> Result<(),
 fn show_object<A: Allocator + Copy>(
     alloc: A,
     notation: &Notation<A>,
-    key: &Bytes<A>,
-    value: &Bytes<A>,
+    key: &[u8],
+    value: &[u8],
     text: &mut Vec<u8, A>,
 ) -> Result<(), AllocError>
     ensures { OnOk result (text.new.items ≡ text.old.items ++ pair_object notation.now (key.now, value.now)) }
@@ -177,13 +175,13 @@ fn show_object<A: Allocator + Copy>(
 fn show_quoted_bytes<A: Allocator + Copy>(
     alloc: A,
     notation: &Notation<A>,
-    bytes: &Bytes<A>,
+    bytes: &[u8],
     text: &mut Vec<u8, A>,
 ) -> Result<(), AllocError>
     ensures { OnOk result (text.new.items ≡ text.old.items ++ quoted (shown notation.now bytes.now)) }
 {
     let mut word = Vec::new(alloc);
-    show_bytes(alloc, notation, bytes.as_slice(), &mut word)?;
+    show_bytes(alloc, notation, bytes, &mut word)?;
     show_string(word.as_slice(), text)
 }
 
@@ -191,12 +189,12 @@ fn show_quoted_bytes<A: Allocator + Copy>(
 fn show_quoted_value<A: Allocator + Copy>(
     alloc: A,
     notation: &Notation<A>,
-    bytes: &Bytes<A>,
+    bytes: &[u8],
     text: &mut Vec<u8, A>,
 ) -> Result<(), AllocError>
     ensures { OnOk result (text.new.items ≡ text.old.items ++ quoted (value_shown notation.now bytes.now)) }
 {
     let mut word = Vec::new(alloc);
-    show_value(alloc, notation, bytes.as_slice(), &mut word)?;
+    show_value(alloc, notation, bytes, &mut word)?;
     show_string(word.as_slice(), text)
 }

@@ -151,7 +151,7 @@ pub fn list(
 ) -> Result<Report, AllocError>
     ensures { IfOk result (λ report. Lists notation.now listing prefix.now report image.now) }
 {
-    let pairs = image.pairs()?;
+    let pairs = image.lend_pairs()?;
     let text = show_rows(alloc, notation, listing, prefix, pairs.as_slice())?;
     Ok(printed(text))
 }

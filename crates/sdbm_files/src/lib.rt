@@ -11,6 +11,7 @@ ghost use Rattle.sdbm_addr.specs.Database.{pairs_at, map_of, empty_database, Dat
 ghost use Rattle.sdbm_addr.specs.Files.{SpellsDatabase};
 ghost use Rattle.sdbm_page.specs.Rewritten.{rewritten};
 ghost use Rattle.sdbm_split.specs.InPlace.{MayStore, with_stored};
+ghost use Rattle.sdbm_files.specs.Lent.{pairs_lent};
 ghost use Rattle.sdbm_files.specs.Installed.{installed, content_at, IsInstallable};
 ghost use Rattle.sdbm_files.specs.Opened.{IsOpenFault, SpellsNoDatabase};
 
@@ -27,8 +28,8 @@ mod writing;
 pub use opening::OpenFault;
 use opening::{copy_pages, misplaced, read_dir};
 use pages::{
-    Pages, copy_pairs, count_pairs, grow_all, mark_all, put_page, put_pages, replace_page,
-    sort_pairs, store_pair, write_record,
+    Pages, copy_pairs, count_pairs, grow_all, lend_pairs, mark_all, put_page, put_pages,
+    replace_page, sort_lent, sort_pairs, store_pair, write_record,
 };
 pub use reading::ReadPages;
 use sdbm_addr::{Bytes, KeyBytes, Mode, PageSize, hash};
@@ -273,5 +274,16 @@ impl<A: Allocator + Copy> Image<A> {
         let mut pairs = copy_pairs(self.alloc, &self.pages)?;
         sort_pairs(&mut pairs);
         Ok(pairs)
+    }
+
+    /// All pairs as they lie in their pages, sorted by the bytes of their keys: no byte of them is copied. The error is that no memory
+    /// is left for the list.
+    pub fn lend_pairs(&self) -> Result<Vec<(&[u8], &[u8]), A>, AllocError>
+        ensures pairs { IfOk result (λ lent. pairs_lent lent.items ≡ map.entries (map_of self.now)) }
+        ensures database { IsDatabase self.now }
+    {
+        let mut lent = lend_pairs(self.alloc, &self.pages)?;
+        sort_lent(&mut lent);
+        Ok(lent)
     }
 }

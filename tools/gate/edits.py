@@ -1,0 +1,140 @@
+"""Tries the must-fail edits of a proved crate over what its proof has kept, all at once as far as they go together.
+
+A check goes on behind a function that it refuses, and names each. An edit changes the body of a function and no contract, so edits of
+different functions do not meet: they are applied together, and each is refused where its function is. An edit is tried alone whose
+function was not named, or is refused only since it calls another one that is; which changes what stands in no body; or which meets
+another one.
+"""
+
+import re
+
+from rooms import Room
+from tree import SOURCES
+
+HEAD = re.compile(r'^( *)(?:pub(?:\([a-z]+\))? )?(?:unsafe )?(?:const )?(?:extern "C" )?fn (\w+)', re.M)
+OWNER = re.compile(r"^(?:impl|trait|pub trait)\b(.*)$", re.M)
+SAID = re.compile(r"^fn (\S+): (?:not proved|no proof(?!: it calls))", re.M)
+# What a check says of a text that it can't read, of whose meaning it then knows nothing.
+UNREADABLE = "is not in scope|has no field|is no name|operand is missing|expected the end"
+UNREAD = re.compile(rf"^(?:\./)?(?:src|specs)/\S+:\d+:\d+: error: (?:[^`]|.*(?:{UNREADABLE}))", re.M)
+REFUSED, PROVED, BAD, NOTHING = range(4)
+SAYS = {
+    PROVED: "NOT REFUSED, the crate is still proved with it",
+    BAD: "with it the crate can't be read",
+    NOTHING: "the check of it had no verdict",
+}
+
+
+class BadEdit(Exception):
+    """An edit that can't be applied."""
+
+
+def replacements(edit):
+    """The file, the old text and the new one of each replacement of an edit."""
+    file = old = None
+    for line in edit.read_text(encoding="utf-8").splitlines():
+        if line.startswith("file: "):
+            file = line[6:].strip()
+        elif line.startswith("old: "):
+            old = line[5:]
+        elif line.startswith("new:"):
+            if not file or not old:
+                raise BadEdit("a line 'new:' has no 'file:' or no 'old:' before it")
+            yield file, old, line[5:]
+            old = None
+
+
+def owner_of(text, at, file):
+    """What the name of a function there begins with: type and trait where it stands in an impl, else the module of its file."""
+    open_heads = [it for it in OWNER.finditer(text, 0, at) if "\n}\n" not in text[it.end() : at]]
+    if not open_heads:
+        return file.rpartition("/")[2][:-3]
+    head, before = open_heads[-1][1], None
+    while head != before:
+        head, before = re.sub(r"<[^<>]*>", "", head), head
+    found = re.match(r"\s*(?:([\w:]+)\s+for\s+)?&?\s*(?:mut )?([\w:]+)", head)
+    return found[2].split("::")[-1] + (found[1] or "").split("::")[-1] if found else None
+
+
+def function_at(text, at, file, crate):
+    """The end of the name of the function in whose body a place of a source lies, or None where it lies in none."""
+    for head in HEAD.finditer(text, 0, at):
+        body = re.compile(rf"^{head[1]}(?:\S.*)?\{{$", re.M).search(text, head.start())
+        if body and body.end() < at < text.find(f"\n{head[1]}}}\n", body.end()):
+            owner = owner_of(text, head.start(), file)
+            return f"{crate if owner in ('lib', 'main') else owner}::{head[2]}"
+    return None
+
+
+def edited(crate, edit, texts):
+    """The crate's texts as an edit leaves them, and the functions whose bodies it changes, with None where it changes something else."""
+    new, functions = dict(texts), set()
+    for file, old, text in replacements(edit):
+        if file not in new:
+            raise BadEdit(f"there is no file {file}")
+        if new[file].count(old) != 1:
+            raise BadEdit(f"an old text stands in {file} {new[file].count(old)} times, and not once: {old.strip()}")
+        functions.add(function_at(new[file], new[file].index(old), file, crate.name))
+        new[file] = new[file].replace(old, text)
+    if new == texts:
+        raise BadEdit("it changes nothing")
+    return new, functions
+
+
+def texts_of(crate):
+    """The texts that an edit may change, by file."""
+    paths = [path for part in SOURCES for path in (crate.folder / part).rglob("*") if path.suffix in (".rt", ".antt")]
+    return {str(path.relative_to(crate.folder)): path.read_text(encoding="utf-8") for path in paths}
+
+
+def sorted_out(crate, texts):
+    """The edits that go together, each with its functions; the texts with all of them; those to be tried alone; and why others can't be
+    applied."""
+    joined, together, alone, told = texts, {}, [], {}
+    for edit in crate.edits:
+        try:
+            functions = edited(crate, edit, texts)[1]
+        except BadEdit as why:
+            told[edit] = f"it can't be applied: {why}"
+            continue
+        if None in functions or any(functions & others for others in together.values()):
+            alone.append(edit)
+        else:
+            together[edit], joined = functions, edited(crate, edit, joined)[0]
+    return (together, joined, alone, told) if len(together) > 1 else ({}, texts, [*together, *alone], told)
+
+
+def checked(room, texts, new):
+    """What a check with new texts comes to, and the ends of the names of the functions that it refuses."""
+    for file in texts:
+        if new[file] != texts[file]:
+            (room.folder / file).write_text(new[file], encoding="utf-8")
+    status, said = room.rt("check", "--jobs", "1")
+    if UNREAD.search(said) or (status == 1 and re.search(r"\berror\[", said)):
+        return BAD, set()
+    if status == 1 and re.search(r"^logic=not-proved", said, re.M):
+        return REFUSED, {"::".join(name.split("::")[-2:]) for name in SAID.findall(said)}
+    # At a limit of its own, 3, the prover refuses too, and gives no reason.
+    return {0: PROVED, 3: REFUSED}.get(status, NOTHING), set()
+
+
+def try_edits(crate):
+    """What is said of each edit that is not refused, and how many checks it took."""
+    texts, checks = texts_of(crate), 0
+    together, joined, alone, told = sorted_out(crate, texts)
+    if not together and not alone:
+        return told, checks
+    with Room(crate, "edits") as room:
+        if together:
+            checks += 1
+            refused = checked(room, texts, joined)[1]
+            alone += [edit for edit, functions in together.items() if not functions & refused]
+        for edit in alone:
+            if checks:
+                room.put_sources()
+                room.put_work()
+            checks += 1
+            kind = checked(room, texts, edited(crate, edit, texts)[0])[0]
+            if kind != REFUSED:
+                told[edit] = SAYS[kind]
+    return told, checks

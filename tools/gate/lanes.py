@@ -1,0 +1,62 @@
+"""Runs tasks side by side, each once those that it waits for have ended, and first those with the longest chain of others behind them."""
+
+import concurrent.futures
+import os
+import re
+
+# What a check takes of memory, in bytes, as a rule; and the most jobs that one gets.
+MEMORY = 3_000_000_000
+MOST_JOBS = 4
+
+
+class Task:
+    """What is to be done: its key, the keys of those that it waits for, about how many seconds it takes, and a call that takes the number
+    of its jobs. What fills is done where a place is left."""
+
+    def __init__(self, key, waits, seconds, call, fills=False):
+        self.key, self.waits, self.seconds, self.call, self.fills = key, waits, seconds, call, fills
+
+
+def places():
+    """How many tasks run at a time: one for each core, as far as there is memory for each."""
+    cores = len(os.sched_getaffinity(0))
+    with open("/proc/meminfo") as it:
+        free = 1024 * int(re.search(r"MemAvailable:\s+(\d+)", it.read())[1])
+    return max(1, min(cores, free // MEMORY))
+
+
+def chains(tasks):
+    """Of each key the seconds of the longest chain that begins with its task."""
+    seconds = {it.key: it.seconds for it in tasks}
+    longest = dict(seconds)
+    # Each task stands behind those that it waits for.
+    for task in reversed(tasks):
+        for key in task.waits:
+            longest[key] = max(longest[key], seconds[key] + longest[task.key])
+    return longest
+
+
+def jobs_for(task, chain, rest, spare):
+    """How many jobs a task gets: beside its own the places that no other task can have, and two where the rest ends before its chain."""
+    return 1 if task.fills else min(MOST_JOBS, max(1 + spare, 1 + (chain > rest)))
+
+
+def run_all(tasks, at_once, given):
+    """Runs the tasks, and puts what each gave into `given` by its key."""
+    longest = chains(tasks)
+    left = sorted(tasks, key=lambda it: (it.fills, -longest[it.key]))
+    running = {}
+    with concurrent.futures.ThreadPoolExecutor(at_once) as pool:
+        while left or running:
+            ready = [it for it in left if all(key in given for key in it.waits)]
+            for task in list(ready):
+                free = at_once - sum(jobs for _, jobs in running.values())
+                if free < 1:
+                    break
+                rest = sum(it.seconds for it in [*left, *[it for it, _ in running.values()]]) / at_once
+                jobs = jobs_for(task, longest[task.key], rest, max(0, free - len(ready)))
+                left.remove(task)
+                ready.remove(task)
+                running[pool.submit(task.call, jobs)] = task, jobs
+            for it in concurrent.futures.wait(running, return_when=concurrent.futures.FIRST_COMPLETED).done:
+                given[running.pop(it)[0].key] = it.result()

@@ -5,3 +5,4 @@ pub mod Escaped
 pub mod RoundTrip
 pub mod Laid
 pub mod Steps
+pub mod Written

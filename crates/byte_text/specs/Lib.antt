@@ -2,3 +2,4 @@ pub mod Numbers
 pub mod Escapes
 pub mod Text
 pub mod Layouts
+pub mod Writing

@@ -1,5 +1,5 @@
 //! Bytes as a text of one word: letters for themselves, escapes for the rest, numbers with their types, bytes in hex. What is printed can be
-//! read back.
+//! read back. And all of a text to a writer.
 #![tactic(auto)]
 
 mod escapes;
@@ -7,7 +7,9 @@ mod layouts;
 mod numbers;
 mod parts;
 mod text;
+mod writing;
 
 pub use layouts::{Kind, Layout, Number, read_layout, show_by};
 pub use numbers::read_number;
 pub use text::{read_text, show_text};
+pub use writing::{CutShort, write_all};

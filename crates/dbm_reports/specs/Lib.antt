@@ -1,4 +1,3 @@
-pub mod Names
 pub mod Databases
 pub mod Notations
 pub mod Options

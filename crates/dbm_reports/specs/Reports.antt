@@ -1,7 +1,6 @@
 -- What comes of each subcommand: the text that it prints, its status, and the database that is to be written.
 use Rattle.std.specs.Prelude.{◌≡◌, ◌==◌, ℕ, ◌≤◌, ◌/◌, ◌++◌, ◌⊎◌, Bool, true, false, cond, List, [], ◌∷◌, codes, decimal, length, Option, Some, None, IfSome}
 use Rattle.std.specs.FinMap as map
-use Rattle.std.specs.List.{flat_map}
 use Rattle.std.specs.Borrow.{Bor}
 use Rattle.std.specs.declared.alloc.Global.{Global}
 use Rattle.hex.specs.Hex.{encode_lower}

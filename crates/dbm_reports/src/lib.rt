@@ -1,11 +1,10 @@
-//! What comes of each subcommand of the program but a batch: which files it reads, what it prints, and which files it writes.
+//! What comes of each subcommand of the program but a batch: what it prints, and the database that is to be written.
 #![tactic(auto)]
 
 mod databases;
 mod explaining;
 mod fault;
 mod listing;
-mod names;
 mod notations;
 mod options;
 mod programs;
@@ -17,7 +16,6 @@ mod subcommands;
 pub use databases::{Given, PAG_LIMIT, is_too_long};
 pub use explaining::refusal_of;
 pub use fault::ReportFault;
-pub use names::{Names, Part, Source, names_of, put, sources};
 pub use notations::{notation_by, notation_of};
 pub use reports::{read_input, report_on};
 pub use running::{RunTexts, database_and_image};

@@ -1,7 +1,6 @@
 -- Lines that run one after another, and texts that are written in parts.
 use Rattle.std.proofs.Common.{◌≡◌, List, [], ◌∷◌, ◌++◌, ℕ, Option, Some, None, IfSome, length, eqb, false, refl, ap, ◌∙◌, sym, subst, append_assoc, codes, decimal}
 use Rattle.std.specs.Prelude.{Ok, Err}
-use Rattle.std.specs.Io.KnownBytes.{Appends}
 use Rattle.std.proofs.lemmas.Bool.{false≢true}
 use Rattle.dbm_script.specs.Pieces.{pieces_of}
 use Rattle.sdbm_addr.specs.Database.{Database}
@@ -24,12 +23,6 @@ use Rattle.dbm_script.specs.declared.lines.Ask.{Ask}
 use Rattle.dbm_script.specs.declared.lines.Ask.TheVariants.{Plain, Program, Run}
 use Rattle.dbm_script.specs.Script.{RunsLines, RunsScript, IsScriptRun, AnswersCommand, AnswersRun, AnswersLine, run_command, Adds, Stage, stage}
 use Rattle.dbm_script.proofs.Numbered.{Numbers-unique}
-
-pub Appends-Appends : (a b c : Option (List ℕ)) (x y z : List ℕ) → Appends a b x → Appends b c y → z ≡ x ++ y → Appends a c z
-Appends-Appends None b c x y z p q e = tt
-Appends-Appends (Some a) None c x y z p q e = absurd p
-Appends-Appends (Some a) (Some b) None x y z p q e = absurd q
-Appends-Appends (Some a) (Some b) (Some c) x y z p q e = q ∙ ap (λ xs. xs ++ y) p ∙ append_assoc a x y ∙ ap (λ xs. a ++ xs) (sym e)
 
 -- what holds of the bytes that were read holds of the known ones
 pub known_read : (known : Option (List ℕ)) (read : List ℕ) (P : List ℕ → Type 0) → IfSome known (λ input. read ≡ input) → P read → IfSome known P

@@ -1,7 +1,6 @@
 -- Scripts: what the lines of a text do, and the text of the answers.
-use Rattle.std.specs.Prelude.{◌≡◌, ℕ, ◌<◌, List, [], ◌∷◌, ◌++◌, codes, length, take, slice_get, option_map, Option, Some, None}
+use Rattle.std.specs.Prelude.{◌≡◌, ℕ, ◌<◌, List, [], ◌∷◌, ◌++◌, codes, length, slice_get, option_map, Option, Some, None}
 use Rattle.bpf_verify.specs.Verified.{Accepted}
-use Rattle.std.specs.Io.KnownBytes.{Appends}
 use Rattle.sdbm_addr.specs.Database.{Database}
 use Rattle.store_cmd.specs.declared.Command.{Command}
 use Rattle.store_cmd.specs.declared.Command.TheVariants as commands
@@ -87,12 +86,6 @@ pub record Adds (old new : List ℕ) (P : List ℕ → Type 0) : Type 0 where
   pub added : List ℕ
   pub is : new ≡ old ++ added
   pub holds : P added
-
--- known bytes grow by the first bytes of a text, and not by all of them
-pub record WritesPart (old new : Option (List ℕ)) (text : List ℕ) : Type 0 where
-  pub count : ℕ
-  pub within : count < length text
-  pub appends : Appends old new (take count text)
 
 -- the text of a fault: its name
 abbrev pub fault_text : ScriptFault → List ℕ

@@ -2,6 +2,7 @@
 ghost use Rattle.std.specs.Prelude.{◌≡◌};
 ghost use Rattle.dbm_script.specs.declared.fault.LinesFault.TheVariants.{NoMemory};
 
+use byte_text::CutShort;
 use std::alloc::AllocError;
 use std::error::Error;
 use std::fmt;
@@ -36,6 +37,16 @@ impl fmt::Display for ScriptFault {
 }
 
 impl Error for ScriptFault {}
+
+impl From<CutShort> for ScriptFault {
+    ghost use Rattle.dbm_script.specs.declared.fault.ScriptFault.TheVariants.{Write};
+
+    ghost from_gives = { λ _ fault. fault ≡ Write };
+
+    fn from(_error: CutShort) -> ScriptFault {
+        ScriptFault::Write
+    }
+}
 
 /// Why the lines of a script were not all run.
 #[derive(Clone, Copy, Debug, PartialEq, Eq)]

@@ -27,5 +27,5 @@ pub use pieces::first_piece;
 pub use run_words::{RunWords, WordFault, read_run_words};
 pub use running::{RunAsk, answer_run, command_of_run};
 pub use script::{answer_command, run_lines, run_script};
-pub use streams::{SCRIPT_LIMIT, read_all, write_all};
+pub use streams::{SCRIPT_LIMIT, read_all};
 pub use tasks::{TasksFault, read_tasks};

@@ -1,12 +1,13 @@
 //! Scripts: all that is read, run as one session, and the text of the answers.
 ghost use Rattle.std.specs.Prelude.{◌≡◌, ◌<◌, ◌≤◌, List, ℕ, Option, Some, IfOk, OnOk, OnErr, IfErr, IfSome, IsErrOf, ◌∷◌, [], length};
 ghost use Rattle.std.specs.Io.KnownBytes.{Appends, Keeps};
+ghost use Rattle.byte_text.specs.Writing.{WritesPart};
 ghost use Rattle.sdbm_addr.specs.Database.{Database};
 ghost use Rattle.dbm_script.specs.Pieces.{pieces_of};
 ghost use Rattle.dbm_script.specs.Lines.{ask_of};
 ghost use Rattle.dbm_script.specs.Answers.{IsAnswerTo};
 ghost use Rattle.dbm_script.specs.Images.{Verdict};
-ghost use Rattle.dbm_script.specs.Script.{AnswersExceed, IsScriptRun, RunsLines, AnswersCommand, AnswersLine, Adds, WritesPart, stage};
+ghost use Rattle.dbm_script.specs.Script.{AnswersExceed, IsScriptRun, RunsLines, AnswersCommand, AnswersLine, Adds, stage};
 
 use crate::answers::{Answer, show_answer};
 use crate::fault::{LinesFault, ScriptFault};
@@ -15,7 +16,8 @@ use crate::lines::{Ask, read_line};
 use crate::notations::Notation;
 use crate::pieces::first_piece;
 use crate::running::answer_run;
-use crate::streams::{read_all, write_all};
+use crate::streams::read_all;
+use byte_text::write_all;
 use prog_registry::Registry;
 use sdbm_files::Image;
 use std::alloc::{AllocError, Allocator};

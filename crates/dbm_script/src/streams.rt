@@ -1,11 +1,9 @@
-//! All of a reader, and all of a text to a writer, by loops over `read` and `write`.
-ghost use Rattle.std.specs.Prelude.{◌≡◌, ◌<◌, ◌≤◌, length, IfOk, OnOk, IfErr, OnErr, IfSome, IsErrOf};
-ghost use Rattle.std.specs.Io.KnownBytes.{Appends};
-ghost use Rattle.dbm_script.specs.Script.{WritesPart};
+//! All of a reader, by a loop over `read`.
+ghost use Rattle.std.specs.Prelude.{◌≡◌, ◌<◌, ◌≤◌, length, IfOk, IfErr, IfSome, IsErrOf};
 
 use crate::fault::ScriptFault;
 use std::alloc::Allocator;
-use std::io::{Read, Write};
+use std::io::Read;
 
 /// A script has at most this many bytes.
 pub const SCRIPT_LIMIT: usize = 16_777_216;
@@ -36,23 +34,4 @@ pub fn read_all<A: Allocator + Copy, R: Read>(
             return Err(ScriptFault::NoMemory);
         };
     }
-}
-
-/// Writes a text. Where that fails, its first bytes were written. A write that takes no byte, or that is interrupted, fails.
-pub fn write_all<W: Write>(writer: &mut W, text: &[u8]) -> Result<(), ScriptFault>
-    ensures ok { OnOk result (Appends (W.contents writer.old) (W.contents writer.new) text.now) }
-    ensures part { OnErr result (WritesPart (W.contents writer.old) (W.contents writer.new) text.now) }
-    ensures fault { IfErr result (λ fault. fault ≡ ScriptFault.Write) }
-{
-    let mut done = 0;
-    while done < text.len() {
-        let Ok(count) = writer.write(&text[done..]) else {
-            return Err(ScriptFault::Write);
-        };
-        if count == 0 {
-            return Err(ScriptFault::Write);
-        }
-        done += count;
-    }
-    Ok(())
 }

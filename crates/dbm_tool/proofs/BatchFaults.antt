@@ -17,8 +17,8 @@ use Rattle.worker_pool.specs.declared.task.PoolFault.{PoolFault}
 use Rattle.worker_pool.specs.declared.task.PoolFault.TheVariants as jobs
 use Rattle.worker_pool.specs.declared.task.Task.{Task}
 use Rattle.dbm_tool.specs.declared.batch.Batch.{Batch}
-use Rattle.dbm_tool.specs.declared.fault.ServeFault.{ServeFault}
-use Rattle.dbm_tool.specs.declared.fault.ServeFault.TheVariants.{NotText, ReadFile, FileTooLong, WriteFile, BadRedo, ReadClock, BadBase, Absent, Locked, Report, Submit, BadLine, Pool, Close, Write, NoMemory}
+use Rattle.dbm_faults.specs.declared.fault.ServeFault.{ServeFault}
+use Rattle.dbm_faults.specs.declared.fault.ServeFault.TheVariants.{NotText, ReadFile, FileTooLong, WriteFile, BadRedo, ReadClock, BadBase, Absent, Locked, Report, Submit, BadLine, Pool, Close, Write, NoMemory}
 use Rattle.dbm_script.specs.declared.notations.Notation.{Notation}
 use Rattle.dbm_script.specs.declared.run_words.RunWords.{RunWords}
 use Rattle.dbm_script.proofs.Runs.{known_read}
@@ -28,7 +28,8 @@ use Rattle.dbm_tool.specs.Batches.{AreLeft, AreShortTasks, HasBadLine, IsReady, 
 use Rattle.dbm_reports.specs.declared.fault.ReportFault.{ReportFault}
 use Rattle.dbm_reports.specs.declared.fault.ReportFault.TheVariants as reports
 use Rattle.dbm_reports.specs.Causes.{Causes, IsCaused, input_causes, no_causes, program_causes}
-use Rattle.dbm_tool.specs.Causes.{HasCause, IsReported, pool_fault, report_fault}
+use Rattle.dbm_faults.specs.Faults.{pool_fault, report_fault}
+use Rattle.dbm_tool.specs.Causes.{HasCause, IsReported}
 use Rattle.dbm_reports.specs.Databases.{Opens}
 use Rattle.dbm_reports.specs.Reports.{IsFileImage}
 

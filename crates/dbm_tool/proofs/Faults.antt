@@ -15,10 +15,11 @@ use Rattle.dbm_reports.specs.declared.subcommands.Report.{Report}
 use Rattle.dbm_reports.specs.Causes.{IsCaused}
 use Rattle.dbm_reports.specs.Databases.{IsTooLong}
 use Rattle.dbm_reports.specs.Subcommands.{is_batch, layout_causes, subcommand_for}
-use Rattle.dbm_tool.specs.declared.fault.ServeFault.{ServeFault}
-use Rattle.dbm_tool.specs.declared.fault.ServeFault.TheVariants.{FileTooLong, Write}
+use Rattle.dbm_faults.specs.declared.fault.ServeFault.{ServeFault}
+use Rattle.dbm_faults.specs.declared.fault.ServeFault.TheVariants.{FileTooLong, Write}
 use Rattle.dbm_tool.specs.Batches.{OnBatch, batch_causes}
-use Rattle.dbm_tool.specs.Causes.{HasCause, WishCauses, report_fault}
+use Rattle.dbm_faults.specs.Faults.{report_fault}
+use Rattle.dbm_tool.specs.Causes.{HasCause, WishCauses}
 use Rattle.dbm_tool.specs.Outcomes.{IsUnserved, WasTooLong}
 use Rattle.dbm_tool.specs.Services.{batch_for, service_for}
 

@@ -2,4 +2,3 @@ pub mod Faults
 pub mod FilesGiven
 pub mod BatchFaults
 pub mod Examples
-pub mod SaveMoments

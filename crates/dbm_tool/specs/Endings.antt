@@ -4,8 +4,8 @@ use Rattle.dbm_words.specs.Wishes.{IsAnswer}
 use Rattle.dbm_words.specs.declared.fault.ToolFault.{ToolFault}
 use Rattle.dbm_tool.specs.declared.ending.Ending.{Ending}
 use Rattle.dbm_tool.specs.declared.ending.Ending.TheVariants.{Served, Refused, Failed}
-use Rattle.dbm_tool.specs.declared.fault.ServeFault.{ServeFault}
-use Rattle.dbm_tool.specs.declared.fault.ServeFault.TheVariants as fault
+use Rattle.dbm_faults.specs.declared.fault.ServeFault.{ServeFault}
+use Rattle.dbm_faults.specs.declared.fault.ServeFault.TheVariants as fault
 use Rattle.dbm_tool.specs.declared.serve.Outcome.{Outcome}
 
 -- help and the version are no fault

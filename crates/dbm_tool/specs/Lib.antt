@@ -2,6 +2,5 @@ pub mod Causes
 pub mod Batches
 pub mod Services
 pub mod Outcomes
-pub mod FaultText
 pub mod Clocks
 pub mod Endings

@@ -2,12 +2,12 @@
 use Rattle.std.specs.Prelude.{◌≡◌, ℕ, List, Option, Some}
 use Rattle.std.specs.Io.KnownBytes.{Appends, Keeps}
 use Rattle.sdbm_addr.specs.Database.{Database, IsDatabase}
-use Rattle.dbm_script.specs.Script.{WritesPart}
+use Rattle.byte_text.specs.Writing.{WritesPart}
 use Rattle.dbm_words.specs.declared.wish.Wish.{Wish}
 use Rattle.dbm_reports.specs.declared.databases.Given.{Given}
 use Rattle.dbm_reports.specs.declared.subcommands.Report.{Report}
-use Rattle.dbm_tool.specs.declared.fault.ServeFault.{ServeFault}
-use Rattle.dbm_tool.specs.declared.fault.ServeFault.TheVariants.{FileTooLong, Write}
+use Rattle.dbm_faults.specs.declared.fault.ServeFault.{ServeFault}
+use Rattle.dbm_faults.specs.declared.fault.ServeFault.TheVariants.{FileTooLong, Write}
 use Rattle.dbm_reports.specs.Databases.{MayBeWritten, IsTooLong}
 use Rattle.dbm_tool.specs.Causes.{HasCause}
 use Rattle.dbm_tool.specs.Services.{service_for}

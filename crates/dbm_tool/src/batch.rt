@@ -7,10 +7,11 @@ ghost use Rattle.store_shared.specs.Shared.{opened_by};
 ghost use Rattle.dbm_tool.specs.Batches.{DoesTasks, IsClosedAfter, IsReady, IsSubmitted, LeadTo, OnBatch, OnTasks, batch_causes, doing_causes, ready_causes, reply_line, submit_causes, task_causes, task_for};
 ghost use Rattle.dbm_reports.specs.Notations.{notation_by};
 ghost use Rattle.dbm_tool.specs.Services.{batch_for};
-ghost use Rattle.dbm_tool.specs.declared.fault.ServeFault.TheVariants.{Close};
-ghost use Rattle.dbm_tool.specs.Causes.{HasCause, pool_fault};
+ghost use Rattle.dbm_faults.specs.declared.fault.ServeFault.TheVariants.{Close};
+ghost use Rattle.dbm_faults.specs.Faults.{pool_fault};
+ghost use Rattle.dbm_tool.specs.Causes.{HasCause};
 
-use crate::fault::ServeFault;
+use dbm_faults::ServeFault;
 use dbm_reports::{Given, Report, ReportFault, database_and_image, notation_by, read_input};
 use dbm_script::{Notation, RunWords, read_number, read_tasks, show_reply};
 use dbm_words::{Form, Notation as Options};

@@ -3,7 +3,7 @@ ghost use Rattle.std.specs.Prelude.{◌≡◌, ◌/◌, IfOk, decimal, string_by
 ghost use Rattle.std.specs.Duration.{as_nanos};
 ghost use Rattle.dbm_tool.specs.Clocks.{nanos_in};
 
-use crate::fault::ServeFault;
+use dbm_faults::ServeFault;
 use dbm_words::TimeUnit;
 use std::alloc::{AllocError, Global};
 use std::time::{Clock, Duration, SystemTime, UNIX_EPOCH};

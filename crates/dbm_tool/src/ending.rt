@@ -2,8 +2,8 @@
 ghost use Rattle.std.specs.Prelude.{◌≡◌};
 ghost use Rattle.dbm_tool.specs.Endings.{IsEndingOf, IsExitStatus, IsRefusalStatus};
 
-use crate::fault::ServeFault;
 use crate::serve::{FAULT, Outcome};
+use dbm_faults::ServeFault;
 use dbm_words::ToolFault;
 
 /// How a run of the program ends.

@@ -1,12 +1,12 @@
 //! Lines of a script that ask nothing, found once it was answered.
 
+use dbm_faults::{Sentence, bad_lines_note};
 use dbm_reports::notation_of;
 use dbm_script::{Notation, read_line};
 use dbm_words::Wish;
 use memchr::memmem;
 use std::alloc::Global;
 use std::io::{self, ErrorKind, Read, Write};
-use std::rt::Runtime;
 
 /// A reader that keeps what it gives. Where memory runs out it keeps nothing.
 #[derive(Drop)]
@@ -110,35 +110,36 @@ pub fn is_refused(answer: &[u8]) -> bool {
     answer.starts_with(b"refused Verify(")
 }
 
-/// Says which line of a script is the first that asks nothing in the notation of its wish, and how many more there are.
-pub fn note_bad_lines<R: Runtime + AllocGlobal>(rt: &R, wish: &Wish<'_>, script: &[u8]) {
-    let Ok(notation) = notation_of(rt.alloc(), wish) else {
-        return;
+/// The note on the lines of a script that ask nothing in the notation of its wish: which is the first, and how many more there are.
+/// `None` where there are none.
+pub fn note_of_bad_lines(
+    alloc: Global,
+    wish: &Wish<'_>,
+    script: &[u8],
+) -> Option<Sentence<'static>> {
+    let Ok(notation) = notation_of(alloc, wish) else {
+        return None;
     };
-    let mut first = 0;
-    let mut count = 0usize;
+    let (first, count) = count_bad_lines(alloc, &notation, script);
+    if count == 0 {
+        return None;
+    }
+    Some(bad_lines_note(first.saturating_add(1), count - 1))
+}
+
+// The first of the lines that ask nothing, counted from 0, and how many there are.
+fn count_bad_lines(alloc: Global, notation: &Notation<Global>, script: &[u8]) -> (u64, u64) {
+    let mut first = 0u64;
+    let mut count = 0u64;
     for (at, line) in script.split(|byte| *byte == b'\n').enumerate() {
-        if is_bad(rt.alloc(), &notation, line) {
+        if is_bad(alloc, notation, line) {
             if count == 0 {
-                first = at;
+                first = at as u64;
             }
             count = count.saturating_add(1);
         }
     }
-    let _ = match count {
-        0 => return,
-        1 => eprintln!(rt;
-            "dbm: note: line {} of the script is a bad line",
-            first.saturating_add(1)
-        ),
-        _ => {
-            eprintln!(rt;
-                "dbm: note: line {} of the script is a bad line, and so are {} more",
-                first.saturating_add(1),
-                count - 1
-            )
-        }
-    };
+    (first, count)
 }
 
 // Whether a line asks nothing. An empty one is skipped.

@@ -3,30 +3,22 @@
 
 ghost use Rattle.dbm_tool.specs.Endings.{IsTold};
 
-mod advice;
 mod batch;
 mod clock;
 mod ending;
-mod fault;
-mod files;
-mod host;
 mod kept;
-mod links;
-mod lock;
-mod reasons;
-mod saving;
 mod serve;
+mod telling;
+mod words;
 
-use advice::{advise, note_absent, note_object, note_refusal};
 use clock::read_clock;
+use dbm_faults::ServeFault;
+use dbm_files::{Held, Taken, has_no_files, save_files, take_files};
 use dbm_reports::{Given, ReportFault, refusal_of};
 use dbm_script::read_number;
 use dbm_words::{Request, ToolFault, Wish, read_words};
 use ending::{Ending, ending_of, exit_status};
-use fault::ServeFault;
-use files::{Held, Taken, save_files, take_files};
-use kept::{Kept, Watched, has_bad_line, is_refused, note_bad_lines};
-use reasons::has_no_files;
+use kept::{Kept, Watched, has_bad_line, is_refused, note_of_bad_lines};
 use sdbm_saves::Found;
 use serve::serve;
 use std::fs::File;
@@ -37,6 +29,8 @@ use std::sync::Wait;
 use std::thread::Threads;
 use std::time::Duration;
 use std::{env, fs, io};
+use telling::{advise, note_absent, note_object, note_refusal, note_that};
+use words::{given_of, place_of};
 
 fn main(rt: HostRuntime) -> ExitCode {
     let _standard = hold_standard(&rt);
@@ -104,7 +98,7 @@ fn note<R: Runtime<File = File> + AllocGlobal, I: Read>(
     if !matches!(ending, Ending::Served(_)) {
         return;
     }
-    if !wish.writes() && has_no_files(rt, wish) {
+    if !wish.writes() {
         note_absent(rt, wish);
     }
     if matches!(ending, Ending::Served(1)) {
@@ -113,8 +107,10 @@ fn note<R: Runtime<File = File> + AllocGlobal, I: Read>(
     if let Some(refusal) = &input.refusal {
         note_refusal(rt, wish, refusal.as_str());
     }
-    if input.has_bad_line {
-        note_bad_lines(rt, wish, input.text());
+    if input.has_bad_line
+        && let Some(note) = note_of_bad_lines(rt.alloc(), wish, input.text())
+    {
+        note_that(rt, note);
     }
 }
 
@@ -131,7 +127,7 @@ fn serve_request<R: Runtime<File = File> + AllocGlobal + Threads + Wait + Sync, 
         return Err(ServeFault::BadBase);
     }
     let patience = patience_of(access.timeout)?;
-    if access.must_exist && has_no_files(rt, &wish) {
+    if access.must_exist && has_no_files(rt, wish.base()) {
         return Err(ServeFault::Absent);
     }
     serve_files(rt, wish, patience, reader)
@@ -165,7 +161,7 @@ fn serve_files<R: Runtime<File = File> + AllocGlobal + Threads + Wait + Sync, I:
     patience: Option<Duration>,
     reader: &mut Kept<I>,
 ) -> Result<Ending, ServeFault> {
-    let taken = take_files(rt, &wish, patience)?;
+    let taken = take_files(rt, place_of(&wish), patience)?;
     match wish.time_asked() {
         Some(unit) => {
             let time = read_clock(rt, rt.alloc(), unit)?;
@@ -182,7 +178,8 @@ fn serve_taken<R: Runtime<File = File> + AllocGlobal + Threads + Wait + Sync, I:
     taken: Taken,
     reader: &mut Kept<I>,
 ) -> Result<Ending, ServeFault> {
-    let Taken { given, held } = taken;
+    let Taken { bytes, held } = taken;
+    let given = given_of(bytes);
     match held {
         Some(held) => serve_change(rt, wish, given, held, reader),
         None => {

@@ -4,15 +4,15 @@ ghost use Rattle.dbm_words.specs.Wishes.{writes_files};
 ghost use Rattle.dbm_reports.specs.Subcommands.{is_batch, is_script};
 ghost use Rattle.sdbm_addr.specs.Database.{Database, IsDatabase};
 ghost use Rattle.dbm_reports.specs.Databases.{IsTooLong, MayBeWritten};
-ghost use Rattle.dbm_tool.specs.declared.fault.ServeFault.TheVariants.{FileTooLong};
+ghost use Rattle.dbm_faults.specs.declared.fault.ServeFault.TheVariants.{FileTooLong};
 ghost use Rattle.dbm_tool.specs.Causes.{HasCause};
 ghost use Rattle.dbm_tool.specs.Outcomes.{IsServed, IsUnserved};
 ghost use Rattle.dbm_tool.specs.Services.{reads_input, service_for};
 
 use crate::batch::report_batch;
-use crate::fault::ServeFault;
+use byte_text::write_all;
+use dbm_faults::ServeFault;
 use dbm_reports::{Given, Report, is_too_long, report_on};
-use dbm_script::write_all;
 use dbm_words::Wish;
 use sdbm_files::Image;
 use std::alloc::Global;

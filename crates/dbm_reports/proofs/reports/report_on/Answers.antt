@@ -1,4 +1,3 @@
-use Rattle.std.proofs.Common.{rules}
 use Rattle.std.proofs.lemmas.Result.{IfErr-weaker, IfOk-weaker}
 use Rattle.dbm_reports.specs.Causes.{IsCaused}
 use Rattle.dbm_reports.specs.Subcommands.{subcommand_for}

@@ -1,7 +1,8 @@
 use Rattle.std.proofs.Common.{List, ℕ}
 use Rattle.std.specs.Io.KnownBytes.{Appends}
 use Rattle.sdbm_addr.specs.Database.{Database}
-use Rattle.dbm_script.specs.Script.{IsScriptRun, WritesPart}
+use Rattle.byte_text.specs.Writing.{WritesPart}
+use Rattle.dbm_script.specs.Script.{IsScriptRun}
 use Rattle.dbm_script.proofs.Runs.{known_read}
 use Rattle.dbm_script.proofs.script.run_script.Goals as goal
 

@@ -1,5 +1,5 @@
 //! The lock of a database, which keeps runs of the program apart.
-use crate::fault::ServeFault;
+use crate::fault::FilesFault;
 use crate::host::be_like;
 use std::fs::{File, OpenOptions, TryLockError};
 use std::io::{self, ErrorKind};
@@ -29,10 +29,10 @@ pub fn lock_to_write<R: Files<File = File> + Clock>(
     name: &str,
     pages: &str,
     patience: Option<Duration>,
-) -> Result<File, ServeFault> {
+) -> Result<File, FilesFault> {
     let file = match open_lock(rt, name, pages) {
         Ok(file) => file,
-        Err(_) => return Err(ServeFault::WriteFile),
+        Err(_) => return Err(FilesFault::WriteFile),
     };
     let take = Take {
         shared: false,
@@ -40,8 +40,8 @@ pub fn lock_to_write<R: Files<File = File> + Clock>(
     };
     match take_lock(rt, &file, take) {
         Ok(()) => Ok(file),
-        Err(TryLockError::WouldBlock) => Err(ServeFault::Locked),
-        Err(TryLockError::Error(_)) => Err(ServeFault::WriteFile),
+        Err(TryLockError::WouldBlock) => Err(FilesFault::Locked),
+        Err(TryLockError::Error(_)) => Err(FilesFault::WriteFile),
     }
 }
 
@@ -54,11 +54,11 @@ pub fn lock_to_read<R: Files<File = File> + Clock>(
     rt: &R,
     name: &str,
     patience: Option<Duration>,
-) -> Result<Option<File>, ServeFault> {
+) -> Result<Option<File>, FilesFault> {
     let file = match fs::open(rt, name) {
         Ok(file) => file,
         Err(error) if error.kind() == ErrorKind::NotFound => return Ok(None),
-        Err(_) => return Err(ServeFault::ReadFile),
+        Err(_) => return Err(FilesFault::ReadFile),
     };
     let take = Take {
         shared: true,
@@ -66,8 +66,8 @@ pub fn lock_to_read<R: Files<File = File> + Clock>(
     };
     match take_lock(rt, &file, take) {
         Ok(()) => Ok(Some(file)),
-        Err(TryLockError::WouldBlock) => Err(ServeFault::Locked),
-        Err(TryLockError::Error(_)) => Err(ServeFault::ReadFile),
+        Err(TryLockError::WouldBlock) => Err(FilesFault::Locked),
+        Err(TryLockError::Error(_)) => Err(FilesFault::ReadFile),
     }
 }
 

@@ -1,7 +1,7 @@
 use Rattle.std.proofs.Common.{◌≡◌, ℕ, List, ◌∙◌}
 use Rattle.sdbm_saves.specs.Redo.{files, stands_for}
-use Rattle.dbm_tool.proofs.SaveMoments.{read_files, recovering, announcing, ever, committing, finishing, finished}
-use Rattle.dbm_tool.proofs.saving.save_plan.Goals as goal
+use Rattle.dbm_files.proofs.SaveMoments.{read_files, recovering, announcing, ever, committing, finishing, finished}
+use Rattle.dbm_files.proofs.saving.save_plan.Goals as goal
 
 pub returns-in_err-recover-clause-any_moment : goal.returns-in_err-recover-clause-any_moment
 returns-in_err-recover-clause-any_moment g c =

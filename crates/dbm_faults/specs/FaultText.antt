@@ -4,8 +4,8 @@ use Rattle.prog_registry.specs.FaultText as registry
 use Rattle.store_shared.specs.FaultText as closing
 use Rattle.worker_pool.specs.FaultText as pool
 use Rattle.dbm_reports.specs.FaultText as reports
-use Rattle.dbm_tool.specs.declared.fault.ServeFault.{ServeFault}
-use Rattle.dbm_tool.specs.declared.fault.ServeFault.TheVariants.{NotText, ReadFile, FileTooLong, WriteFile, BadRedo, ReadClock, BadBase, Absent, Locked, Report, Submit, BadLine, Pool, Close, Write, NoMemory}
+use Rattle.dbm_faults.specs.declared.fault.ServeFault.{ServeFault}
+use Rattle.dbm_faults.specs.declared.fault.ServeFault.TheVariants.{NotText, ReadFile, FileTooLong, WriteFile, BadRedo, ReadClock, BadBase, Absent, Locked, Report, Submit, BadLine, Pool, Close, Write, NoMemory}
 
 abbrev pub fault_text : ServeFault → List ℕ
 fault_text NotText = codes "NotText"

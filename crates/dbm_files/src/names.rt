@@ -1,10 +1,8 @@
-//! Which files a wish is about: what is read, what is written, and the lock, each under its name.
+//! Which files a run is about: what is read, what is written, and the lock, each under its name.
 ghost use Rattle.std.specs.Prelude.{◌≡◌, ◌++◌, IfOk, codes, map, string_bytes};
-ghost use Rattle.dbm_reports.specs.Names.{AreNames, files_read, shown_source, with_part};
-ghost use Rattle.dbm_reports.specs.Names as spec;
+ghost use Rattle.dbm_files.specs.Names.{AreNames, files_read, shown_source, with_part};
+ghost use Rattle.dbm_files.specs.Names as spec;
 
-use crate::databases::{Given, PAG_LIMIT};
-use dbm_words::Wish;
 use std::alloc::{AllocError, Global};
 
 /// A `.dir` file of the program has at most this many bytes.
@@ -12,6 +10,27 @@ const DIR_LIMIT: u64 = 268_435_456;
 
 /// A program's file has at most this many bytes.
 const PROGRAM_LIMIT: u64 = 1_048_576;
+
+/// What a run of the program says of its files.
+#[derive(Clone, Copy)]
+pub struct Place<'a> {
+    /// The database, where there is one: its files are BASE.dir and BASE.pag.
+    pub base: Option<&'a str>,
+    /// The program's file, where there is one.
+    pub file: Option<&'a str>,
+    /// The run writes the files of the database, once it has done what it is asked.
+    pub writes: bool,
+    /// BASE.pag has at most this many bytes.
+    pub pages_limit: u64,
+}
+
+/// The bytes of the files that a run names; a file of a database that is not there has none.
+#[derive(Drop)]
+pub struct FileBytes {
+    pub directory: Vec<u8>,
+    pub pages: Vec<u8>,
+    pub program: Vec<u8>,
+}
 
 /// Which of the files that are read one is.
 #[derive(Clone, Copy, Debug, PartialEq, Eq)]
@@ -48,19 +67,20 @@ pub struct Names {
     pub lock: String,
 }
 
-/// The files that are read for a wish, in this order: BASE.dir and BASE.pag, each of which may be missing, and the program's file. The
-/// error is `AllocError`.
-pub fn sources(alloc: Global, wish: &Wish<'_>) -> Result<Vec<Source>, AllocError>
-    ensures { IfOk result (λ sources. map shown_source sources.items ≡ files_read wish.now) }
+/// The files that are read for a run, in this order: BASE.dir and BASE.pag, each of which may be missing, and the program's file.
+/// The error is `AllocError`.
+pub fn sources(alloc: Global, place: Place<'_>) -> Result<Vec<Source>, AllocError>
+    ensures { IfOk result (λ sources. map shown_source sources.items ≡ files_read place.entry) }
 {
-    match (wish.base(), wish.file()) {
+    let limit = place.pages_limit;
+    match (place.base, place.file) {
         (Some(base), Some(file)) => {
             let dir = dir_source(alloc, base)?;
-            let pag = pag_source(alloc, base)?;
+            let pag = pag_source(alloc, base, limit)?;
             Ok(vec![in alloc; dir, pag, program_source(alloc, file)?]?)
         }
         (Some(base), None) => {
-            Ok(vec![in alloc; dir_source(alloc, base)?, pag_source(alloc, base)?]?)
+            Ok(vec![in alloc; dir_source(alloc, base)?, pag_source(alloc, base, limit)?]?)
         }
         (None, Some(file)) => Ok(vec![in alloc; program_source(alloc, file)?]?),
         (None, None) => Ok(Vec::new(alloc)),
@@ -78,13 +98,13 @@ fn dir_source(alloc: Global, base: &str) -> Result<Source, AllocError>
     })
 }
 
-fn pag_source(alloc: Global, base: &str) -> Result<Source, AllocError>
-    ensures { IfOk result (λ source. shown_source source ≡ spec.pag_file base.now) }
+fn pag_source(alloc: Global, base: &str, limit: u64) -> Result<Source, AllocError>
+    ensures { IfOk result (λ source. shown_source source ≡ spec.pag_file limit base.now) }
 {
     Ok(Source {
         part: Part::Pag,
         name: joined(alloc, base, ".pag")?,
-        limit: PAG_LIMIT,
+        limit,
         may_be_absent: true,
     })
 }
@@ -101,13 +121,13 @@ fn program_source(alloc: Global, file: &str) -> Result<Source, AllocError>
 }
 
 /// Puts the bytes of a file where they belong; those of the others stay.
-pub fn put(given: &mut Given, part: Part, bytes: Vec<u8>)
-    ensures { given.new ≡ with_part part bytes given.old }
+pub fn put(read: &mut FileBytes, part: Part, bytes: Vec<u8>)
+    ensures { read.new ≡ with_part part bytes read.old }
 {
     match part {
-        Part::Dir => given.dir = bytes,
-        Part::Pag => given.pag = bytes,
-        Part::Program => given.file = bytes,
+        Part::Dir => read.directory = bytes,
+        Part::Pag => read.pages = bytes,
+        Part::Program => read.program = bytes,
     }
 }
 

@@ -1,14 +1,14 @@
 //! A save and the lines that tell of it.
 ghost use Rattle.std.specs.Prelude.{◌≡◌, ◌≢◌, ◌⊎◌, get_or, OnOk, IfErr, IsErrOf};
 ghost use Rattle.std.specs.Io.KnownBytes.{Appends};
-ghost use Rattle.dbm_script.specs.Script.{WritesPart};
+ghost use Rattle.byte_text.specs.Writing.{WritesPart};
 ghost use Rattle.sdbm_saves.specs.Disk.{LeavesOnly};
 ghost use Rattle.sdbm_saves.specs.Redo.{files, stands_for, IsSettled, IsStaged};
 ghost use Rattle.sdbm_saves.specs.Saves.{IsOldOrSaved, IsSaved, IsSaving, LeavesDatabase};
-ghost use Rattle.dbm_tool.specs.declared.fault.ServeFault.TheVariants as fault;
+ghost use Rattle.dbm_files.specs.declared.fault.FilesFault.TheVariants as fault;
 
-use crate::fault::ServeFault;
-use dbm_script::write_all;
+use crate::fault::FilesFault;
+use byte_text::write_all;
 use sdbm_files::Image;
 use sdbm_saves::{Contents, Disk, commit, finish, plan_save, recover, stage};
 use std::alloc::Global;
@@ -37,7 +37,7 @@ pub fn save_change<D: Disk, W: Write>(
     change: Change<'_>,
     lines: &[u8],
     writer: &mut W,
-) -> Result<(), ServeFault>
+) -> Result<(), FilesFault>
     requires read { D.seen disk.old ≡ record { pages = change.before.pages.now; directory = change.before.directory.now; redo = change.redo.now } }
     requires unmarked { get_or change.redo.now 0 0 ≢ 1 }
 
@@ -62,13 +62,13 @@ pub fn save_change<D: Disk, W: Write>(
 }
 
 // Prints the lines of a change that changes nothing.
-fn print<W: Write>(writer: &mut W, lines: &[u8]) -> Result<(), ServeFault>
+fn print<W: Write>(writer: &mut W, lines: &[u8]) -> Result<(), FilesFault>
     ensures printed { OnOk result (Appends (W.contents writer.old) (W.contents writer.new) lines.now) }
     ensures part { IfErr result (λ why. (why ≡ fault.Write) × WritesPart (W.contents writer.old) (W.contents writer.new) lines.now) }
 {
     match write_all(writer, lines) {
         Ok(()) => Ok(()),
-        Err(_) => Err(ServeFault::Write),
+        Err(_) => Err(FilesFault::Write),
     }
 }
 
@@ -79,7 +79,7 @@ fn save_plan<D: Disk, W: Write>(
     plan: &[u8],
     lines: &[u8],
     writer: &mut W,
-) -> Result<(), ServeFault>
+) -> Result<(), FilesFault>
     requires read { D.seen disk.old ≡ record { pages = change.before.pages.now; directory = change.before.directory.now; redo = change.redo.now } }
     requires unmarked { get_or change.redo.now 0 0 ≢ 1 }
     requires plan { IsSaving change.after.now plan.now change.before.pages.now change.before.directory.now }
@@ -100,7 +100,7 @@ fn save_plan<D: Disk, W: Write>(
             let _ = finish(disk, plan);
             Ok(())
         }
-        Err(_) => Err(ServeFault::WriteFile),
+        Err(_) => Err(FilesFault::WriteFile),
     }
 }
 
@@ -113,7 +113,7 @@ fn announce<D: Disk, W: Write>(
     plan: &[u8],
     lines: &[u8],
     writer: &mut W,
-) -> Result<(), ServeFault>
+) -> Result<(), FilesFault>
     requires { IsSettled D.seen D.may_leave disk.old }
 
     ensures staged { OnOk result (IsStaged plan.now D.seen D.may_leave disk.new) }
@@ -129,6 +129,6 @@ fn announce<D: Disk, W: Write>(
     stage(disk, plan)?;
     match write_all(writer, lines) {
         Ok(()) => Ok(()),
-        Err(_) => Err(ServeFault::Write),
+        Err(_) => Err(FilesFault::Write),
     }
 }

@@ -1,5 +1,5 @@
-use Rattle.dbm_tool.proofs.SaveMoments.{at_rest}
-use Rattle.dbm_tool.proofs.saving.save_change.Goals as goal
+use Rattle.dbm_files.proofs.SaveMoments.{at_rest}
+use Rattle.dbm_files.proofs.saving.save_change.Goals as goal
 
 pub returns-in-None-clause-any_moment : goal.returns-in-None-clause-any_moment
 returns-in-None-clause-any_moment g c =

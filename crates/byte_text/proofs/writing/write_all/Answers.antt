@@ -1,8 +1,8 @@
 use Rattle.std.proofs.Common.{◌∙◌, ap, sym, ◌++◌, take, rules}
 use Rattle.std.proofs.Math.Seq.{take-add}
 use Rattle.std.proofs.lemmas.List.{take_rest}
-use Rattle.dbm_script.proofs.Runs.{Appends-Appends}
-use Rattle.dbm_script.proofs.streams.write_all.Goals as goal
+use Rattle.byte_text.proofs.Written.{Appends-Appends}
+use Rattle.byte_text.proofs.writing.write_all.Goals as goal
 
 pub loop-done-preserved : goal.loop-done-preserved
 loop-done-preserved g c = record {

@@ -1,6 +1,6 @@
 //! Databases whose files are named by symbolic links.
-use crate::fault::ServeFault;
-use dbm_reports::names_of;
+use crate::fault::FilesFault;
+use crate::names::names_of;
 use std::fs;
 use std::io::ErrorKind;
 use std::rt::Files;
@@ -10,23 +10,32 @@ use std::rt::Files;
 ///
 /// # Errors
 /// `ReadFile` where a link leads nowhere, or one of the two leads to a file of another base and the other does not, and `NoMemory`.
-pub fn resolve<R: Files + AllocGlobal>(rt: &R, base: &str) -> Result<String, ServeFault> {
-    let names = names_of(rt.alloc(), base)?;
-    let pages = base_behind(rt, names.pages.as_str(), ".pag")?;
-    let directory = base_behind(rt, names.directory.as_str(), ".dir")?;
+pub fn resolve<R: Files + AllocGlobal>(rt: &R, base: &str) -> Result<String, FilesFault> {
+    let (pages, directory) = bases_behind(rt, base)?;
     match (pages, directory) {
         (None, None) => Ok(String::from_str(rt.alloc(), base)?),
         (Some(pages), Some(directory)) => same_base(pages, &directory),
-        (Some(_), None) | (None, Some(_)) => Err(ServeFault::ReadFile),
+        (Some(_), None) | (None, Some(_)) => Err(FilesFault::ReadFile),
     }
 }
 
+// The bases to whose files BASE.pag and BASE.dir lead, each where it is a link.
+fn bases_behind<R: Files + AllocGlobal>(
+    rt: &R,
+    base: &str,
+) -> Result<(Option<String>, Option<String>), FilesFault> {
+    let names = names_of(rt.alloc(), base)?;
+    let pages = base_behind(rt, names.pages.as_str(), ".pag")?;
+    let directory = base_behind(rt, names.directory.as_str(), ".dir")?;
+    Ok((pages, directory))
+}
+
 // The base to which both files lead.
-fn same_base(pages: String, directory: &String) -> Result<String, ServeFault> {
+fn same_base(pages: String, directory: &String) -> Result<String, FilesFault> {
     if pages.as_str() == directory.as_str() {
         Ok(pages)
     } else {
-        Err(ServeFault::ReadFile)
+        Err(FilesFault::ReadFile)
     }
 }
 
@@ -36,15 +45,15 @@ fn base_behind<R: Files + AllocGlobal>(
     rt: &R,
     name: &str,
     end: &str,
-) -> Result<Option<String>, ServeFault> {
+) -> Result<Option<String>, FilesFault> {
     match fs::symlink_metadata(rt, name) {
         Ok(found) if found.is_symlink() => (),
         _ => return Ok(None),
     }
     let path = match fs::canonicalize(rt, name) {
         Ok(path) => path,
-        Err(error) if error.kind() == ErrorKind::OutOfMemory => return Err(ServeFault::NoMemory),
-        Err(_) => return Err(ServeFault::ReadFile),
+        Err(error) if error.kind() == ErrorKind::OutOfMemory => return Err(FilesFault::NoMemory),
+        Err(_) => return Err(FilesFault::ReadFile),
     };
     match path.as_str().strip_suffix(end) {
         Some(base) => Ok(Some(String::from_str(rt.alloc(), base)?)),

@@ -1,11 +1,11 @@
 //! Why a wish was not served.
 ghost use Rattle.std.specs.Prelude.{◌≡◌};
-ghost use Rattle.dbm_tool.specs.declared.fault.ServeFault.TheVariants.{NoMemory};
+ghost use Rattle.dbm_faults.specs.declared.fault.ServeFault.TheVariants.{NoMemory};
 
+use dbm_files::FilesFault;
 use dbm_reports::ReportFault;
 use dbm_script::TasksFault;
 use prog_registry::RegFault;
-use sdbm_saves::{DiskError, PlanFault};
 use std::alloc::{AllocError, AllocFailed};
 use std::error::Error;
 use std::fmt;
@@ -13,7 +13,7 @@ use store_shared::CloseFault;
 use worker_pool::PoolFault;
 
 /// Why a wish was not served. It prints as the text that stands behind `dbm: ` on standard error.
-#[derive(Clone, Copy, Debug, PartialEq, Eq)]
+#[derive(Clone, Copy, Debug)]
 pub enum ServeFault {
     /// A word of the command line is not UTF-8.
     NotText,
@@ -51,28 +51,28 @@ pub enum ServeFault {
 
 impl fmt::Display for ServeFault {
     ghost use Rattle.std.specs.Prelude.{Some};
-    ghost use Rattle.dbm_tool.specs.FaultText.{fault_text};
+    ghost use Rattle.dbm_faults.specs.FaultText.{fault_text};
 
     ghost output = { λ fault. Some (fault_text fault) };
 
     fn fmt<W: fmt::Write>(&self, f: &mut fmt::Formatter<W>) -> fmt::Result {
         match self {
-            ServeFault::NotText => write!(f, "NotText"),
-            ServeFault::ReadFile => write!(f, "ReadFile"),
-            ServeFault::FileTooLong => write!(f, "FileTooLong"),
-            ServeFault::WriteFile => write!(f, "WriteFile"),
-            ServeFault::BadRedo => write!(f, "BadRedo"),
-            ServeFault::ReadClock => write!(f, "ReadClock"),
-            ServeFault::BadBase => write!(f, "BadBase"),
-            ServeFault::Absent => write!(f, "Absent"),
-            ServeFault::Locked => write!(f, "Locked"),
-            ServeFault::Report(fault) => write!(f, "{fault}"),
-            ServeFault::Submit(fault) => write!(f, "{fault}"),
+            ServeFault::NotText => f.write_str("NotText"),
+            ServeFault::ReadFile => f.write_str("ReadFile"),
+            ServeFault::FileTooLong => f.write_str("FileTooLong"),
+            ServeFault::WriteFile => f.write_str("WriteFile"),
+            ServeFault::BadRedo => f.write_str("BadRedo"),
+            ServeFault::ReadClock => f.write_str("ReadClock"),
+            ServeFault::BadBase => f.write_str("BadBase"),
+            ServeFault::Absent => f.write_str("Absent"),
+            ServeFault::Locked => f.write_str("Locked"),
+            ServeFault::Report(fault) => fmt::Display::fmt(fault, f),
+            ServeFault::Submit(fault) => fmt::Display::fmt(fault, f),
             ServeFault::BadLine(number) => write!(f, "bad line {number}"),
-            ServeFault::Pool(fault) => write!(f, "{fault}"),
-            ServeFault::Close(fault) => write!(f, "{fault}"),
-            ServeFault::Write => write!(f, "Write"),
-            ServeFault::NoMemory => write!(f, "NoMemory"),
+            ServeFault::Pool(fault) => fmt::Display::fmt(fault, f),
+            ServeFault::Close(fault) => fmt::Display::fmt(fault, f),
+            ServeFault::Write => f.write_str("Write"),
+            ServeFault::NoMemory => f.write_str("NoMemory"),
         }
     }
 }
@@ -96,7 +96,7 @@ impl<T: Drop> From<AllocFailed<T>> for ServeFault {
 }
 
 impl From<ReportFault> for ServeFault {
-    ghost use Rattle.dbm_tool.specs.Causes.{report_fault};
+    ghost use Rattle.dbm_faults.specs.Faults.{report_fault};
 
     ghost from_gives = { λ reason fault. fault ≡ report_fault reason };
 
@@ -109,7 +109,7 @@ impl From<ReportFault> for ServeFault {
 }
 
 impl From<TasksFault> for ServeFault {
-    ghost use Rattle.dbm_tool.specs.Causes.{tasks_fault};
+    ghost use Rattle.dbm_faults.specs.Faults.{tasks_fault};
 
     ghost from_gives = { λ reason fault. fault ≡ tasks_fault reason };
 
@@ -122,7 +122,7 @@ impl From<TasksFault> for ServeFault {
 }
 
 impl From<RegFault> for ServeFault {
-    ghost use Rattle.dbm_tool.specs.Causes.{submit_fault};
+    ghost use Rattle.dbm_faults.specs.Faults.{submit_fault};
 
     ghost from_gives = { λ reason fault. fault ≡ submit_fault reason };
 
@@ -135,7 +135,7 @@ impl From<RegFault> for ServeFault {
 }
 
 impl From<PoolFault> for ServeFault {
-    ghost use Rattle.dbm_tool.specs.Causes.{pool_fault};
+    ghost use Rattle.dbm_faults.specs.Faults.{pool_fault};
 
     ghost from_gives = { λ reason fault. fault ≡ pool_fault reason };
 
@@ -151,28 +151,20 @@ impl From<PoolFault> for ServeFault {
     }
 }
 
-impl From<DiskError> for ServeFault {
-    ghost use Rattle.dbm_tool.specs.Causes.{disk_fault};
+impl From<FilesFault> for ServeFault {
+    ghost use Rattle.dbm_faults.specs.Faults.{files_fault};
 
-    ghost from_gives = { λ reason fault. fault ≡ disk_fault reason };
+    ghost from_gives = { λ reason fault. fault ≡ files_fault reason };
 
-    fn from(error: DiskError) -> ServeFault {
-        match error {
-            DiskError::Memory => ServeFault::NoMemory,
-            DiskError::Failed => ServeFault::WriteFile,
-        }
-    }
-}
-
-impl From<PlanFault> for ServeFault {
-    ghost use Rattle.dbm_tool.specs.Causes.{plan_fault};
-
-    ghost from_gives = { λ reason fault. fault ≡ plan_fault reason };
-
-    fn from(fault: PlanFault) -> ServeFault {
+    fn from(fault: FilesFault) -> ServeFault {
         match fault {
-            PlanFault::TooLong => ServeFault::FileTooLong,
-            PlanFault::NoMemory => ServeFault::NoMemory,
+            FilesFault::ReadFile => ServeFault::ReadFile,
+            FilesFault::FileTooLong => ServeFault::FileTooLong,
+            FilesFault::WriteFile => ServeFault::WriteFile,
+            FilesFault::BadRedo => ServeFault::BadRedo,
+            FilesFault::Locked => ServeFault::Locked,
+            FilesFault::Write => ServeFault::Write,
+            FilesFault::NoMemory => ServeFault::NoMemory,
         }
     }
 }

@@ -2,7 +2,7 @@
 ghost use Rattle.std.specs.Prelude.{◌≡◌, IfErr};
 ghost use Rattle.sdbm_saves.specs.declared.disk.DiskError.TheVariants.{Failed};
 
-use dbm_reports::Names;
+use crate::names::Names;
 use sdbm_saves::{CallLog, DiskError, File as Part, Host};
 use std::fs::{self, File, OpenFile, OpenOptions};
 use std::io::{self, ErrorKind};

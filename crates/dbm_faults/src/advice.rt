@@ -1,0 +1,126 @@
+//! What a fault is about, in plain words, and what to do.
+
+use crate::fault::ServeFault;
+use crate::files::{
+    absent_sentence, base_sentence, lock_sentence, open_sentence, redo_sentence, too_long_sentence,
+    unread_sentence, unwritten_sentence,
+};
+use crate::programs::{
+    assemble_sentence, decode_sentence, no_text_sentence, pool_sentence, submit_sentence,
+};
+use crate::sentence::{Part, Sentence, plain, with_one};
+use crate::words::{Words, hex_sentence, layout_sentence, number_sentence, text_sentence};
+use dbm_reports::ReportFault;
+use prog_registry::RegFault;
+use std::alloc::Global;
+
+/// What a second look is to find before a fault is told: which file it was about.
+#[derive(Clone, Copy)]
+pub enum Look {
+    /// None is needed.
+    Nothing,
+    /// The file that cannot be read.
+    Unread,
+    /// The file that is too long.
+    TooLong,
+    /// The file that cannot be written.
+    Unwritten,
+    /// Whether the program's file is an object.
+    Object,
+}
+
+/// What is to be looked for before a fault is told.
+pub fn look_for(fault: ServeFault) -> Look {
+    match fault {
+        ServeFault::ReadFile => Look::Unread,
+        ServeFault::FileTooLong => Look::TooLong,
+        ServeFault::WriteFile => Look::Unwritten,
+        ServeFault::Report(ReportFault::NotText | ReportFault::Assemble(_) | ReportFault::Decode(_))
+        | ServeFault::Submit(RegFault::Decode(_)) => Look::Object,
+        _ => Look::Nothing,
+    }
+}
+
+/// The sentence behind a fault: what it is about, and what to do. Where a second look by `look_for` has found something, that is told
+/// instead (`finding_sentence`). `None` where nothing can be said of the words.
+pub fn sentence_of<'a>(
+    alloc: Global,
+    words: &Words<'a>,
+    fault: ServeFault,
+) -> Option<Sentence<'a>> {
+    match fault {
+        ServeFault::Report(fault) => report_sentence(alloc, words, fault),
+        ServeFault::Submit(fault) => Some(or_memory(submit_sentence(words, fault))),
+        ServeFault::Pool(fault) => Some(or_memory(pool_sentence(fault))),
+        ServeFault::FileTooLong => Some(too_long_sentence(words.base?)),
+        ServeFault::WriteFile => Some(unwritten_sentence(words.base?)),
+        fault => Some(rest_sentence(words, fault)),
+    }
+}
+
+/// Memory ran out.
+pub fn memory_sentence() -> Sentence<'static> {
+    plain(
+        "Memory ran out: dbm holds both files of a database and all that it prints. ulimit -v shows a limit.",
+    )
+}
+
+fn or_memory<'a>(sentence: Option<Sentence<'a>>) -> Sentence<'a> {
+    sentence.unwrap_or(memory_sentence())
+}
+
+// Of the files, the clock, the streams and the lines of a batch.
+fn rest_sentence<'a>(words: &Words<'a>, fault: ServeFault) -> Sentence<'a> {
+    match fault {
+        ServeFault::ReadFile => unread_sentence(words.base),
+        ServeFault::BadRedo => redo_sentence(words.base),
+        ServeFault::BadBase => base_sentence(words.base),
+        ServeFault::Absent => absent_sentence(words.base),
+        ServeFault::Locked => lock_sentence(words.base, words.numbers.timeout),
+        ServeFault::ReadClock => {
+            plain("The system does not tell the time of day: give NOW as a number.")
+        }
+        ServeFault::BadLine(number) => with_one(
+            "Line {} of standard input is no task. Write KEY ARG BLANK NOW, with one space between two of them.",
+            Part::Number(number as u64),
+        ),
+        ServeFault::Close(_) => plain(
+            "The workers made other calls than the store has: that should never be. Nothing was written.",
+        ),
+        ServeFault::Write => plain(
+            "Standard output is closed or cannot be written, as where a disk is full; nothing was changed.",
+        ),
+        ServeFault::NoMemory => memory_sentence(),
+        _ => plain("A word of the command line is not UTF-8."),
+    }
+}
+
+// Of what stands in the words, the files and on standard input.
+fn report_sentence<'a>(
+    alloc: Global,
+    words: &Words<'a>,
+    fault: ReportFault,
+) -> Option<Sentence<'a>> {
+    match fault {
+        ReportFault::BadHex => hex_sentence(alloc, words),
+        ReportFault::BadText => text_sentence(alloc, words),
+        ReportFault::BadLayout => Some(layout_sentence(words.layout)),
+        ReportFault::BadNumber => number_sentence(words.numbers),
+        ReportFault::Open(fault) => Some(or_memory(open_sentence(words, fault))),
+        ReportFault::NotText => Some(no_text_sentence(words)),
+        ReportFault::Assemble(fault) => Some(or_memory(assemble_sentence(words, fault))),
+        ReportFault::Decode(fault) => Some(or_memory(decode_sentence(words, fault))),
+        ReportFault::Read => {
+            Some(plain("Standard input is closed or cannot be read, as where it is a folder."))
+        }
+        ReportFault::TooLong => {
+            Some(plain("Standard input has more than 16 MiB: give it in parts, a run for each."))
+        }
+        ReportFault::OutputTooLong => {
+            Some(plain(
+                "The answers have more bytes than --max-output allows: nothing was changed.",
+            ))
+        }
+        ReportFault::NoMemory => Some(memory_sentence()),
+    }
+}

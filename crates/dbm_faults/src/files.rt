@@ -1,0 +1,170 @@
+//! Sentences about files of a database: which of them the system refuses, and which are no database.
+
+use crate::sentence::{Part, Sentence, plain, with_four, with_one, with_three, with_two};
+use crate::words::Words;
+use dbm_files::{Finding, Matter, folder_of};
+use sdbm_files::OpenFault;
+
+/// Of the base, as sentences show it.
+pub fn base_part<'a>(base: Option<&'a str>) -> Part<'a> {
+    Part::Name(base.unwrap_or("BASE"))
+}
+
+/// Of a file, or a folder, and what is the matter with it.
+pub fn finding_sentence<'a>(found: Finding<'a>) -> Sentence<'a> {
+    let name = Part::Name(found.name);
+    match found.matter {
+        Matter::Absent => with_one("{} is not there.", name),
+        Matter::DeadLink => with_one("{} is a link that leads nowhere.", name),
+        Matter::Unread(reason) => with_two("{} cannot be read: {}.", name, Part::Reason(reason)),
+        Matter::Unwritten(reason) => {
+            with_two("{} cannot be written: {}.", name, Part::Reason(reason))
+        }
+        Matter::NoFolder => with_one("No file can be made in the folder {}: it is a file.", name),
+        Matter::LostFolder(reason) => {
+            let reason = Part::Reason(reason);
+            with_two("No file can be made in the folder {}: {}.", name, reason)
+        }
+        Matter::TooLong(limit) => with_two(
+            "{} has more than {} bytes, the most that dbm reads of such a file.",
+            name,
+            Part::Number(limit),
+        ),
+        Matter::Object => with_one(
+            "{} is an ELF object. Take its section .text for the image, or let tools/bpfcc make it.",
+            name,
+        ),
+    }
+}
+
+/// Of files that could not be read, where none is found that the system refuses.
+pub fn unread_sentence<'a>(base: Option<&'a str>) -> Sentence<'a> {
+    let Some(base) = base else {
+        return plain("The file could not be read, and can be read now: try again.");
+    };
+    let base = Part::Name(base);
+    with_two(
+        "{}.pag and {}.dir do not lead to the two files of one base: make links of both, or of neither.",
+        base,
+        base,
+    )
+}
+
+/// Of files that could not be written, where none is found that the system refuses.
+pub fn unwritten_sentence<'a>(base: &'a str) -> Sentence<'a> {
+    with_two(
+        "{}.lock, .redo, .dir or .pag could not be made or written: see that you may write into the folder {}, and that its disk has room.",
+        Part::Name(base),
+        Part::Name(folder_of(base)),
+    )
+}
+
+/// Of a database that would be too long.
+pub fn too_long_sentence<'a>(base: &'a str) -> Sentence<'a> {
+    with_one(
+        "{}.pag would have more than 1 GiB after the command: nothing was changed.",
+        Part::Name(base),
+    )
+}
+
+/// Of a redo file that no save has left.
+pub fn redo_sentence<'a>(base: Option<&'a str>) -> Sentence<'a> {
+    let base = base_part(base);
+    with_three(
+        "{}.redo says that a save was committed, but no save of dbm leaves such a file. Move it away to have {}.pag and {}.dir as they are.",
+        base,
+        base,
+        base,
+    )
+}
+
+/// Of a base that names no file.
+pub fn base_sentence<'a>(base: Option<&'a str>) -> Sentence<'a> {
+    match base {
+        Some("") => plain(
+            "BASE is empty, which names no files: give the name of a database, without .dir or .pag.",
+        ),
+        base => with_one(
+            "BASE is {}, a folder: give the name of a database in it, without .dir or .pag.",
+            Part::Quoted(base.unwrap_or("BASE")),
+        ),
+    }
+}
+
+/// Of files that have to be there, and are not.
+pub fn absent_sentence<'a>(base: Option<&'a str>) -> Sentence<'a> {
+    let base = base_part(base);
+    with_two(
+        "Neither {}.dir nor {}.pag is there. Leave --must-exist out to make the database.",
+        base,
+        base,
+    )
+}
+
+/// Of a lock that another run has.
+pub fn lock_sentence<'a>(base: Option<&'a str>, timeout: Option<&str>) -> Sentence<'a> {
+    let base = base_part(base);
+    match timeout {
+        Some("0") => with_one(
+            "Another run holds {}.lock. Without --timeout 0 this one waits for it.",
+            base,
+        ),
+        _ => with_one(
+            "Another run has held {}.lock all the time. Without --timeout this one waits for it.",
+            base,
+        ),
+    }
+}
+
+/// Of files that are no database. `None` where memory ran out.
+pub fn open_sentence<'a>(words: &Words<'a>, fault: OpenFault) -> Option<Sentence<'a>> {
+    let base = base_part(words.base);
+    match fault {
+        OpenFault::PagLength => Some(with_three(
+            "{}.pag is no whole number of pages of {} bytes: it was cut off, is no file of sdbm, or was written {}.",
+            base,
+            Part::Text(page_bytes(words.wide)),
+            Part::Text(other_width(words.wide)),
+        )),
+        OpenFault::Page(page, _) => Some(with_three(
+            "Page {} of {}.pag is damaged, or the database was written {}.",
+            Part::Number(page as u64),
+            base,
+            Part::Text(other_width(words.wide)),
+        )),
+        OpenFault::Dir(_) => {
+            Some(with_one("{}.dir is damaged, or is no directory of sdbm.", base))
+        }
+        OpenFault::Misplaced(page) => Some(with_four(
+            "A key on page {} of {}.pag belongs to another page: the database was written {}, or {}.dir is that of another one.",
+            Part::Number(page as u64),
+            base,
+            Part::Text(other_hash(words.unsigned)),
+            base,
+        )),
+        OpenFault::NoMemory => None,
+    }
+}
+
+// How many bytes a page has.
+fn page_bytes(wide: bool) -> &'static str {
+    if wide { "8,192" } else { "1,024" }
+}
+
+// The other width of pages.
+fn other_width(wide: bool) -> &'static str {
+    if wide {
+        "without --wide"
+    } else {
+        "with --wide"
+    }
+}
+
+// The other way in which keys are hashed.
+fn other_hash(unsigned: bool) -> &'static str {
+    if unsigned {
+        "without --unsigned"
+    } else {
+        "with --unsigned"
+    }
+}

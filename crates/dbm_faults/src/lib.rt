@@ -1,0 +1,18 @@
+//! Why a run of the program fails, and the sentences that stand on standard error behind a fault and beside an answer: values, which the
+//! program prints.
+#![tactic(auto)]
+
+mod advice;
+mod fault;
+mod files;
+mod notes;
+mod programs;
+mod sentence;
+mod words;
+
+pub use advice::{Look, look_for, memory_sentence, sentence_of};
+pub use fault::ServeFault;
+pub use files::finding_sentence;
+pub use notes::{absent_note, bad_lines_note, object_note, refusal_note};
+pub use sentence::{Part, Sentence};
+pub use words::{Named, Numbers, Subject, Words};

@@ -1,0 +1,45 @@
+//! Notes beside an answer that may not be what was meant.
+
+use crate::sentence::{Part, Sentence, with_one, with_three, with_two};
+
+/// Neither file of the database was there that was read.
+pub fn absent_note<'a>(base: &'a str) -> Sentence<'a> {
+    let base = Part::Name(base);
+    with_two(
+        "neither {}.dir nor {}.pag is there, so the database is empty",
+        base,
+        base,
+    )
+}
+
+/// A program's image that was refused is an object.
+pub fn object_note<'a>(file: &'a str) -> Sentence<'a> {
+    with_one(
+        "{} is an ELF object, and no image: take its section .text, or let tools/bpfcc make the image",
+        Part::Name(file),
+    )
+}
+
+/// Why a program is refused that was to be run, and how to see more.
+pub fn refusal_note<'a>(refusal: &'a str, file: &'a str, image: bool) -> Sentence<'a> {
+    let option = if image { " --image" } else { "" };
+    with_three(
+        "{}. See dbm verify --explain{} {}",
+        Part::Text(refusal),
+        Part::Text(option),
+        Part::Name(file),
+    )
+}
+
+/// The line of a script that is the first that asks nothing, counted from 1, and how many more there are.
+pub fn bad_lines_note(first: u64, more: u64) -> Sentence<'static> {
+    let first = Part::Number(first);
+    if more == 0 {
+        return with_one("line {} of the script is a bad line", first);
+    }
+    with_two(
+        "line {} of the script is a bad line, and so are {} more",
+        first,
+        Part::Number(more),
+    )
+}

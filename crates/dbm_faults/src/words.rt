@@ -1,0 +1,186 @@
+//! The words of a command line that a sentence may show, and those of them that are not what they are to be.
+
+use crate::sentence::{Part, Sentence, with_three, with_two};
+use dbm_script::{Notation, read_blank, read_bytes, read_number};
+use std::alloc::Global;
+
+/// A word of the command line, with the name that the help gives it.
+#[derive(Clone, Copy)]
+pub struct Named<'a> {
+    pub name: &'static str,
+    pub word: &'a str,
+}
+
+/// The words that are to be numbers, each where it is given.
+#[derive(Clone, Copy)]
+pub struct Numbers<'a> {
+    pub timeout: Option<&'a str>,
+    pub blank: Option<&'a str>,
+    pub now: Option<&'a str>,
+    pub expect: Option<&'a str>,
+    pub workers: Option<&'a str>,
+    pub max_output: Option<&'a str>,
+}
+
+impl<'a> Numbers<'a> {
+    /// Of a command line that has none.
+    pub fn none() -> Numbers<'static> {
+        Numbers {
+            timeout: None,
+            blank: None,
+            now: None,
+            expect: None,
+            workers: None,
+            max_output: None,
+        }
+    }
+}
+
+/// What a program's file is read for, where sentences tell that apart.
+#[derive(Clone, Copy)]
+pub enum Subject {
+    /// Its image is asked.
+    Asm,
+    /// Its text is asked.
+    Disasm,
+    /// Anything else.
+    Other,
+}
+
+/// The words of a command line that a sentence may show.
+#[derive(Clone, Copy)]
+pub struct Words<'a> {
+    pub subject: Subject,
+    /// The database, where there is one.
+    pub base: Option<&'a str>,
+    /// The program's file, where there is one.
+    pub file: Option<&'a str>,
+    /// The bytes of keys are hashed as unsigned ones.
+    pub unsigned: bool,
+    /// Pages have 8,192 bytes.
+    pub wide: bool,
+    /// The first of the words that are to be bytes, in the order in which they are read.
+    pub first: Option<Named<'a>>,
+    /// The second of them.
+    pub second: Option<Named<'a>>,
+    /// The layout of values.
+    pub layout: Option<&'a str>,
+    pub numbers: Numbers<'a>,
+}
+
+impl<'a> Words<'a> {
+    /// Those of a command line that could not be read.
+    pub fn unread() -> Words<'static> {
+        Words {
+            subject: Subject::Other,
+            base: None,
+            file: None,
+            unsigned: false,
+            wide: false,
+            first: None,
+            second: None,
+            layout: None,
+            numbers: Numbers::none(),
+        }
+    }
+}
+
+const NO_HEX: &str = "is neither hex, two digits for each byte, nor . for none";
+
+const NO_TEXT: &str =
+    "is no text: docs/DBM.md has its escapes and its numbers; a backslash is written \\\\ and a comma \\,";
+
+const NO_LAYOUT: &str =
+    "is no layout: write u8, u16, u32, u64 or i64 with a comma between two, and text or hex at most as the last";
+
+const NO_NUMBER: &str = "is no number below 18446744073709551616 without leading zeros";
+
+const NO_BLANK: &str = "is neither . nor a number below 65536 without leading zeros";
+
+const NO_TIME: &str = "is neither now, now-ms nor a number below 18446744073709551616";
+
+const NO_COUNT: &str = "is no number below 4294967296";
+
+/// Of a layout that is none.
+pub fn layout_sentence(layout: Option<&str>) -> Sentence<'_> {
+    let word = layout.unwrap_or("");
+    word_sentence(Named { name: "--as", word }, NO_LAYOUT)
+}
+
+/// Of the words that are to be bytes in hex, the first that is none.
+pub fn hex_sentence<'a>(alloc: Global, words: &Words<'a>) -> Option<Sentence<'a>> {
+    let wrong = first_wrong(alloc, &Notation::Hex, words)?;
+    Some(word_sentence(wrong, NO_HEX))
+}
+
+/// Of the words that are to be bytes as text, the first that is none.
+pub fn text_sentence<'a>(alloc: Global, words: &Words<'a>) -> Option<Sentence<'a>> {
+    let wrong = first_wrong(alloc, &Notation::Text, words)?;
+    Some(word_sentence(wrong, NO_TEXT))
+}
+
+// The first of the words that is no bytes, where one is none: the last, if the others are bytes.
+fn first_wrong<'a>(
+    alloc: Global,
+    notation: &Notation<Global>,
+    words: &Words<'a>,
+) -> Option<Named<'a>> {
+    let Some(second) = words.second else {
+        return words.first;
+    };
+    match words.first {
+        Some(first) if !is_bytes(alloc, notation, first.word) => Some(first),
+        _ => Some(second),
+    }
+}
+
+fn is_bytes(alloc: Global, notation: &Notation<Global>, word: &str) -> bool {
+    matches!(read_bytes(alloc, notation, word.as_bytes()), Ok(Some(_)))
+}
+
+/// Of the words that are to be numbers, the first that is none.
+pub fn number_sentence<'a>(numbers: Numbers<'a>) -> Option<Sentence<'a>> {
+    if let Some(wrong) = wrong_number("--timeout", numbers.timeout) {
+        return Some(word_sentence(wrong, NO_NUMBER));
+    }
+    if let Some(word) = numbers.blank
+        && read_blank(word.as_bytes()).is_none()
+    {
+        let name = "BLANK";
+        return Some(word_sentence(Named { name, word }, NO_BLANK));
+    }
+    if let Some(wrong) = wrong_number("NOW", numbers.now) {
+        return Some(word_sentence(wrong, NO_TIME));
+    }
+    // Of a batch this is the last word that is to be a number.
+    if let Some(word) = numbers.workers {
+        let name = "WORKERS";
+        return Some(word_sentence(Named { name, word }, NO_COUNT));
+    }
+    if let Some(wrong) = wrong_number("--expect", numbers.expect) {
+        return Some(word_sentence(wrong, NO_NUMBER));
+    }
+    let wrong = wrong_number("--max-output", numbers.max_output)?;
+    Some(word_sentence(wrong, NO_NUMBER))
+}
+
+// A word that is no number.
+fn wrong_number<'a>(name: &'static str, word: Option<&'a str>) -> Option<Named<'a>> {
+    let word = word?;
+    if read_number(word.as_bytes(), u64::MAX).is_some() {
+        return None;
+    }
+    Some(Named { name, word })
+}
+
+// What is wrong with a word, which is shown where it is short.
+fn word_sentence<'a>(named: Named<'a>, wrong: &'static str) -> Sentence<'a> {
+    let (name, wrong) = (Part::Text(named.name), Part::Text(wrong));
+    if named.word.is_empty() {
+        return with_two("{} is empty: it {}.", name, wrong);
+    }
+    if named.word.len() <= 64 {
+        return with_three("{} is {}, which {}.", name, Part::Quoted(named.word), wrong);
+    }
+    with_two("{} {}.", name, wrong)
+}

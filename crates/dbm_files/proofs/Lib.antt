@@ -1,0 +1,2 @@
+pub mod SaveMoments
+pub mod Examples

@@ -1,0 +1,231 @@
+//! Which file a fault of the files was about, and the system's own reason: the files are looked at once more.
+
+use crate::host::folder_of;
+use crate::names::{Names, Source, names_of};
+use std::fmt;
+use std::fs::{self, File, OpenOptions};
+use std::io::{self, ErrorKind, Read};
+use std::rt::Files;
+
+/// Why the system refuses a file. It prints as a half sentence.
+#[derive(Clone, Copy)]
+pub struct Reason(io::Error);
+
+impl fmt::Display for Reason {
+    fn fmt<W: fmt::Write>(&self, f: &mut fmt::Formatter<W>) -> fmt::Result {
+        match reason_text(self.0.kind()) {
+            Some(text) => f.write_str(text),
+            None => fmt::Display::fmt(&self.0, f),
+        }
+    }
+}
+
+// The reasons that have plain words.
+fn reason_text(kind: ErrorKind) -> Option<&'static str> {
+    match kind {
+        ErrorKind::NotFound => Some("it is not there"),
+        ErrorKind::PermissionDenied => Some("you have no permission"),
+        ErrorKind::IsADirectory => Some("it is a folder"),
+        ErrorKind::NotADirectory => Some("a part of its path is no folder"),
+        ErrorKind::ReadOnlyFilesystem => Some("its file system is read-only"),
+        ErrorKind::StorageFull => Some("no space is left on the disk"),
+        ErrorKind::QuotaExceeded => Some("your quota of the disk is used up"),
+        ErrorKind::FilesystemLoop => Some("its links lead in a circle"),
+        ErrorKind::InvalidFilename => Some("its name is too long"),
+        _ => None,
+    }
+}
+
+/// What is the matter with a file.
+#[derive(Clone, Copy)]
+pub enum Matter {
+    /// It is not there.
+    Absent,
+    /// It is a link that leads nowhere.
+    DeadLink,
+    /// It cannot be read.
+    Unread(Reason),
+    /// It cannot be written.
+    Unwritten(Reason),
+    /// It is to be a folder, and is a file.
+    NoFolder,
+    /// It is to be a folder, and cannot be looked at.
+    LostFolder(Reason),
+    /// It has more bytes than this, the most that are read of it.
+    TooLong(u64),
+    /// It is an object as compilers write it.
+    Object,
+}
+
+/// A file, or a folder, and what is the matter with it.
+#[derive(Clone, Copy)]
+pub struct Finding<'a> {
+    pub name: &'a str,
+    pub matter: Matter,
+}
+
+/// The first of the files of a run that cannot be read, if there is one: the lock, the redo file, the directory and the pages of its
+/// database, where it has one, and the program's file. Those of a database may be missing.
+pub fn find_unread<'a, R: Files<File = File>>(
+    rt: &R,
+    names: Option<&'a Names>,
+    file: Option<&'a str>,
+) -> Option<Finding<'a>> {
+    if let Some(names) = names
+        && let Some(found) = unread_of(rt, names)
+    {
+        return Some(found);
+    }
+    let name = file?;
+    let matter = unread(rt, name, false)?;
+    Some(Finding { name, matter })
+}
+
+// The first of the files of a database that cannot be read.
+fn unread_of<'a, R: Files<File = File>>(rt: &R, names: &'a Names) -> Option<Finding<'a>> {
+    for name in [
+        names.lock.as_str(),
+        names.redo.as_str(),
+        names.directory.as_str(),
+        names.pages.as_str(),
+    ] {
+        if let Some(matter) = unread(rt, name, true) {
+            return Some(Finding { name, matter });
+        }
+    }
+    None
+}
+
+// Why a file cannot be read, where it cannot. A file that may be missing may not be a link that leads nowhere.
+fn unread<R: Files<File = File>>(rt: &R, name: &str, may_be_absent: bool) -> Option<Matter> {
+    let error = read_error(rt, name)?;
+    if error.kind() != ErrorKind::NotFound {
+        return Some(Matter::Unread(Reason(error)));
+    }
+    if is_link(rt, name) {
+        return Some(Matter::DeadLink);
+    }
+    if may_be_absent {
+        return None;
+    }
+    Some(Matter::Absent)
+}
+
+// Why a file cannot be opened, or its first byte not be read.
+fn read_error<R: Files<File = File>>(rt: &R, name: &str) -> Option<io::Error> {
+    let mut first = [0; 1];
+    match fs::open(rt, name) {
+        Ok(mut file) => file.read(&mut first).err(),
+        Err(error) => Some(error),
+    }
+}
+
+fn is_link<R: Files<File = File>>(rt: &R, name: &str) -> bool {
+    match fs::symlink_metadata(rt, name) {
+        Ok(found) => found.is_symlink(),
+        Err(_) => false,
+    }
+}
+
+/// Why the files of a database cannot be written, if that is to be seen: their folder is none, or one that is there is refused, the
+/// lock, the redo file, the directory and the pages in turn. A lock that may only be read serves too.
+pub fn find_unwritten<'a, R: Files<File = File>>(rt: &R, names: &'a Names) -> Option<Finding<'a>> {
+    let name = folder_of(names.lock.as_str());
+    if let Some(matter) = lost(rt, name) {
+        return Some(Finding { name, matter });
+    }
+    let lock = names.lock.as_str();
+    if read_error(rt, lock).is_some()
+        && let Some(matter) = unwritten(rt, lock)
+    {
+        return Some(Finding { name: lock, matter });
+    }
+    for name in [
+        names.redo.as_str(),
+        names.directory.as_str(),
+        names.pages.as_str(),
+    ] {
+        if let Some(matter) = unwritten(rt, name) {
+            return Some(Finding { name, matter });
+        }
+    }
+    None
+}
+
+// Why a folder is none, where it is none.
+fn lost<R: Files<File = File>>(rt: &R, folder: &str) -> Option<Matter> {
+    match fs::metadata(rt, folder) {
+        Ok(found) if found.is_dir() => None,
+        Ok(_) => Some(Matter::NoFolder),
+        Err(error) => Some(Matter::LostFolder(Reason(error))),
+    }
+}
+
+// Why a file that is there cannot be written, where it cannot.
+fn unwritten<R: Files<File = File>>(rt: &R, name: &str) -> Option<Matter> {
+    let Err(error) = OpenOptions::new().read(true).write(true).open(rt, name) else {
+        return None;
+    };
+    if error.kind() != ErrorKind::NotFound {
+        return Some(Matter::Unwritten(Reason(error)));
+    }
+    if is_link(rt, name) {
+        return Some(Matter::DeadLink);
+    }
+    None
+}
+
+/// The first of the files that are read that has more bytes than it may, if there is one.
+pub fn find_too_long<'a, R: Files<File = File>>(
+    rt: &R,
+    sources: &'a [Source],
+) -> Option<Finding<'a>> {
+    for source in sources {
+        let name = source.name.as_str();
+        if let Ok(found) = fs::metadata(rt, name)
+            && found.len() > source.limit
+        {
+            let matter = Matter::TooLong(source.limit);
+            return Some(Finding { name, matter });
+        }
+    }
+    None
+}
+
+/// Whether a file is an object as compilers write it, and no program of its own: its first bytes are those of ELF.
+pub fn find_object<'a, R: Files<File = File>>(rt: &R, name: &'a str) -> Option<Finding<'a>> {
+    let mut head = [0; 4];
+    let is_object = match fs::open(rt, name) {
+        Ok(mut file) => file.read_exact(&mut head).is_ok() && head == *b"\x7fELF",
+        Err(_) => false,
+    };
+    if is_object {
+        return Some(Finding {
+            name,
+            matter: Matter::Object,
+        });
+    }
+    None
+}
+
+/// Whether a run is about a database of which neither file is there, nor the redo file of a save.
+pub fn has_no_files<R: Files<File = File> + AllocGlobal>(rt: &R, base: Option<&str>) -> bool {
+    let Some(base) = base else {
+        return false;
+    };
+    match names_of(rt.alloc(), base) {
+        Ok(names) => {
+            is_absent(rt, names.pages.as_str())
+                && is_absent(rt, names.directory.as_str())
+                && is_absent(rt, names.redo.as_str())
+        }
+        Err(_) => false,
+    }
+}
+
+fn is_absent<R: Files<File = File>>(rt: &R, name: &str) -> bool {
+    match fs::symlink_metadata(rt, name) {
+        Err(error) => error.kind() == ErrorKind::NotFound,
+        Ok(_) => false,
+    }
+}

@@ -1,0 +1,142 @@
+//! What is printed on standard error behind a fault, and beside an answer.
+
+use crate::words::{has_image, place_of, words_of};
+use dbm_faults::{
+    Look, Sentence, ServeFault, Words, absent_note, finding_sentence, look_for, memory_sentence,
+    object_note, refusal_note, sentence_of,
+};
+use dbm_files::{
+    Finding, find_object, find_too_long, find_unread, find_unwritten, has_no_files, names_of,
+    sources,
+};
+use dbm_words::{Request, Wish};
+use std::alloc::AllocError;
+use std::fs::File;
+use std::rt::Runtime;
+
+// Prints a sentence behind a text. Where standard error fails, nobody is told.
+fn say<R: Runtime>(rt: &R, before: &str, sentence: Sentence<'_>) {
+    let _ = eprintln!(rt; "{before}{sentence}");
+}
+
+/// Says in a line what a fault is about, and what to do.
+pub fn advise<R: Runtime<File = File> + AllocGlobal>(
+    rt: &R,
+    request: Option<&Request<'_>>,
+    fault: ServeFault,
+) {
+    let told = match request {
+        Some(request) => advise_on(rt, request, fault),
+        None => {
+            tell_found(rt, &Words::unread(), fault, None);
+            Ok(())
+        }
+    };
+    if told.is_err() {
+        say(rt, "  ", memory_sentence());
+    }
+}
+
+// The same, of a request. The files are looked at once more where that says which of them the fault was about.
+fn advise_on<R: Runtime<File = File> + AllocGlobal>(
+    rt: &R,
+    request: &Request<'_>,
+    fault: ServeFault,
+) -> Result<(), AllocError> {
+    let words = words_of(request);
+    match look_for(fault) {
+        Look::Nothing => tell_found(rt, &words, fault, None),
+        Look::Object => tell_object(rt, &words, fault),
+        Look::Unread => tell_unread(rt, &words, fault)?,
+        Look::Unwritten => tell_unwritten(rt, &words, fault)?,
+        Look::TooLong => {
+            let sources = sources(rt.alloc(), place_of(&request.wish))?;
+            tell_found(rt, &words, fault, find_too_long(rt, sources.as_slice()));
+        }
+    }
+    Ok(())
+}
+
+fn tell_object<R: Runtime<File = File> + AllocGlobal>(
+    rt: &R,
+    words: &Words<'_>,
+    fault: ServeFault,
+) {
+    let found = match words.file {
+        Some(file) => find_object(rt, file),
+        None => None,
+    };
+    tell_found(rt, words, fault, found);
+}
+
+fn tell_unread<R: Runtime<File = File> + AllocGlobal>(
+    rt: &R,
+    words: &Words<'_>,
+    fault: ServeFault,
+) -> Result<(), AllocError> {
+    let Some(base) = words.base else {
+        tell_found(rt, words, fault, find_unread(rt, None, words.file));
+        return Ok(());
+    };
+    let names = names_of(rt.alloc(), base)?;
+    tell_found(rt, words, fault, find_unread(rt, Some(&names), words.file));
+    Ok(())
+}
+
+fn tell_unwritten<R: Runtime<File = File> + AllocGlobal>(
+    rt: &R,
+    words: &Words<'_>,
+    fault: ServeFault,
+) -> Result<(), AllocError> {
+    let Some(base) = words.base else {
+        return Ok(());
+    };
+    let names = names_of(rt.alloc(), base)?;
+    tell_found(rt, words, fault, find_unwritten(rt, &names));
+    Ok(())
+}
+
+// Prints the sentence of a fault, with what a second look has found.
+fn tell_found<R: Runtime + AllocGlobal>(
+    rt: &R,
+    words: &Words<'_>,
+    fault: ServeFault,
+    found: Option<Finding<'_>>,
+) {
+    if let Some(found) = found {
+        return say(rt, "  ", finding_sentence(found));
+    }
+    if let Some(sentence) = sentence_of(rt.alloc(), words, fault) {
+        say(rt, "  ", sentence);
+    }
+}
+
+/// Prints a note.
+pub fn note_that<R: Runtime>(rt: &R, note: Sentence<'_>) {
+    say(rt, "dbm: note: ", note);
+}
+
+/// Says that neither file of the database was there that a wish has read.
+pub fn note_absent<R: Runtime<File = File> + AllocGlobal>(rt: &R, wish: &Wish<'_>) {
+    if let Some(base) = wish.base()
+        && has_no_files(rt, Some(base))
+    {
+        note_that(rt, absent_note(base));
+    }
+}
+
+/// Says of a program's image that was refused that it is an object, where it is one.
+pub fn note_object<R: Runtime<File = File>>(rt: &R, wish: &Wish<'_>) {
+    if let Some(file) = wish.file()
+        && has_image(wish)
+        && find_object(rt, file).is_some()
+    {
+        note_that(rt, object_note(file));
+    }
+}
+
+/// Says why a program is refused that was to be run, and how to see more.
+pub fn note_refusal<R: Runtime>(rt: &R, wish: &Wish<'_>, refusal: &str) {
+    let file = wish.file().unwrap_or("FILE");
+    note_that(rt, refusal_note(refusal, file, has_image(wish)));
+}

@@ -21,7 +21,7 @@ judged_alone image report (inl h) = h.1.written
 judged_alone image report (inr h) = h.1.1.written
 
 explained_alone : (image : List ℕ) (report : Report) → IsExplained image report → report.database ≡ None
-explained_alone image report (inl h) = h.1.1.written ∙ judged_alone image h.0 h.1.0
+explained_alone image report (inl h) = h.1.1.1.1.written ∙ judged_alone image h.1.1.0 h.1.1.1.0
 explained_alone image report (inr h) = judged_alone image report h.1
 
 verified_alone : (explain is_image : Bool) (file : List ℕ) (report : Report) → VerifyReports explain is_image file report → report.database ≡ None

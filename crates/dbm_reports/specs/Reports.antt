@@ -237,7 +237,8 @@ EndsJudged image report = (last : Report) × (Judges image last × EndsAs last r
 
 -- what is said of an image whose program is explained: of one that is the image of no code, that alone
 abbrev pub IsExplained : List ℕ → Report → Type 0
-IsExplained image report = EndsJudged image report ⊎ (((code : List Insn) → IsImage code image → ⊥) × Judges image report)
+IsExplained image report =
+    ((code : List Insn) × (IsImage code image × EndsJudged image report)) ⊎ (((code : List Insn) → IsImage code image → ⊥) × Judges image report)
 
 -- what is said of the image of a program's file, explained
 abbrev pub Explains : Bool → List ℕ → Report → Type 0

@@ -189,7 +189,8 @@ fn list_command<'a>(alloc: Global) -> Result<Command<'a>, AllocError>
     let about = "Print all pairs, sorted by the bytes of their keys";
     let notes =
         "Prints KEY VALUE for each pair, both in hex, or . for no bytes; with --json an object\n\
-         for each in a line of its own.\n\n\
+         for each in a line of its own, whatever -0 says. With -0 a zero byte within a key or a value\n\
+         looks like an end. Where the reader of a pipe leaves, as head does, the status is 2 and nothing is said.\n\n\
          Example: dbm list users --text";
     aliased_subcommand(alloc, "list", "ls", about, notes, args)
 }
@@ -325,7 +326,8 @@ fn verify_command<'a>(alloc: Global) -> Result<Command<'a>, AllocError>
     ]?;
     let about = "Say whether a program is accepted, or why it is refused";
     let notes =
-        "Prints accepted UNITS, its length in units of 8 bytes, or refused FAULT with status 1.\n\n\
+        "Prints accepted UNITS, its length in units of 8 bytes, or refused FAULT with status 1. With --explain\n\
+         that line is the last one; of a file that is no program's image it stands alone.\n\n\
          Example: dbm verify counter.s";
     subcommand(alloc, "verify", about, notes, args)
 }

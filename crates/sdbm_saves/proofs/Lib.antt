@@ -1,4 +1,5 @@
 pub mod Drafts
+pub mod Knowing
 pub mod Lists
 pub mod Marks
 pub mod Moments

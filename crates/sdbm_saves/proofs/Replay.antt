@@ -1,19 +1,20 @@
 -- What is half done of a plan does not matter to the whole of it.
-use Rattle.std.proofs.Common.{◌≡◌, ℕ, zero, suc, ◌+◌, ◌<◌, ◌≤◌, max, List, length, drop, get_or, refl, sym, ◌∙◌, ap, subst, arith, length-drop}
+use Rattle.std.proofs.Common.{◌≡◌, inl, ⊎_elim, ℕ, zero, suc, ◌+◌, ◌-◌, ◌<◌, ◌≤◌, max, List, length, drop, get_or, refl, sym, ◌∙◌, ap, subst, arith, length-drop}
 use Rattle.std.proofs.lemmas.List.{length-take-le}
+use Rattle.std.proofs.lemmas.Bool.{cases_lt}
 use Rattle.sdbm_saves.specs.declared.disk.File.{File}
 use Rattle.sdbm_saves.specs.declared.disk.File.TheVariants.{Pages, Directory, Redo}
 use Rattle.sdbm_saves.specs.Disk.{Image, content, put, written, resized, Torn, TornLength, Within}
-use Rattle.sdbm_saves.specs.Redo.{data_file, file_of, offset_of, size_of, data_of, rest_of, rest_after, effect, replayed, replayed_image, new_length, count_of, changes_of, renewed, Fits, IsPlan, Alike}
+use Rattle.sdbm_saves.specs.Redo.{data_file, file_of, offset_of, size_of, data_of, span_of, rest_of, rest_after, effect, replayed, replayed_image, new_length, old_length, count_of, changes_of, renewed, Fits, IsPlan, IsChangeOf, IsBetween, HasByte, Knows, data_in, Alike}
 use Rattle.sdbm_saves.proofs.Lists.{Elsewhere, length-written, absorbs, written_elsewhere, length-resized, resized_elsewhere, resized_same}
 
-pub length-data : (change : List ℕ) → 9 + size_of change ≤ length change → length (data_of change) ≡ size_of change
+pub length-data : (change : List ℕ) → span_of change ≤ length change → length (data_of change) ≡ size_of change
 length-data change whole = length-take-le (size_of change) (drop 9 change) (omega (arith, whole, length-drop 9 change))
 
-data_inside : (change : List ℕ) (n : ℕ) (x : List ℕ) → 9 + size_of change ≤ length change → offset_of change + size_of change ≤ n → length x ≡ n → offset_of change + length (data_of change) ≤ length x
+data_inside : (change : List ℕ) (n : ℕ) (x : List ℕ) → span_of change ≤ length change → offset_of change + size_of change ≤ n → length x ≡ n → offset_of change + length (data_of change) ≤ length x
 data_inside change n x whole inside is = omega (arith, length-data change whole, inside, is)
 
-module _ (plan change : List ℕ) (whole : 9 + size_of change ≤ length change) where
+module _ (plan change : List ℕ) (whole : span_of change ≤ length change) where
   length-effect : (touched file : File) (x : List ℕ) → offset_of change + size_of change ≤ new_length touched plan → length x ≡ new_length file plan → length (effect touched file change x) ≡ length x
   length-effect Pages Pages x inside is = length-written (offset_of change) (data_of change) x (data_inside change (new_length Pages plan) x whole inside is)
   length-effect Pages Directory x inside is = refl
@@ -85,36 +86,123 @@ module _ (plan : List ℕ) where
       (resized_elsewhere _ _ (new_length file plan) x y same)
 
   pub alike_self : (d : Image) → Alike plan d d
-  alike_self d = record { redo = refl; same = refl }
+  alike_self d = record { redo = refl; same = refl; known = λ knows. knows }
 
   pub alike_joins : (a b c : Image) → Alike plan a b → Alike plan b c → Alike plan a c
-  alike_joins a b c first next = record { redo = next.redo ∙ first.redo; same = next.same ∙ first.same }
+  alike_joins a b c first next = record { redo = next.redo ∙ first.redo; same = next.same ∙ first.same; known = λ knows. next.known (first.known knows) }
 
-  elsewhere_torn : (at n : ℕ) (x y : List ℕ) → Torn at n x y → Elsewhere at n x y
-  elsewhere_torn at n x y torn = record { before = torn.before; after = torn.after }
+  elsewhere_torn : (at n : ℕ) (bytes x y : List ℕ) → length bytes ≡ n → Torn at bytes x y → Elsewhere at n x y
+  elsewhere_torn at n bytes x y long torn = record { before = torn.before; after = λ i le. torn.after i (omega (arith, le, long)) }
 
-  alike_within : (g : ℕ) (step : List ℕ → List ℕ → Type 0) → ((x y : List ℕ) → step x y → renewed (data_file g) plan y ≡ renewed (data_file g) plan x) → (d c : Image) → Within (data_file g) step d c → Alike plan d c
-  alike_within zero step keeps d c within = record {
-    redo = ap (λ (o : Image). o.redo) within.others;
-    same = λ i. (keeps d.pages c.pages within.stepped i, renewed Directory plan ((within.others i).directory));
+  -- What a step of a file keeps: what the plan makes of it, that its length is between the old one and the new one, and that the plan has
+  -- its bytes.
+  record Keeps (g : ℕ) (x y : List ℕ) : Type 0 where
+    same : renewed (data_file g) plan y ≡ renewed (data_file g) plan x
+    long : IsBetween (old_length (data_file g) plan) (new_length (data_file g) plan) (length x) → IsBetween (old_length (data_file g) plan) (new_length (data_file g) plan) (length y)
+    bytes : (at : ℕ) → at < new_length (data_file g) plan → HasByte plan (data_file g) at (get_or x at 0) → HasByte plan (data_file g) at (get_or y at 0)
+
+  -- bytes of one file that the plan has, after a step of that file and of the other
+  kept_bytes : IsPlan plan → (x y other : List ℕ) → Keeps zero x y → (change : List ℕ) → IsChangeOf plan change → (n : ℕ) → get_or change 0 0 ≡ n
+      → (i : ℕ) → i < size_of change → HasByte plan (data_file n) (offset_of change + i) (get_or (data_in (x, other) (data_file n)) (offset_of change + i) 0)
+      → HasByte plan (data_file n) (offset_of change + i) (get_or (data_in (y, other) (data_file n)) (offset_of change + i) 0)
+  kept_bytes is_plan x y other keeps change one zero is i lt has =
+      let fit : Fits plan change = subst (λ (l : List ℕ). Fits plan l) (sym one.is) (is_plan.fits one.index one.counted) in
+      keeps.bytes (offset_of change + i) (omega (arith, lt, fit.inside, ap (λ m. new_length (data_file m) plan) is)) has
+  kept_bytes is_plan x y other keeps change one (suc n) is i lt has = has
+
+  kept_other : IsPlan plan → (x y other : List ℕ) → Keeps 1 x y → (change : List ℕ) → IsChangeOf plan change → (n : ℕ) → get_or change 0 0 ≡ n
+      → (i : ℕ) → i < size_of change → HasByte plan (data_file n) (offset_of change + i) (get_or (data_in (other, x) (data_file n)) (offset_of change + i) 0)
+      → HasByte plan (data_file n) (offset_of change + i) (get_or (data_in (other, y) (data_file n)) (offset_of change + i) 0)
+  kept_other is_plan x y other keeps change one zero is i lt has = has
+  kept_other is_plan x y other keeps change one (suc n) is i lt has =
+      let fit : Fits plan change = subst (λ (l : List ℕ). Fits plan l) (sym one.is) (is_plan.fits one.index one.counted) in
+      keeps.bytes (offset_of change + i) (omega (arith, lt, fit.inside, ap (λ m. new_length (data_file m) plan) is)) has
+
+  knows_pages : IsPlan plan → (x y other : List ℕ) → Keeps zero x y → Knows plan (x, other) → Knows plan (y, other)
+  knows_pages is_plan x y other keeps knows = record {
+    pages = keeps.long knows.pages;
+    directory = knows.directory;
+    bytes = λ change one i lt. kept_bytes is_plan x y other keeps change one (get_or change 0 0) refl i lt (knows.bytes change one i lt);
   }
-  alike_within (suc g) step keeps d c within = record {
-    redo = ap (λ (o : Image). o.redo) within.others;
-    same = λ i. (renewed Pages plan ((within.others i).pages), keeps d.directory c.directory within.stepped i);
+
+  knows_directory : IsPlan plan → (x y other : List ℕ) → Keeps 1 x y → Knows plan (other, x) → Knows plan (other, y)
+  knows_directory is_plan x y other keeps knows = record {
+    pages = knows.pages;
+    directory = keeps.long knows.directory;
+    bytes = λ change one i lt. kept_other is_plan x y other keeps change one (get_or change 0 0) refl i lt (knows.bytes change one i lt);
   }
+
+  alike_within : IsPlan plan → (g : ℕ) (step : List ℕ → List ℕ → Type 0) → ((x y : List ℕ) → step x y → Keeps g x y) → (d c : Image) → Within (data_file g) step d c → Alike plan d c
+  alike_within is_plan zero step keeps d c within =
+      let kept = keeps d.pages c.pages within.stepped in
+      record {
+        redo = ap (λ (o : Image). o.redo) within.others;
+        same = λ i. (kept.same i, renewed Directory plan ((within.others i).directory));
+        known = λ knows. subst (λ (l : List ℕ). Knows plan (c.pages, l)) (sym (ap (λ (o : Image). o.directory) within.others)) (knows_pages is_plan d.pages c.pages d.directory kept knows);
+      }
+  alike_within is_plan (suc g) step keeps d c within =
+      let kept = keeps d.directory c.directory within.stepped in
+      record {
+        redo = ap (λ (o : Image). o.redo) within.others;
+        same = λ i. (renewed Pages plan ((within.others i).pages), kept.same i);
+        known = λ knows. subst (λ (l : List ℕ). Knows plan (l, c.directory)) (sym (ap (λ (o : Image). o.pages) within.others))
+            (knows_directory is_plan d.directory c.directory d.pages (record { same = kept.same; long = kept.long; bytes = kept.bytes }) knows);
+      }
+
+  -- a length between, after a write within the new length that is cut short
+  between_torn : (one other at n : ℕ) (x y : List ℕ) → at + n ≤ other → length x ≤ length y → length y ≤ max (length x) (at + n) → IsBetween one other (length x) → IsBetween one other (length y)
+  between_torn one other at n x y inside no_shorter no_longer between =
+      record { no_shorter = omega (arith, no_shorter, between.no_shorter); no_longer = omega (arith, no_longer, inside, between.no_longer) }
+
+  -- a byte of a file after a change of it that is cut short
+  torn_byte : (change : List ℕ) → span_of change ≤ length change → IsChangeOf plan change → (x y : List ℕ) → Torn (offset_of change) (data_of change) x y
+      → (at : ℕ) → HasByte plan (file_of change) at (get_or x at 0) → HasByte plan (file_of change) at (get_or y at 0)
+  torn_byte change whole one x y torn at has = ⊎_elim
+      (λ lt. same (torn.before at lt))
+      (λ le. ⊎_elim
+      (λ lt. let on : offset_of change + (at - offset_of change) ≡ at = omega (arith, le) in
+      let covered : at - offset_of change < size_of change = omega (arith, le, lt, length-data change whole) in
+      ⊎_elim
+      (λ was. same (ap (λ k. get_or y k 0) (sym on) ∙ was ∙ ap (λ k. get_or x k 0) on))
+      (λ new. record {
+        change = change;
+        one = one;
+        offers = record { touches = refl; index = at - offset_of change; covered = covered; place = on; is = inl (ap (λ k. get_or y k 0) (sym on) ∙ new) };
+      })
+      (torn.within (at - offset_of change) (omega (arith, covered, length-data change whole))))
+      (λ past. same (torn.after at past))
+      (cases_lt at (offset_of change + length (data_of change))))
+      (cases_lt at (offset_of change))
+    where
+      same : get_or y at 0 ≡ get_or x at 0 → HasByte plan (file_of change) at (get_or y at 0)
+      same is = subst (λ b. HasByte plan (file_of change) at b) (sym is) has
 
   -- a change that is cut short
-  pub alike_torn : IsPlan plan → (i : ℕ) → i < count_of plan → (d c : Image) → Within (file_of (rest_after i (changes_of plan))) (Torn (offset_of (rest_after i (changes_of plan))) (size_of (rest_after i (changes_of plan)))) d c → Alike plan d c
+  pub alike_torn : IsPlan plan → (i : ℕ) → i < count_of plan → (d c : Image) → Within (file_of (rest_after i (changes_of plan))) (Torn (offset_of (rest_after i (changes_of plan))) (data_of (rest_after i (changes_of plan)))) d c → Alike plan d c
   alike_torn is_plan i lt d c within =
-      alike_within (get_or (rest_after i (changes_of plan)) 0 0) _ (λ x y torn. renewed_absorbs is_plan (file_of (rest_after i (changes_of plan))) x y i lt refl (elsewhere_torn _ _ x y torn)) d c within
+      let change = rest_after i (changes_of plan) in
+      let fit : Fits plan change = is_plan.fits i lt in
+      let long = length-data change fit.whole in
+      alike_within is_plan (get_or change 0 0) _
+      (λ x y torn. record {
+        same = renewed_absorbs is_plan (file_of change) x y i lt refl (elsewhere_torn _ _ _ x y long torn);
+        long = between_torn _ _ (offset_of change) (length (data_of change)) x y (omega (arith, fit.inside, long)) torn.no_shorter torn.no_longer;
+        bytes = λ at below. torn_byte change fit.whole (record { index = i; counted = lt; is = refl }) x y torn at;
+      }) d c within
 
-  below_max : (n m i : ℕ) → i < n → i < max n m
-  below_max n m i lt = omega (arith, lt)
+  between_length : (one n : ℕ) (x y : List ℕ) → TornLength n x y → IsBetween one n (length x) → IsBetween one n (length y)
+  between_length one n x y torn between =
+      record { no_shorter = omega (arith, torn.no_shorter, between.no_shorter); no_longer = omega (arith, torn.no_longer, between.no_longer) }
 
   -- a new length that is cut short
-  pub alike_resized : (g : ℕ) (d c : Image) → Within (data_file g) (TornLength (new_length (data_file g) plan)) d c → Alike plan d c
-  alike_resized g d c within =
-      alike_within g _ (λ x y torn. ap (λ (l : List ℕ). replayed (data_file g) (count_of plan) (changes_of plan) l) (resized_same (new_length (data_file g) plan) x y (λ i lt. torn.same i (below_max (new_length (data_file g) plan) (length y) i lt)))) d c within
+  pub alike_resized : IsPlan plan → (g : ℕ) (d c : Image) → Within (data_file g) (TornLength (new_length (data_file g) plan)) d c → Alike plan d c
+  alike_resized is_plan g d c within =
+      alike_within is_plan g _
+      (λ x y torn. record {
+        same = ap (λ (l : List ℕ). replayed (data_file g) (count_of plan) (changes_of plan) l) (resized_same (new_length (data_file g) plan) x y torn.same);
+        long = between_length _ _ x y torn;
+        bytes = λ at below has. subst (λ b. HasByte plan (data_file g) at b) (sym (torn.same at below)) has;
+      }) d c within
 
 -- the same by `+ 1`, which code counts by
 pub rest_next : (n : ℕ) (changes : List ℕ) → rest_after (n + 1) changes ≡ rest_of (rest_after n changes)
@@ -143,9 +231,9 @@ image_sized plan is_plan n le image sized zero = length-replayed Pages plan n (c
 image_sized plan is_plan n le image sized (suc g) = length-replayed Directory plan n (changes_of plan) image.directory (λ k lt. is_plan.fits k (omega (arith, lt, le))) (sized 1)
 
 -- the same of bytes that are known to stand there
-pub alike_change : (plan : List ℕ) → IsPlan plan → (i : ℕ) → i < count_of plan → (change : List ℕ) → change ≡ rest_after i (changes_of plan) → (d c : Image) → Within (file_of change) (Torn (offset_of change) (size_of change)) d c → Alike plan d c
+pub alike_change : (plan : List ℕ) → IsPlan plan → (i : ℕ) → i < count_of plan → (change : List ℕ) → change ≡ rest_after i (changes_of plan) → (d c : Image) → Within (file_of change) (Torn (offset_of change) (data_of change)) d c → Alike plan d c
 alike_change plan is_plan i lt change is d c within =
-    alike_torn plan is_plan i lt d c (subst (λ (k : List ℕ). Within (file_of k) (Torn (offset_of k) (size_of k)) d c) is within)
+    alike_torn plan is_plan i lt d c (subst (λ (k : List ℕ). Within (file_of k) (Torn (offset_of k) (data_of k)) d c) is within)
 
-pub alike_length : (plan : List ℕ) (g n : ℕ) → n ≡ new_length (data_file g) plan → (d c : Image) → Within (data_file g) (TornLength n) d c → Alike plan d c
-alike_length plan g n is d c within = alike_resized plan g d c (subst (λ k. Within (data_file g) (TornLength k) d c) is within)
+pub alike_length : (plan : List ℕ) → IsPlan plan → (g n : ℕ) → n ≡ new_length (data_file g) plan → (d c : Image) → Within (data_file g) (TornLength n) d c → Alike plan d c
+alike_length plan is_plan g n is d c within = alike_resized plan is_plan g d c (subst (λ k. Within (data_file g) (TornLength k) d c) is within)

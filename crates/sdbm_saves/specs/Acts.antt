@@ -34,7 +34,7 @@ seen_after (act ∷ acts) image = seen_after acts (acted act image)
 
 -- what a crash may leave after a call, where it might leave this before
 abbrev pub LeftBy : Act → Image → (Image → Type 0) → Image → Type 0
-LeftBy (write file at bytes) image before c = (d : Image) × before d × Within file (Torn at (length bytes)) d c
+LeftBy (write file at bytes) image before c = (d : Image) × before d × Within file (Torn at bytes) d c
 LeftBy (resize file len) image before c = (d : Image) × before d × Within file (TornLength len) d c
 LeftBy (sync file) image before c = before c × (content file c ≡ content file image)
 LeftBy clear image before c = (d : Image) × before d × Within Redo Gone d c

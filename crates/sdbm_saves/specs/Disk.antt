@@ -30,17 +30,19 @@ written at bytes old = take at old ++ (bytes ++ drop (at + length bytes) old)
 abbrev pub resized : ℕ → List ℕ → List ℕ
 resized n old = take n (old ++ replicate n 0)
 
--- After a write of n bytes that a crash cuts short: any bytes in the range, the same elsewhere. What lies past the
--- end counts as zero, so a gap between the old end and the range is of zeros.
-pub record Torn (at n : ℕ) (old new : List ℕ) : Type 0 where
+-- After a write that a crash cuts short: each byte of the range is the old one or the one that was written, and the rest is the same.
+-- What lies past the end counts as zero, so a gap between the old end and the range is of zeros.
+pub record Torn (at : ℕ) (bytes old new : List ℕ) : Type 0 where
   pub before : (i : ℕ) → i < at → get_or new i 0 ≡ get_or old i 0
-  pub after : (i : ℕ) → at + n ≤ i → get_or new i 0 ≡ get_or old i 0
+  pub within : (i : ℕ) → i < length bytes → (get_or new (at + i) 0 ≡ get_or old (at + i) 0) ⊎ (get_or new (at + i) 0 ≡ get_or bytes i 0)
+  pub after : (i : ℕ) → at + length bytes ≤ i → get_or new i 0 ≡ get_or old i 0
   pub no_shorter : length old ≤ length new
-  pub no_longer : length new ≤ max (length old) (at + n)
+  pub no_longer : length new ≤ max (length old) (at + length bytes)
 
--- after a change of the length that a crash cuts short: some length between, with the same bytes or zeros
+-- After a change of the length that a crash cuts short: some length between, and below the new one the same bytes or zeros. Whatever
+-- stands behind the new length.
 pub record TornLength (n : ℕ) (old new : List ℕ) : Type 0 where
-  pub same : (i : ℕ) → i < max n (length new) → get_or new i 0 ≡ get_or old i 0
+  pub same : (i : ℕ) → i < n → get_or new i 0 ≡ get_or old i 0
   pub no_shorter : min n (length old) ≤ length new
   pub no_longer : length new ≤ max n (length old)
 

@@ -1,9 +1,9 @@
 -- The bytes of a plan that is made change by change. `Redo` says what they mean.
-use Rattle.std.specs.Prelude.{◌≡◌, ◌<◌, ◌≤◌, ℕ, ◌+◌, ◌/◌, ◌%◌, List, [], ◌∷◌, ◌++◌, length, get_or}
+use Rattle.std.specs.Prelude.{◌≡◌, ◌<◌, ◌≤◌, ℕ, ◌+◌, ◌/◌, ◌%◌, List, [], ◌∷◌, ◌++◌, length, drop, get_or, min}
 use Rattle.sdbm_saves.specs.declared.disk.File.{File}
 use Rattle.sdbm_saves.specs.declared.disk.File.TheVariants.{Pages, Directory, Redo}
-use Rattle.sdbm_saves.specs.Disk.{written}
-use Rattle.sdbm_saves.specs.Redo.{file_of, offset_of, size_of, rest_after, signature}
+use Rattle.sdbm_saves.specs.Disk.{written, resized}
+use Rattle.sdbm_saves.specs.Redo.{file_of, offset_of, size_of, was_of, span_of, rest_after, data_in, signature}
 
 -- a number below 2^32 as four bytes, the low one first
 abbrev pub spelled : ℕ → List ℕ
@@ -14,26 +14,33 @@ file_code Pages = 0
 file_code Directory = 1
 file_code Redo = 1
 
--- a change of a file: these bytes at this offset
-abbrev pub change_bytes : File → ℕ → List ℕ → List ℕ
-change_bytes file at bytes = file_code file ∷ (spelled at ++ (spelled (length bytes) ++ bytes))
+-- so many bytes of a file from an offset on, where those past its end count as zero
+abbrev pub part_of : List ℕ → ℕ → ℕ → List ℕ
+part_of old at n = resized n (drop (min at (length old)) old)
 
-abbrev pub plan_bytes : ℕ → ℕ → ℕ → List ℕ → List ℕ
-plan_bytes pages directory count changes = signature ++ (spelled pages ++ (spelled directory ++ (spelled count ++ changes)))
+-- a change of a file: these bytes at this offset, and those that stood there
+abbrev pub change_bytes : File → ℕ → List ℕ → List ℕ → List ℕ
+change_bytes file at bytes was = file_code file ∷ (spelled at ++ (spelled (length bytes) ++ (bytes ++ was)))
+
+-- the plan of such changes, for files with these bytes
+abbrev pub plan_bytes : ℕ → ℕ → List ℕ × List ℕ → ℕ → List ℕ → List ℕ
+plan_bytes pages directory before count changes =
+    signature ++ (spelled pages ++ (spelled directory ++ (spelled (length before.0) ++ (spelled (length before.1) ++ (spelled count ++ changes)))))
 
 abbrev pub length_in : ℕ → ℕ → File → ℕ
 length_in pages directory Pages = pages
 length_in pages directory Directory = directory
 length_in pages directory Redo = 0
 
--- the change stands whole in these bytes, and within its file
-pub record FitsIn (pages directory : ℕ) (change : List ℕ) : Type 0 where
-  pub whole : 9 + size_of change ≤ length change
+-- the change stands whole in these bytes, and within its file, and has what stood there before
+pub record FitsIn (pages directory : ℕ) (before : List ℕ × List ℕ) (change : List ℕ) : Type 0 where
+  pub whole : span_of change ≤ length change
   pub inside : offset_of change + size_of change ≤ length_in pages directory (file_of change)
+  pub was : (i : ℕ) → i < size_of change → get_or (was_of change) i 0 ≡ get_or (data_in before (file_of change)) (offset_of change + i) 0
 
--- the bytes are so many changes of files with these lengths, and no more
-pub record AreChanges (pages directory count : ℕ) (changes : List ℕ) : Type 0 where
-  pub fits : (k : ℕ) → k < count → FitsIn pages directory (rest_after k changes)
+-- the bytes are so many changes of files that had these bytes and are to have these lengths, and no more
+pub record AreChanges (pages directory : ℕ) (before : List ℕ × List ℕ) (count : ℕ) (changes : List ℕ) : Type 0 where
+  pub fits : (k : ℕ) → k < count → FitsIn pages directory before (rest_after k changes)
   pub ends : rest_after count changes ≡ []
 
 -- a block is written over bytes that read as the old ones did

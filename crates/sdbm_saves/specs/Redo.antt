@@ -1,10 +1,10 @@
 -- What a redo file stands for. It is a mark of one byte (1 where the save is committed) and the plan of the save: eight bytes that
--- every plan begins with, the new lengths of the pages and of the directory, the number of the changes, and the changes, with
--- nothing behind them. A change is a file (0 for the pages, else the directory), an offset, a length, and the bytes. A number is
--- four bytes, the low one first.
--- A redo log that is marked by one write and done again as often as it takes: Gray and Reuter, Transaction Processing
--- (1993), chapter 9.
-use Rattle.std.specs.Prelude.{◌<◌, ◌≡◌, ◌≢◌, ◌⊎◌, ℕ, zero, suc, ◌+◌, ◌*◌, ◌≤◌, List, [], ◌∷◌, length, take, drop, get_or, if◌then◌else◌, ◌==◌}
+-- every plan begins with, the new lengths of the pages and of the directory, their old lengths, the number of the changes, and the
+-- changes, with nothing behind them. A change is a file (0 for the pages, else the directory), an offset, a length, the bytes, and
+-- those that stood there, where a byte past the end of a file counts as zero. A number is four bytes, the low one first.
+-- A redo log that is marked by one write and done again as often as it takes, with the image of each block before and after it: Gray and
+-- Reuter, Transaction Processing (1993), chapters 9 and 10.
+use Rattle.std.specs.Prelude.{◌<◌, ◌≡◌, ◌≢◌, ◌⊎◌, ℕ, zero, suc, ◌+◌, ◌*◌, ◌≤◌, List, [], ◌∷◌, length, take, drop, get_or, if◌then◌else◌, ◌==◌, min, max}
 use Rattle.sdbm_saves.specs.declared.disk.File.{File}
 use Rattle.sdbm_saves.specs.declared.disk.File.TheVariants.{Pages, Directory, Redo}
 use Rattle.sdbm_saves.specs.Disk.{Image, written, resized, Only}
@@ -30,8 +30,16 @@ size_of change = number_at change 5
 abbrev pub data_of : List ℕ → List ℕ
 data_of change = take (size_of change) (drop 9 change)
 
+-- the bytes that stood there
+abbrev pub was_of : List ℕ → List ℕ
+was_of change = take (size_of change) (drop (9 + size_of change) change)
+
+-- how many bytes a change has
+abbrev pub span_of : List ℕ → ℕ
+span_of change = 9 + (size_of change + size_of change)
+
 abbrev pub rest_of : List ℕ → List ℕ
-rest_of change = drop (9 + size_of change) change
+rest_of change = drop (span_of change) change
 
 -- what stands behind so many changes
 abbrev pub rest_after : ℕ → List ℕ → List ℕ
@@ -54,11 +62,16 @@ new_length Pages plan = number_at plan 8
 new_length Directory plan = number_at plan 12
 new_length Redo plan = 0
 
+abbrev pub old_length : File → List ℕ → ℕ
+old_length Pages plan = number_at plan 16
+old_length Directory plan = number_at plan 20
+old_length Redo plan = 0
+
 abbrev pub count_of : List ℕ → ℕ
-count_of plan = number_at plan 16
+count_of plan = number_at plan 24
 
 abbrev pub changes_of : List ℕ → List ℕ
-changes_of plan = drop 20 plan
+changes_of plan = drop 28 plan
 
 -- the bytes of a file after the whole plan
 abbrev pub renewed : File → List ℕ → List ℕ → List ℕ
@@ -73,15 +86,15 @@ renewed_image plan image = record { pages = renewed Pages plan image.pages; dire
 
 -- the change stands whole in these bytes, and within its file
 pub record Fits (plan change : List ℕ) : Type 0 where
-  pub whole : 9 + size_of change ≤ length change
+  pub whole : span_of change ≤ length change
   pub inside : offset_of change + size_of change ≤ new_length (file_of change) plan
 
--- the bytes of "sdbmredo"
+-- the bytes of "sdbmred2"
 abbrev pub signature : List ℕ
-signature = 115 ∷ 100 ∷ 98 ∷ 109 ∷ 114 ∷ 101 ∷ 100 ∷ 111 ∷ []
+signature = 115 ∷ 100 ∷ 98 ∷ 109 ∷ 114 ∷ 101 ∷ 100 ∷ 50 ∷ []
 
 pub record IsPlan (plan : List ℕ) : Type 0 where
-  pub header : 20 ≤ length plan
+  pub header : 28 ≤ length plan
   pub signed : take 8 plan ≡ signature
   pub fits : (k : ℕ) → k < count_of plan → Fits plan (rest_after k (changes_of plan))
   pub ends : rest_after (count_of plan) (changes_of plan) ≡ []
@@ -100,9 +113,51 @@ mark_of image = get_or image.redo 0 0
 abbrev pub stands_for : Image → List ℕ × List ℕ
 stands_for image = if mark_of image == 1 then renewed_files (drop 1 image.redo) image else files image
 
--- a redo file that is marked has a whole plan behind its mark
-abbrev pub IsWhole : List ℕ → Type 0
-IsWhole redo = get_or redo 0 0 ≡ 1 → IsPlan (drop 1 redo)
+-- one of the changes of a plan, with what stands behind it
+pub record IsChangeOf (plan change : List ℕ) : Type 0 where
+  pub index : ℕ
+  pub counted : index < count_of plan
+  pub is : change ≡ rest_after index (changes_of plan)
+
+-- A change has this byte for a place of a file: it covers the place, and the byte is the change's or the one that stood there.
+pub record Offers (change : List ℕ) (file : File) (at byte : ℕ) : Type 0 where
+  pub touches : file_of change ≡ file
+  pub index : ℕ
+  pub covered : index < size_of change
+  pub place : offset_of change + index ≡ at
+  pub is : (byte ≡ get_or (data_of change) index 0) ⊎ (byte ≡ get_or (was_of change) index 0)
+
+-- some change of a plan has this byte for a place of a file
+pub record HasByte (plan : List ℕ) (file : File) (at byte : ℕ) : Type 0 where
+  pub change : List ℕ
+  pub one : IsChangeOf plan change
+  pub offers : Offers change file at byte
+
+-- a length is one of two, or between them
+pub record IsBetween (one other len : ℕ) : Type 0 where
+  pub no_shorter : min one other ≤ len
+  pub no_longer : len ≤ max one other
+
+abbrev pub data_in : List ℕ × List ℕ → File → List ℕ
+data_in both Pages = both.0
+data_in both Directory = both.1
+data_in both Redo = []
+
+-- each byte of a file in the block of a change is one that a plan has for it
+abbrev pub KnowsBlock : List ℕ → List ℕ → List ℕ → Type 0
+KnowsBlock plan change bytes = (i : ℕ) → i < size_of change → HasByte plan (file_of change) (offset_of change + i) (get_or bytes (offset_of change + i) 0)
+
+-- A plan knows the files, the pages and the directory: it was made for files like these, of which some of it may have been done. Each byte
+-- of a block that it plans is the old one or the new one, and each length the old one, the new one, or between.
+pub record Knows (plan : List ℕ) (both : List ℕ × List ℕ) : Type 0 where
+  pub pages : IsBetween (old_length Pages plan) (new_length Pages plan) (length both.0)
+  pub directory : IsBetween (old_length Directory plan) (new_length Directory plan) (length both.1)
+  pub bytes : (change : List ℕ) → IsChangeOf plan change → KnowsBlock plan change (data_in both (file_of change))
+
+-- A save that was cut off behind its mark can be ended: behind the mark there is a whole plan, which knows the files. Where there is no
+-- mark nothing is to be ended.
+abbrev pub CanEnd : Image → Type 0
+CanEnd image = mark_of image ≡ 1 → IsPlan (drop 1 image.redo) × Knows (drop 1 image.redo) (files image)
 
 -- no save is under way, and the data files are on the disk
 pub record IsSettled {D : Type 0} (seen : D → Image) (may_leave : D → Image → Type 0) (disk : D) : Type 0 where
@@ -121,15 +176,16 @@ pub record IsCommitted {D : Type 0} (plan : List ℕ) (seen : D → Image) (may_
   pub marked : (seen disk).redo ≡ 1 ∷ plan
   pub durable : Only (seen disk) (may_leave disk)
 
--- two images with the same redo file that the plan makes the same
+-- two images with the same redo file that the plan makes the same, and of which it knows the second where it knows the first
 pub record Alike (plan : List ℕ) (old new : Image) : Type 0 where
   pub redo : new.redo ≡ old.redo
   pub same : renewed_files plan new ≡ renewed_files plan old
+  pub known : Knows plan (files old) → Knows plan (files new)
 
 abbrev pub IsOldOrNew : List ℕ × List ℕ → List ℕ × List ℕ → Image → Type 0
 IsOldOrNew old new image = (stands_for image ≡ old) ⊎ (stands_for image ≡ new)
 
--- the data files and the mark stay
-pub record KeepsMark (old new : Image) : Type 0 where
+-- the data files stay, and no mark comes
+pub record StaysUnmarked (old new : Image) : Type 0 where
   pub files : files new ≡ files old
-  pub mark : mark_of new ≡ mark_of old
+  pub mark : mark_of old ≢ 1 → mark_of new ≢ 1

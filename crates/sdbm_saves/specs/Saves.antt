@@ -4,16 +4,17 @@ use Rattle.sdbm_addr.specs.Database.{Database}
 use Rattle.sdbm_addr.specs.Files.{AreFiles, SpellsDatabase}
 use Rattle.sdbm_saves.specs.declared.disk.File.TheVariants.{Pages, Directory}
 use Rattle.sdbm_saves.specs.Disk.{Image}
-use Rattle.sdbm_saves.specs.Redo.{renewed, stands_for, IsPlan}
+use Rattle.sdbm_saves.specs.Redo.{renewed, stands_for, IsPlan, Knows}
 
 -- these are the bytes of `.pag` and of `.dir` that are written for a database, and they spell it
 pub record AreFilesFor (db : Database) (pages directory : List ℕ) : Type 0 where
   pub written : AreFiles db directory pages
   pub spelled : SpellsDatabase db directory pages
 
--- a plan that makes the old files those of a database
+-- a plan that makes the old files those of a database, and knows them
 pub record IsSaving (db : Database) (plan old_pages old_directory : List ℕ) : Type 0 where
   pub whole : IsPlan plan
+  pub knows : Knows plan (old_pages, old_directory)
   pub files : AreFilesFor db (renewed Pages plan old_pages) (renewed Directory plan old_directory)
 
 -- a file that is written for a database has 2^32 bytes or more
@@ -22,6 +23,10 @@ pub record HasLongFile (db : Database) : Type 0 where
   pub directory : List ℕ
   pub written : AreFiles db directory pages
   pub long : (2 ^ 32 ≤ length pages) ⊎ (2 ^ 32 ≤ length directory)
+
+-- a file of a database has 2^32 bytes or more, or an old one has
+abbrev pub IsTooLong : Database → List ℕ → List ℕ → Type 0
+IsTooLong db old_pages old_directory = HasLongFile db ⊎ ((2 ^ 32 ≤ length old_pages) ⊎ (2 ^ 32 ≤ length old_directory))
 
 -- what an image stands for are the files of a database
 abbrev pub HoldsDatabase : Database → Image → Type 0

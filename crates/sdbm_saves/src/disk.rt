@@ -55,15 +55,17 @@ pub trait Disk {
     /// The disk has failed.
     ghost has_failed: { Self → Type 0 };
 
-    /// Writes over what is there, and past the end. Until a sync of this file, a crash may leave any bytes in the range.
+    /// Writes over what is there, and past the end. Until a sync of this file, a crash may leave each byte of the range as it was or as
+    /// it was written.
     fn write_at(&mut self, file: File, at: usize, bytes: &[u8]) -> Result<(), DiskError>
         requires { at ≤ length (content file (seen self.old)) }
         ensures written { OnOk result (seen self.new ≡ put file (written at bytes.now (content file (seen self.old))) (seen self.old)) }
-        ensures crash { Follows (Within file (Torn at (length bytes.now))) (may_leave self.old) (may_leave self.new) }
+        ensures crash { Follows (Within file (Torn at bytes.now)) (may_leave self.old) (may_leave self.new) }
         ensures time { Elapses (moment self.old) (moment self.new) (left_since self.old) (left_since self.new) (may_leave self.new) }
         ensures cause { HasCause (has_failed self.old) (has_failed self.new) result };
 
-    /// Cuts a file to a length, or makes it longer by zeros.
+    /// Cuts a file to a length, or makes it longer by zeros. Until a sync of this file, a crash may leave some length between, and
+    /// whatever behind the new one.
     fn resize(&mut self, file: File, len: usize) -> Result<(), DiskError>
         ensures resized { OnOk result (seen self.new ≡ put file (resized len (content file (seen self.old))) (seen self.old)) }
         ensures crash { Follows (Within file (TornLength len)) (may_leave self.old) (may_leave self.new) }

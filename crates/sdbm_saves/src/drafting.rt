@@ -1,9 +1,10 @@
 // The changes of a plan, gathered one after the other.
 ghost use Rattle.std.specs.Prelude.{◌≡◌, ◌<◌, ◌≤◌, ◌^◌, ◌+◌, ◌++◌, length, IfOk, OnOk};
-ghost use Rattle.sdbm_saves.specs.Drafts.{spelled, change_bytes, plan_bytes};
+ghost use Rattle.sdbm_saves.specs.Drafts.{spelled, part_of, change_bytes, plan_bytes};
 
-use crate::File;
+use crate::overlay::resized;
 use crate::plan::SIGNATURE;
+use crate::{Contents, File};
 use std::alloc::{AllocError, Allocator};
 
 /// A plan that is being made: the new lengths of both files, the changes so far, and how many they are.
@@ -28,18 +29,32 @@ fn spelled(number: usize) -> [u8; 4]
     ]
 }
 
-// Puts a change behind the others. Where memory runs out, a part of it may stand there, and the draft is of no use.
+// So many bytes of a file from an offset on, where those past its end count as zero.
+pub(crate) fn part_of<A: Allocator>(
+    alloc: A,
+    old: &[u8],
+    at: usize,
+    size: usize,
+) -> Result<Vec<u8, A>, AllocError>
+    ensures { IfOk result (λ part. part.items ≡ part_of old.now at size) }
+{
+    resized(alloc, &old[at.min(old.len())..], size)
+}
+
+// Puts a change behind the others, with what stood there. Where memory runs out, a part of it may stand there, and the draft is of no
+// use.
 pub(crate) fn push<A: Allocator>(
     draft: &mut Draft<A>,
     file: File,
     at: usize,
     bytes: &[u8],
+    was: &[u8],
 ) -> Result<(), AllocError>
     requires at { at < 2 ^ 32 }
     requires size { length bytes.now < 2 ^ 32 }
     requires count { draft.old.count < 2 ^ 32 }
 
-    ensures changes { OnOk result (draft.new.changes.items ≡ draft.old.changes.items ++ change_bytes file at bytes.now) }
+    ensures changes { OnOk result (draft.new.changes.items ≡ draft.old.changes.items ++ change_bytes file at bytes.now was.now) }
     ensures count { OnOk result (draft.new.count ≡ draft.old.count + 1) }
     ensures pages { draft.new.pages ≡ draft.old.pages }
     ensures directory { draft.new.directory ≡ draft.old.directory }
@@ -52,22 +67,31 @@ pub(crate) fn push<A: Allocator>(
     draft.changes.extend_from_slice(&spelled(at))?;
     draft.changes.extend_from_slice(&spelled(bytes.len()))?;
     draft.changes.extend_from_slice(bytes)?;
+    draft.changes.extend_from_slice(was)?;
     draft.count += 1;
     Ok(())
 }
 
-// The plan that a draft has come to.
-pub(crate) fn assemble<A: Allocator>(alloc: A, draft: &Draft<A>) -> Result<Vec<u8, A>, AllocError>
+// The plan that a draft has come to, for files with these bytes.
+pub(crate) fn assemble<A: Allocator>(
+    alloc: A,
+    draft: &Draft<A>,
+    before: Contents<'_>,
+) -> Result<Vec<u8, A>, AllocError>
     requires pages { draft.now.pages < 2 ^ 32 }
     requires directory { draft.now.directory < 2 ^ 32 }
+    requires old_pages { length before.pages.now < 2 ^ 32 }
+    requires old_directory { length before.directory.now < 2 ^ 32 }
     requires count { draft.now.count < 2 ^ 32 }
 
-    ensures { IfOk result (λ plan. plan.items ≡ plan_bytes draft.now.pages draft.now.directory draft.now.count draft.now.changes.items) }
+    ensures { IfOk result (λ plan. plan.items ≡ plan_bytes draft.now.pages draft.now.directory (before.entry.pages.now, before.entry.directory.now) draft.now.count draft.now.changes.items) }
 {
     let mut plan = Vec::new(alloc);
     plan.extend_from_slice(&SIGNATURE)?;
     plan.extend_from_slice(&spelled(draft.pages))?;
     plan.extend_from_slice(&spelled(draft.directory))?;
+    plan.extend_from_slice(&spelled(before.pages.len()))?;
+    plan.extend_from_slice(&spelled(before.directory.len()))?;
     plan.extend_from_slice(&spelled(draft.count))?;
     plan.extend_from_slice(draft.changes.as_slice())?;
     Ok(plan)

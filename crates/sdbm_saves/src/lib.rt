@@ -5,6 +5,7 @@
 mod call_log;
 mod disk;
 mod drafting;
+mod known;
 mod overlay;
 mod plan;
 mod planning;
@@ -13,8 +14,9 @@ mod redo;
 
 pub use call_log::CallLog;
 pub use disk::{Disk, DiskError, File};
+pub use known::can_end;
 pub use overlay::read_through;
-pub use plan::{is_plan, is_whole, plan_in};
+pub use plan::{is_plan, plan_in};
 pub use planning::{Contents, PlanFault, plan_save};
 pub use recorded::{Found, Host, Past, Recorded, Unknown};
 pub use redo::{commit, finish, recover, stage};

@@ -1,7 +1,7 @@
 // What the files of a save that was cut off stand for, where they may not be written.
 ghost use Rattle.std.specs.Prelude.{◌≡◌, ◌≢◌, ◌≤◌, ◌+◌, length, IfOk};
 ghost use Rattle.sdbm_saves.specs.Disk.{resized, written};
-ghost use Rattle.sdbm_saves.specs.Redo.{file_of, offset_of, size_of, data_of, effect, renewed, files, stands_for, IsPlan, IsWhole};
+ghost use Rattle.sdbm_saves.specs.Redo.{file_of, offset_of, size_of, data_of, span_of, effect, renewed, files, stands_for, IsPlan, CanEnd};
 ghost use Rattle.sdbm_saves.specs.Recording.{image_of};
 ghost use Rattle.sdbm_saves.specs.declared.disk.File.TheVariants.{Redo};
 
@@ -16,7 +16,7 @@ use std::alloc::{AllocError, Allocator, Global};
 ///
 /// `AllocError` where memory runs out.
 pub fn read_through(alloc: Global, found: &Found) -> Result<Found, AllocError>
-    requires whole { IsWhole found.now.redo.items }
+    requires can_end { CanEnd (image_of found.now) }
     ensures { IfOk result (λ laid. files (image_of laid) ≡ stands_for (image_of found.now)) }
 {
     let (pages, directory) = match plan_in(found.redo.as_slice()) {
@@ -53,8 +53,8 @@ fn lay_over<A: Allocator>(
         File::Directory | File::Redo => number(plan, 12),
     };
     let mut laid = resized(alloc, old, len)?;
-    let count = number(plan, 16);
-    let mut rest = &plan[20..];
+    let count = number(plan, 24);
+    let mut rest = &plan[28..];
     for index in 0..count {
         lay_change(&mut laid, file, rest);
         rest = rest_of(rest);
@@ -63,7 +63,11 @@ fn lay_over<A: Allocator>(
 }
 
 // The bytes cut to a length, or made longer by zeros.
-fn resized<A: Allocator>(alloc: A, old: &[u8], len: usize) -> Result<Vec<u8, A>, AllocError>
+pub(crate) fn resized<A: Allocator>(
+    alloc: A,
+    old: &[u8],
+    len: usize,
+) -> Result<Vec<u8, A>, AllocError>
     ensures { IfOk result (λ next. next.items ≡ resized len old.now) }
 {
     if len <= old.len() {
@@ -77,7 +81,7 @@ fn resized<A: Allocator>(alloc: A, old: &[u8], len: usize) -> Result<Vec<u8, A>,
 // Does a change, where it is one of this file.
 fn lay_change<A: Allocator>(laid: &mut Vec<u8, A>, file: File, change: &[u8])
     requires data { file ≢ Redo }
-    requires whole { 9 + size_of change.now ≤ length change.now }
+    requires whole { span_of change.now ≤ length change.now }
     requires inside { file_of change.now ≡ file → offset_of change.now + size_of change.now ≤ length laid.old.items }
 
     ensures { laid.new.items ≡ effect (file_of change.now) file change.now laid.old.items }

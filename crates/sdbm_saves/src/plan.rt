@@ -1,14 +1,14 @@
 // The plan of a save, behind the mark of a redo file. See specs/Redo.antt for its bytes.
 ghost use Rattle.std.specs.Prelude.{◌≡◌, ◌≢◌, ◌*◌, ◌<◌, ◌≤◌, ◌^◌, ◌+◌, ◌↔◌, ℕ, length, take, drop, get_or, IsTrue, IfSome, IsNone, OnOk};
 ghost use Rattle.sdbm_saves.specs.Disk.{Image, content, put, written, Torn, Within, Through, HasCause};
-ghost use Rattle.sdbm_saves.specs.Redo.{number_at, data_file, file_of, offset_of, size_of, data_of, rest_of, new_length, count_of, replayed_image, renewed_image, signature, Fits, IsPlan, IsWhole, Alike};
+ghost use Rattle.sdbm_saves.specs.Redo.{number_at, data_file, file_of, offset_of, size_of, data_of, span_of, rest_of, new_length, count_of, replayed_image, renewed_image, signature, Fits, IsPlan, Alike};
 
 use crate::{Disk, DiskError, File};
 
 const MARKED: u8 = 1;
 
 /// What every plan begins with.
-pub(crate) const SIGNATURE: [u8; 8] = *b"sdbmredo";
+pub(crate) const SIGNATURE: [u8; 8] = *b"sdbmred2";
 
 // Four bytes as a number, the low one first.
 #[tactic(auto, unfolding(crate::specs::Redo::number_at))]
@@ -37,16 +37,16 @@ pub(crate) fn file_of(change: &[u8]) -> File
 
 // What stands behind the change that these bytes begin with.
 pub(crate) fn rest_of(change: &[u8]) -> &[u8]
-    requires { 9 + size_of change.now ≤ length change.now }
+    requires { span_of change.now ≤ length change.now }
     ensures { result.now ≡ rest_of change.now }
 {
     let size = number(change, 5);
-    &change[9 + size..]
+    &change[9 + (size + size)..]
 }
 
 // Whether a change stands whole in these bytes, and within its file.
 fn fits(plan: &[u8], change: &[u8]) -> bool
-    requires { 20 ≤ length plan.now }
+    requires { 28 ≤ length plan.now }
     ensures { IsTrue result ↔ Fits plan.now change.now }
 {
     if change.len() < 9 {
@@ -58,12 +58,12 @@ fn fits(plan: &[u8], change: &[u8]) -> bool
         File::Directory => number(plan, 12),
         File::Redo => 0,
     };
-    9 + size <= change.len() && number(change, 1) + size <= limit
+    9 + (size + size) <= change.len() && number(change, 1) + size <= limit
 }
 
 // Whether the bytes begin as every plan does.
 fn is_signed(plan: &[u8]) -> bool
-    requires { 20 ≤ length plan.now }
+    requires { 28 ≤ length plan.now }
     ensures { IsTrue result ↔ take 8 plan.now ≡ signature }
 {
     plan[..8] == SIGNATURE[..]
@@ -74,11 +74,11 @@ fn is_signed(plan: &[u8]) -> bool
 pub fn is_plan(plan: &[u8]) -> bool
     ensures { IsTrue result ↔ IsPlan plan.now }
 {
-    if plan.len() < 20 || !is_signed(plan) {
+    if plan.len() < 28 || !is_signed(plan) {
         return false;
     }
-    let count = number(plan, 16);
-    let mut rest = &plan[20..];
+    let count = number(plan, 24);
+    let mut rest = &plan[28..];
     for index in 0..count {
         if !fits(plan, rest) {
             return false;
@@ -100,23 +100,13 @@ pub fn plan_in(redo: &[u8]) -> Option<&[u8]>
     }
 }
 
-/// Whether a redo file is one that a save can have left: behind a mark there is a whole plan.
-pub fn is_whole(redo: &[u8]) -> bool
-    ensures { IsTrue result ↔ IsWhole redo.now }
-{
-    match plan_in(redo) {
-        Some(plan) => is_plan(plan),
-        None => true,
-    }
-}
-
 // One change of a plan.
 fn replay_one<D: Disk>(disk: &mut D, change: &[u8]) -> Result<(), DiskError>
-    requires whole { 9 + size_of change.now ≤ length change.now }
+    requires whole { span_of change.now ≤ length change.now }
     requires inside { offset_of change.now + size_of change.now ≤ length (content (file_of change.now) (D.seen disk.old)) }
 
     ensures done { OnOk result (D.seen disk.new ≡ put (file_of change.now) (written (offset_of change.now) (data_of change.now) (content (file_of change.now) (D.seen disk.old))) (D.seen disk.old)) }
-    ensures any_moment { Through D.moment D.left_since D.may_leave (Within (file_of change.now) (Torn (offset_of change.now) (size_of change.now))) disk.old disk.new }
+    ensures any_moment { Through D.moment D.left_since D.may_leave (Within (file_of change.now) (Torn (offset_of change.now) (data_of change.now))) disk.old disk.new }
     ensures cause { HasCause (D.has_failed disk.old) (D.has_failed disk.new) result }
 {
     let file = file_of(change);
@@ -134,8 +124,8 @@ fn replay_changes<D: Disk>(disk: &mut D, plan: &[u8]) -> Result<(), DiskError>
     ensures any_moment { Through D.moment D.left_since D.may_leave (Alike plan.now) disk.old disk.new }
     ensures cause { HasCause (D.has_failed disk.old) (D.has_failed disk.new) result }
 {
-    let count = number(plan, 16);
-    let mut rest = &plan[20..];
+    let count = number(plan, 24);
+    let mut rest = &plan[28..];
     for index in 0..count {
         replay_one(disk, rest)?;
         rest = rest_of(rest);

@@ -4,15 +4,15 @@ ghost use Rattle.sdbm_saves.specs.declared.disk.File.{File};
 ghost use Rattle.sdbm_saves.specs.declared.disk.File.TheVariants.{Pages, Directory, Redo};
 ghost use Rattle.sdbm_saves.specs.declared.planning.PlanFault.TheVariants.{NoMemory, TooLong};
 ghost use Rattle.sdbm_saves.specs.Disk.{resized};
-ghost use Rattle.sdbm_saves.specs.Redo.{replayed};
+ghost use Rattle.sdbm_saves.specs.Redo.{data_in, replayed};
 ghost use Rattle.sdbm_saves.specs.Drafts.{AreChanges, RenewsBlock, length_in};
-ghost use Rattle.sdbm_saves.specs.Saves.{AreFilesFor, IsSaving, HasLongFile};
+ghost use Rattle.sdbm_saves.specs.Saves.{AreFilesFor, IsSaving, IsTooLong};
 ghost use Rattle.sdbm_addr.specs.Pairs.{page_bytes};
 ghost use Rattle.sdbm_addr.specs.Database.{IsDatabase};
 ghost use Rattle.sdbm_addr.specs.Files.{IsPageCount, first_pages};
 
 use crate::File;
-use crate::drafting::{Draft, assemble, push};
+use crate::drafting::{Draft, assemble, part_of, push};
 use sdbm_files::Image;
 use std::alloc::{AllocError, Allocator};
 
@@ -25,7 +25,7 @@ const LIMIT: usize = 4294967296;
 /// Why there is no plan.
 #[derive(Clone, Copy, Debug, PartialEq, Eq)]
 pub enum PlanFault {
-    /// A file would have 2^32 bytes or more.
+    /// A file has 2^32 bytes or more, or would have.
     TooLong,
     /// No memory is left.
     NoMemory,
@@ -48,13 +48,25 @@ pub struct Contents<'a> {
     pub directory: &'a [u8],
 }
 
+// The bytes of one data file.
+pub(crate) fn data_in<'a>(both: Contents<'a>, file: File) -> &'a [u8]
+    ensures { result.now ≡ data_in (both.entry.pages.now, both.entry.directory.now) file }
+{
+    match file {
+        File::Pages => both.pages,
+        File::Directory => both.directory,
+        File::Redo => &[],
+    }
+}
+
 /// The plan that makes the old files those of a database: those that `Image::write` writes for it. It has the pages, and the blocks of
 /// 1,024 bytes of the directory, in which they differ, where a byte past the end of a file counts as zero; so a page of zeros is not
-/// written into a hole. `None` where the old files are those of the database already. It takes memory for the plan.
+/// written into a hole. Beside each it has the bytes that stood there, so that it knows the old files. `None` where the old files are
+/// those of the database already. It takes memory for the plan, and for a block.
 ///
 /// # Errors
 ///
-/// `TooLong` where a file of the database has 2^32 bytes or more, and `NoMemory`.
+/// `TooLong` where an old file, or one of the database, has 2^32 bytes or more, and `NoMemory`.
 pub fn plan_save<A: Allocator + Copy>(
     alloc: A,
     old: Contents<'_>,
@@ -62,11 +74,14 @@ pub fn plan_save<A: Allocator + Copy>(
 ) -> Result<Option<Vec<u8, A>>, PlanFault>
     ensures plan { IfOk result (λ plan. IfSome plan (λ plan. IsSaving image.now plan.items old.entry.pages.now old.entry.directory.now)) }
     ensures none { IfOk result (λ plan. IsNone plan → AreFilesFor image.now old.entry.pages.now old.entry.directory.now) }
-    ensures too_long { IfErr result (λ fault. fault ≡ TooLong → HasLongFile image.now) }
+    ensures too_long { IfErr result (λ fault. fault ≡ TooLong → IsTooLong image.now old.entry.pages.now old.entry.directory.now) }
 {
     let count = image.page_count();
     let pages = count as usize * image.page_size().bytes();
     let directory = image.directory_bytes();
+    if old.pages.len() >= LIMIT || old.directory.len() >= LIMIT {
+        return Err(PlanFault::TooLong);
+    }
     if pages >= LIMIT || directory.len() >= LIMIT {
         return Err(PlanFault::TooLong);
     }
@@ -76,12 +91,12 @@ pub fn plan_save<A: Allocator + Copy>(
         changes: Vec::new(alloc),
         count: 0,
     };
-    draft_pages(&mut draft, old.pages, image, count)?;
-    draft_file(&mut draft, File::Directory, old.directory, directory)?;
+    draft_pages(alloc, &mut draft, old, image, count)?;
+    draft_file(alloc, &mut draft, File::Directory, old, directory)?;
     if draft.count == 0 && are_long(old, pages, directory.len()) {
         return Ok(None);
     }
-    Ok(Some(assemble(alloc, &draft)?))
+    Ok(Some(assemble(alloc, &draft, old)?))
 }
 
 // Whether both files have these lengths.
@@ -93,8 +108,9 @@ fn are_long(files: Contents<'_>, pages: usize, directory: usize) -> bool
 
 // The changes that make the pages those of a database, so many, behind those of a draft that does not touch them.
 fn draft_pages<A: Allocator + Copy>(
+    alloc: A,
     draft: &mut Draft<A>,
-    old: &[u8],
+    before: Contents<'_>,
     image: &Image<A>,
     count: u64,
 ) -> Result<(), AllocError>
@@ -103,11 +119,11 @@ fn draft_pages<A: Allocator + Copy>(
     requires long { count * page_bytes image.now.size ≡ draft.old.pages }
     requires short { draft.old.pages < 2 ^ 32 }
     requires few { draft.old.count ≤ 2 ^ 23 }
-    requires changes { AreChanges draft.old.pages draft.old.directory draft.old.count draft.old.changes.items }
+    requires changes { AreChanges draft.old.pages draft.old.directory (before.pages.now, before.directory.now) draft.old.count draft.old.changes.items }
     requires untouched { (x : List ℕ) → replayed Pages draft.old.count draft.old.changes.items x ≡ x }
 
-    ensures changes { OnOk result (AreChanges draft.new.pages draft.new.directory draft.new.count draft.new.changes.items) }
-    ensures file { OnOk result (replayed Pages draft.new.count draft.new.changes.items (resized draft.old.pages old.now) ≡ first_pages image.now count) }
+    ensures changes { OnOk result (AreChanges draft.new.pages draft.new.directory (before.entry.pages.now, before.entry.directory.now) draft.new.count draft.new.changes.items) }
+    ensures file { OnOk result (replayed Pages draft.new.count draft.new.changes.items (resized draft.old.pages before.entry.pages.now) ≡ first_pages image.now count) }
     ensures others { OnOk result ((g : File) → g ≢ Pages → (x : List ℕ) → replayed g draft.new.count draft.new.changes.items x ≡ replayed g draft.old.count draft.old.changes.items x) }
     ensures few { OnOk result (draft.new.count ≤ draft.old.count + 2 ^ 22) }
     ensures pages { OnOk result (draft.new.pages ≡ draft.old.pages) }
@@ -116,27 +132,35 @@ fn draft_pages<A: Allocator + Copy>(
     let size = image.page_size().bytes();
     for number in 0..count {
         let page = image.page_bytes(number as u32);
-        draft_block(draft, File::Pages, old, number as usize * size, page)?;
+        draft_block(
+            alloc,
+            draft,
+            File::Pages,
+            before,
+            number as usize * size,
+            page,
+        )?;
     }
     Ok(())
 }
 
 // The changes that make one file the new one, behind those of a draft that does not touch it.
-fn draft_file<A: Allocator>(
+fn draft_file<A: Allocator + Copy>(
+    alloc: A,
     draft: &mut Draft<A>,
     file: File,
-    old: &[u8],
+    before: Contents<'_>,
     new: &[u8],
 ) -> Result<(), AllocError>
     requires data { file ≢ Redo }
     requires short { length new.now < 2 ^ 32 }
     requires few { draft.old.count ≤ 2 ^ 23 }
     requires fits { length new.now ≤ length_in draft.old.pages draft.old.directory file }
-    requires changes { AreChanges draft.old.pages draft.old.directory draft.old.count draft.old.changes.items }
+    requires changes { AreChanges draft.old.pages draft.old.directory (before.pages.now, before.directory.now) draft.old.count draft.old.changes.items }
     requires untouched { (x : List ℕ) → replayed file draft.old.count draft.old.changes.items x ≡ x }
 
-    ensures changes { OnOk result (AreChanges draft.new.pages draft.new.directory draft.new.count draft.new.changes.items) }
-    ensures file { OnOk result (replayed file draft.new.count draft.new.changes.items (resized (length new.now) old.now) ≡ new.now) }
+    ensures changes { OnOk result (AreChanges draft.new.pages draft.new.directory (before.entry.pages.now, before.entry.directory.now) draft.new.count draft.new.changes.items) }
+    ensures file { OnOk result (replayed file draft.new.count draft.new.changes.items (resized (length new.now) (data_in (before.entry.pages.now, before.entry.directory.now) file)) ≡ new.now) }
     ensures others { OnOk result ((g : File) → g ≢ file → (x : List ℕ) → replayed g draft.new.count draft.new.changes.items x ≡ replayed g draft.old.count draft.old.changes.items x) }
     ensures few { OnOk result (draft.new.count ≤ draft.old.count + 2 ^ 22) }
     ensures pages { OnOk result (draft.new.pages ≡ draft.old.pages) }
@@ -146,16 +170,17 @@ fn draft_file<A: Allocator>(
     for index in 0..blocks {
         let at = index * BLOCK;
         let end = new.len().min(at + BLOCK);
-        draft_block(draft, file, old, at, &new[at..end])?;
+        draft_block(alloc, draft, file, before, at, &new[at..end])?;
     }
     Ok(())
 }
 
 // The change that makes one block of a file the new one, where it does not read so.
 fn draft_block<A: Allocator>(
+    alloc: A,
     draft: &mut Draft<A>,
     file: File,
-    old: &[u8],
+    before: Contents<'_>,
     at: usize,
     block: &[u8],
 ) -> Result<(), AllocError>
@@ -163,19 +188,21 @@ fn draft_block<A: Allocator>(
     requires near { at + length block.now < 2 ^ 32 }
     requires few { draft.old.count < 2 ^ 32 }
     requires fits { at + length block.now ≤ length_in draft.old.pages draft.old.directory file }
-    requires changes { AreChanges draft.old.pages draft.old.directory draft.old.count draft.old.changes.items }
+    requires changes { AreChanges draft.old.pages draft.old.directory (before.pages.now, before.directory.now) draft.old.count draft.old.changes.items }
 
-    ensures changes { OnOk result (AreChanges draft.new.pages draft.new.directory draft.new.count draft.new.changes.items) }
-    ensures file { OnOk result ((x : List ℕ) → RenewsBlock at old.now block.now (replayed file draft.old.count draft.old.changes.items x) (replayed file draft.new.count draft.new.changes.items x)) }
+    ensures changes { OnOk result (AreChanges draft.new.pages draft.new.directory (before.entry.pages.now, before.entry.directory.now) draft.new.count draft.new.changes.items) }
+    ensures file { OnOk result ((x : List ℕ) → RenewsBlock at (data_in (before.entry.pages.now, before.entry.directory.now) file) block.now (replayed file draft.old.count draft.old.changes.items x) (replayed file draft.new.count draft.new.changes.items x)) }
     ensures others { OnOk result ((g : File) → g ≢ file → (x : List ℕ) → replayed g draft.new.count draft.new.changes.items x ≡ replayed g draft.old.count draft.old.changes.items x) }
     ensures few { OnOk result (draft.new.count ≤ draft.old.count + 1) }
     ensures pages { OnOk result (draft.new.pages ≡ draft.old.pages) }
     ensures directory { OnOk result (draft.new.directory ≡ draft.old.directory) }
 {
+    let old = data_in(before, file);
     if reads_as(old, at, block) {
         return Ok(());
     }
-    push(draft, file, at, block)?;
+    let was = part_of(alloc, old, at, block.len())?;
+    push(draft, file, at, block, was.as_slice())?;
     Ok(())
 }
 

@@ -1,9 +1,16 @@
-use Rattle.std.proofs.Common.{◌≡◌, ◌<◌, ◌∙◌, List, ℕ, length, sym, ap, subst, arith}
+use Rattle.std.proofs.Common.{◌≡◌, ◌<◌, ◌∙◌, List, ℕ, length, sym, ap, subst, arith, rules, length-drop}
+use Rattle.std.proofs.lemmas.List.{take_all}
 use Rattle.sdbm_saves.specs.Disk.{resized}
 use Rattle.sdbm_saves.specs.Redo.{file_of, rest_of, rest_after, changes_of, count_of, new_length, effect, Fits}
 use Rattle.sdbm_saves.proofs.Lists.{length-resized}
 use Rattle.sdbm_saves.proofs.Replay.{rest_next, replayed_next, length-replayed}
 use Rattle.sdbm_saves.proofs.overlay.lay_over.Goals as goal
+
+pub loop-index-init : goal.loop-index-init
+loop-index-init g c = record {
+  rest = take_all _ (changes_of c.args.plan.now) (omega (arith, length-drop 28 c.args.plan.now));
+  laid = c.in_ok-laid.ensures ∙ ap (λ (n : ℕ). resized n c.args.old.now) (search rules);
+}
 
 pub lay_change-requires-clause-inside : goal.lay_change-requires-clause-inside
 lay_change-requires-clause-inside g c = λ is.

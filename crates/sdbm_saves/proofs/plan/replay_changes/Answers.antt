@@ -1,9 +1,18 @@
-use Rattle.std.proofs.Common.{◌≡◌, ◌<◌, length, get_or, arith, sym, ◌∙◌, ap, subst}
+use Rattle.std.proofs.Common.{◌≡◌, ◌<◌, length, get_or, arith, refl, sym, ◌∙◌, ap, subst, length-drop}
+use Rattle.std.proofs.lemmas.List.{take_all}
 use Rattle.sdbm_saves.specs.Disk.{Image, content, put, written}
 use Rattle.sdbm_saves.specs.Redo.{file_of, offset_of, data_of, rest_of, count_of, changes_of, new_length, Fits, Alike}
-use Rattle.sdbm_saves.proofs.Moments.{through_by, joined}
-use Rattle.sdbm_saves.proofs.Replay.{alike_change, alike_joins, image_next, image_sized, rest_next}
+use Rattle.sdbm_saves.proofs.Moments.{nothing_yet, through_by, joined}
+use Rattle.sdbm_saves.proofs.Replay.{alike_change, alike_joins, alike_self, image_next, image_sized, rest_next}
 use Rattle.sdbm_saves.proofs.plan.replay_changes.Goals as goal
+
+pub loop-index-init : goal.loop-index-init
+loop-index-init g c = record {
+  rest = take_all _ (changes_of c.args.plan.now) (omega (arith, length-drop 28 c.args.plan.now));
+  seen = refl;
+  so_far = nothing_yet g.D.Disk.moment g.D.Disk.left_since g.D.Disk.may_leave g.met.D.Disk.only_now (Alike c.args.plan.now) c.args.disk.now (alike_self c.args.plan.now);
+  failed = λ was. was;
+}
 
 pub replay_one-requires-clause-inside : goal.replay_one-requires-clause-inside
 replay_one-requires-clause-inside g c =

@@ -15,8 +15,8 @@ nothing n = omega arith
 pub loop-number-init : goal.loop-number-init
 loop-number-init g c = record {
   changes = c.requires.changes;
-  file = c.requires.untouched (resized c.args.draft.now.pages c.args.old.now)
-      ∙ ap (λ (n : ℕ). partly n (first_pages c.args.image.now c.args.count) (resized c.args.draft.now.pages c.args.old.now)) (nothing (page_bytes c.args.image.now.size));
+  file = c.requires.untouched (resized c.args.draft.now.pages c.args.before.pages.now)
+      ∙ ap (λ (n : ℕ). partly n (first_pages c.args.image.now c.args.count) (resized c.args.draft.now.pages c.args.before.pages.now)) (nothing (page_bytes c.args.image.now.size));
   others = λ k other x. refl;
   few = omega arith;
   pages = refl;
@@ -52,11 +52,11 @@ loop-number-preserved g c =
     let n = c.loop-number.number in
     let kept = c.loop-number.invariant in
     let here = c.in_ok-draft_block.ensures in
-    let old = resized c.args.draft.now.pages c.args.old.now in
+    let old = resized c.args.draft.now.pages c.args.before.pages.now in
     let size_is : c.bytes-size.result ≡ page_bytes db.size = c.bytes-size.ensures ∙ ap page_bytes c.page_size.ensures in
     record {
       changes = here.changes;
-      file = page_renewed db c.requires.database n c.args.count c.args.draft.now.pages c.loop-number-test.true c.requires.long (n * c.bytes-size.result) c.args.old.now c.page_bytes-page.result.now _ _
+      file = page_renewed db c.requires.database n c.args.count c.args.draft.now.pages c.loop-number-test.true c.requires.long (n * c.bytes-size.result) c.args.before.pages.now c.page_bytes-page.result.now _ _
           (ap (λ (z : ℕ). n * z) size_is) c.page_bytes-page.ensures kept.file (here.file old);
       others = λ k other x. here.others k other x ∙ kept.others k other x;
       few = omega (arith, here.few, kept.few);
@@ -72,11 +72,11 @@ returns-clause-file g c =
     let db = c.args.image.now in
     let end : c.loop-number.number ≡ c.args.count = omega (arith, c.loop-number.auto.number-end, c.loop-number-test.false) in
     let new = first_pages db c.args.count in
-    let old = resized c.args.draft.now.pages c.args.old.now in
+    let old = resized c.args.draft.now.pages c.args.before.pages.now in
     let whole : length new ≡ c.args.draft.now.pages = length-first_pages db c.requires.database c.args.count ∙ c.requires.long in
     c.loop-number.invariant.file
     ∙ partly_all (c.loop-number.number * page_bytes db.size) new old (ap (λ (n : ℕ). n * page_bytes db.size) end ∙ sym (length-first_pages db c.requires.database c.args.count))
-    (length-resized c.args.draft.now.pages c.args.old.now ∙ sym whole)
+    (length-resized c.args.draft.now.pages c.args.before.pages.now ∙ sym whole)
 
 pub returns-clause-others : goal.returns-clause-others
 returns-clause-others g c = c.loop-number.invariant.others

@@ -1,8 +1,8 @@
 use Rattle.std.proofs.Common.{◌≡◌, ◌∙◌, ap}
 use Rattle.sdbm_saves.specs.Disk.{Image}
-use Rattle.sdbm_saves.specs.Redo.{files, renewed_files, stands_for, Alike}
+use Rattle.sdbm_saves.specs.Redo.{files, renewed_files, stands_for, CanEnd, Alike}
 use Rattle.sdbm_saves.proofs.Moments.{no_step, joined, leaves, then_on}
-use Rattle.sdbm_saves.proofs.Marks.{half_done, cleared}
+use Rattle.sdbm_saves.proofs.Marks.{half_done, half_ended, cleared, cleared_ended}
 use Rattle.sdbm_saves.proofs.Replay.{alike_self, alike_joins}
 use Rattle.sdbm_saves.proofs.redo.apply.Goals as goal
 
@@ -10,7 +10,7 @@ pub returns-clause-any_moment : goal.returns-clause-any_moment
 returns-clause-any_moment g c =
     let plan = c.args.plan.now in
     let first = g.D.Disk.seen c.args.disk.now in
-    let P : Image → Type 0 = λ o. stands_for o ≡ renewed_files plan first in
+    let P : Image → Type 0 = λ o. (stands_for o ≡ renewed_files plan first) × CanEnd o in
     let one = joined g.D.Disk.moment g.D.Disk.left_since g.D.Disk.may_leave (Alike plan) c.args.disk.now c.replay.new.disk c.sync.new.self (alike_joins plan) c.replay.ensures.any_moment
     (no_step g.D.Disk.moment g.D.Disk.left_since g.D.Disk.may_leave g.met.D.Disk.only_now (Alike plan) c.replay.new.disk c.sync.new.self (alike_self plan) c.sync.ensures.crash c.sync.ensures.time) in
     let two = joined g.D.Disk.moment g.D.Disk.left_since g.D.Disk.may_leave (Alike plan) c.args.disk.now c.sync.new.self c.sync-2.new.self (alike_joins plan) one
@@ -20,6 +20,12 @@ returns-clause-any_moment g c =
       (c.in_ok-sync-2.ensures.durable d now ∙ ap (λ (o : Image). o.directory) (c.sync.ensures.seen ∙ c.in_ok-replay.ensures.done)) i,
     ) in
     then_on g.D.Disk.moment g.D.Disk.left_since g.D.Disk.may_leave c.args.disk.now c.sync-2.new.self c.mark.new.disk P
-    (leaves g.D.Disk.moment g.D.Disk.left_since g.D.Disk.may_leave (Alike plan) c.args.disk.now c.sync-2.new.self P (λ d o now alike. half_done plan first c.requires.committed.marked d o (c.requires.committed.durable d now) alike) two)
+    (leaves g.D.Disk.moment g.D.Disk.left_since g.D.Disk.may_leave (Alike plan) c.args.disk.now c.sync-2.new.self P (λ d o now alike. (
+      half_done plan first c.requires.committed.marked d o (c.requires.committed.durable d now) alike,
+      half_ended plan first c.requires.plan c.requires.knows c.requires.committed.marked d o (c.requires.committed.durable d now) alike,
+    )) two)
     (leaves g.D.Disk.moment g.D.Disk.left_since g.D.Disk.may_leave _ c.sync-2.new.self c.mark.new.disk P
-    (λ d o now within. let from = two.crash d now in cleared plan first c.requires.committed.marked from.0 d o (c.requires.committed.durable from.0 from.1) from.2 (done d now) within) c.mark.ensures.any_moment)
+    (λ d o now within. let from = two.crash d now in (
+      cleared plan first c.requires.committed.marked from.0 d o (c.requires.committed.durable from.0 from.1) from.2 (done d now) within,
+      cleared_ended plan first c.requires.plan c.requires.knows c.requires.committed.marked from.0 d o (c.requires.committed.durable from.0 from.1) from.2 within,
+    )) c.mark.ensures.any_moment)

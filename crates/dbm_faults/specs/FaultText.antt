@@ -5,7 +5,7 @@ use Rattle.store_shared.specs.FaultText as closing
 use Rattle.worker_pool.specs.FaultText as pool
 use Rattle.dbm_reports.specs.FaultText as reports
 use Rattle.dbm_faults.specs.declared.fault.ServeFault.{ServeFault}
-use Rattle.dbm_faults.specs.declared.fault.ServeFault.TheVariants.{NotText, ReadFile, FileTooLong, WriteFile, BadRedo, ReadClock, BadBase, Absent, Locked, Report, Submit, BadLine, Pool, Close, Write, NoMemory}
+use Rattle.dbm_faults.specs.declared.fault.ServeFault.TheVariants.{NotText, ReadFile, FileTooLong, WriteFile, BadRedo, Unsafe, ReadClock, BadBase, Absent, Locked, Report, Submit, BadLine, Pool, Close, Write, Saved, NoMemory}
 
 abbrev pub fault_text : ServeFault → List ℕ
 fault_text NotText = codes "NotText"
@@ -13,6 +13,7 @@ fault_text ReadFile = codes "ReadFile"
 fault_text FileTooLong = codes "FileTooLong"
 fault_text WriteFile = codes "WriteFile"
 fault_text BadRedo = codes "BadRedo"
+fault_text Unsafe = codes "Unsafe"
 fault_text ReadClock = codes "ReadClock"
 fault_text BadBase = codes "BadBase"
 fault_text Absent = codes "Absent"
@@ -23,4 +24,5 @@ fault_text (BadLine number) = codes "bad line " ++ decimal number
 fault_text (Pool fault) = pool.fault_text fault
 fault_text (Close fault) = closing.fault_text fault
 fault_text Write = codes "Write"
+fault_text Saved = codes "Write"
 fault_text NoMemory = codes "NoMemory"

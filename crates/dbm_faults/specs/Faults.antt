@@ -10,7 +10,7 @@ use Rattle.worker_pool.specs.declared.task.PoolFault.TheVariants as jobs
 use Rattle.dbm_reports.specs.declared.fault.ReportFault.{ReportFault}
 use Rattle.dbm_reports.specs.declared.fault.ReportFault.TheVariants as reports
 use Rattle.dbm_faults.specs.declared.fault.ServeFault.{ServeFault}
-use Rattle.dbm_faults.specs.declared.fault.ServeFault.TheVariants.{ReadFile, FileTooLong, WriteFile, BadRedo, Locked, Report, Submit, BadLine, Pool, Write, NoMemory}
+use Rattle.dbm_faults.specs.declared.fault.ServeFault.TheVariants.{ReadFile, FileTooLong, WriteFile, BadRedo, Unsafe, Locked, Report, Submit, BadLine, Pool, Saved, NoMemory}
 
 -- the fault of what comes of a wish
 abbrev pub report_fault : ReportFault → ServeFault
@@ -44,6 +44,7 @@ files_fault files.ReadFile = ReadFile
 files_fault files.FileTooLong = FileTooLong
 files_fault files.WriteFile = WriteFile
 files_fault files.BadRedo = BadRedo
+files_fault files.Unsafe = Unsafe
 files_fault files.Locked = Locked
-files_fault files.Write = Write
+files_fault files.Write = Saved
 files_fault files.NoMemory = NoMemory

@@ -3,7 +3,7 @@
 use crate::fault::ServeFault;
 use crate::files::{
     absent_sentence, base_sentence, lock_sentence, open_sentence, redo_sentence, too_long_sentence,
-    unread_sentence, unwritten_sentence,
+    unread_sentence, untaken_sentence, unwritten_sentence,
 };
 use crate::programs::{
     assemble_sentence, decode_sentence, no_text_sentence, pool_sentence, submit_sentence,
@@ -25,6 +25,8 @@ pub enum Look {
     TooLong,
     /// The file that cannot be written.
     Unwritten,
+    /// The file beside the database that is not taken.
+    Unsafe,
     /// Whether the program's file is an object.
     Object,
 }
@@ -35,6 +37,7 @@ pub fn look_for(fault: ServeFault) -> Look {
         ServeFault::ReadFile => Look::Unread,
         ServeFault::FileTooLong => Look::TooLong,
         ServeFault::WriteFile => Look::Unwritten,
+        ServeFault::Unsafe => Look::Unsafe,
         ServeFault::Report(ReportFault::NotText | ReportFault::Assemble(_) | ReportFault::Decode(_))
         | ServeFault::Submit(RegFault::Decode(_)) => Look::Object,
         _ => Look::Nothing,
@@ -74,6 +77,7 @@ fn rest_sentence<'a>(words: &Words<'a>, fault: ServeFault) -> Sentence<'a> {
     match fault {
         ServeFault::ReadFile => unread_sentence(words.base),
         ServeFault::BadRedo => redo_sentence(words.base),
+        ServeFault::Unsafe => untaken_sentence(words.base),
         ServeFault::BadBase => base_sentence(words.base),
         ServeFault::Absent => absent_sentence(words.base),
         ServeFault::Locked => lock_sentence(words.base, words.numbers.timeout),
@@ -89,6 +93,9 @@ fn rest_sentence<'a>(words: &Words<'a>, fault: ServeFault) -> Sentence<'a> {
         ),
         ServeFault::Write => plain(
             "Standard output is closed or cannot be written, as where a disk is full; nothing was changed.",
+        ),
+        ServeFault::Saved => plain(
+            "The change is saved, but its answer could not be printed: standard output cannot be written, as where a disk is full.",
         ),
         ServeFault::NoMemory => memory_sentence(),
         _ => plain("A word of the command line is not UTF-8."),

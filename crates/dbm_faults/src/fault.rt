@@ -23,8 +23,10 @@ pub enum ServeFault {
     FileTooLong,
     /// A file could not be written.
     WriteFile,
-    /// The redo file is marked, and is none that a save has left.
+    /// The redo file is marked, and is not of these files, or none that a save has left.
     BadRedo,
+    /// The redo file or the lock is one that others could have planted.
+    Unsafe,
     /// The system does not tell the time of day.
     ReadClock,
     /// The base is empty, `.` or `..`, or ends in `/`, so it names no file.
@@ -43,8 +45,10 @@ pub enum ServeFault {
     Pool(PoolFault),
     /// The calls of a batch's workers are not those that its store has.
     Close(CloseFault),
-    /// Standard output could not be written.
+    /// Standard output could not be written, and nothing was changed.
     Write,
+    /// Standard output could not be written behind a change, which stands. It prints as `Write` does.
+    Saved,
     /// No memory is left.
     NoMemory,
 }
@@ -62,6 +66,7 @@ impl fmt::Display for ServeFault {
             ServeFault::FileTooLong => f.write_str("FileTooLong"),
             ServeFault::WriteFile => f.write_str("WriteFile"),
             ServeFault::BadRedo => f.write_str("BadRedo"),
+            ServeFault::Unsafe => f.write_str("Unsafe"),
             ServeFault::ReadClock => f.write_str("ReadClock"),
             ServeFault::BadBase => f.write_str("BadBase"),
             ServeFault::Absent => f.write_str("Absent"),
@@ -71,7 +76,7 @@ impl fmt::Display for ServeFault {
             ServeFault::BadLine(number) => write!(f, "bad line {number}"),
             ServeFault::Pool(fault) => fmt::Display::fmt(fault, f),
             ServeFault::Close(fault) => fmt::Display::fmt(fault, f),
-            ServeFault::Write => f.write_str("Write"),
+            ServeFault::Write | ServeFault::Saved => f.write_str("Write"),
             ServeFault::NoMemory => f.write_str("NoMemory"),
         }
     }
@@ -162,8 +167,9 @@ impl From<FilesFault> for ServeFault {
             FilesFault::FileTooLong => ServeFault::FileTooLong,
             FilesFault::WriteFile => ServeFault::WriteFile,
             FilesFault::BadRedo => ServeFault::BadRedo,
+            FilesFault::Unsafe => ServeFault::Unsafe,
             FilesFault::Locked => ServeFault::Locked,
-            FilesFault::Write => ServeFault::Write,
+            FilesFault::Write => ServeFault::Saved,
             FilesFault::NoMemory => ServeFault::NoMemory,
         }
     }

@@ -30,6 +30,16 @@ pub fn finding_sentence<'a>(found: Finding<'a>) -> Sentence<'a> {
             name,
             Part::Number(limit),
         ),
+        Matter::NoOwnFile => with_one(
+            "{} is no file of its own, but a link, a folder or the like: take it away.",
+            name,
+        ),
+        Matter::Unsafe { owner, mode } => with_three(
+            "{} is of user {} with mode 0{}: dbm takes none that others could have planted. Look at it, and take it away or mend its owner and mode.",
+            name,
+            Part::Number(u64::from(owner)),
+            octal(mode),
+        ),
         Matter::Object => with_one(
             "{} is an ELF object. Take its section .text for the image, or let tools/bpfcc make it.",
             name,
@@ -67,15 +77,28 @@ pub fn too_long_sentence<'a>(base: &'a str) -> Sentence<'a> {
     )
 }
 
-/// Of a redo file that no save has left.
+/// Of a redo file that is not of these files, or that no save has left.
 pub fn redo_sentence<'a>(base: Option<&'a str>) -> Sentence<'a> {
+    with_one(
+        "{}.redo says that a save was cut off, but it is not of these files: an older copy was put back, another program wrote them, or no save has left it. Put the files back that it belongs to, or take it away to have the files as they are.",
+        base_part(base),
+    )
+}
+
+/// Of a file beside a database that is not taken, where a second look finds none.
+pub fn untaken_sentence<'a>(base: Option<&'a str>) -> Sentence<'a> {
     let base = base_part(base);
-    with_three(
-        "{}.redo says that a save was committed, but no save of dbm leaves such a file. Move it away to have {}.pag and {}.dir as they are.",
-        base,
+    with_two(
+        "{}.lock or {}.redo was one that others could have planted, and is so no more: try again.",
         base,
         base,
     )
+}
+
+// The bits of permissions as the digits of their octal number.
+fn octal(mode: u32) -> Part<'static> {
+    let digits = mode / 64 % 8 * 100 + mode / 8 % 8 * 10 + mode % 8;
+    Part::Number(u64::from(digits))
 }
 
 /// Of a base that names no file.

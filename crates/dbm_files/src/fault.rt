@@ -14,11 +14,13 @@ pub enum FilesFault {
     FileTooLong,
     /// A file could not be written.
     WriteFile,
-    /// The redo file is marked, and is none that a save has left.
+    /// The redo file is marked, and is not of these files, or none that a save has left.
     BadRedo,
+    /// The redo file or the lock is one that others could have planted.
+    Unsafe,
     /// Another run has had the lock for as long as this one was to wait.
     Locked,
-    /// The lines that tell of a save could not be written.
+    /// The lines that tell of a save could not be written. The save stands.
     Write,
     /// No memory is left.
     NoMemory,

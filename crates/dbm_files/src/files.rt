@@ -1,24 +1,28 @@
 //! The files of a run, read and written.
+ghost use Rattle.sdbm_saves.specs.Redo.{CanEnd};
+ghost use Rattle.sdbm_saves.specs.Recording.{image_of};
+
 use crate::fault::FilesFault;
-use crate::host::{RealFiles, forget_redo};
+use crate::host::{RealFiles, folder_of, forget_redo};
 use crate::links::resolve;
 use crate::lock::{lock_to_read, lock_to_write};
 use crate::names::{FileBytes, Names, Place, names_of, put, sources};
 use crate::saving::{Change, save_change};
+use crate::side::{Side, SideFault, open_beside, side_fault};
 use sdbm_files::Image;
 use sdbm_saves::{
-    CallLog, Contents, Found, Recorded, Unknown, is_whole, plan_in, read_through, recover,
+    CallLog, Contents, Found, Recorded, Unknown, can_end, plan_in, read_through, recover,
 };
 use std::alloc::Global;
 use std::fs;
-use std::fs::File;
-use std::io::{ErrorKind, Read, Write};
+use std::fs::{File, OpenFile};
+use std::io::{self, ErrorKind, Read, Write};
 use std::rt::Files;
 use std::time::{Clock, Duration};
 
-/// A redo file of the program has at most this many bytes: those of both files at their limits, in blocks of 1,024 with nine bytes
-/// before each, behind twenty-one.
-const REDO_LIMIT: u64 = 1_353_973_781;
+/// A redo file of the program has at most this many bytes: those of both files at their limits, new and old, in blocks of 1,024 with
+/// nine bytes before each, behind twenty-nine.
+const REDO_LIMIT: u64 = 2_696_151_069;
 
 /// What was read for a run, and where it may change its database, what is held for that.
 #[derive(Drop)]
@@ -41,9 +45,10 @@ pub struct Held {
 /// until it has written them. The lock and the redo file lie beside the files themselves, whatever links lead there.
 ///
 /// # Errors
-/// Those of `resolve`, `Locked` where others hold the lock for longer than the patience, `WriteFile` where a run that writes cannot
-/// have its lock, or cannot end a save, `ReadFile` where one that reads cannot have a lock that is there, then those of `read_files`,
-/// and `BadRedo` where the redo file is marked and no save has left it.
+/// Those of `resolve`, `Unsafe` where the lock or the redo file is one that others could have planted, `Locked` where others hold the
+/// lock for longer than the patience, `WriteFile` where a run that writes cannot have its lock, or cannot end a save, `ReadFile` where
+/// one that reads cannot have a lock that is there, then those of `read_files`, and `BadRedo` where the redo file is marked and is not of
+/// these files, or none that a save has left. Nothing is written at a fault, but for a save that was being ended.
 pub fn take_files<R: Files<File = File> + Clock + AllocGlobal>(
     rt: &R,
     place: Place<'_>,
@@ -82,15 +87,23 @@ fn read_under_lock<R: Files<File = File> + Clock + AllocGlobal>(
     names: &Names,
     patience: Option<Duration>,
 ) -> Result<FileBytes, FilesFault> {
-    if let Some(lock) = lock_to_read(rt, names.lock.as_str(), patience)? {
+    if let Some(lock) = read_lock(rt, names, patience)? {
         return read_held(rt, place, names, Some(lock));
     }
     let read = read_held(rt, place, names, None);
     // The first run that writes may have come in between, and made the lock.
-    match lock_to_read(rt, names.lock.as_str(), patience)? {
+    match read_lock(rt, names, patience)? {
         Some(lock) => read_held(rt, place, names, Some(lock)),
         None => read,
     }
+}
+
+fn read_lock<R: Files<File = File> + Clock>(
+    rt: &R,
+    names: &Names,
+    patience: Option<Duration>,
+) -> Result<Option<File>, FilesFault> {
+    lock_to_read(rt, names.lock.as_str(), names.pages.as_str(), patience)
 }
 
 // Reads the files of a run that changes nothing, and then lets its lock go.
@@ -119,11 +132,32 @@ fn read_database<R: Files<File = File> + AllocGlobal>(
         directory: read.directory,
         redo,
     };
+    if !can_end(&found) {
+        return Err(FilesFault::BadRedo);
+    }
     if place.writes {
         end_save(rt, names, &found)?;
         return Ok((read_files(rt, place)?, Vec::new(rt.alloc())));
     }
+    if keep_plan(rt, names).is_err() {
+        return Err(FilesFault::ReadFile);
+    }
     lay_over(rt.alloc(), &found, read.program)
+}
+
+// Keeps a plan that is marked, and its name, before anything that stands on it is told: whoever marked it may have been killed before
+// the mark was on the disk. A file system that cannot be written has nothing to keep.
+fn keep_plan<R: Files<File = File>>(rt: &R, names: &Names) -> io::Result<()> {
+    let name = names.redo.as_str();
+    let synced = fs::open(rt, name)?.sync_data();
+    let folder = fs::open(rt, folder_of(name))?.sync_all();
+    for outcome in [synced, folder] {
+        match outcome {
+            Err(error) if error.kind() != ErrorKind::ReadOnlyFilesystem => return Err(error),
+            _ => (),
+        }
+    }
+    Ok(())
 }
 
 // What files stand for behind whose marked plan a save was cut off, beside the bytes of a program.
@@ -131,10 +165,9 @@ fn lay_over(
     alloc: Global,
     found: &Found,
     program: Vec<u8>,
-) -> Result<(FileBytes, Vec<u8>), FilesFault> {
-    if !is_whole(found.redo.as_slice()) {
-        return Err(FilesFault::BadRedo);
-    }
+) -> Result<(FileBytes, Vec<u8>), FilesFault>
+    requires { CanEnd (image_of found.now) }
+{
     let stands = read_through(alloc, found)?;
     let read = FileBytes {
         directory: stands.directory,
@@ -149,19 +182,30 @@ fn end_save<R: Files<File = File> + AllocGlobal>(
     rt: &R,
     names: &Names,
     found: &Found,
-) -> Result<(), FilesFault> {
-    let redo = found.redo.as_slice();
-    if !is_whole(redo) {
-        return Err(FilesFault::BadRedo);
-    }
+) -> Result<(), FilesFault>
+    requires { CanEnd (image_of found.now) }
+{
     let files = RealFiles::new(rt, names, CallLog::new(rt.alloc())?);
     let mut disk = Recorded::<RealFiles<'_, R>, Unknown>::new(files, found);
-    Ok(recover(&mut disk, redo)?)
+    Ok(recover(&mut disk, found.redo.as_slice())?)
 }
 
 // The bytes of the redo file.
-fn read_redo<R: Files + AllocGlobal>(rt: &R, names: &Names) -> Result<Vec<u8>, FilesFault> {
-    read_file(rt, names.redo.as_str(), REDO_LIMIT, true)
+fn read_redo<R: Files<File = File> + AllocGlobal>(
+    rt: &R,
+    names: &Names,
+) -> Result<Vec<u8>, FilesFault> {
+    match open_beside(
+        rt,
+        Side::Redo,
+        names.redo.as_str(),
+        names.pages.as_str(),
+        false,
+    ) {
+        Ok(file) => read_all(rt.alloc(), file, REDO_LIMIT),
+        Err(SideFault::Absent) => Ok(Vec::new(rt.alloc())),
+        Err(fault) => Err(side_fault(&fault, FilesFault::ReadFile)),
+    }
 }
 
 // The bytes of the files that a run reads. The error is the first that is met: `ReadFile`, `FileTooLong` where a file has more bytes
@@ -187,14 +231,18 @@ fn read_file<R: Files + AllocGlobal>(
     limit: u64,
     may_be_absent: bool,
 ) -> Result<Vec<u8>, FilesFault> {
-    let mut bytes = Vec::new(rt.alloc());
-    let file = match fs::open(rt, name) {
-        Ok(file) => file,
+    match fs::open(rt, name) {
+        Ok(file) => read_all(rt.alloc(), file, limit),
         Err(error) if may_be_absent && error.kind() == ErrorKind::NotFound => {
-            return Ok(bytes);
+            Ok(Vec::new(rt.alloc()))
         }
-        Err(_) => return Err(FilesFault::ReadFile),
-    };
+        Err(_) => Err(FilesFault::ReadFile),
+    }
+}
+
+// All bytes of a file that is open.
+fn read_all<F: Read + Drop>(alloc: Global, file: F, limit: u64) -> Result<Vec<u8>, FilesFault> {
+    let mut bytes = Vec::new(alloc);
     match file.take(limit.saturating_add(1)).read_to_end(&mut bytes) {
         Ok(_) => (),
         Err(error) if error.kind() == ErrorKind::OutOfMemory => return Err(FilesFault::NoMemory),
@@ -206,9 +254,9 @@ fn read_file<R: Files + AllocGlobal>(
     Ok(bytes)
 }
 
-/// Saves what a run has made of a database, and prints its lines. The files are written in place, by a redo file: a crash at any
+/// Saves what a run has made of a database, and then prints its lines. The files are written in place, by a redo file: a crash at any
 /// moment leaves files from which the next run gets the database before the save or after it. Where nothing changed no file is
-/// written, made or touched; but where its lines cannot be printed, a redo file goes that was never committed.
+/// written, made or touched. Where a save failed before it was committed, its redo file is taken away.
 ///
 /// # Errors
 /// Those of `save_change`, and `BadRedo` where the redo file is marked.
@@ -234,8 +282,9 @@ pub fn save_files<R: Files<File = File> + AllocGlobal, W: Write>(
     let files = RealFiles::new(rt, names, CallLog::new(rt.alloc())?);
     let mut disk = Recorded::<RealFiles<'_, R>, Unknown>::new(files, old);
     let saved = save_change(rt.alloc(), &mut disk, change, lines, writer);
-    if saved.is_err() {
-        forget_redo(rt, names);
+    match saved {
+        Ok(()) | Err(FilesFault::Write) => (),
+        Err(_) => forget_redo(rt, names),
     }
     saved
 }

@@ -2,6 +2,7 @@
 
 use crate::host::folder_of;
 use crate::names::{Names, Source, names_of};
+use crate::side::{Side, doubt_of};
 use std::fmt;
 use std::fs::{self, File, OpenOptions};
 use std::io::{self, ErrorKind, Read};
@@ -55,6 +56,10 @@ pub enum Matter {
     TooLong(u64),
     /// It is an object as compilers write it.
     Object,
+    /// It lies beside a database, and is a link, a folder or the like, or has several names.
+    NoOwnFile,
+    /// It lies beside a database, and others could have planted it.
+    Unsafe { owner: u32, mode: u32 },
 }
 
 /// A file, or a folder, and what is the matter with it.
@@ -146,6 +151,27 @@ pub fn find_unwritten<'a, R: Files<File = File>>(rt: &R, names: &'a Names) -> Op
         names.pages.as_str(),
     ] {
         if let Some(matter) = unwritten(rt, name) {
+            return Some(Finding { name, matter });
+        }
+    }
+    None
+}
+
+/// The first of the files beside a database that is not taken, the lock and the redo file in turn: others could have planted it.
+pub fn find_unsafe<'a, R: Files<File = File>>(rt: &R, names: &'a Names) -> Option<Finding<'a>> {
+    for (side, name) in [
+        (Side::Lock, names.lock.as_str()),
+        (Side::Redo, names.redo.as_str()),
+    ] {
+        if let Some(found) = doubt_of(rt, side, name, names.pages.as_str()) {
+            let matter = if found.is_plain {
+                Matter::Unsafe {
+                    owner: found.owner,
+                    mode: found.mode,
+                }
+            } else {
+                Matter::NoOwnFile
+            };
             return Some(Finding { name, matter });
         }
     }

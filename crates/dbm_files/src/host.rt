@@ -3,10 +3,11 @@ ghost use Rattle.std.specs.Prelude.{◌≡◌, IfErr};
 ghost use Rattle.sdbm_saves.specs.declared.disk.DiskError.TheVariants.{Failed};
 
 use crate::names::Names;
+use crate::side::{Side, SideFault, make_redo, open_beside};
 use sdbm_saves::{CallLog, DiskError, File as Part, Host};
 use std::fs::{self, File, OpenFile, OpenOptions};
 use std::io::{self, ErrorKind};
-use std::os::unix::fs::{FileExt, MetadataExt, OpenOptionsExt, fchown};
+use std::os::unix::fs::FileExt;
 use std::rt::Files;
 
 // The name of one of the files.
@@ -38,6 +39,8 @@ struct OpenFiles<'a, R: Files<File = File>> {
     redo: Option<File>,
     // This run has synced the folder, and has made no file since. Names that an earlier run made are not taken to be kept.
     is_folder_kept: bool,
+    // This run has taken the redo file away, so it takes none that is there again.
+    is_redo_gone: bool,
 }
 
 impl<'a, R: Files<File = File>> OpenFiles<'a, R> {
@@ -52,12 +55,8 @@ impl<'a, R: Files<File = File>> OpenFiles<'a, R> {
     // Opens a file to write it, where it is not open, and makes it where it is not there.
     fn open(&mut self, part: Part) -> io::Result<&mut File> {
         if self.slot(part).is_none() {
-            let name = name_of(self.names, part);
-            let file = match open_both_ways(self.rt, name) {
-                Err(error) if error.kind() == ErrorKind::NotFound => {
-                    self.is_folder_kept = false;
-                    make(self.rt, self.names, part)?
-                }
+            let file = match self.open_there(part) {
+                Err(error) if error.kind() == ErrorKind::NotFound => self.make(part)?,
                 opened => opened?,
             };
             *self.slot(part) = Some(file);
@@ -66,6 +65,37 @@ impl<'a, R: Files<File = File>> OpenFiles<'a, R> {
             Some(file) => Ok(file),
             None => Err(io::Error::from(ErrorKind::NotFound)),
         }
+    }
+
+    // Opens a file that is there, to write it.
+    fn open_there(&self, part: Part) -> io::Result<File> {
+        let name = name_of(self.names, part);
+        if part != Part::Redo {
+            return open_both_ways(self.rt, name);
+        }
+        if self.is_redo_gone {
+            return Err(io::Error::from(ErrorKind::NotFound));
+        }
+        match open_beside(self.rt, Side::Redo, name, self.names.pages.as_str(), true) {
+            Ok(file) => Ok(file),
+            Err(SideFault::Absent) => Err(io::Error::from(ErrorKind::NotFound)),
+            Err(SideFault::Unsafe) => Err(io::Error::from(ErrorKind::PermissionDenied)),
+            Err(SideFault::Refused(error)) => Err(error),
+        }
+    }
+
+    // Makes a file that is not there.
+    fn make(&mut self, part: Part) -> io::Result<File> {
+        self.is_folder_kept = false;
+        let name = name_of(self.names, part);
+        if part == Part::Redo {
+            return make_redo(self.rt, name, self.names.pages.as_str());
+        }
+        OpenOptions::new()
+            .read(true)
+            .write(true)
+            .create(true)
+            .open(self.rt, name)
     }
 
     fn write_in(&mut self, part: Part, at: usize, bytes: &[u8]) -> io::Result<()> {
@@ -86,7 +116,7 @@ impl<'a, R: Files<File = File>> OpenFiles<'a, R> {
     fn keep(&mut self, part: Part) -> io::Result<()> {
         match self.slot(part) {
             Some(file) => file.sync_data()?,
-            None => match open_both_ways(self.rt, name_of(self.names, part)) {
+            None => match self.open_there(part) {
                 Ok(file) => file.sync_data()?,
                 Err(error) if error.kind() == ErrorKind::NotFound => (),
                 Err(error) => return Err(error),
@@ -101,6 +131,7 @@ impl<'a, R: Files<File = File>> OpenFiles<'a, R> {
 
     fn remove_redo(&mut self) -> io::Result<()> {
         self.redo = None;
+        self.is_redo_gone = true;
         match fs::remove_file(self.rt, self.names.redo.as_str()) {
             Err(error) if error.kind() != ErrorKind::NotFound => Err(error),
             _ => Ok(()),
@@ -111,35 +142,6 @@ impl<'a, R: Files<File = File>> OpenFiles<'a, R> {
 // Opens a file that is there to be written.
 fn open_both_ways<R: Files<File = File>>(rt: &R, name: &str) -> io::Result<File> {
     OpenOptions::new().read(true).write(true).open(rt, name)
-}
-
-// Makes a file. A redo file has the records of the database in it, so nobody else may read it before it is like `.pag`.
-fn make<R: Files<File = File>>(rt: &R, names: &Names, part: Part) -> io::Result<File> {
-    let mut options = OpenOptions::new();
-    options.read(true).write(true).create(true);
-    if part == Part::Redo {
-        options.mode(0o600);
-    }
-    let file = options.open(rt, name_of(names, part))?;
-    if part == Part::Redo {
-        be_like(rt, &file, names.pages.as_str())?;
-    }
-    Ok(file)
-}
-
-/// Gives a file that this run has made the owner, the group and the permissions of another, where that one is there. Where the system
-/// does not let the file be given away, it stays that of this run's user.
-pub fn be_like<R: Files<File = File>>(rt: &R, file: &File, name: &str) -> io::Result<()> {
-    let other = match fs::metadata(rt, name) {
-        Ok(other) => other,
-        Err(error) if error.kind() == ErrorKind::NotFound => return Ok(()),
-        Err(error) => return Err(error),
-    };
-    let own = file.metadata()?;
-    if own.uid() != other.uid() || own.gid() != other.gid() {
-        let _ = fchown(file, Some(other.uid()), Some(other.gid()));
-    }
-    file.set_permissions(other.permissions())
 }
 
 /// The files of a database on the system's disk, with a log of what was called.
@@ -164,6 +166,7 @@ impl<'a, R: Files<File = File>> RealFiles<'a, R> {
                 directory: None,
                 redo: None,
                 is_folder_kept: false,
+                is_redo_gone: false,
             },
             log,
         }

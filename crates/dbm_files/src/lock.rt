@@ -1,11 +1,11 @@
 //! The lock of a database, which keeps runs of the program apart.
 use crate::fault::FilesFault;
-use crate::host::be_like;
-use std::fs::{File, OpenOptions, TryLockError};
-use std::io::{self, ErrorKind};
+use crate::side::{Side, SideFault, make_lock, open_beside, side_fault};
+use std::fs::{File, TryLockError};
+use std::io::ErrorKind;
 use std::rt::Files;
+use std::thread;
 use std::time::{Clock, Duration, Instant};
-use std::{fs, thread};
 
 /// A run rests for at most so many milliseconds between two looks whether it can have the lock.
 const LONGEST_REST: u64 = 20;
@@ -18,11 +18,12 @@ struct Take {
 }
 
 /// Waits for the lock of a run that writes, and takes it. It is held until the file that is handed out is dropped. Where its file is
-/// missing it is made, with the owner and the permissions of `.pag`, so that whoever reads the database can lock it. With a patience
+/// missing it is made, so that whoever may use the pages can lock it; but a run that may not write the pages makes none. With a patience
 /// it waits no longer than that.
 ///
 /// # Errors
-/// `WriteFile` where the file of the lock cannot be made, or cannot be locked, and `Locked` where another run has had it for as long as
+/// `Unsafe` where the file of the lock is one that others could have planted, `WriteFile` where it cannot be made, or cannot be locked,
+/// and `Locked` where another run has had it for as long as
 /// this one waits. A call that a signal interrupts is made again.
 pub fn lock_to_write<R: Files<File = File> + Clock>(
     rt: &R,
@@ -32,7 +33,7 @@ pub fn lock_to_write<R: Files<File = File> + Clock>(
 ) -> Result<File, FilesFault> {
     let file = match open_lock(rt, name, pages) {
         Ok(file) => file,
-        Err(_) => return Err(FilesFault::WriteFile),
+        Err(fault) => return Err(side_fault(&fault, FilesFault::WriteFile)),
     };
     let take = Take {
         shared: false,
@@ -49,16 +50,17 @@ pub fn lock_to_write<R: Files<File = File> + Clock>(
 /// With a patience it waits no longer than that.
 ///
 /// # Errors
-/// `ReadFile` where the file cannot be opened or locked, and `Locked` where a run that writes has had it for as long as this one waits.
+/// `Unsafe` where the file is one that others could have planted, `ReadFile` where it cannot be opened or locked, and `Locked` where a run that writes has had it for as long as this one waits.
 pub fn lock_to_read<R: Files<File = File> + Clock>(
     rt: &R,
     name: &str,
+    pages: &str,
     patience: Option<Duration>,
 ) -> Result<Option<File>, FilesFault> {
-    let file = match fs::open(rt, name) {
+    let file = match open_beside(rt, Side::Lock, name, pages, false) {
         Ok(file) => file,
-        Err(error) if error.kind() == ErrorKind::NotFound => return Ok(None),
-        Err(_) => return Err(FilesFault::ReadFile),
+        Err(SideFault::Absent) => return Ok(None),
+        Err(fault) => return Err(side_fault(&fault, FilesFault::ReadFile)),
     };
     let take = Take {
         shared: true,
@@ -110,25 +112,21 @@ fn take_within<C: Clock>(
     Err(TryLockError::WouldBlock)
 }
 
-// A file that may only be read serves too.
-fn open_lock<R: Files<File = File>>(rt: &R, name: &str, pages: &str) -> io::Result<File> {
-    match open_or_make(rt, name, pages) {
-        Ok(file) => Ok(file),
-        Err(_) => fs::open(rt, name),
+// Opens the file of the lock, and makes it where it is missing; another run may have made it meanwhile. One that may only be read serves
+// too.
+fn open_lock<R: Files<File = File>>(rt: &R, name: &str, pages: &str) -> Result<File, SideFault> {
+    match open_there(rt, name, pages) {
+        Err(SideFault::Absent) => match make_lock(rt, name, pages) {
+            Err(error) if error.kind() == ErrorKind::AlreadyExists => open_there(rt, name, pages),
+            made => Ok(made?),
+        },
+        opened => opened,
     }
 }
 
-fn open_or_make<R: Files<File = File>>(rt: &R, name: &str, pages: &str) -> io::Result<File> {
-    match OpenOptions::new().read(true).write(true).open(rt, name) {
-        Err(error) if error.kind() == ErrorKind::NotFound => {
-            let file = OpenOptions::new()
-                .read(true)
-                .write(true)
-                .create(true)
-                .open(rt, name)?;
-            be_like(rt, &file, pages)?;
-            Ok(file)
-        }
+fn open_there<R: Files<File = File>>(rt: &R, name: &str, pages: &str) -> Result<File, SideFault> {
+    match open_beside(rt, Side::Lock, name, pages, true) {
+        Err(SideFault::Refused(_)) => open_beside(rt, Side::Lock, name, pages, false),
         opened => opened,
     }
 }

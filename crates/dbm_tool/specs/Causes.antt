@@ -7,7 +7,7 @@ use Rattle.dbm_reports.specs.Causes.{Causes, IsCaused, no_causes}
 use Rattle.dbm_reports.specs.declared.fault.ReportFault.{ReportFault}
 use Rattle.dbm_reports.specs.declared.fault.ReportFault.TheVariants as reports
 use Rattle.dbm_faults.specs.declared.fault.ServeFault.{ServeFault}
-use Rattle.dbm_faults.specs.declared.fault.ServeFault.TheVariants.{NotText, ReadFile, FileTooLong, WriteFile, BadRedo, ReadClock, BadBase, Absent, Locked, Report, Submit, BadLine, Pool, Close, Write, NoMemory}
+use Rattle.dbm_faults.specs.declared.fault.ServeFault.TheVariants.{NotText, ReadFile, FileTooLong, WriteFile, BadRedo, Unsafe, ReadClock, BadBase, Absent, Locked, Report, Submit, BadLine, Pool, Close, Write, Saved, NoMemory}
 
 -- the causes for which nothing comes of a wish: those of its words, its files and standard input, and those of a batch
 pub record WishCauses : Type 1 where
@@ -45,6 +45,7 @@ HasCause causes ReadFile = ⊥
 HasCause causes FileTooLong = ⊥
 HasCause causes WriteFile = ⊥
 HasCause causes BadRedo = ⊥
+HasCause causes Unsafe = ⊥
 HasCause causes ReadClock = ⊥
 HasCause causes BadBase = ⊥
 HasCause causes Absent = ⊥
@@ -55,4 +56,5 @@ HasCause causes (BadLine number) = causes.bad_line number
 HasCause causes (Pool fault) = causes.pool fault
 HasCause causes (Close fault) = causes.closing fault
 HasCause causes Write = ⊥
+HasCause causes Saved = ⊥
 HasCause causes NoMemory = ⊤

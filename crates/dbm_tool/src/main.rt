@@ -22,7 +22,7 @@ use kept::{Kept, Watched, has_bad_line, is_refused, note_of_bad_lines};
 use sdbm_saves::Found;
 use serve::serve;
 use std::fs::File;
-use std::io::{ErrorKind, Read};
+use std::io::{ErrorKind, Read, Write};
 use std::process::ExitCode;
 use std::rt::{Files, Runtime};
 use std::sync::Wait;
@@ -154,14 +154,19 @@ fn patience_of(timeout: Option<&str>) -> Result<Option<Duration>, ServeFault> {
 }
 
 // Serves a wish on the files that it names. The lock, where there is one, is held to the end. Where the time of day is asked, the clock
-// is read once, and after the wait for the lock.
+// is read once, and after the wait for the lock. A wish that writes is refused first where standard output cannot be written: behind the
+// change its answer would be lost.
 fn serve_files<R: Runtime<File = File> + AllocGlobal + Threads + Wait + Sync, I: Read>(
     rt: &R,
     wish: Wish<'_>,
     patience: Option<Duration>,
     reader: &mut Kept<I>,
 ) -> Result<Ending, ServeFault> {
-    let taken = take_files(rt, place_of(&wish), patience)?;
+    let place = place_of(&wish);
+    if place.writes && io::writer(rt).write(&[]).is_err() {
+        return Err(ServeFault::Write);
+    }
+    let taken = take_files(rt, place, patience)?;
     match wish.time_asked() {
         Some(unit) => {
             let time = read_clock(rt, rt.alloc(), unit)?;
@@ -193,7 +198,7 @@ fn serve_taken<R: Runtime<File = File> + AllocGlobal + Threads + Wait + Sync, I:
     }
 }
 
-// Serves a wish that may change its database. Its lines are printed once the plan of the save is kept.
+// Serves a wish that may change its database. Its lines are printed once the save is committed.
 fn serve_change<R: Runtime<File = File> + AllocGlobal + Threads + Wait + Sync, I: Read>(
     rt: &R,
     wish: Wish<'_>,

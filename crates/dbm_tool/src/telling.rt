@@ -6,8 +6,8 @@ use dbm_faults::{
     object_note, refusal_note, sentence_of,
 };
 use dbm_files::{
-    Finding, find_object, find_too_long, find_unread, find_unwritten, has_no_files, names_of,
-    sources,
+    Finding, find_object, find_too_long, find_unread, find_unsafe, find_unwritten, has_no_files,
+    names_of, sources,
 };
 use dbm_words::{Request, Wish};
 use std::alloc::AllocError;
@@ -49,6 +49,7 @@ fn advise_on<R: Runtime<File = File> + AllocGlobal>(
         Look::Object => tell_object(rt, &words, fault),
         Look::Unread => tell_unread(rt, &words, fault)?,
         Look::Unwritten => tell_unwritten(rt, &words, fault)?,
+        Look::Unsafe => tell_unsafe(rt, &words, fault)?,
         Look::TooLong => {
             let sources = sources(rt.alloc(), place_of(&request.wish))?;
             tell_found(rt, &words, fault, find_too_long(rt, sources.as_slice()));
@@ -93,6 +94,19 @@ fn tell_unwritten<R: Runtime<File = File> + AllocGlobal>(
     };
     let names = names_of(rt.alloc(), base)?;
     tell_found(rt, words, fault, find_unwritten(rt, &names));
+    Ok(())
+}
+
+fn tell_unsafe<R: Runtime<File = File> + AllocGlobal>(
+    rt: &R,
+    words: &Words<'_>,
+    fault: ServeFault,
+) -> Result<(), AllocError> {
+    let Some(base) = words.base else {
+        return Ok(());
+    };
+    let names = names_of(rt.alloc(), base)?;
+    tell_found(rt, words, fault, find_unsafe(rt, &names));
     Ok(())
 }
 

@@ -6,3 +6,4 @@ pub mod Moments
 pub mod PageDrafts
 pub mod Recording
 pub mod Replay
+pub mod Runs

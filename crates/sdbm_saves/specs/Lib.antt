@@ -4,4 +4,5 @@ pub mod Disk
 pub mod Drafts
 pub mod Recording
 pub mod Redo
+pub mod Runs
 pub mod Saves

@@ -1,7 +1,7 @@
 /* A library in front of the C library's: it cuts a run off at its Nth call that writes, syncs, cuts, removes or renames a file, or notes
  * these calls. CUT_CALL is N; with none no call is cut off. CUT_FAULT is the errno with which the call fails; 0 is a kill. CUT_TOLD is a
- * file that is made once a call has failed. CUT_LOG is one in which calls are noted, once they are done: pwrite, ftruncate, syncs and
- * unlink, in a line each, with bytes in hex. */
+ * file that is made once a call has failed. With CUT_LINES what is printed, to a descriptor 1 that is no file, counts too. CUT_LOG is one
+ * in which calls are noted, once they are done: pwrite, ftruncate, syncs and unlink, in a line each, with bytes in hex. */
 #define _GNU_SOURCE
 #include <dlfcn.h>
 #include <errno.h>
@@ -18,6 +18,7 @@
 static atomic_long calls;
 static long chosen;
 static int fault;
+static int has_lines;
 static const char *log_name;
 
 static const char *told(const char *name, const char *otherwise)
@@ -30,6 +31,7 @@ __attribute__((constructor)) static void begin(void)
 {
     chosen = atol(told("CUT_CALL", "0"));
     fault = atoi(told("CUT_FAULT", "0"));
+    has_lines = getenv("CUT_LINES") != NULL;
     log_name = getenv("CUT_LOG");
     calls = 0;
 }
@@ -38,6 +40,11 @@ static int is_file(int fd)
 {
     struct stat found;
     return fstat(fd, &found) == 0 && (S_ISREG(found.st_mode) || S_ISDIR(found.st_mode));
+}
+
+static int is_line(int fd)
+{
+    return has_lines && fd == 1;
 }
 
 static int is_next_cut(void)
@@ -90,7 +97,7 @@ static void note_opened(const char *call, int fd, long long number, const void *
 
 ssize_t write(int fd, const void *bytes, size_t count)
 {
-    if (log_name != NULL || !is_file(fd))
+    if (log_name != NULL || !(is_file(fd) || is_line(fd)))
         return REAL(write)(fd, bytes, count);
     if (is_next_cut() && count > 1)
         REAL(write)(fd, bytes, count / 2);

@@ -32,8 +32,8 @@
  * Where that is too long, run by a ticket, in three calls: boddurci_ask under the mutex, boddurci_work without it, boddurci_finish under
  * it. What they do together is what boddurci_run does, as one step at the moment of boddurci_finish.
  *
- * Bytes. A key, a value, an argument and an image are a pointer and a length. The pointer must not be NULL, also where the length is
- * 0: BODDURCI_NO_BYTES stands for no bytes. What a call only reads may overlap; what it writes (rooms, lengths, numbers, the handle)
+ * Bytes. A key, a value, an argument and an image are a pointer and a length. No pointer that a call is given may be NULL, also where a
+ * length is 0: BODDURCI_NO_BYTES stands for no bytes. What a call only reads may overlap; what it writes (rooms, lengths, numbers, the handle)
  * must not overlap anything else that the call is given.
  *
  * Rooms. A room is where a call writes bytes. It writes them where all fit, and tells their number in *length either way; where they
@@ -66,6 +66,10 @@ typedef struct boddurci_cursor {
     uint32_t end;
     size_t pair;
 } boddurci_cursor;
+
+/* The version of this header; and that of the library, which is the same where both were built together. */
+#define BODDURCI_VERSION "1.1.0"
+const char *boddurci_version(void);
 
 #define BODDURCI_CLOSED { NULL }
 #define BODDURCI_FREE { NULL }
@@ -216,9 +220,10 @@ uint32_t boddurci_files(boddurci *db, uint8_t *dir, size_t dir_room, size_t *dir
 
 /* What changed since the last save: of the bytes of both files as they are, `dir` and `pag`, the plan that makes them those of the database.
  * It has the pages that differ, and the blocks of 1,024 bytes of .dir; no bytes where nothing does. SHORT_ROOM; FILE_TOO_LONG, IS_CLOSED,
- * NO_MEMORY. A byte 1 and the plan are a redo file, which dbm and boddurci_files.h end: 8 bytes "sdbmredo"; the new lengths of .pag and of
- * .dir; the number of changes; and of each its file (a byte, 0 for .pag and 1 for .dir), its offset, its length, its bytes. A number is 4
- * bytes, the lowest first. */
+ * NO_MEMORY. A byte 1 and the plan are a redo file, which dbm and boddurci_files.h end: 8 bytes "sdbmred2"; the new lengths of .pag and of
+ * .dir, and their lengths as they are; the number of changes; and of each its file (a byte, 0 for .pag and 1 for .dir), its offset, its
+ * length, its bytes, and the bytes that stand there now, where one past the end of the file is zero. A number is 4 bytes, the lowest
+ * first. */
 uint32_t boddurci_plan(boddurci *db, const uint8_t *dir, size_t dir_length, const uint8_t *pag, size_t pag_length, uint8_t *plan,
                        size_t plan_room, size_t *plan_length);
 

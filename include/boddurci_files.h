@@ -17,12 +17,31 @@
  * The lock is that of the program dbm: an exclusive flock on BASE.lock, from boddurci_open_files to boddurci_close_files. So dbm and
  * other services wait meanwhile; whoever knows nothing of the lock, as Perl, does not. To read only, open with BODDURCI_READ_ONLY: the
  * lock is then shared, and let go as soon as the files are read. Where both files are symbolic links to those of another base, that one's
- * lock is taken. None of this is proved; tests/c_library and tests/c_crashes run it. */
+ * lock is taken.
+ *
+ * Names are resolved once, by boddurci_open_files, which keeps the folder open. So neither a chdir nor a link in the path that is changed
+ * leads a save into other files; and where BASE.lock, .pag or .dir is another file than was opened, a save is BODDURCI_MOVED.
+ *
+ * BASE.redo and BASE.lock are taken only where they are files with one name, of yourself, of root or of the owner of BASE.pag, which nobody
+ * may write who may not write BASE.pag; else it is BODDURCI_UNSAFE. A lock may also be of one who may write BASE.pag, by its group. Where
+ * this lock or redo file was not made by you, look who has made it, and take it away.
+ *
+ * A base is of the process that has opened it. In a child that it forked boddurci_save is BODDURCI_FORKED, boddurci_take returns NULL,
+ * boddurci_give does nothing, and boddurci_close_files frees memory alone: the lock stays its parent's.
+ *
+ * A fault may be NULL, and is then not told; a base, NULL, is a closed one. No other pointer may be NULL, but names, which are then
+ * BODDURCI_BAD_NAME. None of this is proved; tests/c_library, tests/c_crashes and tests/hostile_library run it. */
 #ifndef BODDURCI_FILES_H
 #define BODDURCI_FILES_H
 #include "boddurci.h"
 #ifdef __cplusplus
 extern "C" {
+#endif
+
+#if defined __GNUC__
+#define BODDURCI_IS_LOOKED_AT __attribute__((warn_unused_result))
+#else
+#define BODDURCI_IS_LOOKED_AT
 #endif
 
 typedef struct boddurci_base boddurci_base;
@@ -31,7 +50,7 @@ enum boddurci_flags {
     BODDURCI_WIDE = 1,          /* pages of 8,192 bytes; the files do not say */
     BODDURCI_UNSIGNED_KEYS = 2, /* keys hash by unsigned bytes; the files do not say */
     BODDURCI_READ_ONLY = 4,     /* no lock is kept, and no save is made */
-    BODDURCI_NO_WAIT = 8,       /* where another has the lock, do not wait for it */
+    BODDURCI_NO_WAIT = 8,       /* where another has the lock, do not wait for it, whatever time is given */
     BODDURCI_MUST_EXIST = 16,   /* where there is no BASE.pag, do not begin with an empty database */
     BODDURCI_EMPTY = 32         /* begin with an empty database, whatever the files have */
 };
@@ -40,9 +59,15 @@ enum boddurci_flags {
 enum boddurci_files_status {
     BODDURCI_FILE_FAILED = 32, /* a call of the system failed, and fault.system has its errno; or links lead to two bases, and it is 0 */
     BODDURCI_LOCKED = 33,      /* another has the lock */
-    BODDURCI_BAD_REDO = 34,    /* BASE.redo is marked, and no save has left it: move it away to have the files as they are */
+    BODDURCI_BAD_REDO = 34,    /* BASE.redo is marked, and is not of these files: no save has left it, an older copy of them was put back,
+                                  or another program wrote them. Move it away to have the files as they are */
     BODDURCI_NO_SAVE = 35,     /* it was opened to be read only */
-    BODDURCI_TOO_LONG = 36     /* a file has more bytes than dbm takes: 1 GiB of .pag, 256 MiB of .dir */
+    BODDURCI_TOO_LONG = 36,    /* a file has more bytes than dbm takes: 1 GiB of .pag, 256 MiB of .dir */
+    BODDURCI_UNSAFE = 37,      /* BASE.redo or BASE.lock may be a stranger's; the text says why */
+    BODDURCI_MOVED = 38,       /* BASE.lock, .pag or .dir is another file than was opened */
+    BODDURCI_FORKED = 39,      /* it was opened by another process, of which this one is a child */
+    BODDURCI_BAD_NAME = 40,    /* the name is NULL or empty, . or .., or ends in one of these behind a / */
+    BODDURCI_INTERRUPTED = 41  /* a signal was handled while the lock was waited for */
 };
 
 /* Why a call failed: its status, errno where a call of the system did, and words, ended by a zero. */
@@ -52,22 +77,36 @@ typedef struct boddurci_fault {
     char text[200];
 } boddurci_fault;
 
+/* The name of a status of either header, in words. */
+const char *boddurci_files_text(uint32_t status);
+
 /* Opens the database in BASE.dir and BASE.pag, each of which may be missing, or returns NULL and says why. A save that was cut off is ended
- * first, whoever made it; a base that is read only writes nothing, and reads what the save would have left. */
+ * first, whoever made it; a base that is read only writes nothing, and reads what the save would have left, once that is kept on the disk.
+ * It waits for the lock without an end, also behind a signal. Where it returns NULL nothing was changed but that such a save was ended, and
+ * that a lock may have been made. Who may not write a .pag that is there makes no lock. FILE_FAILED, LOCKED (by NO_WAIT alone), BAD_REDO,
+ * TOO_LONG, UNSAFE, MOVED, BAD_NAME, and BAD_FILES and NO_MEMORY of boddurci.h. */
 boddurci_base *boddurci_open_files(const char *base, uint32_t flags, boddurci_fault *fault);
 
-/* Waits for the mutex, and lends the handle until boddurci_give. Never close it. */
+/* The same, which waits for the lock so long: LOCKED where another has it then. 0 tries once, and -1 waits without an end. INTERRUPTED where
+ * a signal was handled meanwhile: call it again to go on. */
+boddurci_base *boddurci_open_files_within(const char *base, uint32_t flags, int64_t milliseconds, boddurci_fault *fault);
+
+/* Waits for the mutex, and lends the handle until boddurci_give. Never close it. NULL in a child of the process that has opened the base, and
+ * of a base that is NULL: then call neither boddurci_give nor anything else with it. */
 boddurci *boddurci_take(boddurci_base *base);
 void boddurci_give(boddurci_base *base);
 
 /* Makes the files those of the database in memory, as dbm saves: what changed is written to BASE.redo first, then in place, so that the
- * files keep their owner, permissions and links. Where nothing changed nothing is written or made. A crash at any moment leaves what the
- * next opening, or dbm, reads as the database before the save or the one after it. After a fault it is the one before; but where
- * BASE.redo itself failed it may be either once the machine stops. Then save again. The mutex is held while the database is compared with the
- * files, and not while they are read and written: what other threads do meanwhile is in the next save. */
-uint32_t boddurci_save(boddurci_base *base, boddurci_fault *fault);
+ * files keep their owner, permissions and links. A .dir that is new gets those of .pag. Where nothing changed nothing is written or made. A
+ * crash at any moment leaves what the next opening, or dbm, reads as the database before the save or the one after it. After a fault it is
+ * the one before; but where BASE.redo itself failed it may be either once the machine stops. Then save again: a fault leaves the base open
+ * and as it was. The mutex is held while the database is compared with the files, and not while they are read and written: what other
+ * threads do meanwhile is in the next save. IS_CLOSED of a base that is NULL; FORKED, NO_SAVE, MOVED, UNSAFE, BAD_REDO, TOO_LONG,
+ * FILE_FAILED, and FILE_TOO_LONG and NO_MEMORY of boddurci.h. */
+uint32_t boddurci_save(boddurci_base *base, boddurci_fault *fault) BODDURCI_IS_LOOKED_AT;
 
-/* Lets the lock go, and the memory. Nothing is saved. base may be NULL. */
+/* Lets the lock go, and the memory. Nothing is saved. base may be NULL. No thread may use the base meanwhile, or later. In a child it frees
+ * memory alone. */
 void boddurci_close_files(boddurci_base *base);
 
 #ifdef __cplusplus

@@ -1,34 +1,19 @@
-/* The three files of a database, and the order in which a save writes them: the plan behind a mark that is not set, the mark, the plan done
- * in both data files, no mark. crates/sdbm_saves/src/redo.rt is the same, and is proved. */
+/* The three files of a save, and the order in which it writes them: the plan behind a mark that is not set, the mark, the plan done in both
+ * data files, no mark. crates/sdbm_saves/src/redo.rt is the same, and is proved. */
 #define _XOPEN_SOURCE 700
 #include "boddurci_saves.h"
 #include <errno.h>
 #include <fcntl.h>
-#include <stdlib.h>
-#include <string.h>
 #include <sys/stat.h>
 #include <unistd.h>
 
-char *boddurci_joined(const char *name, const char *ending)
+void boddurci_disk_of(struct boddurci_disk *disk, struct boddurci_place *place)
 {
-    char *all = malloc(strlen(name) + strlen(ending) + 1);
-    if (all != NULL)
-        strcat(strcpy(all, name), ending);
-    return all;
-}
-
-int boddurci_disk_of(struct boddurci_disk *disk, const char *base)
-{
-    static const char *const endings[3] = {".pag", ".dir", ".redo"};
-    int status = 0;
-    for (enum boddurci_file file = BODDURCI_PAGES; file <= BODDURCI_REDO; file++) {
+    disk->place = place;
+    for (enum boddurci_file file = BODDURCI_PAGES; file <= BODDURCI_REDO; file++)
         disk->files[file] = -1;
-        disk->names[file] = boddurci_joined(base, endings[file]);
-        status = disk->names[file] == NULL ? -1 : status;
-    }
     disk->last = BODDURCI_PAGES;
     disk->is_folder_kept = 0;
-    return status;
 }
 
 static void close_file(struct boddurci_disk *disk, enum boddurci_file file)
@@ -40,59 +25,43 @@ static void close_file(struct boddurci_disk *disk, enum boddurci_file file)
 
 void boddurci_disk_close(struct boddurci_disk *disk)
 {
-    for (enum boddurci_file file = BODDURCI_PAGES; file <= BODDURCI_REDO; file++) {
+    for (enum boddurci_file file = BODDURCI_PAGES; file <= BODDURCI_REDO; file++)
         close_file(disk, file);
-        free(disk->names[file]);
-    }
 }
 
 /* ---- one file */
 
-/* Opens a file that is there, to be written. */
-static int open_there(const char *name)
-{
-    return open(name, O_RDWR | O_CLOEXEC);
-}
-
-int boddurci_be_like(int file, const char *name)
-{
-    struct stat own, other;
-    if (stat(name, &other) != 0)
-        return errno == ENOENT ? 0 : -1;
-    if (fstat(file, &own) != 0)
-        return -1;
-    /* Where the system does not let it be given away, it stays the user's own. */
-    if ((own.st_uid != other.st_uid || own.st_gid != other.st_gid) && fchown(file, other.st_uid, other.st_gid) != 0)
-        errno = 0;
-    return fchmod(file, other.st_mode & 07777);
-}
-
 /* Makes a file. A redo file has records in it, so that nobody else may read it before it is like the pages. */
 static int make(struct boddurci_disk *disk, enum boddurci_file file)
 {
+    mode_t mode = file == BODDURCI_REDO ? 0600 : file == BODDURCI_PAGES ? 0666 : boddurci_mode_of_pages(disk->place, 0666);
     disk->is_folder_kept = 0;
-    disk->files[file] = open(disk->names[file], O_RDWR | O_CREAT | O_CLOEXEC, file == BODDURCI_REDO ? 0600 : 0666);
-    if (disk->files[file] < 0)
+    disk->files[file] = boddurci_make(disk->place, file, mode);
+    if (disk->files[file] < 0 || (file != BODDURCI_REDO && boddurci_see(disk->place, file, disk->files[file]) != 0))
         return -1;
-    return file == BODDURCI_REDO ? boddurci_be_like(disk->files[file], disk->names[BODDURCI_PAGES]) : 0;
+    return file == BODDURCI_PAGES ? 0 : boddurci_be_like_pages(disk->place, file, disk->files[file]);
 }
 
-/* Opens a file to write it, and makes it where it is not there. */
+/* Opens a data file that is there, to be written. */
+static int open_there(struct boddurci_disk *disk, enum boddurci_file file)
+{
+    if (disk->files[file] < 0)
+        disk->files[file] = boddurci_open_data(disk->place, file, O_RDWR);
+    return disk->files[file] < 0 ? -1 : 0;
+}
+
+/* The same, and makes it where it is not there. A redo file is opened, or made, before it is written. */
 static int open_to_write(struct boddurci_disk *disk, enum boddurci_file file)
 {
     disk->last = file;
-    if (disk->files[file] >= 0)
-        return 0;
-    disk->files[file] = open_there(disk->names[file]);
-    if (disk->files[file] >= 0)
+    if (disk->files[file] >= 0 || open_there(disk, file) == 0)
         return 0;
     return errno == ENOENT ? make(disk, file) : -1;
 }
 
 static int write_at(struct boddurci_disk *disk, enum boddurci_file file, size_t at, const uint8_t *bytes, size_t size)
 {
-    if (open_to_write(disk, file) != 0)
-        return -1;
+    disk->last = file;
     for (size_t done = 0; done < size;) {
         ssize_t put = pwrite(disk->files[file], bytes + done, size - done, (off_t)(at + done));
         if (put < 0 && errno != EINTR)
@@ -102,7 +71,7 @@ static int write_at(struct boddurci_disk *disk, enum boddurci_file file, size_t 
     return 0;
 }
 
-/* Cuts a file to a length, or makes it longer by zeros. */
+/* Cuts a data file to a length, or makes it longer by zeros. */
 static int resize(struct boddurci_disk *disk, enum boddurci_file file, size_t length)
 {
     struct stat found;
@@ -117,53 +86,16 @@ static int resize(struct boddurci_disk *disk, enum boddurci_file file, size_t le
     return status;
 }
 
-static int sync_opened(int opened)
-{
-    int status;
-    do
-        status = fdatasync(opened);
-    while (status != 0 && errno == EINTR);
-    return status;
-}
-
-/* Keeps what stands in the folder of the files, by the name of one. */
-static int keep_folder(const char *name)
-{
-    char *folder = boddurci_joined(name, ""), *end = folder != NULL ? strrchr(folder, '/') : NULL;
-    if (folder == NULL)
-        return -1;
-    if (end != NULL)
-        end[end == folder] = 0;
-    int opened = open(end != NULL ? folder : ".", O_RDONLY | O_DIRECTORY | O_CLOEXEC);
-    int status = opened < 0 ? -1 : fsync(opened), system = errno;
-    free(folder);
-    if (opened >= 0)
-        close(opened);
-    errno = system;
-    return status;
-}
-
-/* Keeps what a file has that this save has not written. One that is not there has nothing; one that may not be written fails here, and not
- * in the midst of a commit. */
-static int keep_unopened(const char *name)
-{
-    int opened = open_there(name);
-    if (opened < 0)
-        return errno == ENOENT ? 0 : -1;
-    int status = sync_opened(opened), system = errno;
-    close(opened);
-    errno = system;
-    return status;
-}
-
-/* Keeps what is in a file, and the names of all: also those that an earlier save made, which may have been killed. */
+/* Keeps what is in a file, also what this save has not written, and the names of all: also those that an earlier save made, which may have
+ * been killed. A data file that is not there has nothing; one that may not be written fails here, and not in the midst of a commit. */
 static int keep(struct boddurci_disk *disk, enum boddurci_file file)
 {
     disk->last = file;
-    int opened = disk->files[file];
-    if (opened >= 0 ? sync_opened(opened) != 0 : keep_unopened(disk->names[file]) != 0)
+    if (file != BODDURCI_REDO && open_there(disk, file) != 0 && errno != ENOENT)
         return -1;
-    if (!disk->is_folder_kept && keep_folder(disk->names[file]) != 0)
+    if (disk->files[file] >= 0 && boddurci_keep_opened(disk->files[file]) != 0)
+        return -1;
+    if (!disk->is_folder_kept && boddurci_keep_folder(disk->place) != 0)
         return -1;
     disk->is_folder_kept = 1;
     return 0;
@@ -174,7 +106,8 @@ static int clear(struct boddurci_disk *disk)
 {
     disk->last = BODDURCI_REDO;
     close_file(disk, BODDURCI_REDO);
-    return unlink(disk->names[BODDURCI_REDO]) == 0 || errno == ENOENT ? 0 : -1;
+    disk->is_folder_kept = 0;
+    return unlinkat(disk->place->folder, disk->place->names[BODDURCI_REDO], 0) == 0 || errno == ENOENT ? 0 : -1;
 }
 
 /* ---- a save */
@@ -221,10 +154,12 @@ static int give_up(struct boddurci_disk *disk)
     return -1;
 }
 
+/* The old redo file goes first: what a failed sync of it has left on the disk is then not under the new plan, and nobody has it open. */
 int boddurci_stage(struct boddurci_disk *disk, struct boddurci_bytes redo)
 {
-    int is_staged = resize(disk, BODDURCI_REDO, 1) == 0 && write_at(disk, BODDURCI_REDO, 1, redo.at + 1, redo.length - 1) == 0 &&
-                    keep(disk, BODDURCI_REDO) == 0;
+    if (clear(disk) != 0 || make(disk, BODDURCI_REDO) != 0)
+        return give_up(disk);
+    int is_staged = write_at(disk, BODDURCI_REDO, 1, redo.at + 1, redo.length - 1) == 0 && keep(disk, BODDURCI_REDO) == 0;
     return is_staged ? 0 : give_up(disk);
 }
 

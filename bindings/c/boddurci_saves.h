@@ -1,14 +1,17 @@
-/* A save by a redo file, as dbm makes it; docs/DECISIONS.md says how under "Reading and writing files". boddurci_files.c stands on it, and
- * no program that uses the library. Where a call returns an int and not whether something is so, 0 is success, and after -1 errno says
- * why. */
+/* What the files in C beside the library share: where a database is, its lock, and a save by a redo file, as dbm makes it;
+ * docs/DECISIONS.md says how under "Reading and writing files" and "Calls from C". boddurci_files.c stands on it, and no program that uses
+ * the library. Where a call returns an int and not whether something is so, 0 is success, and after -1 errno says why; where it returns a
+ * status, the fault says why. */
 #ifndef BODDURCI_SAVES_H
 #define BODDURCI_SAVES_H
+#include "boddurci_files.h"
 #include <stddef.h>
 #include <stdint.h>
+#include <sys/types.h>
 
 #pragma GCC visibility push(hidden)
 
-enum boddurci_file { BODDURCI_PAGES, BODDURCI_DIRECTORY, BODDURCI_REDO };
+enum boddurci_file { BODDURCI_PAGES, BODDURCI_DIRECTORY, BODDURCI_REDO, BODDURCI_LOCK };
 
 /* The bytes of a file, which are to be freed. */
 struct boddurci_bytes {
@@ -16,13 +19,24 @@ struct boddurci_bytes {
     size_t length;
 };
 
+/* ---- boddurci_texts.c: how a fault is told */
+
+/* Sets the fault, and returns its status. */
+uint32_t boddurci_fail(boddurci_fault *fault, uint32_t status, int system, const char *what);
+uint32_t boddurci_no_fault(boddurci_fault *fault);
+uint32_t boddurci_no_memory(boddurci_fault *fault);
+
+/* By errno: no memory, a file that is another than was opened (ESTALE), or the fault of a call. */
+uint32_t boddurci_fail_by_system(boddurci_fault *fault, const char *what);
+
 /* ---- boddurci_plan.c: the bytes of a redo file */
 
 /* A change of a data file, which stands in a redo file; where the next one stands, and how many there are. */
 struct boddurci_change {
     enum boddurci_file file;
     size_t at, size;
-    const uint8_t *bytes;
+    const uint8_t *bytes; /* what is to stand there */
+    const uint8_t *old;   /* and what stood there */
     size_t next, left;
 };
 
@@ -31,42 +45,102 @@ struct boddurci_change {
 int boddurci_is_marked(struct boddurci_bytes redo);
 int boddurci_is_whole(struct boddurci_bytes redo);
 
-/* How long a file is after the save. */
+/* How long a file is after the save, and was before it. */
 size_t boddurci_new_length(struct boddurci_bytes redo, enum boddurci_file file);
+size_t boddurci_old_length(struct boddurci_bytes redo, enum boddurci_file file);
 
 /* Each change in turn: what stands before the first one, and whether there is a next one, and which. */
 struct boddurci_change boddurci_before_changes(struct boddurci_bytes redo);
 int boddurci_next_change(struct boddurci_bytes redo, struct boddurci_change *change);
 
+/* Whether the save is one of these data files, which stand before it, behind it, or in its midst: 1 or 0; or -1, where memory ran out. */
+int boddurci_knows(struct boddurci_bytes redo, const struct boddurci_bytes files[2]);
+
 /* Does the save in the bytes of a data file. */
 int boddurci_lay_over(struct boddurci_bytes redo, enum boddurci_file file, struct boddurci_bytes *bytes);
 
-/* ---- boddurci_disk.c: the three files of a database, written */
+/* ---- boddurci_place.c: the folder of a database, and its files */
 
-/* Each file is opened when it is first written, made where it is not there, and then kept open. */
+/* Which file a name has led to. */
+struct boddurci_seen {
+    int is_there;
+    dev_t device;
+    ino_t number;
+};
+
+/* The folder is kept open, so that the names in it lead where they led, whatever becomes of the path. */
+struct boddurci_place {
+    int folder;                   /* or -1 */
+    char *names[4];               /* of the files, in the folder */
+    struct boddurci_seen seen[2]; /* the data files that were there when they were last opened */
+    int lock;                     /* the file of the lock, or -1 */
+    int is_lock_early;            /* this run has made it, and there was no .pag yet */
+};
+
+/* The place of a base; and what is to be called in any case. */
+uint32_t boddurci_place_of(struct boddurci_place *place, const char *base, boddurci_fault *fault);
+void boddurci_place_close(struct boddurci_place *place);
+
+/* Opens a data file. Where it is another than was seen, or gone, errno is ESTALE. */
+int boddurci_open_data(struct boddurci_place *place, enum boddurci_file file, int how);
+
+/* Notes which files the data files are, so that no others are taken later; and that none was seen. */
+int boddurci_see(struct boddurci_place *place, enum boddurci_file file, int opened);
+void boddurci_see_none(struct boddurci_place *place);
+
+/* Opens the redo file or the lock where it is there, and else tells -1: UNSAFE where a stranger may have made it. */
+uint32_t boddurci_open_beside(const struct boddurci_place *place, enum boddurci_file file, int how, int *opened, boddurci_fault *fault);
+
+/* Makes one of the files, which is not there. */
+int boddurci_make(const struct boddurci_place *place, enum boddurci_file file, mode_t mode);
+
+/* Gives a file that was made the owner, the group and the permissions of .pag, where that is there, as far as the system lets it. */
+int boddurci_be_like_pages(const struct boddurci_place *place, enum boddurci_file file, int opened);
+
+/* The permissions of .pag, or these where it is not there. */
+mode_t boddurci_mode_of_pages(const struct boddurci_place *place, mode_t otherwise);
+
+/* Keeps what stands in the folder. */
+int boddurci_keep_folder(const struct boddurci_place *place);
+
+/* Keeps what stands in an opened file. */
+int boddurci_keep_opened(int opened);
+
+/* ---- boddurci_lock.c: which base a name means, and its lock */
+
+/* The place of the base to which a name leads, under the lock. A reader does without where its file is not there, and then there is none.
+ * No end of the waiting is a time below 0. The place is to be closed in any case. */
+uint32_t boddurci_enter(struct boddurci_place *place, const char *name, int reads, int64_t milliseconds, boddurci_fault *fault);
+
+/* Takes the lock of a place that is entered without. */
+uint32_t boddurci_take_lock(struct boddurci_place *place, int reads, int64_t milliseconds, boddurci_fault *fault);
+
+/* Whether the name of the lock leads to the file that is held. */
+int boddurci_is_held(const struct boddurci_place *place);
+
+/* Lets the lock go: for all who have the descriptor, or, in a child, for nobody else. */
+void boddurci_give_lock(struct boddurci_place *place, int is_own);
+
+/* ---- boddurci_disk.c: the three files of a save, written */
+
+/* Each data file is opened when it is first kept or written, made where it is not there, and then kept open. */
 struct boddurci_disk {
-    char *names[3];
+    struct boddurci_place *place;
     int files[3];            /* -1 where it is not open */
     int is_folder_kept;      /* the folder was synced, and no file was made since */
     enum boddurci_file last; /* which file the last call was about */
 };
 
-/* The files of a base; and what is to be called in any case. */
-int boddurci_disk_of(struct boddurci_disk *disk, const char *base);
+/* The files of a place; and what is to be called in any case. */
+void boddurci_disk_of(struct boddurci_disk *disk, struct boddurci_place *place);
 void boddurci_disk_close(struct boddurci_disk *disk);
 
-/* Gives a file that was made the owner, the group and the permissions of another, where that is there, as far as the system lets it. */
-int boddurci_be_like(int file, const char *name);
-
-/* A name with its ending, which is to be freed, or NULL. */
-char *boddurci_joined(const char *name, const char *ending);
-
-/* Keeps what all three files hold; and where the redo file, which has these bytes, is marked, ends its save. The redo file is whole, or
- * empty. */
+/* Keeps what the files hold; and where the redo file, which has these bytes, is marked, ends its save. Then it is opened to be written,
+ * whole, and known. */
 int boddurci_recover(struct boddurci_disk *disk, struct boddurci_bytes redo);
 
-/* Writes a redo file that is not marked, and keeps it, so that nothing is committed yet. Where it cannot, it takes it away. It wants
- * boddurci_recover before it. */
+/* Writes a redo file that is not marked, a new one, and keeps it, so that nothing is committed yet. Where it cannot, it takes it away. It
+ * wants boddurci_recover before it. */
 int boddurci_stage(struct boddurci_disk *disk, struct boddurci_bytes redo);
 
 /* Marks the redo file that was staged, which commits its save, and ends it. Where the mark cannot be kept it takes the redo file away.

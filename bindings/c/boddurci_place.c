@@ -1,0 +1,270 @@
+/* The folder of a database, and its files, by their names in it. A file beside the database, its redo file or its lock, is taken only where
+ * nobody has made it who may not write .pag; docs/DECISIONS.md says why under "Calls from C". */
+#define _GNU_SOURCE
+#include "boddurci_saves.h"
+#include <errno.h>
+#include <fcntl.h>
+#include <stdio.h>
+#include <stdlib.h>
+#include <string.h>
+#include <sys/stat.h>
+#include <unistd.h>
+
+/* A folder that may be searched and not read serves too. */
+#ifdef O_PATH
+enum { OPEN_FOLDER = O_PATH | O_DIRECTORY | O_CLOEXEC };
+#else
+enum { OPEN_FOLDER = O_RDONLY | O_DIRECTORY | O_CLOEXEC };
+#endif
+
+static char *joined(const char *name, const char *ending)
+{
+    char *all = malloc(strlen(name) + strlen(ending) + 1);
+    if (all != NULL)
+        strcat(strcpy(all, name), ending);
+    return all;
+}
+
+/* Opens the folder in which a base has its files. */
+static int open_folder(const char *base)
+{
+    const char *end = strrchr(base, '/');
+    if (end == NULL)
+        return open(".", OPEN_FOLDER);
+    char *folder = strdup(base);
+    if (folder == NULL)
+        return -1;
+    folder[end == base ? 1 : end - base] = 0;
+    int opened = open(folder, OPEN_FOLDER), system = errno;
+    free(folder);
+    errno = system;
+    return opened;
+}
+
+uint32_t boddurci_place_of(struct boddurci_place *place, const char *base, boddurci_fault *fault)
+{
+    static const char *const endings[4] = {".pag", ".dir", ".redo", ".lock"};
+    static const struct boddurci_place none = {-1, {NULL, NULL, NULL, NULL}, {{0, 0, 0}, {0, 0, 0}}, -1, 0};
+    const char *end = strrchr(base, '/');
+    *place = none;
+    for (enum boddurci_file file = BODDURCI_PAGES; file <= BODDURCI_LOCK; file++) {
+        place->names[file] = joined(end != NULL ? end + 1 : base, endings[file]);
+        if (place->names[file] == NULL)
+            return boddurci_no_memory(fault);
+    }
+    place->folder = open_folder(base);
+    return place->folder >= 0 ? BODDURCI_DONE : boddurci_fail_by_system(fault, "the folder of the base cannot be opened");
+}
+
+void boddurci_place_close(struct boddurci_place *place)
+{
+    for (enum boddurci_file file = BODDURCI_PAGES; file <= BODDURCI_LOCK; file++)
+        free(place->names[file]);
+    if (place->folder >= 0)
+        close(place->folder);
+    if (place->lock >= 0)
+        close(place->lock);
+}
+
+/* Closes a file that is not taken, for this reason. */
+static int leave(int opened, int system)
+{
+    close(opened);
+    errno = system;
+    return -1;
+}
+
+/* ---- the data files */
+
+void boddurci_see_none(struct boddurci_place *place)
+{
+    place->seen[BODDURCI_PAGES].is_there = place->seen[BODDURCI_DIRECTORY].is_there = 0;
+}
+
+int boddurci_see(struct boddurci_place *place, enum boddurci_file file, int opened)
+{
+    struct stat found;
+    struct boddurci_seen *seen = &place->seen[file];
+    if (fstat(opened, &found) != 0)
+        return -1;
+    if (seen->is_there && (seen->device != found.st_dev || seen->number != found.st_ino)) {
+        errno = ESTALE;
+        return -1;
+    }
+    if (!S_ISREG(found.st_mode)) {
+        errno = S_ISDIR(found.st_mode) ? EISDIR : EINVAL;
+        return -1;
+    }
+    seen->is_there = 1;
+    seen->device = found.st_dev;
+    seen->number = found.st_ino;
+    return 0;
+}
+
+int boddurci_open_data(struct boddurci_place *place, enum boddurci_file file, int how)
+{
+    int opened = openat(place->folder, place->names[file], how | O_NONBLOCK | O_NOCTTY | O_CLOEXEC);
+    if (opened < 0) {
+        errno = errno == ENOENT && place->seen[file].is_there ? ESTALE : errno;
+        return -1;
+    }
+    return boddurci_see(place, file, opened) == 0 ? opened : leave(opened, errno);
+}
+
+/* ---- the files beside them */
+
+static const char *kind_of(mode_t mode)
+{
+    if (S_ISREG(mode))
+        return NULL;
+    if (S_ISLNK(mode))
+        return "is a symbolic link";
+    if (S_ISDIR(mode))
+        return "is a folder";
+    return S_ISFIFO(mode) ? "is a FIFO" : "is a device or a socket";
+}
+
+static uint32_t not_taken(boddurci_fault *fault, const char *name, const char *why)
+{
+    boddurci_fail(fault, BODDURCI_UNSAFE, 0, "");
+    snprintf(fault->text, sizeof fault->text, "%.100s %s, and is not taken", name, why);
+    return fault->status;
+}
+
+/* Whether all who may write a file may write .pag; .pag is NULL where it is not there, and a lock, which has no bytes, may be written then. */
+static int is_writing_safe(enum boddurci_file file, const struct stat *found, const struct stat *pages)
+{
+    if (pages == NULL)
+        return file == BODDURCI_LOCK || (found->st_mode & (S_IWGRP | S_IWOTH)) == 0;
+    if (pages->st_mode & S_IWOTH)
+        return 1;
+    int is_group_safe = (pages->st_mode & S_IWGRP) != 0 && pages->st_gid == found->st_gid;
+    return (found->st_mode & S_IWOTH) == 0 && ((found->st_mode & S_IWGRP) == 0 || is_group_safe);
+}
+
+/* Whether its owner may have made it: oneself, root, the owner of .pag. A lock may also be made by others who write .pag, whose owner they
+ * cannot give it. */
+static int is_owner_safe(enum boddurci_file file, const struct stat *found, const struct stat *pages)
+{
+    if (found->st_uid == geteuid() || found->st_uid == 0 || (pages != NULL && found->st_uid == pages->st_uid))
+        return 1;
+    if (file != BODDURCI_LOCK || pages == NULL)
+        return 0;
+    return (pages->st_mode & S_IWOTH) != 0 || ((pages->st_mode & S_IWGRP) != 0 && found->st_gid == pages->st_gid);
+}
+
+/* Whether a file beside the database is taken; one that has lost its name meanwhile is. */
+static uint32_t look(const struct boddurci_place *place, enum boddurci_file file, const struct stat *found, boddurci_fault *fault)
+{
+    struct stat pages;
+    char why[80];
+    const char *kind = kind_of(found->st_mode), *name = place->names[file];
+    if (kind != NULL)
+        return not_taken(fault, name, kind);
+    if (found->st_nlink > 1)
+        return not_taken(fault, name, "has another name beside this one");
+    int is_there = fstatat(place->folder, place->names[BODDURCI_PAGES], &pages, 0) == 0;
+    if (!is_there && errno != ENOENT)
+        return boddurci_fail_by_system(fault, "BASE.pag cannot be looked at");
+    const struct stat *beside = is_there ? &pages : NULL;
+    if (is_owner_safe(file, found, beside) && is_writing_safe(file, found, beside))
+        return BODDURCI_DONE;
+    snprintf(why, sizeof why, "is of user %lu with mode %04o", (unsigned long)found->st_uid, (unsigned)found->st_mode & 07777);
+    return not_taken(fault, name, why);
+}
+
+static uint32_t cannot_be_opened(enum boddurci_file file, boddurci_fault *fault)
+{
+    return boddurci_fail_by_system(fault, file == BODDURCI_REDO ? "BASE.redo cannot be opened" : "BASE.lock cannot be opened");
+}
+
+/* Opens it; a lock that may only be read serves too. */
+static int open_found(const struct boddurci_place *place, enum boddurci_file file, int how)
+{
+    int more = O_NOFOLLOW | O_NONBLOCK | O_NOCTTY | O_CLOEXEC, opened = openat(place->folder, place->names[file], how | more);
+    if (opened < 0 && file == BODDURCI_LOCK && errno != ENOENT)
+        opened = openat(place->folder, place->names[file], O_RDONLY | more);
+    return opened;
+}
+
+uint32_t boddurci_open_beside(const struct boddurci_place *place, enum boddurci_file file, int how, int *opened, boddurci_fault *fault)
+{
+    struct stat found;
+    *opened = -1;
+    if (fstatat(place->folder, place->names[file], &found, AT_SYMLINK_NOFOLLOW) != 0)
+        return errno == ENOENT ? BODDURCI_DONE : cannot_be_opened(file, fault);
+    uint32_t status = look(place, file, &found, fault);
+    if (status != BODDURCI_DONE)
+        return status;
+    int there = open_found(place, file, how);
+    if (there < 0)
+        return errno == ENOENT ? BODDURCI_DONE : cannot_be_opened(file, fault);
+    /* It may be another by now. */
+    status = fstat(there, &found) == 0 ? look(place, file, &found, fault) : cannot_be_opened(file, fault);
+    if (status == BODDURCI_DONE)
+        *opened = there;
+    else
+        close(there);
+    return status;
+}
+
+int boddurci_make(const struct boddurci_place *place, enum boddurci_file file, mode_t mode)
+{
+    return openat(place->folder, place->names[file], O_RDWR | O_CREAT | O_EXCL | O_NOFOLLOW | O_CLOEXEC, mode);
+}
+
+mode_t boddurci_mode_of_pages(const struct boddurci_place *place, mode_t otherwise)
+{
+    struct stat pages;
+    return fstatat(place->folder, place->names[BODDURCI_PAGES], &pages, 0) == 0 ? pages.st_mode & 0666 : otherwise;
+}
+
+/* Gives a file an owner and a group, each alone. Where the system does not let it be given away, it stays the user's own. */
+static int give(int opened, const struct stat *pages, struct stat *own)
+{
+    if (fstat(opened, own) != 0)
+        return -1;
+    if (own->st_uid != pages->st_uid && fchown(opened, pages->st_uid, (gid_t)-1) != 0)
+        errno = 0;
+    if (own->st_gid != pages->st_gid && fchown(opened, (uid_t)-1, pages->st_gid) != 0)
+        errno = 0;
+    return fstat(opened, own);
+}
+
+int boddurci_be_like_pages(const struct boddurci_place *place, enum boddurci_file file, int opened)
+{
+    struct stat own, pages;
+    if (fstatat(place->folder, place->names[BODDURCI_PAGES], &pages, 0) != 0)
+        return errno == ENOENT ? 0 : -1;
+    if (give(opened, &pages, &own) != 0)
+        return -1;
+    mode_t mode = pages.st_mode & 0666;
+    int has_owner = own.st_uid == pages.st_uid, has_group = own.st_gid == pages.st_gid;
+    if (!has_group)
+        mode &= ~(mode_t)S_IRWXG;
+    if (file == BODDURCI_LOCK && !(has_owner && has_group))
+        mode |= S_IROTH;
+    return fchmod(opened, mode);
+}
+
+/* ---- keeping */
+
+int boddurci_keep_opened(int opened)
+{
+    int status;
+    do
+        status = fdatasync(opened);
+    while (status != 0 && errno == EINTR);
+    return status;
+}
+
+int boddurci_keep_folder(const struct boddurci_place *place)
+{
+    int opened = openat(place->folder, ".", O_RDONLY | O_DIRECTORY | O_CLOEXEC);
+    if (opened < 0)
+        return -1;
+    int status = fsync(opened), system = errno;
+    close(opened);
+    errno = system;
+    return status;
+}

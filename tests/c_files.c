@@ -4,10 +4,13 @@
 #include "boddurci_files.h"
 #include <errno.h>
 #include <fcntl.h>
+#include <signal.h>
 #include <stdio.h>
 #include <stdlib.h>
 #include <string.h>
 #include <sys/stat.h>
+#include <sys/wait.h>
+#include <time.h>
 #include <unistd.h>
 
 enum { PAIRS = 1000 };
@@ -120,12 +123,12 @@ static void test_failing(void)
 {
     boddurci_base *base = opened("visits", 0);
     delete_one(base, "key0");
-    EXPECT(mkdir("visits.redo", 0777) == 0);
-    EXPECT(boddurci_save(base, &fault) == BODDURCI_FILE_FAILED && fault.system == EISDIR && rmdir("visits.redo") == 0);
-    EXPECT(symlink("no/such/folder", "visits.redo") == 0);
-    EXPECT(boddurci_save(base, &fault) == BODDURCI_FILE_FAILED && fault.system == ENOENT && !is_there("visits.redo"));
-    EXPECT(found_beside("visits", "visits.lock") == PAIRS + 1);
-    EXPECT(boddurci_save(base, &fault) == BODDURCI_DONE && !is_there("visits.redo"));
+    EXPECT(mkdir("visits.redo", 0777) == 0 && boddurci_save(base, &fault) == BODDURCI_UNSAFE);
+    EXPECT(strcmp(fault.text, "visits.redo is a folder, and is not taken") == 0 && rmdir("visits.redo") == 0);
+    EXPECT(symlink("elsewhere", "visits.redo") == 0 && boddurci_save(base, &fault) == BODDURCI_UNSAFE);
+    EXPECT(strcmp(fault.text, "visits.redo is a symbolic link, and is not taken") == 0 && unlink("visits.redo") == 0);
+    EXPECT(!is_there("elsewhere") && found_beside("visits", "visits.lock") == PAIRS + 1);
+    EXPECT(boddurci_save(base, NULL) == BODDURCI_DONE && !is_there("visits.redo"));
     EXPECT(found_beside("visits", "visits.lock") == PAIRS);
     boddurci_close_files(base);
 }
@@ -173,11 +176,35 @@ static void test_other_base(void)
     EXPECT(symlink("nowhere", "astray.pag") == 0 && fails("astray", 0, BODDURCI_FILE_FAILED) && fault.system == ENOENT);
 }
 
-/* Redo files: one that no save has left, and one that is not marked. */
+/* A marked redo file without changes: the new lengths of .pag and .dir, and the old ones. */
+static void write_redo(const char *name, const uint32_t lengths[4])
+{
+    char redo[29] = "\1sdbmred2";
+    for (int i = 0; i < 16; i++)
+        redo[9 + i] = (char)(lengths[i / 4] >> 8 * (i % 4));
+    write_text(name, redo, sizeof redo);
+}
+
+static int is_bad_redo(const char *name)
+{
+    return fails(name, 0, BODDURCI_BAD_REDO) && fails(name, BODDURCI_READ_ONLY, BODDURCI_BAD_REDO) && strstr(fault.text, "is not of these files");
+}
+
+/* Redo files: one that no save has left, one of the form before this one, one of other files, and one that is not marked. */
 static void test_redo(void)
 {
+    static const uint32_t other[4] = {1024, 0, 2048, 0}, long_file[4] = {1073742848, 0, 0, 0}, long_dir[4] = {0, 268435457, 0, 0};
+    static const char former[21] = "\1sdbmredo";
     write_text("visits.redo", "\1plan", 5);
-    EXPECT(fails("visits", 0, BODDURCI_BAD_REDO) && fails("visits", BODDURCI_READ_ONLY, BODDURCI_BAD_REDO));
+    EXPECT(is_bad_redo("visits"));
+    write_text("visits.redo", former, sizeof former);
+    EXPECT(is_bad_redo("visits"));
+    write_redo("visits.redo", other);
+    EXPECT(is_bad_redo("visits"));
+    write_redo("visits.redo", long_file);
+    EXPECT(fails("visits", 0, BODDURCI_TOO_LONG) && fails("visits", BODDURCI_READ_ONLY, BODDURCI_TOO_LONG));
+    write_redo("visits.redo", long_dir);
+    EXPECT(fails("visits", 0, BODDURCI_TOO_LONG) && fails("visits", BODDURCI_READ_ONLY, BODDURCI_TOO_LONG));
     write_text("visits.redo", "\0plan", 5);
     boddurci_base *base = opened("visits", 0);
     EXPECT(count_of(base) == PAIRS && is_there("visits.redo"));
@@ -188,19 +215,39 @@ static void test_redo(void)
 /* A save of an empty database that was cut off: a reader finds it empty and writes nothing, and who writes ends it. */
 static void test_cut_off(void)
 {
-    static const char redo[21] = "\1sdbmredo";
+    static const uint32_t lengths[4] = {0, 0, 1024, 0};
     struct stat found;
     boddurci_base *base = opened("cut", 0);
     store_one(base, 1);
     EXPECT(boddurci_save(base, &fault) == BODDURCI_DONE);
     boddurci_close_files(base);
-    write_text("cut.redo", redo, sizeof redo);
+    write_redo("cut.redo", lengths);
     base = opened("cut", BODDURCI_READ_ONLY | BODDURCI_MUST_EXIST);
     EXPECT(count_of(base) == 0 && stat("cut.pag", &found) == 0 && found.st_size == 1024 && is_there("cut.redo"));
     boddurci_close_files(base);
     base = opened("cut", 0);
     EXPECT(count_of(base) == 0 && stat("cut.pag", &found) == 0 && found.st_size == 0 && !is_there("cut.redo"));
     boddurci_close_files(base);
+}
+
+/* A plan whose block is half done, is done, or is of other bytes; and two changes of one place. */
+static void test_known(void)
+{
+    static const uint8_t head[29] = {1, 's', 'd', 'b', 'm', 'r', 'e', 'd', '2', 0, 4, 0, 0, 0, 0, 0, 0, 0, 4, 0, 0, 0, 0, 0, 0, 2};
+    static const uint8_t changes[2][13] = {{0, 252, 3, 0, 0, 2, 0, 0, 0, 'n', 'e', 0, 0}, {0, 253, 3, 0, 0, 2, 0, 0, 0, 'x', 'y', 'e', 0}};
+    char redo[55], page[1024] = {0};
+    memcpy(redo, head, 29);
+    memcpy(redo + 29, changes, 26);
+    for (int found = 0; found < 256; found++) {
+        page[1021] = (char)found;
+        write_text("known.pag", page, sizeof page);
+        write_text("known.redo", redo, sizeof redo);
+        if (found == 0 || found == 'e' || found == 'x')
+            boddurci_close_files(opened("known", BODDURCI_READ_ONLY));
+        else
+            EXPECT(is_bad_redo("known"));
+    }
+    EXPECT(unlink("known.redo") == 0 && unlink("known.pag") == 0);
 }
 
 static void test_bytes(void)
@@ -218,6 +265,174 @@ static void test_bytes(void)
     boddurci_close_files(base);
 }
 
+/* ---- names, strangers, children and time */
+
+static void test_names(void)
+{
+    static const char *const names[] = {"", ".", "..", "/", "a/", "a/.", "a/..", "/..", "./"};
+    for (size_t i = 0; i < sizeof names / sizeof *names; i++)
+        EXPECT(fails(names[i], 0, BODDURCI_BAD_NAME));
+    EXPECT(fails(NULL, 0, BODDURCI_BAD_NAME) && boddurci_open_files(NULL, 0, NULL) == NULL);
+    EXPECT(boddurci_save(NULL, &fault) == BODDURCI_IS_CLOSED && boddurci_take(NULL) == NULL);
+    boddurci_give(NULL);
+    for (uint32_t status = 0; status < 50; status++) {
+        int is_one = status <= BODDURCI_CHANGED || (status >= BODDURCI_IS_CLOSED && status <= BODDURCI_NO_TICKET) ||
+                     (status >= BODDURCI_FILE_FAILED && status <= BODDURCI_INTERRUPTED);
+        EXPECT((strcmp(boddurci_files_text(status), "no status") != 0) == is_one);
+    }
+    EXPECT(strcmp(boddurci_version(), BODDURCI_VERSION) == 0);
+}
+
+/* Whether the base is refused with a file beside it that says this, and both openings leave it as it is. */
+static int is_unsafe(const char *name, const char *text)
+{
+    EXPECT(fails(name, BODDURCI_READ_ONLY, BODDURCI_UNSAFE) && strcmp(fault.text, text) == 0);
+    return fails(name, BODDURCI_NO_WAIT, BODDURCI_UNSAFE) && strcmp(fault.text, text) == 0;
+}
+
+static void make_database(const char *name)
+{
+    boddurci_base *base = opened(name, 0);
+    store_one(base, 1);
+    EXPECT(boddurci_save(base, &fault) == BODDURCI_DONE);
+    boddurci_close_files(base);
+}
+
+static void test_unsafe(void)
+{
+    char text[100];
+    make_database("beside");
+    EXPECT(chmod("beside.pag", 0644) == 0 && unlink("beside.lock") == 0);
+    EXPECT(mkfifo("beside.redo", 0600) == 0 && is_unsafe("beside", "beside.redo is a FIFO, and is not taken") && unlink("beside.redo") == 0);
+    write_text("beside.redo", "", 0);
+    EXPECT(link("beside.redo", "second") == 0 && is_unsafe("beside", "beside.redo has another name beside this one, and is not taken"));
+    EXPECT(unlink("second") == 0 && chmod("beside.redo", 0664) == 0);
+    snprintf(text, sizeof text, "beside.redo is of user %lu with mode 0664, and is not taken", (unsigned long)geteuid());
+    EXPECT(is_unsafe("beside", text) && chmod("beside.pag", 0664) == 0);
+    boddurci_close_files(opened("beside", BODDURCI_READ_ONLY));
+    EXPECT(rename("beside.pag", "away") == 0 && is_unsafe("beside", text) && rename("away", "beside.pag") == 0 && unlink("beside.redo") == 0);
+    EXPECT(unlink("beside.lock") == 0 && symlink("elsewhere", "beside.lock") == 0);
+    EXPECT(is_unsafe("beside", "beside.lock is a symbolic link, and is not taken") && !is_there("elsewhere") && unlink("beside.lock") == 0);
+    EXPECT(mkfifo("beside.lock", 0600) == 0 && is_unsafe("beside", "beside.lock is a FIFO, and is not taken") && unlink("beside.lock") == 0);
+}
+
+/* What a save makes has the permissions of .pag, whatever the mask says. */
+static void test_permissions(void)
+{
+    struct stat found;
+    EXPECT(chmod("beside.pag", 0620) == 0 && unlink("beside.dir") == 0);
+    boddurci_base *base = opened("beside", 0);
+    EXPECT(stat("beside.lock", &found) == 0 && (found.st_mode & 07777) == 0620);
+    for (int i = 0; i < PAIRS; i++)
+        store_one(base, i);
+    EXPECT(boddurci_save(base, &fault) == BODDURCI_DONE && stat("beside.dir", &found) == 0 && (found.st_mode & 07777) == 0620);
+    boddurci_close_files(base);
+}
+
+/* A file that is another than was opened is left alone, and the base stays usable. */
+static void test_moved(void)
+{
+    static const char *const names[] = {"moved.lock", "moved.pag"};
+    struct stat found;
+    make_database("moved");
+    for (int i = 0; i < 2; i++) {
+        boddurci_base *base = opened("moved", 0);
+        store_one(base, 10 + i);
+        EXPECT(rename(names[i], "away") == 0 && boddurci_save(base, &fault) == BODDURCI_MOVED && !is_there(names[i]));
+        write_text(names[i], "", 0);
+        EXPECT(boddurci_save(base, &fault) == BODDURCI_MOVED && stat(names[i], &found) == 0 && found.st_size == 0 && !is_there("moved.redo"));
+        EXPECT(rename("away", names[i]) == 0 && boddurci_save(base, &fault) == BODDURCI_DONE && count_of(base) == (size_t)(2 + i));
+        boddurci_close_files(base);
+    }
+}
+
+/* A chdir, and a folder that is renamed, lead no save astray. */
+static void test_folder(void)
+{
+    EXPECT(mkdir("one", 0777) == 0 && mkdir("two", 0777) == 0 && symlink("one", "link") == 0);
+    boddurci_base *linked = opened("link/db", 0);
+    EXPECT(chdir("one") == 0);
+    boddurci_base *base = opened("here", 0);
+    store_one(base, 1);
+    store_one(linked, 1);
+    EXPECT(chdir("../two") == 0 && boddurci_save(base, &fault) == BODDURCI_DONE && chdir("..") == 0);
+    EXPECT(unlink("link") == 0 && symlink("two", "link") == 0 && boddurci_save(linked, &fault) == BODDURCI_DONE);
+    EXPECT(is_there("one/here.pag") && is_there("one/db.pag") && !is_there("two/here.pag") && !is_there("two/db.pag"));
+    EXPECT(rename("one", "three") == 0);
+    store_one(base, 2);
+    EXPECT(boddurci_save(base, &fault) == BODDURCI_DONE && !is_there("one"));
+    boddurci_close_files(base);
+    boddurci_close_files(linked);
+    base = opened("three/here", BODDURCI_READ_ONLY);
+    EXPECT(count_of(base) == 2);
+    boddurci_close_files(base);
+}
+
+/* What a child does with the base of its parent: 0 where all is refused. */
+static int in_child(boddurci_base *base)
+{
+    int is_refused = boddurci_save(base, &fault) == BODDURCI_FORKED && boddurci_take(base) == NULL;
+    boddurci_give(base);
+    boddurci_close_files(base);
+    return is_refused ? 0 : 1;
+}
+
+static void test_forked(void)
+{
+    int status;
+    make_database("forked");
+    boddurci_base *base = opened("forked", 0);
+    store_one(base, 2);
+    pid_t child = fork();
+    if (child == 0)
+        _exit(in_child(base));
+    EXPECT(child > 0 && waitpid(child, &status, 0) == child && WIFEXITED(status) && WEXITSTATUS(status) == 0);
+    EXPECT(fails("forked", BODDURCI_NO_WAIT, BODDURCI_LOCKED) && boddurci_save(base, &fault) == BODDURCI_DONE);
+    /* A child that lives on does not keep the lock. */
+    child = fork();
+    if (child == 0) {
+        pause();
+        _exit(0);
+    }
+    boddurci_close_files(base);
+    base = opened("forked", BODDURCI_NO_WAIT);
+    EXPECT(child > 0 && count_of(base) == 2 && kill(child, SIGKILL) == 0 && waitpid(child, &status, 0) == child);
+    boddurci_close_files(base);
+}
+
+static void heard(int number)
+{
+    (void)number;
+}
+
+static double seconds(void)
+{
+    struct timespec now;
+    clock_gettime(CLOCK_MONOTONIC, &now);
+    return (double)now.tv_sec + (double)now.tv_nsec * 1e-9;
+}
+
+/* A wait that ends by its time, and one that a signal ends. */
+static void test_within(void)
+{
+    struct sigaction action;
+    memset(&action, 0, sizeof action);
+    action.sa_handler = heard;
+    boddurci_base *base = opened("visits", 0);
+    double start = seconds();
+    EXPECT(boddurci_open_files_within("visits", 0, 100, &fault) == NULL && fault.status == BODDURCI_LOCKED);
+    EXPECT(seconds() - start > 0.09 && boddurci_open_files_within("visits", 0, 0, &fault) == NULL && fault.status == BODDURCI_LOCKED);
+    EXPECT(sigaction(SIGALRM, &action, NULL) == 0);
+    for (int milliseconds = -1; milliseconds < 60000; milliseconds += 60000) {
+        alarm(1);
+        EXPECT(boddurci_open_files_within("visits", 0, milliseconds, &fault) == NULL && fault.status == BODDURCI_INTERRUPTED);
+    }
+    boddurci_close_files(base);
+    base = boddurci_open_files_within("visits", 0, INT64_MAX, &fault);
+    EXPECT(base != NULL && count_of(base) == PAIRS);
+    boddurci_close_files(base);
+}
+
 int main(int argc, char **argv)
 {
     if (argc != 2 || chdir(argv[1]) != 0)
@@ -230,7 +445,15 @@ int main(int argc, char **argv)
     test_other_base();
     test_redo();
     test_cut_off();
+    test_known();
     test_bytes();
+    test_names();
+    test_unsafe();
+    test_permissions();
+    test_moved();
+    test_folder();
+    test_forked();
+    test_within();
     printf("%lu answers as expected\n", looked);
     return 0;
 }

@@ -153,13 +153,17 @@ int ftruncate64(int fd, off64_t length)
 int unlink(const char *name)
 {
     int status = is_cut() ? -1 : REAL(unlink)(name);
-    note("unlink", name, 0, NULL, 0);
+    if (status == 0)
+        note("unlink", name, 0, NULL, 0);
     return status;
 }
 
 int unlinkat(int folder, const char *name, int how)
 {
-    return is_cut() ? -1 : REAL(unlinkat)(folder, name, how);
+    int status = is_cut() ? -1 : REAL(unlinkat)(folder, name, how);
+    if (status == 0)
+        note("unlink", name, 0, NULL, 0);
+    return status;
 }
 
 int rename(const char *from, const char *to)

@@ -8,35 +8,34 @@
 
 `open` can stand for `dbm.open`: keys and values are bytes, a str counts as its UTF-8. A database is in memory while it is open, under an
 exclusive lock on BASE.lock unless it is only read; `sync` and `close` write its files, and a crash meanwhile leaves the database before or
-after. Threads may share it.
+after. Threads may share it. A child of the process that has opened it may not: there each call but `close` is an error, and nothing is saved.
 
 It stands on the shared object that `./dbm --build-library` makes: the file that BODDURCI_LIBRARY names, else libboddurci.so beside this
 file, in out/boddurci of the repository, or where the system finds it.
 """
 
-import builtins
 import ctypes
 import ctypes.util
 import os
 import pathlib
 import threading
 import time
+import weakref
 from collections.abc import MutableMapping
 from typing import NamedTuple
 
 __all__ = ["Database", "Program", "ProgramError", "Ran", "error", "open"]
 
-# What a status is called: boddurci.h.
-_DONE, _MISSING, _BAD_TEXT, _REFUSED, _NO_MEMORY = 0, 1, 6, 5, 21
+# Statuses, and what some are called here: boddurci.h, boddurci_files.h. The library has words for the others.
+_DONE, _MISSING, _REFUSED, _BAD_TEXT, _IS_CLOSED, _FORKED, _INTERRUPTED = 0, 1, 5, 6, 16, 39, 41
 _WORDS = {
     2: "the key is there",
     3: "crowded: no room for the pair, however often its page is split",
-    4: "a room is too short",
     16: "the database is closed",
     18: "key and value have too many bytes together",
     19: "the argument has more than 1,024 bytes",
     20: "no program has the number",
-    21: "no memory",
+    39: "the database was opened by another process",
 }
 
 # boddurci_files.h
@@ -65,10 +64,22 @@ class Ran(NamedTuple):
     word: int
 
 
-class Program(NamedTuple):
-    """A program that a database accepted."""
+class Program:
+    """A program that a database accepted, under a number. No other database runs it, nor does this one once it is opened anew."""
 
-    number: int
+    __slots__ = ("number", "_of")
+
+    def __init__(self, number, of=None):
+        self.number, self._of = number, of
+
+    def __eq__(self, other):
+        return isinstance(other, Program) and (self.number, self._of) == (other.number, other._of)
+
+    def __hash__(self):
+        return hash((self.number, self._of))
+
+    def __repr__(self):
+        return f"Program({self.number})"
 
 
 class _Fault(ctypes.Structure):
@@ -97,10 +108,11 @@ def _bind():
     u32, u64, size = ctypes.c_uint32, ctypes.c_uint64, ctypes.c_size_t
     text, at = ctypes.c_char_p, ctypes.c_void_p
     kinds = {
-        "open_files": (waits, at, [text, u32, at]),
+        "open_files_within": (waits, at, [text, u32, ctypes.c_int64, at]),
+        "files_text": (quick, text, [u32]),
         "save": (waits, u32, [at, at]),
         "close_files": (waits, None, [at]),
-        "take": (quick, at, [at]),
+        "take": (waits, at, [at]),
         "give": (quick, None, [at]),
         "fetch": (quick, u32, [at, text, size, at, size, at]),
         "store": (quick, u32, [at, text, size, text, size, u32]),
@@ -113,12 +125,18 @@ def _bind():
         "next": (quick, u32, [at, at, at, size, at, at, size, at]),
     }
     for name, (library, result, arguments) in kinds.items():
-        call = getattr(library, f"boddurci_{name}")
+        call = getattr(library, f"boddurci_{name}", None)
+        if call is None:
+            raise ImportError(f"{path} has no boddurci_{name}: it is older than this file")
         call.restype, call.argtypes = result, arguments
         yield name, call
 
 
 _call = type("_Calls", (), {name: staticmethod(call) for name, call in _bind()})
+
+
+def _error(status):
+    return error(_WORDS.get(status) or _call.files_text(status).decode())
 
 
 def _bytes(value):
@@ -143,20 +161,47 @@ class _Room:
         return self._view[:length].tobytes()
 
 
+class _Taken:
+    """The mutex of a base, which its save wants too. Whoever waits for it lets other threads go on."""
+
+    def __init__(self, base):
+        self._base = base
+
+    def __enter__(self):
+        _call.take(self._base)
+
+    def __exit__(self, *_):
+        _call.give(self._base)
+
+
+def _opened(name, flags, timeout):
+    """A base, once its lock is had. A signal that comes meanwhile is handled, and then it waits on."""
+    fault, end = _Fault(), None if timeout is None else time.monotonic() + timeout
+    while True:
+        left = -1 if end is None else min(max(0, int((end - time.monotonic()) * 1000)), 2**52)
+        base = _call.open_files_within(name, flags, left, ctypes.byref(fault))
+        if base:
+            return base
+        if fault.status != _INTERRUPTED:
+            raise _of_fault(fault)
+
+
 class Database(MutableMapping):
     """A database that is open: a mapping from bytes to bytes. `open` makes it."""
 
-    _base = None
+    _base = _inherited = _process = None
+    # Whether it is saved when it is closed: not before it is all there.
+    _keeps = False
 
-    def __init__(self, base, flags):
-        fault = _Fault()
-        opened = _call.open_files(os.fsencode(base), flags, ctypes.byref(fault))
-        if not opened:
-            raise _of_fault(fault)
-        self._base, self._lock = opened, threading.RLock()
-        # Taken and given back once: the lock of this object is what keeps threads apart.
-        self._db = _call.take(opened)
-        _call.give(opened)
+    def __init__(self, name, flags, timeout=None):
+        self._process, self._base = os.getpid(), _opened(name, flags, timeout)
+        _databases[id(self)] = self
+        # What keeps threads apart: a lock of this object; while a save is under way the mutex of the base too.
+        self._alone, self._taken, self._token = threading.RLock(), _Taken(self._base), object()
+        self._set_locks()
+        # Taken and given back once: it stays the same.
+        self._db = _call.take(self._base)
+        _call.give(self._base)
         self._reads = bool(flags & _READ_ONLY)
         self._room, self._key, self._cursor = _Room(_VALUE_MOST), _Room(_VALUE_MOST), _Cursor()
         self._length, self._other, self._place = ctypes.c_size_t(), ctypes.c_size_t(), ctypes.c_size_t()
@@ -166,9 +211,17 @@ class Database(MutableMapping):
         # What a fetch is given behind its key.
         self._value = (self._room.at, _VALUE_MOST, self._at["_length"])
 
+    def _set_locks(self):
+        self._lock, self._saving, self._beside = threading.RLock(), threading.RLock(), self._alone
+
+    def _leave_to_parent(self):
+        """In a child: what it may still do is to let its memory go. A thread that held a lock is not there any more."""
+        self._set_locks()
+        self._inherited, self._base, self._db = self._base or self._inherited, None, None
+
     def _need_open(self):
         if self._base is None:
-            raise error(_WORDS[16])
+            raise _error(_FORKED if self._process != os.getpid() else _IS_CLOSED)
 
     def _need_writes(self):
         self._need_open()
@@ -180,48 +233,48 @@ class Database(MutableMapping):
 
     def __getitem__(self, key):
         name = _bytes(key)
-        with self._lock:
+        with self._lock, self._beside:
             self._need_open()
             status = _call.fetch(self._db, name, len(name), *self._value)
             if status == _DONE:
                 return self._room.taken(self._length.value)
         if status == _MISSING:
             raise KeyError(key)
-        raise error(_WORDS[status])
+        raise _error(status)
 
     def __contains__(self, key):
         name = _bytes(key)
-        with self._lock:
+        with self._lock, self._beside:
             self._need_open()
             return _call.fetch(self._db, name, len(name), *self._value) != _MISSING
 
     def __setitem__(self, key, value):
         name, value = _bytes(key), _bytes(value)
-        with self._lock:
+        with self._lock, self._beside:
             self._need_writes()
             status = _call.store(self._db, name, len(name), value, len(value), 1)
         if status != _DONE:
-            raise error(_WORDS[status])
+            raise _error(status)
 
     def __delitem__(self, key):
         name = _bytes(key)
-        with self._lock:
+        with self._lock, self._beside:
             self._need_writes()
             status = _call.delete(self._db, name, len(name))
         if status == _MISSING:
             raise KeyError(key)
         if status != _DONE:
-            raise error(_WORDS[status])
+            raise _error(status)
 
     def __len__(self):
-        with self._lock:
+        with self._lock, self._beside:
             self._need_open()
             _call.count(self._db, self._at["_length"])
             return self._length.value
 
     def _pairs(self):
         """All pairs, as they stand now."""
-        with self._lock:
+        with self._lock, self._beside:
             self._need_open()
             where, found = self._at["_cursor"], []
             _call.first(self._db, where)
@@ -255,7 +308,7 @@ class Database(MutableMapping):
 
     def program(self, source):
         """Has a program accepted: its text, a str, or its image, bytes. ProgramError says why it is refused, and where."""
-        with self._lock:
+        with self._lock, self._beside:
             self._need_open()
             image = self._assembled(source) if isinstance(source, str) else bytes(source)
             number = ctypes.c_uint32()
@@ -264,8 +317,8 @@ class Database(MutableMapping):
                 unit = self._place.value
                 raise ProgramError(self._text(), None if unit == ctypes.c_size_t(-1).value else unit)
             if status != _DONE:
-                raise error(_WORDS[status])
-            return Program(number.value)
+                raise _error(status)
+            return Program(number.value, self._token)
 
     def _assembled(self, source):
         text, image = source.encode("utf-8"), _Room(_IMAGE_MOST)
@@ -273,15 +326,17 @@ class Database(MutableMapping):
         if status == _BAD_TEXT:
             raise ProgramError(self._text(), self._place.value or None)
         if status != _DONE:
-            raise error(_WORDS[status])
+            raise _error(status)
         return image.taken(self._other.value)
 
     def run(self, program, key, arg=b"", blank=None, now=None):
         """Runs a program on the record of a key, or on so many zeros where the key is not there and `blank` says how many, as one step.
         The program is told the time `now`, in seconds, which is the system's where none is given."""
         name, arg = _bytes(key), _bytes(arg)
-        with self._lock:
+        with self._lock, self._beside:
             self._need_writes()
+            if getattr(program, "_of", None) is not self._token:
+                raise ProgramError("the program was not accepted by this database", None)
             status = _call.run(
                 self._db,
                 program.number,
@@ -299,27 +354,42 @@ class Database(MutableMapping):
                 return Ran(self._end.value, self._word.value)
         if status == _MISSING:
             raise KeyError(key)
-        raise error(_WORDS[status])
+        raise _error(status)
 
     def sync(self):
-        """Writes both files, and keeps them on the disk."""
+        """Writes both files, and keeps them on the disk. Meanwhile other threads go on."""
         fault = _Fault()
-        with self._lock:
-            self._need_open()
-            if self._reads:
-                return
-            if _call.save(self._base, ctypes.byref(fault)) != _DONE:
+        with self._saving:
+            with self._lock:
+                self._need_open()
+                if self._reads:
+                    return
+                self._beside = self._taken
+            try:
+                status = _call.save(self._base, ctypes.byref(fault))
+            finally:
+                with self._lock:
+                    self._beside = self._alone
+            if status != _DONE:
                 raise _of_fault(fault)
 
     def close(self):
-        """Writes both files, unless the database is only read, and lets the lock go. A fault of the files leaves it open."""
-        if self._base is None:
+        """Writes both files, unless the database is only read, and lets the lock go. A fault of the files leaves it open. In a child of the
+        process that has opened it nothing is written, and the lock stays."""
+        if self._base is None and self._inherited is None:
             return
-        with self._lock:
-            if self._base is not None:
+        if self._process != os.getpid():
+            self._leave_to_parent()
+            self._let_go()
+            return
+        with self._saving, self._lock:
+            if self._base is not None and self._keeps:
                 self.sync()
-                _call.close_files(self._base)
-                self._base = self._db = None
+            self._let_go()
+
+    def _let_go(self):
+        base, self._base, self._inherited, self._db = self._base or self._inherited, None, None, None
+        _call.close_files(base)
 
     def __enter__(self):
         return self
@@ -334,23 +404,45 @@ class Database(MutableMapping):
             pass
 
 
+# Those that are open, for a child to leave them to its parent.
+_databases = weakref.WeakValueDictionary()
+
+
+def _leave_all():
+    for database in list(_databases.values()):
+        database._leave_to_parent()
+
+
+os.register_at_fork(after_in_child=_leave_all)
+
+
 def _of_fault(fault):
     text = fault.text.decode("utf-8", "replace")
     return error(fault.system, text) if fault.system else error(text)
 
 
-def open(file, flag="r", mode=0o666, *, wide=False, unsigned_keys=False, wait=True):
+def open(file, flag="r", mode=0o666, *, wide=False, unsigned_keys=False, wait=True, timeout=None):
     """Opens FILE.dir and FILE.pag, as dbm.open does: 'r' reads only, 'w' writes too, 'c' makes the files where they are missing, 'n'
     begins with an empty database. `wide` is for pages of 8,192 bytes, `unsigned_keys` for keys that hash by unsigned bytes; the files do
-    not say which. Without `wait` a lock that another has is an error."""
+    not say which. Without `wait` a lock that another has is an error, and with a `timeout` one that another still has after so many
+    seconds."""
     if flag not in ("r", "w", "c", "n"):
         raise ValueError("flag must be 'r', 'w', 'c' or 'n'")
-    name = os.fspath(file)
+    name = os.fsencode(file)
+    if b"\0" in name:
+        raise ValueError("the name has a zero byte")
+    if timeout is not None and not timeout >= 0:
+        raise ValueError("a timeout is a number of seconds, 0 or more")
     flags = {"r": _READ_ONLY | _MUST_EXIST, "w": _MUST_EXIST, "c": 0, "n": _EMPTY}[flag]
     flags |= (_WIDE if wide else 0) | (_UNSIGNED_KEYS if unsigned_keys else 0) | (0 if wait else _NO_WAIT)
-    db = Database(name, flags)
-    if flag in ("c", "n"):
-        _make_files(db, os.fsencode(name), mode, flag == "n")
+    db = Database(name, flags, timeout)
+    try:
+        if flag in ("c", "n"):
+            _make_files(db, name, mode, flag == "n")
+        db._keeps = not db._reads
+    except BaseException:
+        db.close()
+        raise
     return db
 
 
@@ -358,8 +450,10 @@ def _make_files(db, name, mode, always):
     """Files of a new database, with the permissions that are asked for."""
     is_new = False
     for ending in (b".dir", b".pag"):
-        if not os.path.exists(name + ending):
-            with builtins.open(name + ending, "ab", opener=lambda path, how: os.open(path, how, mode)):
-                is_new = True
+        try:
+            os.close(os.open(name + ending, os.O_WRONLY | os.O_CREAT | os.O_EXCL | os.O_NOFOLLOW | os.O_CLOEXEC, mode))
+            is_new = True
+        except FileExistsError:
+            pass
     if is_new or always:
         db.sync()

@@ -7,11 +7,13 @@ import pathlib
 import random
 import resource
 import shutil
+import signal
 import stat
 import subprocess
 import sys
 import tempfile
 import threading
+import time
 import unittest
 
 sys.path.insert(0, str(pathlib.Path(__file__).resolve().parent))
@@ -89,6 +91,45 @@ class Mapping(InFolder):
         with self.assertRaisesRegex(boddurci.error, "PagLength"):
             boddurci.open(self.base)
 
+    def test_names(self):
+        for name in ("a\0b", b"\0"):
+            with self.assertRaisesRegex(ValueError, "zero byte"):
+                boddurci.open(os.path.join(os.fsencode(self.room.name), os.fsencode(name)), "c")
+        for name in ("", ".", "..", "/", "a/", "a/.", "a/.."):
+            with self.assertRaisesRegex(boddurci.error, "the name is empty"):
+                boddurci.open(name, "c")
+        self.assertEqual(os.listdir(self.room.name), [])
+
+    def test_an_opening_that_fails_saves_nothing(self):
+        with boddurci.open(self.base, "c") as db:
+            db[b"a"] = b"1"
+        with self.assertRaises(TypeError):
+            boddurci.open(self.base, "n", "rw")
+        with boddurci.open(self.base, "w", wait=False) as db:
+            self.assertEqual(db[b"a"], b"1")
+
+    def test_time(self):
+        with boddurci.open(self.base, "c"):
+            start = time.monotonic()
+            with self.assertRaisesRegex(boddurci.error, "another has the lock"):
+                boddurci.open(self.base, "w", timeout=0.2)
+            self.assertGreaterEqual(time.monotonic() - start, 0.19)
+            with self.assertRaises(ValueError):
+                boddurci.open(self.base, "w", timeout=-1)
+            self.addCleanup(signal.signal, signal.SIGALRM, signal.signal(signal.SIGALRM, self.heard))
+            for timeout in (None, 60):
+                self.count = 0
+                signal.setitimer(signal.ITIMER_REAL, 0.1, 0.1)
+                with self.assertRaises(KeyboardInterrupt):
+                    boddurci.open(self.base, "w", timeout=timeout)
+
+    def heard(self, *_):
+        """A signal: the second one ends the wait."""
+        self.count += 1
+        if self.count == 2:
+            signal.setitimer(signal.ITIMER_REAL, 0)
+            raise KeyboardInterrupt
+
     def test_what_is_not_saved_is_not_there(self):
         db = boddurci.open(self.base, "c")
         db[b"a"] = b"1"
@@ -140,16 +181,153 @@ class Saves(InFolder):
         with boddurci.open(self.base, "c") as db:
             db[b"a"] = b"1"
         redo = pathlib.Path(self.base + ".redo")
-        redo.write_bytes(b"\1sdbmredo" + bytes(12))
+        old = b"".join(os.path.getsize(self.base + ending).to_bytes(4, "little") for ending in (".pag", ".dir"))
+        redo.write_bytes(b"\1sdbmred2" + bytes(8) + old + bytes(4))
         with boddurci.open(self.base) as db:
             self.assertEqual(len(db), 0)
         self.assertTrue(redo.exists())
         with boddurci.open(self.base, "w") as db:
             self.assertEqual(len(db), 0)
         self.assertFalse(redo.exists())
-        redo.write_bytes(b"\1plan")
-        with self.assertRaisesRegex(boddurci.error, "no save has left it"):
+        for left in (b"\1plan", b"\1sdbmred2\0\4" + bytes(6) + b"\0\x08" + bytes(10)):
+            redo.write_bytes(left)
+            for flag in "rw":
+                with self.assertRaisesRegex(boddurci.error, "BASE.redo is marked, and is not of these files"):
+                    boddurci.open(self.base, flag)
+            self.assertEqual(redo.read_bytes(), left)
+
+    def test_strangers(self):
+        with boddurci.open(self.base, "c") as db:
+            db[b"a"] = b"1"
+        os.symlink("elsewhere", self.base + ".redo")
+        with self.assertRaisesRegex(boddurci.error, "db.redo is a symbolic link, and is not taken"):
             boddurci.open(self.base)
+
+    def test_moved(self):
+        with boddurci.open(self.base, "c") as db:
+            db[b"a"] = b"1"
+            os.rename(self.base + ".lock", self.base + ".away")
+            with self.assertRaisesRegex(boddurci.error, "BASE.lock is another file"):
+                db.sync()
+            os.rename(self.base + ".away", self.base + ".lock")
+
+    def test_a_slow_save_keeps_no_thread_waiting(self):
+        save = boddurci._call.save
+        self.addCleanup(setattr, boddurci._call, "save", staticmethod(save))
+        begun = threading.Event()
+
+        def slow(*words):
+            begun.set()
+            time.sleep(1)
+            return save(*words)
+
+        boddurci._call.save = staticmethod(slow)
+        with boddurci.open(self.base, "c") as db:
+            begun.clear()
+            thread = threading.Thread(target=db.sync)
+            thread.start()
+            begun.wait()
+            start = time.monotonic()
+            db[b"a"] = b"1"
+            self.assertEqual(db[b"a"], b"1")
+            self.assertLess(time.monotonic() - start, 0.5)
+            thread.join()
+        with boddurci.open(self.base) as db:
+            self.assertEqual(db[b"a"], b"1")
+
+
+class Children(InFolder):
+    def in_child(self, work):
+        """What a child tells, which ends as a program does."""
+        reading, writing = os.pipe()
+        child = os.fork()
+        if child == 0:
+            os.close(reading)
+            told = "nothing"
+            try:
+                told = work()
+            finally:
+                os.write(writing, str(told).encode())
+                os._exit(0)
+        os.close(writing)
+        with os.fdopen(reading) as pipe:
+            told = pipe.read()
+        os.waitpid(child, 0)
+        return told
+
+    def refused(self, db, program):
+        """How many calls on a database of the parent are refused."""
+        calls = (
+            lambda: db[b"a"],
+            lambda: db.update({b"a": b"child"}),
+            lambda: db.pop(b"a"),
+            lambda: len(db),
+            lambda: db.keys(),
+            lambda: b"a" in db,
+            lambda: db.sync(),
+            lambda: db.program("mov r0, 0\nexit\n"),
+            lambda: db.run(program, b"a", blank=8),
+        )
+        count = 0
+        for call in calls:
+            try:
+                call()
+            except boddurci.error as fault:
+                count += "opened by another process" in str(fault)
+        db.close()
+        return count
+
+    def test_refused(self):
+        with boddurci.open(self.base, "c") as db:
+            db[b"a"] = b"1"
+            program = db.program((TOP / "examples/counter.s").read_text())
+            self.assertEqual(self.in_child(lambda: self.refused(db, program)), "9")
+            with self.assertRaisesRegex(boddurci.error, "another has the lock"):
+                boddurci.open(self.base, "w", wait=False)
+            db[b"a"] = b"2"
+        with boddurci.open(self.base, wait=False) as db:
+            self.assertEqual(db[b"a"], b"2")
+
+    def test_ends(self):
+        """A child that ends saves nothing over its parent's later save."""
+        script = """
+import boddurci, os, sys
+db = boddurci.open(sys.argv[1], "c")
+db[b"a"] = b"old"
+reading, writing = os.pipe()
+if not os.fork():
+    os.close(writing)
+    os.read(reading, 1)
+    if len(sys.argv) > 2:
+        del db
+    sys.exit()
+db[b"a"] = b"new"
+db.close()
+os.close(writing)
+os.wait()
+"""
+        for words in ([], ["del"]):
+            words = [sys.executable, "-c", script, self.base, *words]
+            env = {**os.environ, "PYTHONPATH": str(TOP / "bindings/python")}
+            subprocess.run(words, env=env, check=True, timeout=60)
+            with boddurci.open(self.base, wait=False) as db:
+                self.assertEqual(db[b"a"], b"new")
+
+    def test_with_a_thread_at_work(self):
+        with boddurci.open(self.base, "c") as db:
+            is_over = threading.Event()
+
+            def work():
+                while not is_over.is_set():
+                    db[b"a"] = b"1"
+                    db.sync()
+
+            thread = threading.Thread(target=work)
+            thread.start()
+            for _ in range(20):
+                self.assertEqual(self.in_child(lambda: self.refused(db, None)), "9")
+            is_over.set()
+            thread.join()
 
 
 class Programs(InFolder):
@@ -186,8 +364,17 @@ class Programs(InFolder):
             with self.assertRaises(boddurci.ProgramError) as caught:
                 db.program(b"\0")
             self.assertEqual((str(caught.exception), caught.exception.at), ("Decode(Length)", None))
-            with self.assertRaises(boddurci.error):
+            with self.assertRaises(boddurci.ProgramError):
                 db.run(boddurci.Program(0), b"a", blank=8)
+
+    def test_of_another(self):
+        text = (TOP / "examples/counter.s").read_text()
+        with boddurci.open(self.base, "c") as db, boddurci.open(self.base + "2", "c") as other:
+            counter = db.program(text)
+            self.assertNotEqual(counter, other.program(text))
+            with self.assertRaisesRegex(boddurci.ProgramError, "not accepted by this database"):
+                other.run(counter, b"a", blank=8)
+            self.assertEqual(len(other), 0)
 
     def test_threads(self):
         with boddurci.open(self.base, "c") as db:

@@ -8,9 +8,11 @@
 #     untie %db;
 #
 # Keys and values are bytes. A database is in memory while it is tied, under an exclusive lock on BASE.lock unless it is only read ("r");
-# `sync` and `untie` write its files, and a crash meanwhile leaves the database before or after. It stands on FFI::Platypus (Debian:
-# libffi-platypus-perl), and on the shared object that `./dbm --build-library` makes: the file that BODDURCI_LIBRARY names, else that in
-# out/boddurci of the repository. What fails dies.
+# `sync` and `untie` write its files, and a crash meanwhile leaves the database before or after. Behind the mode stand options: wide => 1,
+# unsigned_keys => 1, no_wait => 1, and timeout => SECONDS, after which a lock that another has is an error. In a child of the process that
+# has tied it each call dies but `untie`, and nothing is saved. It stands on FFI::Platypus (Debian: libffi-platypus-perl), and on the shared
+# object that `./dbm --build-library` makes: the file that BODDURCI_LIBRARY names, else that in out/boddurci of the repository. What fails
+# dies.
 package Boddurci;
 use strict;
 use warnings;
@@ -19,17 +21,18 @@ use Cwd qw(abs_path);
 use File::Basename qw(dirname);
 use FFI::Platypus 1.00;
 use FFI::Platypus::Buffer qw(scalar_to_pointer);
+use Time::HiRes qw(clock_gettime CLOCK_MONOTONIC);
 
-my ($DONE, $MISSING, $REFUSED, $BAD_TEXT) = (0, 1, 5, 6);
+# Statuses, and what some are called here: boddurci.h, boddurci_files.h. The library has words for the others.
+my ($DONE, $MISSING, $REFUSED, $BAD_TEXT, $IS_CLOSED, $NO_PROGRAM, $FORKED, $INTERRUPTED) = (0, 1, 5, 6, 16, 20, 39, 41);
 my %WORDS = (
     2  => "the key is there",
     3  => "crowded: no room for the pair, however often its page is split",
-    4  => "a room is too short",
     16 => "the database is closed",
     18 => "key and value have too many bytes together",
     19 => "the argument has more than 1,024 bytes",
-    20 => "no program has the number",
-    21 => "no memory",
+    20 => "no program of this database has the number",
+    39 => "the database was opened by another process",
 );
 
 # boddurci_files.h
@@ -46,7 +49,8 @@ my @bytes = ("string", "size_t");
 my @room = ("opaque", "size_t", "size_t*");
 $ffi->attach(["boddurci_$_->[0]" => "_$_->[0]"], $_->[1], $_->[2])
     for (
-        ["open_files",  ["string", "uint32", "opaque"] => "opaque"],
+        ["open_files_within", ["string", "uint32", "sint64", "opaque"] => "opaque"],
+        ["files_text",  ["uint32"] => "string"],
         ["save",        ["opaque", "opaque"] => "uint32"],
         ["close_files", ["opaque"] => "void"],
         ["take",        ["opaque"] => "opaque"],
@@ -77,9 +81,14 @@ sub _given {
     return ($bytes, length $bytes);
 }
 
+sub _refuse {
+    my ($status) = @_;
+    croak $WORDS{$status} // _files_text($status);
+}
+
 sub _check {
     my ($status) = @_;
-    croak $WORDS{$status} // "status $status" if $status != $DONE;
+    _refuse($status) if $status != $DONE;
 }
 
 sub _die_of {
@@ -88,20 +97,41 @@ sub _die_of {
     croak $text;
 }
 
+# A base, once its lock is had. A signal that comes meanwhile is handled, and then it waits on.
+sub _opened {
+    my ($name, $flags, $timeout) = @_;
+    my ($fault, $at) = _room(208);
+    my $end = defined $timeout ? clock_gettime(CLOCK_MONOTONIC) + $timeout : undef;
+    while (1) {
+        my $left = defined $end ? int(1000 * ($end - clock_gettime(CLOCK_MONOTONIC))) : -1;
+        $left = 0 if defined $end && $left < 0;
+        my $opened = _open_files_within($name, $flags, $left, $at);
+        return $opened if defined $opened;
+        _die_of($fault) if unpack($FAULT, $$fault) != $INTERRUPTED;
+    }
+}
+
 sub TIEHASH {
     my ($class, $base, $mode, %options) = @_;
     my $flags = $FLAGS{ $mode // "r" } // croak "the mode is r, w, c or n";
+    my $timeout = delete $options{timeout};
     $flags |= $options{$_} ? $OPTIONS{$_} // croak "no option $_" : 0 for keys %options;
-    my ($fault, $at) = _room(208);
-    my $opened = _open_files($base, $flags, $at) // _die_of($fault);
-    my $self = bless { base => $opened, db => _take($opened), reads => $flags & 4 }, $class;
+    croak "the name has a zero byte" if ($base // "") =~ /\0/;
+    croak "a timeout is a number of seconds, 0 or more, and less than a billion"
+        if defined $timeout && !($timeout =~ /^[0-9.]+$/ && $timeout >= 0 && $timeout < 1e9);
+    my $opened = _opened($base // "", $flags, $timeout);
+    my $self = bless { base => $opened, db => _take($opened), reads => $flags & 4, process => $$, token => [] }, $class;
     _give($opened);
     return $self;
 }
 
+# Another interpreter of the process has no part in a database.
+sub CLONE_SKIP { 1 }
+
 sub _db {
     my ($self, $writes) = @_;
-    croak $WORDS{16} unless $self->{base};
+    _refuse($FORKED) if $self->{process} != $$;
+    _refuse($IS_CLOSED) unless $self->{base};
     croak "the database is only read" if $writes && $self->{reads};
     return $self->{db};
 }
@@ -175,9 +205,10 @@ sub SCALAR {
     return scalar(my @keys = $self->_keys);
 }
 
-# Has the text of a program accepted, and returns its number; dies with the line or the unit of its fault.
+# Has the text of a program accepted, and returns it, for `run` of this database alone; dies with the line or the unit of its fault.
 sub program {
     my ($self, $text) = @_;
+    $self->_db;
     my ($image, @image) = _room($IMAGE_MOST);
     my ($told, @told) = _room($VALUE_MOST);
     my $status = _assemble(_given($text), @image, \my $size, \my $line, @told, \my $length);
@@ -193,7 +224,15 @@ sub image {
     my $status = _submit($self->_db, _given($image), \my $number, \my $unit, @told, \my $length);
     croak substr $$told, 0, $length if $status == $REFUSED;
     _check($status);
-    return $number;
+    return bless { number => $number, of => $self->{token} }, "Boddurci::Program";
+}
+
+# The number of a program that this database has accepted.
+sub _number {
+    my ($self, $program) = @_;
+    _refuse($NO_PROGRAM) unless ref $program && ref $program eq "Boddurci::Program";
+    croak "the program was not accepted by this database" if $program->{of} != $self->{token};
+    return $program->{number};
 }
 
 # Runs a program on the record of a key, or where the key is not there on so many zeros as `blank` says: the number with which it ended
@@ -201,7 +240,8 @@ sub image {
 sub run {
     my ($self, $program, $key, %more) = @_;
     my $has_blank = defined $more{blank} ? 1 : 0;
-    my $status = _run($self->_db(1), $program, _given($key), _given($more{arg}), $has_blank, $more{blank} // 0, $more{now} // time, \my $end, \my $word);
+    my $db = $self->_db(1);
+    my $status = _run($db, $self->_number($program), _given($key), _given($more{arg}), $has_blank, $more{blank} // 0, $more{now} // time, \my $end, \my $word);
     return if $status == $MISSING;
     _check($status);
     return ($end, $word);
@@ -216,13 +256,14 @@ sub sync {
     _die_of($fault);
 }
 
-# Writes both files, unless the database is only read, and lets the lock go. A fault of the files leaves it open.
+# Writes both files, unless the database is only read, and lets the lock go. A fault of the files leaves it open. In a child of the process
+# that has opened it nothing is written, and the lock stays.
 sub close {
     my ($self) = @_;
     return unless $self->{base};
-    $self->sync;
+    $self->sync if $self->{process} == $$;
     _close_files($self->{base});
-    $self->{base} = undef;
+    $self->{base} = $self->{db} = undef;
 }
 
 sub UNTIE { $_[0]->close }

@@ -21,6 +21,8 @@
  *         return 0;
  *     }
  *
+ * The library is built for x86-64 with SSE4.1 (x86-64-v2).
+ *
  * A handle is one database in memory with its programs. The library keeps no global state, takes no lock, starts no thread, and
  * reads and writes no file: you read both files before boddurci_open, and write them after boddurci_files.
  *

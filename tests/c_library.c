@@ -400,22 +400,36 @@ static uint32_t number_at(const uint8_t *at)
     return at[0] | (uint32_t)at[1] << 8 | (uint32_t)at[2] << 16 | (uint32_t)at[3] << 24;
 }
 
+enum { PLAN_HEAD = 28, CHANGE_HEAD = 9 };
+
+/* Whether the old bytes of a change are those that stand in a file, where one past the end is zero. */
+static int is_old(const uint8_t *told, size_t offset, size_t size, const uint8_t *old, size_t old_length)
+{
+    for (size_t i = 0; i < size; i++)
+        if (told[i] != (offset + i < old_length ? old[offset + i] : 0))
+            return 0;
+    return 1;
+}
+
 /* One file of those that a plan makes of the old ones, which is to be freed. */
 static uint8_t *made_by(const uint8_t *plan, size_t length, int file, const uint8_t *old, size_t old_length, size_t *new_length)
 {
-    const uint8_t *at = plan + 20;
+    const uint8_t *at = plan + PLAN_HEAD;
     *new_length = number_at(plan + 8 + 4 * file);
     uint8_t *made = calloc(1, *new_length + old_length + 1);
     memcpy(made, old, old_length);
     memset(made + *new_length, 0, old_length);
-    for (uint32_t left = number_at(plan + 16); left != 0; left--) {
+    EXPECT(number_at(plan + 16 + 4 * file) == old_length);
+    for (uint32_t left = number_at(plan + 24); left != 0; left--) {
         size_t offset = number_at(at + 1), size = number_at(at + 5);
         EXPECT(at[0] <= 1 && size != 0 && size <= 8192 && offset + size <= number_at(plan + 8 + 4 * at[0]));
-        if (at[0] == file)
-            memcpy(made + offset, at + 9, size);
-        at += 9 + size;
+        if (at[0] == file) {
+            EXPECT(is_old(at + CHANGE_HEAD + size, offset, size, old, old_length));
+            memcpy(made + offset, at + CHANGE_HEAD, size);
+        }
+        at += CHANGE_HEAD + 2 * size;
     }
-    EXPECT(at == plan + length && !memcmp(plan, "sdbmredo", 8));
+    EXPECT(at == plan + length && !memcmp(plan, "sdbmred2", 8));
     return made;
 }
 
@@ -456,7 +470,7 @@ static void test_plans(uint32_t wide)
     size_t whole = plan_from(&db, empty), page = wide ? 8192 : 1024;
     EXPECT(whole > 3000 * 8 && plan_from(&db, full) == 0);
     EXPECT(boddurci_store(&db, BYTES("7"), BYTES("another"), 1) == BODDURCI_DONE);
-    EXPECT(plan_from(&db, full) == 20 + 9 + page);
+    EXPECT(plan_from(&db, full) == PLAN_HEAD + CHANGE_HEAD + 2 * page);
     for (int i = 0; i < 3000; i++)
         EXPECT(boddurci_delete(&db, (const uint8_t *)key, (size_t)snprintf(key, sizeof key, "%d", i)) == BODDURCI_DONE);
     plan_from(&db, full);

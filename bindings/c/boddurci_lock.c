@@ -76,18 +76,28 @@ static int64_t now(void)
     return (int64_t)time.tv_sec * 1000 + time.tv_nsec / 1000000;
 }
 
-/* Waits for a lock. The system has one that is waited for without an end, and one that is tried: between two tries there are rests. */
-static int wait_for(int lock, int how, int64_t milliseconds)
+/* When a wait of so long ends; one below 0 has no end. */
+static int64_t end_of(int64_t milliseconds)
 {
-    if (milliseconds < 0)
+    int64_t start = now();
+    return milliseconds < 0 ? -1 : milliseconds < INT64_MAX - start ? start + milliseconds : INT64_MAX;
+}
+
+/* Waits for a lock. The system has one that is waited for without an end, and one that is tried: between two tries there are rests. */
+static int wait_for(int lock, int how, int64_t end)
+{
+    if (end < 0)
         return flock(lock, how);
-    int64_t most = INT64_MAX / 2, end = now() + (milliseconds < most ? milliseconds : most);
     for (long rest = 1;; rest = rest < 10 ? 2 * rest : 20) {
         if (flock(lock, how | LOCK_NB) == 0)
             return 0;
-        int64_t left = end - now();
-        if (errno != EWOULDBLOCK || left <= 0)
+        if (errno != EWOULDBLOCK)
             return -1;
+        int64_t left = end - now();
+        if (left <= 0) {
+            errno = EWOULDBLOCK;
+            return -1;
+        }
         struct timespec time = {0, (left < rest ? (long)left : rest) * 1000000};
         if (nanosleep(&time, NULL) != 0)
             return -1;
@@ -166,13 +176,12 @@ static uint32_t no_lock(boddurci_fault *fault)
 
 uint32_t boddurci_take_lock(struct boddurci_place *place, int reads, int64_t milliseconds, boddurci_fault *fault)
 {
-    int64_t end = milliseconds < 0 ? 0 : now() + milliseconds;
+    int64_t end = end_of(milliseconds);
     for (;;) {
         uint32_t status = open_lock(place, reads, fault);
         if (status != BODDURCI_DONE || place->lock < 0)
             return status;
-        int64_t left = milliseconds < 0 ? milliseconds : end - now();
-        if (wait_for(place->lock, reads ? LOCK_SH : LOCK_EX, milliseconds >= 0 && left < 0 ? 0 : left) != 0) {
+        if (wait_for(place->lock, reads ? LOCK_SH : LOCK_EX, end) != 0) {
             status = no_lock(fault);
             boddurci_give_lock(place, 0);
             return status;

@@ -195,10 +195,10 @@ class Database(MutableMapping):
 
     def __init__(self, name, flags, timeout=None):
         self._process, self._base = os.getpid(), _opened(name, flags, timeout)
-        _databases[id(self)] = self
         # What keeps threads apart: a lock of this object; while a save is under way the mutex of the base too.
         self._alone, self._taken, self._token = threading.RLock(), _Taken(self._base), object()
         self._set_locks()
+        _databases[id(self)] = self
         # Taken and given back once: it stays the same.
         self._db = _call.take(self._base)
         _call.give(self._base)

@@ -2,7 +2,8 @@
  *
  *     c_saves list BASE      prints all pairs, in hex, of a base that is read only
  *     c_saves change BASE    does the lines of standard input, `replace KEY VALUE` and `delete KEY` in hex, saves, and prints `saved`
- *     c_saves insist BASE    the same, but where the save fails it saves once more */
+ *     c_saves insist BASE    the same, but where the save fails it saves once more
+ *     c_saves each BASE      saves behind each line, and goes on where that fails */
 #include "boddurci_files.h"
 #include <stdio.h>
 #include <string.h>
@@ -61,7 +62,7 @@ static int change(boddurci *db, const char *line)
     return sscanf(line, "delete %4095s", words[0]) == 1 && boddurci_delete(db, key, read_hex(words[0], key)) <= BODDURCI_MISSING;
 }
 
-static int change_all(const char *name, int insists)
+static int change_all(const char *name, int saves_each, int insists)
 {
     static char line[8300];
     boddurci_base *base = boddurci_open_files(name, 0, &fault);
@@ -71,6 +72,8 @@ static int change_all(const char *name, int insists)
     while (status == 0 && fgets(line, sizeof line, stdin) != NULL) {
         status = change(boddurci_take(base), line) ? 0 : 3;
         boddurci_give(base);
+        if (saves_each && boddurci_save(base, &fault) != BODDURCI_DONE)
+            fail();
     }
     if (status == 0 && boddurci_save(base, &fault) != BODDURCI_DONE)
         status = insists && boddurci_save(base, &fault) == BODDURCI_DONE ? 0 : fail();
@@ -86,8 +89,10 @@ int main(int argc, char **argv)
     if (argc == 3 && strcmp(argv[1], "list") == 0)
         return list(argv[2]);
     if (argc == 3 && strcmp(argv[1], "change") == 0)
-        return change_all(argv[2], 0);
+        return change_all(argv[2], 0, 0);
     if (argc == 3 && strcmp(argv[1], "insist") == 0)
-        return change_all(argv[2], 1);
+        return change_all(argv[2], 0, 1);
+    if (argc == 3 && strcmp(argv[1], "each") == 0)
+        return change_all(argv[2], 1, 0);
     return 4;
 }

@@ -1,7 +1,8 @@
 /* A library in front of the C library's: it cuts a run off at its Nth call that writes, syncs, cuts, removes or renames a file, or notes
  * these calls. CUT_CALL is N; with none no call is cut off. CUT_FAULT is the errno with which the call fails; 0 is a kill. CUT_TOLD is a
  * file that is made once a call has failed. With CUT_LINES what is printed, to a descriptor 1 that is no file, counts too. CUT_LOG is one
- * in which calls are noted, once they are done: pwrite, ftruncate, syncs and unlink, in a line each, with bytes in hex. */
+ * in which calls are noted, once they are done: pwrite, ftruncate, unlink, syncs and those that failed, in a line each, with bytes in
+ * hex. */
 #define _GNU_SOURCE
 #include <dlfcn.h>
 #include <errno.h>
@@ -127,14 +128,14 @@ ssize_t writev(int fd, const struct iovec *parts, int count)
 int fsync(int fd)
 {
     int status = is_cut() ? -1 : REAL(fsync)(fd);
-    note_opened("sync", fd, 0, NULL, 0);
+    note_opened(status == 0 ? "sync" : "failed", fd, 0, NULL, 0);
     return status;
 }
 
 int fdatasync(int fd)
 {
     int status = is_cut() ? -1 : REAL(fdatasync)(fd);
-    note_opened("sync", fd, 0, NULL, 0);
+    note_opened(status == 0 ? "sync" : "failed", fd, 0, NULL, 0);
     return status;
 }
 

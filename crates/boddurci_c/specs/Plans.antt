@@ -13,8 +13,8 @@ abbrev pub IsPlanFor : Database → List ℕ → List ℕ → List ℕ → Type 
 IsPlanFor db plan dir pag = IsSaving db plan pag dir ⊎ ((plan ≡ []) × AreFilesFor db pag dir)
 
 -- why there is no plan: a file is too long or would be, or memory ran out
-abbrev pub DeniesPlan : Db → List ℕ → List ℕ → Status → Type 0
-DeniesPlan d dir pag status = ((status ≡ TooLong) × IsTooLong d.image pag dir) ⊎ (status ≡ NoMemory)
+abbrev pub DeniesPlan : List ℕ → List ℕ → Db → Status → Type 0
+DeniesPlan dir pag d status = ((status ≡ TooLong) × IsTooLong d.image pag dir) ⊎ (status ≡ NoMemory)
 
 -- the plan of an open handle's database stands in a room, or the room is too short
 pub record Plans (old : Option Db) (code : ℕ) (new : Option Db) (dir pag room_old room_new : List ℕ) (len : ℕ) : Type 0 where

@@ -501,7 +501,7 @@ pub extern "C" fn boddurci_files(
 fn plan_at(alloc: Global, slot: &mut Handle, dir: &[u8], pag: &[u8]) -> Result<Vec<u8>, Status>
     ensures ok { IfOk result (λ plan. Shows slot.old.held slot.new.held (λ d. IsPlanFor d.image plan.items dir.now pag.now)) }
     ensures same { slot.new.held ≡ slot.old.held }
-    ensures why { IfErr result (Why DeniesPlan slot.old.held) }
+    ensures why { IfErr result (Why (DeniesPlan dir.now pag.now) slot.old.held) }
 {
     let Some(db) = slot.take(alloc) else {
         return Err(Status::Closed);
@@ -523,7 +523,7 @@ pub extern "C" fn boddurci_plan(
     len: &mut usize,
 ) -> u32
     ensures { Plans slot.old.held result slot.new.held dir.now pag.now room.old room.new len.new
-        ⊎ Denies DeniesPlan slot.old.held result slot.new.held }
+        ⊎ Denies (DeniesPlan dir.now pag.now) slot.old.held result slot.new.held }
 {
     match plan_at(alloc, slot, dir, pag) {
         Ok(plan) => copy_out(plan.as_slice(), room, len).code(),

@@ -10,7 +10,7 @@ use std::alloc::Global;
 /// The plan that makes the old bytes of both files those of a database; no bytes where they are that already.
 pub fn plan(alloc: Global, db: &Db, dir: &[u8], pag: &[u8]) -> Result<Vec<u8>, Status>
     ensures ok { IfOk result (λ plan. IsPlanFor db.now.image plan.items dir.now pag.now) }
-    ensures err { IfErr result (DeniesPlan db.now dir.now pag.now) }
+    ensures err { IfErr result (DeniesPlan dir.now pag.now db.now) }
 {
     let old = Contents {
         pages: pag,

@@ -18,7 +18,7 @@ use Rattle.worker_pool.specs.declared.task.PoolFault.TheVariants as jobs
 use Rattle.worker_pool.specs.declared.task.Task.{Task}
 use Rattle.dbm_tool.specs.declared.batch.Batch.{Batch}
 use Rattle.dbm_faults.specs.declared.fault.ServeFault.{ServeFault}
-use Rattle.dbm_faults.specs.declared.fault.ServeFault.TheVariants.{NotText, ReadFile, FileTooLong, WriteFile, BadRedo, ReadClock, BadBase, Absent, Locked, Report, Submit, BadLine, Pool, Close, Write, NoMemory}
+use Rattle.dbm_faults.specs.declared.fault.ServeFault.TheVariants.{NotText, ReadFile, FileTooLong, WriteFile, BadRedo, Unsafe, ReadClock, BadBase, Absent, Locked, Report, Submit, BadLine, Pool, Close, Write, Saved, NoMemory}
 use Rattle.dbm_script.specs.declared.notations.Notation.{Notation}
 use Rattle.dbm_script.specs.declared.run_words.RunWords.{RunWords}
 use Rattle.dbm_script.proofs.Runs.{known_read}
@@ -107,6 +107,7 @@ submitted_fault form given workers is_image image ReadFile number opens is h = h
 submitted_fault form given workers is_image image FileTooLong number opens is h = h
 submitted_fault form given workers is_image image WriteFile number opens is h = h
 submitted_fault form given workers is_image image BadRedo number opens is h = h
+submitted_fault form given workers is_image image Unsafe number opens is h = h
 submitted_fault form given workers is_image image ReadClock number opens is h = h
 submitted_fault form given workers is_image image BadBase number opens is h = h
 submitted_fault form given workers is_image image Absent number opens is h = h
@@ -117,6 +118,7 @@ submitted_fault form given workers is_image image (BadLine number') number opens
 submitted_fault form given workers is_image image (Pool fault) number opens is h = h
 submitted_fault form given workers is_image image (Close fault) number opens is h = h
 submitted_fault form given workers is_image image Write number opens is h = h
+submitted_fault form given workers is_image image Saved number opens is h = h
 submitted_fault form given workers is_image image NoMemory number opens is h = h
 
 -- a batch that may not begin
@@ -127,6 +129,7 @@ unready_fault n form given workers is_image input ReadFile h = h
 unready_fault n form given workers is_image input FileTooLong h = h
 unready_fault n form given workers is_image input WriteFile h = h
 unready_fault n form given workers is_image input BadRedo h = h
+unready_fault n form given workers is_image input Unsafe h = h
 unready_fault n form given workers is_image input ReadClock h = h
 unready_fault n form given workers is_image input BadBase h = h
 unready_fault n form given workers is_image input Absent h = h
@@ -148,6 +151,7 @@ unready_fault n form given workers is_image input (BadLine number) h = absurd h
 unready_fault n form given workers is_image input (Pool fault) h = absurd h
 unready_fault n form given workers is_image input (Close fault) h = absurd h
 unready_fault n form given workers is_image input Write h = h
+unready_fault n form given workers is_image input Saved h = h
 unready_fault n form given workers is_image input NoMemory h = h
 
 -- tasks that are not all done, behind the lines
@@ -161,6 +165,7 @@ doing_fault n batch input words tasks fault are is h = go fault (subst (λ (ts :
     go FileTooLong h = absurd h
     go WriteFile h = absurd h
     go BadRedo h = absurd h
+    go Unsafe h = absurd h
     go ReadClock h = absurd h
     go BadBase h = absurd h
     go Absent h = absurd h
@@ -171,6 +176,7 @@ doing_fault n batch input words tasks fault are is h = go fault (subst (λ (ts :
     go (Pool fault) h = (words, (are, h))
     go (Close fault) h = (words, (are, h))
     go Write h = absurd h
+    go Saved h = absurd h
     go NoMemory h = tt
 
 -- standard input is read once a batch may begin
@@ -203,6 +209,7 @@ ran_fault n form given workers is_image known read batch ReadFile is ready h = a
 ran_fault n form given workers is_image known read batch FileTooLong is ready h = absurd h
 ran_fault n form given workers is_image known read batch WriteFile is ready h = absurd h
 ran_fault n form given workers is_image known read batch BadRedo is ready h = absurd h
+ran_fault n form given workers is_image known read batch Unsafe is ready h = absurd h
 ran_fault n form given workers is_image known read batch ReadClock is ready h = absurd h
 ran_fault n form given workers is_image known read batch BadBase is ready h = absurd h
 ran_fault n form given workers is_image known read batch Absent is ready h = absurd h
@@ -213,4 +220,5 @@ ran_fault n form given workers is_image known read batch (BadLine number) is rea
 ran_fault n form given workers is_image known read batch (Pool fault) is ready h = (batch, (ready, known_tasks n batch known read (λ tasks. (doing_causes batch tasks).pool fault) is h))
 ran_fault n form given workers is_image known read batch (Close fault) is ready h = (batch, (ready, known_tasks n batch known read (λ tasks. (doing_causes batch tasks).closing fault) is h))
 ran_fault n form given workers is_image known read batch Write is ready h = absurd h
+ran_fault n form given workers is_image known read batch Saved is ready h = absurd h
 ran_fault n form given workers is_image known read batch NoMemory is ready h = tt

@@ -23,8 +23,9 @@
  * leads a save into other files; and where BASE.lock, .pag or .dir is another file than was opened, a save is BODDURCI_MOVED.
  *
  * BASE.redo and BASE.lock are taken only where they are files with one name, of yourself, of root or of the owner of BASE.pag, which nobody
- * may write who may not write BASE.pag; else it is BODDURCI_UNSAFE. A lock may also be of one who may write BASE.pag, by its group. Where
- * this lock or redo file was not made by you, look who has made it, and take it away.
+ * may write who may not write BASE.pag; else it is BODDURCI_UNSAFE. A lock may also be of one who may write BASE.pag, by its group or as all
+ * may. Look then who has made it: take it away where it is a stranger's. A redo file of one whom you trust is ended by his next run, or is
+ * given to the owner of BASE.pag, since the files may hold half of its save.
  *
  * A base is of the process that has opened it. In a child that it forked boddurci_save is BODDURCI_FORKED, boddurci_take returns NULL,
  * boddurci_give does nothing, and boddurci_close_files frees memory alone: the lock stays its parent's.

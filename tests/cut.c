@@ -1,8 +1,8 @@
 /* A library in front of the C library's: it cuts a run off at its Nth call that writes, syncs, cuts, removes or renames a file, or notes
  * these calls. CUT_CALL is N; with none no call is cut off. CUT_FAULT is the errno with which the call fails; 0 is a kill. CUT_TOLD is a
- * file that is made once a call has failed. With CUT_LINES what is printed, to a descriptor 1 that is no file, counts too. CUT_LOG is one
- * in which calls are noted, once they are done: pwrite, ftruncate, unlink, syncs and those that failed, in a line each, with bytes in
- * hex. */
+ * file that is made once a call has failed. With CUT_LINES what is printed, to a descriptor 1 that is no file, counts too, but for writes
+ * of no bytes. CUT_LOG is one in which calls are noted, once they are done: pwrite, ftruncate, unlink, syncs and those that failed, in a
+ * line each, with bytes in hex. */
 #define _GNU_SOURCE
 #include <dlfcn.h>
 #include <errno.h>
@@ -43,9 +43,9 @@ static int is_file(int fd)
     return fstat(fd, &found) == 0 && (S_ISREG(found.st_mode) || S_ISDIR(found.st_mode));
 }
 
-static int is_line(int fd)
+static int is_line(int fd, size_t count)
 {
-    return has_lines && fd == 1;
+    return has_lines && fd == 1 && count > 0;
 }
 
 static int is_next_cut(void)
@@ -98,7 +98,7 @@ static void note_opened(const char *call, int fd, long long number, const void *
 
 ssize_t write(int fd, const void *bytes, size_t count)
 {
-    if (log_name != NULL || !(is_file(fd) || is_line(fd)))
+    if (log_name != NULL || !(is_file(fd) || is_line(fd, count)))
         return REAL(write)(fd, bytes, count);
     if (is_next_cut() && count > 1)
         REAL(write)(fd, bytes, count / 2);

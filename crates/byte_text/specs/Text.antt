@@ -16,7 +16,7 @@ abbrev pub onto : List ℕ → List (List ℕ) → List (List ℕ)
 onto front [] = front ∷ []
 onto front (part ∷ parts) = (front ++ part) ∷ parts
 
--- The parts of a text, cut at each comma that no backslash stands before. The text may begin behind a backslash.
+-- The parts of a text, cut at each comma that no backslash escapes. The text may begin behind a backslash.
 abbrev pub parts_of : Bool → List ℕ → List (List ℕ)
 parts_of escape [] = [] ∷ []
 parts_of true (c ∷ cs) = onto (c ∷ []) (parts_of false cs)

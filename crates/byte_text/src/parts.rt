@@ -12,7 +12,7 @@ use hex::FromHexError;
 use memchr::memchr2;
 use std::alloc::{AllocError, Allocator};
 
-// A text as far as the first comma that no backslash stands before, and what is left behind it, where there is one.
+// A text as far as the first comma that no backslash escapes, and what is left behind it, where there is one.
 pub(crate) fn first_part(text: &[u8]) -> (&[u8], Option<&[u8]>)
     ensures { parts_of false text.now ≡ result.0.now ∷ parts_left result.1 }
 {

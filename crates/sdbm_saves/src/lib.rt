@@ -16,7 +16,7 @@ pub use call_log::CallLog;
 pub use disk::{Disk, DiskError, File};
 pub use known::can_end;
 pub use overlay::read_through;
-pub use plan::{is_plan, plan_in};
+pub use plan::{is_plan, lengths_after, plan_in};
 pub use planning::{Contents, PlanFault, plan_save};
 pub use recorded::{Found, Host, Past, Recorded, Unknown};
 pub use redo::{commit, finish, recover, stage};

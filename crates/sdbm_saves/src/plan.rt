@@ -1,6 +1,7 @@
 // The plan of a save, behind the mark of a redo file. See specs/Redo.antt for its bytes.
 ghost use Rattle.std.specs.Prelude.{◌≡◌, ◌≢◌, ◌*◌, ◌<◌, ◌≤◌, ◌^◌, ◌+◌, ◌↔◌, ℕ, length, take, drop, get_or, IsTrue, IfSome, IsNone, OnOk};
 ghost use Rattle.sdbm_saves.specs.Disk.{Image, content, put, written, Torn, Within, Through, HasCause};
+ghost use Rattle.sdbm_saves.specs.declared.disk.File.TheVariants.{Pages, Directory};
 ghost use Rattle.sdbm_saves.specs.Redo.{number_at, data_file, file_of, offset_of, size_of, data_of, span_of, rest_of, new_length, count_of, replayed_image, renewed_image, signature, Fits, IsPlan, Alike};
 
 use crate::{Disk, DiskError, File};
@@ -98,6 +99,18 @@ pub fn plan_in(redo: &[u8]) -> Option<&[u8]>
         [MARKED, plan @ ..] => Some(plan),
         _ => None,
     }
+}
+
+/// The lengths that `.pag` and `.dir` have once the save of a redo file is ended. `None` where that is not marked, or has no whole plan.
+pub fn lengths_after(redo: &[u8]) -> Option<(usize, usize)>
+    ensures some { IfSome result (λ both. (get_or redo.now 0 0 ≡ 1) × ((both.0 ≡ new_length Pages (drop 1 redo.now)) × (both.1 ≡ new_length Directory (drop 1 redo.now)))) }
+    ensures none { IsNone result → IsPlan (drop 1 redo.now) → get_or redo.now 0 0 ≢ 1 }
+{
+    let plan = plan_in(redo)?;
+    if !is_plan(plan) {
+        return None;
+    }
+    Some((number(plan, 8), number(plan, 12)))
 }
 
 // One change of a plan.

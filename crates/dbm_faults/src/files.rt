@@ -35,7 +35,7 @@ pub fn finding_sentence<'a>(found: Finding<'a>) -> Sentence<'a> {
             name,
         ),
         Matter::Unsafe { owner, mode } => with_three(
-            "{} is of user {} with mode 0{}: dbm takes none that others could have planted. Look at it, and take it away or mend its owner and mode.",
+            "{} is of user {} with mode 0{}: dbm takes none that others could have planted. If you trust that user, let the user's next run end it, or let root give it to the owner of .pag; if not, take it away.",
             name,
             Part::Number(u64::from(owner)),
             octal(mode),

@@ -34,4 +34,4 @@ IsOfWriters side pages user = IsOwned side (Some pages) user ⊎ (others_write p
 
 abbrev pub TakesLock : Standing → Option Standing → Option ℕ → Type 0
 TakesLock side (Some pages) user = IsTrue side.is_plain × (IsOfWriters side pages user × IsNoWiderThan side pages)
-TakesLock side None user = IsTrue side.is_plain
+TakesLock side None user = IsTrue side.is_plain × (IsOwned side None user ⊎ (user ≡ None))

@@ -3,15 +3,17 @@ ghost use Rattle.sdbm_saves.specs.Redo.{CanEnd};
 ghost use Rattle.sdbm_saves.specs.Recording.{image_of};
 
 use crate::fault::FilesFault;
+use crate::findings::is_special;
 use crate::host::{RealFiles, folder_of, forget_redo};
 use crate::links::resolve;
 use crate::lock::{lock_to_read, lock_to_write};
-use crate::names::{FileBytes, Names, Place, names_of, put, sources};
+use crate::names::{DIR_LIMIT, FileBytes, Names, Place, names_of, put, sources};
 use crate::saving::{Change, save_change};
 use crate::side::{Side, SideFault, open_beside, side_fault};
 use sdbm_files::Image;
 use sdbm_saves::{
-    CallLog, Contents, Found, Recorded, Unknown, can_end, plan_in, read_through, recover,
+    CallLog, Contents, Found, Recorded, Unknown, can_end, lengths_after, plan_in, read_through,
+    recover,
 };
 use std::alloc::Global;
 use std::fs;
@@ -135,6 +137,9 @@ fn read_database<R: Files<File = File> + AllocGlobal>(
     if !can_end(&found) {
         return Err(FilesFault::BadRedo);
     }
+    if is_too_long(place, found.redo.as_slice()) {
+        return Err(FilesFault::FileTooLong);
+    }
     if place.writes {
         end_save(rt, names, &found)?;
         return Ok((read_files(rt, place)?, Vec::new(rt.alloc())));
@@ -145,11 +150,21 @@ fn read_database<R: Files<File = File> + AllocGlobal>(
     lay_over(rt.alloc(), &found, read.program)
 }
 
+// Whether a file would be longer than it may be, once the save is ended that was cut off.
+fn is_too_long(place: Place<'_>, redo: &[u8]) -> bool {
+    match lengths_after(redo) {
+        Some((pages, directory)) => {
+            pages as u64 > place.pages_limit || directory as u64 > DIR_LIMIT
+        }
+        None => false,
+    }
+}
+
 // Keeps a plan that is marked, and its name, before anything that stands on it is told: whoever marked it may have been killed before
 // the mark was on the disk. A file system that cannot be written has nothing to keep.
 fn keep_plan<R: Files<File = File>>(rt: &R, names: &Names) -> io::Result<()> {
     let name = names.redo.as_str();
-    let synced = fs::open(rt, name)?.sync_data();
+    let synced = open_beside(rt, Side::Redo, name, names.pages.as_str(), false)?.sync_data();
     let folder = fs::open(rt, folder_of(name))?.sync_all();
     for outcome in [synced, folder] {
         match outcome {
@@ -224,13 +239,16 @@ fn read_files<R: Files + AllocGlobal>(rt: &R, place: Place<'_>) -> Result<FileBy
     Ok(read)
 }
 
-// The bytes of a file.
+// The bytes of a file. One of a database, which may be missing, is no FIFO: nobody waits for its other end.
 fn read_file<R: Files + AllocGlobal>(
     rt: &R,
     name: &str,
     limit: u64,
     may_be_absent: bool,
 ) -> Result<Vec<u8>, FilesFault> {
+    if may_be_absent && is_special(rt, name) {
+        return Err(FilesFault::ReadFile);
+    }
     match fs::open(rt, name) {
         Ok(file) => read_all(rt.alloc(), file, limit),
         Err(error) if may_be_absent && error.kind() == ErrorKind::NotFound => {

@@ -94,11 +94,24 @@ fn unread_of<'a, R: Files<File = File>>(rt: &R, names: &'a Names) -> Option<Find
         names.directory.as_str(),
         names.pages.as_str(),
     ] {
-        if let Some(matter) = unread(rt, name, true) {
+        let matter = if is_special(rt, name) {
+            Some(Matter::NoOwnFile)
+        } else {
+            unread(rt, name, true)
+        };
+        if let Some(matter) = matter {
             return Some(Finding { name, matter });
         }
     }
     None
+}
+
+/// Whether a name leads to a FIFO, a device or a socket: who opens a FIFO waits for its other end.
+pub fn is_special<R: Files>(rt: &R, name: &str) -> bool {
+    match fs::metadata(rt, name) {
+        Ok(found) => !found.is_file() && !found.is_dir(),
+        Err(_) => false,
+    }
 }
 
 // Why a file cannot be read, where it cannot. A file that may be missing may not be a link that leads nowhere.

@@ -3,7 +3,7 @@ ghost use Rattle.std.specs.Prelude.{◌≡◌, IfErr};
 ghost use Rattle.sdbm_saves.specs.declared.disk.DiskError.TheVariants.{Failed};
 
 use crate::names::Names;
-use crate::side::{Side, SideFault, make_redo, open_beside};
+use crate::side::{Side, make, make_directory, make_redo, open_beside};
 use sdbm_saves::{CallLog, DiskError, File as Part, Host};
 use std::fs::{self, File, OpenFile, OpenOptions};
 use std::io::{self, ErrorKind};
@@ -76,26 +76,20 @@ impl<'a, R: Files<File = File>> OpenFiles<'a, R> {
         if self.is_redo_gone {
             return Err(io::Error::from(ErrorKind::NotFound));
         }
-        match open_beside(self.rt, Side::Redo, name, self.names.pages.as_str(), true) {
-            Ok(file) => Ok(file),
-            Err(SideFault::Absent) => Err(io::Error::from(ErrorKind::NotFound)),
-            Err(SideFault::Unsafe) => Err(io::Error::from(ErrorKind::PermissionDenied)),
-            Err(SideFault::Refused(error)) => Err(error),
-        }
+        let pages = self.names.pages.as_str();
+        Ok(open_beside(self.rt, Side::Redo, name, pages, true)?)
     }
 
     // Makes a file that is not there.
     fn make(&mut self, part: Part) -> io::Result<File> {
         self.is_folder_kept = false;
         let name = name_of(self.names, part);
-        if part == Part::Redo {
-            return make_redo(self.rt, name, self.names.pages.as_str());
+        let pages = self.names.pages.as_str();
+        match part {
+            Part::Redo => make_redo(self.rt, name, pages),
+            Part::Directory => make_directory(self.rt, name, pages),
+            Part::Pages => make(self.rt, name, 0o666),
         }
-        OpenOptions::new()
-            .read(true)
-            .write(true)
-            .create(true)
-            .open(self.rt, name)
     }
 
     fn write_in(&mut self, part: Part, at: usize, bytes: &[u8]) -> io::Result<()> {

@@ -19,6 +19,7 @@ pub use findings::{
     has_no_files,
 };
 pub use host::{RealFiles, folder_of};
+pub use links::resolve;
 pub use names::{FileBytes, Names, Part, Place, Source, names_of, put, sources};
 pub use saving::{Change, save_change};
 pub use side::{Side, Standing, takes_lock, takes_redo};

@@ -6,7 +6,7 @@ ghost use Rattle.dbm_files.specs.Names as spec;
 use std::alloc::{AllocError, Global};
 
 /// A `.dir` file of the program has at most this many bytes.
-const DIR_LIMIT: u64 = 268_435_456;
+pub(crate) const DIR_LIMIT: u64 = 268_435_456;
 
 /// A program's file has at most this many bytes.
 const PROGRAM_LIMIT: u64 = 1_048_576;

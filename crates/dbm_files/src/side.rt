@@ -48,6 +48,16 @@ impl From<io::Error> for SideFault {
     }
 }
 
+impl From<SideFault> for io::Error {
+    fn from(fault: SideFault) -> io::Error {
+        match fault {
+            SideFault::Absent => io::Error::from(ErrorKind::NotFound),
+            SideFault::Unsafe => io::Error::from(ErrorKind::PermissionDenied),
+            SideFault::Refused(error) => error,
+        }
+    }
+}
+
 // Whether all others may write a file.
 fn others_write(mode: u32) -> bool
     ensures { IsTrue result ↔ others_write mode }
@@ -98,12 +108,13 @@ pub fn takes_redo(side: Standing, pages: Option<Standing>, user: Option<u32>) ->
 }
 
 /// Whether a lock is taken that is found beside pages: it is a plain file of one who may write the pages, as far as that is seen, and
-/// nobody may write it who may not write the pages. Where there are no pages yet it is a plain file.
+/// nobody may write it who may not write the pages. Where there are no pages yet it is a plain file of this user or of root, or of any
+/// user where the system does not tell which one this is.
 pub fn takes_lock(side: Standing, pages: Option<Standing>, user: Option<u32>) -> bool
     ensures { IsTrue result ↔ TakesLock side pages user }
 {
     let Some(found) = pages else {
-        return side.is_plain;
+        return side.is_plain && (is_owned(side, None, user) || user.is_none());
     };
     let is_of_writers = is_owned(side, pages, user)
         || others_write(found.mode)
@@ -187,42 +198,56 @@ pub fn open_beside<R: Files<File = File>>(
 pub fn make_redo<R: Files<File = File>>(rt: &R, name: &str, pages: &str) -> io::Result<File> {
     let file = make(rt, name, 0o600)?;
     if let Some(like) = pages_standing(rt, pages)? {
-        let given = give(&file, like)?;
-        let mode = if given.group == like.group {
-            like.mode
-        } else {
-            without_group(like.mode)
-        };
-        file.set_permissions(Permissions::from_mode(mode % 0o1000))?;
+        be_like(&file, like)?;
     }
     Ok(file)
 }
 
-/// Makes a lock, which is not there, so that whoever may use the pages can take it: where it cannot be given to their owner and their
-/// group, all may read it. It has no bytes. A run that may not write the pages makes none.
+/// Makes the directory of a database, which is not there. Beside pages it is made like them, as a redo file is; else as the umask says.
+pub fn make_directory<R: Files<File = File>>(rt: &R, name: &str, pages: &str) -> io::Result<File> {
+    match pages_standing(rt, pages)? {
+        Some(like) => {
+            let file = make(rt, name, like.mode % 0o1000)?;
+            be_like(&file, like)?;
+            Ok(file)
+        }
+        None => make(rt, name, 0o666),
+    }
+}
+
+// Gives a file the owner, the group and the permissions of another, as far as the system lets this user.
+fn be_like(file: &File, like: Standing) -> io::Result<()> {
+    let given = give(file, like)?;
+    file.set_permissions(Permissions::from_mode(mode_like(given, like)))
+}
+
+// The permissions of another file for one that was given, those of the group only where the group is that of the other.
+fn mode_like(given: Standing, like: Standing) -> u32 {
+    let mode = like.mode % 0o1000;
+    if given.group == like.group {
+        mode
+    } else {
+        mode - mode / 8 % 8 * 8
+    }
+}
+
+/// Makes a lock, which is not there, so that all who may use the pages can take it: where it cannot be given to their owner and their
+/// group, all may read it. It has no bytes, and until it is like the pages its user alone may write it. A run that may not write the pages
+/// makes none.
 pub fn make_lock<R: Files<File = File>>(rt: &R, name: &str, pages: &str) -> io::Result<File> {
     match OpenOptions::new().read(true).write(true).open(rt, pages) {
         Err(error) if error.kind() != ErrorKind::NotFound => return Err(error),
         _ => (),
     }
-    let file = make(rt, name, 0o666)?;
+    let file = make(rt, name, 0o644)?;
     if let Some(like) = pages_standing(rt, pages)? {
         let given = give(&file, like)?;
-        let mode = if given.group == like.group {
-            like.mode
-        } else {
-            without_group(like.mode)
-        };
+        let mode = mode_like(given, like);
         let is_given = given.owner == like.owner && given.group == like.group;
         let mode = if is_given { mode } else { with_readers(mode) };
-        file.set_permissions(Permissions::from_mode(mode % 0o1000))?;
+        file.set_permissions(Permissions::from_mode(mode))?;
     }
     Ok(file)
-}
-
-// The permissions without those of the group.
-fn without_group(mode: u32) -> u32 {
-    mode - mode / 8 % 8 * 8
 }
 
 // The permissions with that to read for all others.
@@ -230,8 +255,8 @@ fn with_readers(mode: u32) -> u32 {
     if mode / 4 % 2 == 1 { mode } else { mode + 4 }
 }
 
-// Makes a file that is not there: a link of that name is not followed.
-fn make<R: Files<File = File>>(rt: &R, name: &str, mode: u32) -> io::Result<File> {
+/// Makes a file that is not there, with these permissions less those of the umask: a link of that name is not followed.
+pub fn make<R: Files<File = File>>(rt: &R, name: &str, mode: u32) -> io::Result<File> {
     OpenOptions::new()
         .read(true)
         .write(true)

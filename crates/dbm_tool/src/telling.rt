@@ -7,7 +7,7 @@ use dbm_faults::{
 };
 use dbm_files::{
     Finding, find_object, find_too_long, find_unread, find_unsafe, find_unwritten, has_no_files,
-    names_of, sources,
+    names_of, resolve, sources,
 };
 use dbm_words::{Request, Wish};
 use std::alloc::AllocError;
@@ -37,6 +37,25 @@ pub fn advise<R: Runtime<File = File> + AllocGlobal>(
     }
 }
 
+// The words with another base, where there is one.
+fn with_base<'a>(words: Words<'a>, base: Option<&'a String>) -> Words<'a> {
+    match base {
+        Some(base) => Words {
+            base: Some(base.as_str()),
+            ..words
+        },
+        None => words,
+    }
+}
+
+// The base whose files a base of the words names by links, or that base itself.
+fn base_behind<R: Runtime<File = File> + AllocGlobal>(
+    rt: &R,
+    base: Option<&str>,
+) -> Option<String> {
+    resolve(rt, base?).ok()
+}
+
 // The same, of a request. The files are looked at once more where that says which of them the fault was about.
 fn advise_on<R: Runtime<File = File> + AllocGlobal>(
     rt: &R,
@@ -44,6 +63,8 @@ fn advise_on<R: Runtime<File = File> + AllocGlobal>(
     fault: ServeFault,
 ) -> Result<(), AllocError> {
     let words = words_of(request);
+    let base = base_behind(rt, words.base);
+    let words = with_base(words, base.as_ref());
     match look_for(fault) {
         Look::Nothing => tell_found(rt, &words, fault, None),
         Look::Object => tell_object(rt, &words, fault),

@@ -104,7 +104,7 @@ enum boddurci_status {
 #define BODDURCI_IMAGE_MOST 32768
 #define BODDURCI_NOWHERE SIZE_MAX
 
-/* The name of a status, in words. */
+/* The name of a status, in words; boddurci_files_text of boddurci_files.h has those of files too. */
 static inline const char *boddurci_text(uint32_t status)
 {
     switch (status) {
@@ -156,13 +156,14 @@ uint32_t boddurci_delete(boddurci *db, const uint8_t *key, size_t key_length);
 uint32_t boddurci_count(boddurci *db, size_t *count);
 
 /* The image of the program that a text denotes (docs/ASSEMBLER.md). It wants no handle. SHORT_ROOM, NO_MEMORY; BAD_TEXT with the line,
- * counted from 1, and a text, as in "line 3: Operand"; the line is 0 of a text that is not UTF-8. */
+ * counted from 1, and a text, as in "line 3: Operand"; the line is 0 of a text that is not UTF-8. After NO_MEMORY too a line and a text
+ * may be told. */
 uint32_t boddurci_assemble(const uint8_t *source, size_t source_length, uint8_t *image, size_t image_room, size_t *image_length,
                            size_t *line, uint8_t *text, size_t text_room, size_t *text_length);
 
 /* Verifies the image of a program, 8 bytes a unit, and gives it a number, from 0, that it keeps until the handle is closed. The same
  * image has the same number. IS_CLOSED, NO_MEMORY; REFUSED with a text, as in "Verify(OutOfRecord(3))", and the unit at which it is
- * refused, here 3, or BODDURCI_NOWHERE. After NO_MEMORY too a text may be told. */
+ * refused, here 3, or BODDURCI_NOWHERE. After NO_MEMORY the unit is BODDURCI_NOWHERE, and a text may be told. */
 uint32_t boddurci_submit(boddurci *db, const uint8_t *image, size_t image_length, uint32_t *number, size_t *unit, uint8_t *text,
                          size_t text_room, size_t *text_length);
 

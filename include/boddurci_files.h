@@ -65,7 +65,7 @@ enum boddurci_files_status {
     BODDURCI_NO_SAVE = 35,     /* it was opened to be read only */
     BODDURCI_TOO_LONG = 36,    /* a file has more bytes than dbm takes: 1 GiB of .pag, 256 MiB of .dir */
     BODDURCI_UNSAFE = 37,      /* BASE.redo or BASE.lock may be a stranger's; the text says why */
-    BODDURCI_MOVED = 38,       /* BASE.lock, .pag or .dir is another file than was opened */
+    BODDURCI_MOVED = 38,       /* BASE.lock, .pag, .dir or .redo is another file than was opened, or links lead elsewhere */
     BODDURCI_FORKED = 39,      /* it was opened by another process, of which this one is a child */
     BODDURCI_BAD_NAME = 40,    /* the name is NULL or empty, . or .., or ends in one of these behind a / */
     BODDURCI_INTERRUPTED = 41  /* a signal was handled while the lock was waited for */

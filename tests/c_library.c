@@ -117,33 +117,73 @@ static uint64_t number_of(const uint8_t *bytes)
 
 /* ---- every call and every status */
 
+/* All that a call may write. */
+struct told {
+    uint8_t room[16], other[16];
+    size_t length, more, unit, line;
+    uint64_t end, word;
+    uint32_t number;
+    boddurci_cursor cursor;
+};
+
+static struct told told, before;
+
+static void fill_told(void)
+{
+    memset(&before, 0x5a, sizeof before);
+    memcpy(&told, &before, sizeof told);
+}
+
+/* A call is refused with this status, and has written nothing. */
+#define REFUSES(expected, call)                                                                                                    \
+    do {                                                                                                                           \
+        fill_told();                                                                                                               \
+        EXPECT((call) == (expected));                                                                                              \
+        EXPECT(memcmp(&told, &before, sizeof told) == 0);                                                                          \
+    } while (0)
+
 static void test_closed(void)
 {
     boddurci db = BODDURCI_CLOSED;
-    boddurci_cursor cursor = BODDURCI_START;
     boddurci_ticket ticket = BODDURCI_FREE;
-    uint8_t room[16], other[16];
-    size_t length, more;
-    uint32_t number;
-    uint64_t end, word;
+    uint8_t *room = told.room, *other = told.other;
+    size_t most = sizeof told.room;
     EXPECT(!boddurci_is_open(&db));
-    EXPECT(boddurci_fetch(&db, BYTES("a"), room, sizeof room, &length) == BODDURCI_IS_CLOSED);
-    EXPECT(boddurci_store(&db, BYTES("a"), BYTES("b"), 1) == BODDURCI_IS_CLOSED);
-    EXPECT(boddurci_delete(&db, BYTES("a")) == BODDURCI_IS_CLOSED);
-    EXPECT(boddurci_count(&db, &length) == BODDURCI_IS_CLOSED);
-    EXPECT(boddurci_submit(&db, counter, counter_length, &number, &more, room, sizeof room, &length) == BODDURCI_IS_CLOSED);
-    EXPECT(boddurci_run(&db, 0, BYTES("a"), BODDURCI_NO_BYTES, 0, 0, 0, &end, &word) == BODDURCI_IS_CLOSED);
-    EXPECT(boddurci_first(&db, &cursor) == BODDURCI_IS_CLOSED);
-    EXPECT(boddurci_next(&db, &cursor, room, sizeof room, &length, other, sizeof other, &more) == BODDURCI_IS_CLOSED);
-    EXPECT(boddurci_files(&db, room, sizeof room, &length, other, sizeof other, &more) == BODDURCI_IS_CLOSED);
-    EXPECT(boddurci_plan(&db, BODDURCI_NO_BYTES, BODDURCI_NO_BYTES, room, sizeof room, &length) == BODDURCI_IS_CLOSED);
-    EXPECT(boddurci_ask(&db, &ticket, 0, BYTES("a"), BODDURCI_NO_BYTES, 0, 0, 0) == BODDURCI_IS_CLOSED);
-    EXPECT(boddurci_work(&ticket) == BODDURCI_NO_TICKET);
-    EXPECT(boddurci_finish(&db, &ticket, &end, &word) == BODDURCI_IS_CLOSED);
+    REFUSES(BODDURCI_IS_CLOSED, boddurci_fetch(&db, BYTES("a"), room, most, &told.length));
+    REFUSES(BODDURCI_IS_CLOSED, boddurci_store(&db, BYTES("a"), BYTES("b"), 1));
+    REFUSES(BODDURCI_IS_CLOSED, boddurci_delete(&db, BYTES("a")));
+    REFUSES(BODDURCI_IS_CLOSED, boddurci_count(&db, &told.length));
+    REFUSES(BODDURCI_IS_CLOSED, boddurci_submit(&db, counter, counter_length, &told.number, &told.unit, room, most, &told.length));
+    REFUSES(BODDURCI_IS_CLOSED, boddurci_run(&db, 0, BYTES("a"), BODDURCI_NO_BYTES, 0, 0, 0, &told.end, &told.word));
+    REFUSES(BODDURCI_IS_CLOSED, boddurci_first(&db, &told.cursor));
+    REFUSES(BODDURCI_IS_CLOSED, boddurci_next(&db, &told.cursor, room, most, &told.length, other, most, &told.more));
+    REFUSES(BODDURCI_IS_CLOSED, boddurci_files(&db, room, most, &told.length, other, most, &told.more));
+    REFUSES(BODDURCI_IS_CLOSED, boddurci_plan(&db, BODDURCI_NO_BYTES, BODDURCI_NO_BYTES, room, most, &told.length));
+    REFUSES(BODDURCI_IS_CLOSED, boddurci_ask(&db, &ticket, 0, BYTES("a"), BODDURCI_NO_BYTES, 0, 0, 0));
+    REFUSES(BODDURCI_NO_TICKET, boddurci_work(&ticket));
+    REFUSES(BODDURCI_IS_CLOSED, boddurci_finish(&db, &ticket, &told.end, &told.word));
     boddurci_abandon(&ticket);
     EXPECT(!boddurci_is_open(&db));
     boddurci_close(&db);
     EXPECT(!boddurci_is_open(&db));
+}
+
+/* Refusals of an open handle. */
+static void test_unwritten(void)
+{
+    static uint8_t arg[BODDURCI_ARG_MOST + 1];
+    boddurci db = BODDURCI_CLOSED;
+    boddurci_ticket ticket = BODDURCI_FREE;
+    uint8_t *room = told.room;
+    size_t most = sizeof told.room;
+    open_empty(&db, 0, 0);
+    REFUSES(BODDURCI_IS_OPEN, boddurci_open(&db, BODDURCI_NO_BYTES, BODDURCI_NO_BYTES, 0, 0, room, most, &told.length));
+    REFUSES(BODDURCI_NO_PROGRAM, boddurci_run(&db, 0, BYTES("a"), BODDURCI_NO_BYTES, 1, 8, 0, &told.end, &told.word));
+    EXPECT(boddurci_submit(&db, counter, counter_length, &told.number, &told.unit, room, most, &told.length) == BODDURCI_DONE);
+    REFUSES(BODDURCI_PAIR_TOO_LARGE, boddurci_run(&db, 0, BYTES("a"), BODDURCI_NO_BYTES, 1, 1008, 0, &told.end, &told.word));
+    REFUSES(BODDURCI_ARG_TOO_LONG, boddurci_run(&db, 0, BYTES("a"), arg, sizeof arg, 1, 8, 0, &told.end, &told.word));
+    REFUSES(BODDURCI_NO_TICKET, boddurci_finish(&db, &ticket, &told.end, &told.word));
+    boddurci_close(&db);
 }
 
 static void test_pairs(uint32_t wide, uint32_t unsigned_keys)
@@ -755,6 +795,7 @@ int main(int argc, char **argv)
         test_growths();
     } else {
         test_closed();
+        test_unwritten();
         for (uint32_t wide = 0; wide < 2; wide++)
             for (uint32_t unsigned_keys = 0; unsigned_keys < 2; unsigned_keys++)
                 test_pairs(wide, unsigned_keys);

@@ -329,9 +329,10 @@ pub record OpensNot (old : Option Db) (code : ℕ) (new : Option Db) : Type 0 wh
   pub same : new ≡ old
   pub why : ((code ≡ code_of NoMemory) × (old ≡ None)) ⊎ ((code ≡ code_of Open) × IsSome old)
 
-abbrev pub OpensOr : KeyBytes → PageSize → List ℕ → List ℕ → Option Db → ℕ → Option Db → List ℕ → List ℕ → ℕ → Type 0
-OpensOr kind size dir pag old code new room_old room_new len =
-    Opens kind size dir pag old code new ⊎ (Faults kind size dir pag old code new room_old room_new len ⊎ OpensNot old code new)
+abbrev pub OpensOr : KeyBytes → PageSize → List ℕ → List ℕ → Option Db → ℕ → Option Db → List ℕ → List ℕ → ℕ → ℕ → Type 0
+OpensOr kind size dir pag old code new room_old room_new len_old len =
+    Opens kind size dir pag old code new
+    ⊎ (Faults kind size dir pag old code new room_old room_new len ⊎ (OpensNot old code new × ((room_new ≡ room_old) × (len ≡ len_old))))
 
 -- whether a handle is open, as a number
 abbrev pub open_word : Option Db → ℕ

@@ -123,7 +123,8 @@ pub extern "C" fn boddurci_fetch(
     room: &mut [u8],
     len: &mut usize,
 ) -> u32
-    ensures { Fetches key.now slot.old.held result slot.new.held room.old room.new len.new ⊎ Denies Never slot.old.held result slot.new.held }
+    ensures { Fetches key.now slot.old.held result slot.new.held room.old room.new len.new
+        ⊎ (Denies Never slot.old.held result slot.new.held × ((room.new ≡ room.old) × (len.new ≡ len.old))) }
 {
     let Some(db) = slot.take(alloc) else {
         return Status::Closed.code();
@@ -136,7 +137,7 @@ pub extern "C" fn boddurci_fetch(
 /// Tells the number of pairs.
 #[unsafe(no_mangle)]
 pub extern "C" fn boddurci_count(alloc: Global, slot: &mut Handle, count: &mut usize) -> u32
-    ensures { Counts slot.old.held result slot.new.held count.new ⊎ Denies Never slot.old.held result slot.new.held }
+    ensures { Counts slot.old.held result slot.new.held count.new ⊎ (Denies Never slot.old.held result slot.new.held × (count.new ≡ count.old)) }
 {
     let Some(db) = slot.take(alloc) else {
         return Status::Closed.code();
@@ -182,7 +183,8 @@ pub extern "C" fn boddurci_submit(
     len: &mut usize,
 ) -> u32
     ensures { Numbers image.now slot.old.held result slot.new.held id.new
-        ⊎ (Rejects image.now slot.old.held result slot.new.held unit.new room.old room.new len.new ⊎ Denies Never slot.old.held result slot.new.held) }
+        ⊎ ((Rejects image.now slot.old.held result slot.new.held unit.new room.old room.new len.new × (id.new ≡ id.old))
+        ⊎ (Denies Never slot.old.held result slot.new.held × ((id.new ≡ id.old) × ((unit.new ≡ unit.old) × ((room.new ≡ room.old) × (len.new ≡ len.old)))))) }
 {
     match submit_at(alloc, slot, image) {
         None => Status::Closed.code(),
@@ -209,7 +211,8 @@ pub extern "C" fn boddurci_assemble(
     room: &mut [u8],
     len: &mut usize,
 ) -> u32
-    ensures { Assembles text.now result image.old image.new image_len.new ⊎ Garbles text.now result line.new room.old room.new len.new }
+    ensures { Assembles text.now result image.old image.new image_len.new
+        ⊎ (Garbles text.now result line.new room.old room.new len.new × ((image.new ≡ image.old) × (image_len.new ≡ image_len.old))) }
 {
     match image_of(alloc, text) {
         Ok(bytes) => copy_out(bytes.as_slice(), image, image_len).code(),
@@ -267,7 +270,7 @@ pub extern "C" fn boddurci_run(
     word: &mut u64,
 ) -> u32
     ensures { Runs number key.now arg.now (blank_for has_blank blank) now slot.old.held result slot.new.held end.new word.new
-        ⊎ Denies (DeniesRun number key.now arg.now (blank_for has_blank blank)) slot.old.held result slot.new.held }
+        ⊎ (Denies (DeniesRun number key.now arg.now (blank_for has_blank blank)) slot.old.held result slot.new.held × ((end.new ≡ end.old) × (word.new ≡ word.old))) }
 {
     match run_at(
         alloc,
@@ -403,7 +406,7 @@ pub extern "C" fn boddurci_finish(
     word: &mut u64,
 ) -> u32
     ensures { Finishes slot.old.held result slot.new.held ticket.old.asked ticket.new.asked end.new word.new
-        ⊎ FinishesNot slot.old.held result slot.new.held ticket.old.asked ticket.new.asked }
+        ⊎ (FinishesNot slot.old.held result slot.new.held ticket.old.asked ticket.new.asked × ((end.new ≡ end.old) × (word.new ≡ word.old))) }
 {
     match finish_at(alloc, slot, ticket) {
         Ok(reply) => {
@@ -425,7 +428,7 @@ pub extern "C" fn boddurci_abandon(alloc: Global, ticket: &mut Ticket)
 /// Begins a walk over all pairs.
 #[unsafe(no_mangle)]
 pub extern "C" fn boddurci_first(alloc: Global, slot: &mut Handle, cursor: &mut Cursor) -> u32
-    ensures { Begins slot.old.held result slot.new.held cursor.new ⊎ Denies Never slot.old.held result slot.new.held }
+    ensures { Begins slot.old.held result slot.new.held cursor.new ⊎ (Denies Never slot.old.held result slot.new.held × (cursor.new ≡ cursor.old)) }
 {
     let Some(db) = slot.take(alloc) else {
         return Status::Closed.code();
@@ -447,7 +450,8 @@ pub extern "C" fn boddurci_next(
     value_len: &mut usize,
 ) -> u32
     ensures { GoesOn slot.old.held result slot.new.held cursor.old cursor.new key.old key.new key_len.new value.old value.new value_len.new
-        ⊎ Denies Never slot.old.held result slot.new.held }
+        ⊎ (Denies Never slot.old.held result slot.new.held
+        × ((cursor.new ≡ cursor.old) × ((key.new ≡ key.old) × ((key_len.new ≡ key_len.old) × ((value.new ≡ value.old) × (value_len.new ≡ value_len.old)))))) }
 {
     let Some(db) = slot.take(alloc) else {
         return Status::Closed.code();
@@ -485,7 +489,8 @@ pub extern "C" fn boddurci_files(
     pag_len: &mut usize,
 ) -> u32
     ensures { Writes slot.old.held result slot.new.held dir.old dir.new pag.old pag.new dir_len.new pag_len.new
-        ⊎ Denies LacksMemory slot.old.held result slot.new.held }
+        ⊎ (Denies LacksMemory slot.old.held result slot.new.held
+        × ((dir.new ≡ dir.old) × ((dir_len.new ≡ dir_len.old) × ((pag.new ≡ pag.old) × (pag_len.new ≡ pag_len.old))))) }
 {
     match files_at(alloc, slot) {
         Ok((dir_sink, pag_sink)) => {
@@ -523,7 +528,7 @@ pub extern "C" fn boddurci_plan(
     len: &mut usize,
 ) -> u32
     ensures { Plans slot.old.held result slot.new.held dir.now pag.now room.old room.new len.new
-        ⊎ Denies (DeniesPlan dir.now pag.now) slot.old.held result slot.new.held }
+        ⊎ (Denies (DeniesPlan dir.now pag.now) slot.old.held result slot.new.held × ((room.new ≡ room.old) × (len.new ≡ len.old))) }
 {
     match plan_at(alloc, slot, dir, pag) {
         Ok(plan) => copy_out(plan.as_slice(), room, len).code(),
@@ -619,7 +624,7 @@ pub extern "C" fn boddurci_open(
     room: &mut [u8],
     len: &mut usize,
 ) -> u32
-    ensures { OpensOr (kind_for unsigned_keys) (size_for wide) dir.now pag.now slot.old.held result slot.new.held room.old room.new len.new }
+    ensures { OpensOr (kind_for unsigned_keys) (size_for wide) dir.now pag.now slot.old.held result slot.new.held room.old room.new len.old len.new }
 {
     if boddurci_is_open(alloc, slot) == 1 {
         return Status::Open.code();

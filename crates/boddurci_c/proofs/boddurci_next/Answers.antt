@@ -1,11 +1,11 @@
-use Rattle.std.proofs.Common.{◌∙◌, Some, ap, sym, inl, inr}
+use Rattle.std.proofs.Common.{◌∙◌, Some, ap, sym, inl, inr, refl}
 use Rattle.boddurci_c.specs.Calls.{Never}
 use Rattle.boddurci_c.specs.Turns.{Turns}
 use Rattle.boddurci_c.proofs.CallLemmas.{shows, closed_denies}
 use Rattle.boddurci_c.proofs.boddurci_next.Goals as goal
 
 pub returns-in_default : goal.returns-in_default
-returns-in_default c = inr (closed_denies Never _ _ _ c.in_default.ensures.none c.take.ensures.closed c.code.ensures)
+returns-in_default c = inr (closed_denies Never _ _ _ c.in_default.ensures.none c.take.ensures.closed c.code.ensures, (refl, (refl, (refl, (refl, refl)))))
 
 pub returns : goal.returns
 returns c = inl (record {

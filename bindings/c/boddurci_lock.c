@@ -26,7 +26,9 @@ static int lead_of(const char *base, const char *ending, char **lead)
         return -1;
     int is_link = lstat(strcat(strcpy(name, base), ending), &found) == 0 && S_ISLNK(found.st_mode);
     char *real = is_link ? realpath(name, NULL) : NULL;
+    int system = errno;
     free(name);
+    errno = system;
     if (real == NULL)
         return is_link ? -1 : 0;
     length = strlen(real);

@@ -249,13 +249,18 @@ int boddurci_be_like_pages(const struct boddurci_place *place, enum boddurci_fil
 
 /* ---- keeping */
 
-int boddurci_keep_opened(int opened)
+static int sync_wholly(int opened, int (*sync)(int))
 {
     int status;
     do
-        status = fdatasync(opened);
+        status = sync(opened);
     while (status != 0 && errno == EINTR);
     return status;
+}
+
+int boddurci_keep_opened(int opened)
+{
+    return sync_wholly(opened, fdatasync);
 }
 
 int boddurci_keep_folder(const struct boddurci_place *place)
@@ -263,7 +268,7 @@ int boddurci_keep_folder(const struct boddurci_place *place)
     int opened = openat(place->folder, ".", O_RDONLY | O_DIRECTORY | O_CLOEXEC);
     if (opened < 0)
         return -1;
-    int status = fsync(opened), system = errno;
+    int status = sync_wholly(opened, fsync), system = errno;
     close(opened);
     errno = system;
     return status;

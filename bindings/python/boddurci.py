@@ -178,7 +178,7 @@ def _opened(name, flags, timeout):
     """A base, once its lock is had. A signal that comes meanwhile is handled, and then it waits on."""
     fault, end = _Fault(), None if timeout is None else time.monotonic() + timeout
     while True:
-        left = -1 if end is None else min(max(0, int((end - time.monotonic()) * 1000)), 2**52)
+        left = -1 if end is None else int(min(max(0.0, (end - time.monotonic()) * 1000), 2.0**52))
         base = _call.open_files_within(name, flags, left, ctypes.byref(fault))
         if base:
             return base
@@ -196,7 +196,7 @@ class Database(MutableMapping):
     def __init__(self, name, flags, timeout=None):
         self._process, self._base = os.getpid(), _opened(name, flags, timeout)
         # What keeps threads apart: a lock of this object; while a save is under way the mutex of the base too.
-        self._alone, self._taken, self._token = threading.RLock(), _Taken(self._base), object()
+        self._taken, self._token = _Taken(self._base), object()
         self._set_locks()
         _databases[id(self)] = self
         # Taken and given back once: it stays the same.
@@ -212,12 +212,15 @@ class Database(MutableMapping):
         self._value = (self._room.at, _VALUE_MOST, self._at["_length"])
 
     def _set_locks(self):
-        self._lock, self._saving, self._beside = threading.RLock(), threading.RLock(), self._alone
+        self._lock, self._saving, self._alone = threading.RLock(), threading.RLock(), threading.RLock()
+        self._beside = self._alone
 
     def _leave_to_parent(self):
-        """In a child: what it may still do is to let its memory go. A thread that held a lock is not there any more."""
+        """In a child: what it may still do is to let its memory go, unless a thread was at work in it that is not there any more."""
+        inherited = self._base or self._inherited
+        self._inherited = inherited if self._alone.acquire(blocking=False) else None
+        self._base = self._db = None
         self._set_locks()
-        self._inherited, self._base, self._db = self._base or self._inherited, None, None
 
     def _need_open(self):
         if self._base is None:
@@ -411,6 +414,7 @@ _databases = weakref.WeakValueDictionary()
 def _leave_all():
     for database in list(_databases.values()):
         database._leave_to_parent()
+        database._let_go()
 
 
 os.register_at_fork(after_in_child=_leave_all)
@@ -447,13 +451,13 @@ def open(file, flag="r", mode=0o666, *, wide=False, unsigned_keys=False, wait=Tr
 
 
 def _make_files(db, name, mode, always):
-    """Files of a new database, with the permissions that are asked for."""
-    is_new = False
-    for ending in (b".dir", b".pag"):
-        try:
-            os.close(os.open(name + ending, os.O_WRONLY | os.O_CREAT | os.O_EXCL | os.O_NOFOLLOW | os.O_CLOEXEC, mode))
+    """Files of a new database, with the permissions that are asked for. Beside a .pag that is there a save makes .dir, like it."""
+    how, is_new = os.O_WRONLY | os.O_CREAT | os.O_EXCL | os.O_NOFOLLOW | os.O_CLOEXEC, False
+    try:
+        for ending in (b".pag", b".dir"):
+            os.close(os.open(name + ending, how, mode))
             is_new = True
-        except FileExistsError:
-            pass
+    except FileExistsError:
+        pass
     if is_new or always:
         db.sync()

@@ -322,12 +322,16 @@ os.wait()
                     db[b"a"] = b"1"
                     db.sync()
 
+            # So that forks meet the thread in the midst of its calls.
+            interval = sys.getswitchinterval()
+            sys.setswitchinterval(1e-6)
             thread = threading.Thread(target=work)
             thread.start()
-            for _ in range(20):
+            for _ in range(40):
                 self.assertEqual(self.in_child(lambda: self.refused(db, None)), "9")
             is_over.set()
             thread.join()
+            sys.setswitchinterval(interval)
 
 
 class Programs(InFolder):

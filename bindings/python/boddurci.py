@@ -20,6 +20,7 @@ import os
 import pathlib
 import threading
 import time
+import warnings
 import weakref
 from collections.abc import MutableMapping
 from typing import NamedTuple
@@ -43,10 +44,17 @@ _WIDE, _UNSIGNED_KEYS, _READ_ONLY, _NO_WAIT, _MUST_EXIST, _EMPTY = 1, 2, 4, 8, 1
 
 _VALUE_MOST = 8008
 _IMAGE_MOST = 32768
+_TIME_MOST, _SIZE_MOST = 2**64 - 1, ctypes.c_size_t(-1).value
+
+# How many pairs an iteration reads at a time.
+_AT_A_TIME = 1000
 
 
 class error(OSError):
-    """What the store refuses, or what the system does to its files."""
+    """What the store refuses, or what the system does to its files: of these it has the system's number, and the name."""
+
+    def __str__(self):
+        return super().__str__() if self.errno is not None else "".join(map(str, self.args[:1]))
 
 
 class ProgramError(error, ValueError):
@@ -183,7 +191,7 @@ def _opened(name, flags, timeout):
         if base:
             return base
         if fault.status != _INTERRUPTED:
-            raise _of_fault(fault)
+            raise _of_fault(fault, name)
 
 
 class Database(MutableMapping):
@@ -194,7 +202,9 @@ class Database(MutableMapping):
     _keeps = False
 
     def __init__(self, name, flags, timeout=None):
-        self._process, self._base = os.getpid(), _opened(name, flags, timeout)
+        self._process, self._name, self._base = os.getpid(), name, _opened(name, flags, timeout)
+        # How often it was changed, for those who walk over it.
+        self._changes = 0
         # What keeps threads apart: a lock of this object; while a save is under way the mutex of the base too.
         self._taken, self._token = _Taken(self._base), object()
         self._set_locks()
@@ -255,6 +265,7 @@ class Database(MutableMapping):
         name, value = _bytes(key), _bytes(value)
         with self._lock, self._beside:
             self._need_writes()
+            self._changes += 1
             status = _call.store(self._db, name, len(name), value, len(value), 1)
         if status != _DONE:
             raise _error(status)
@@ -263,6 +274,7 @@ class Database(MutableMapping):
         name = _bytes(key)
         with self._lock, self._beside:
             self._need_writes()
+            self._changes += 1
             status = _call.delete(self._db, name, len(name))
         if status == _MISSING:
             raise KeyError(key)
@@ -275,27 +287,49 @@ class Database(MutableMapping):
             _call.count(self._db, self._at["_length"])
             return self._length.value
 
-    def _pairs(self):
-        """All pairs, as they stand now."""
-        with self._lock, self._beside:
-            self._need_open()
-            where, found = self._at["_cursor"], []
-            _call.first(self._db, where)
-            while _call.next(self._db, where, self._key.at, _VALUE_MOST, self._at["_other"], *self._value) == _DONE:
-                found.append((self._key.taken(self._other.value), self._room.taken(self._length.value)))
-            return found
+    def _walk(self, keeps):
+        """What is kept of each pair in turn. Some are read at a time, so no list of all is held; a change in between is an error."""
+        cursor, changes = _Cursor(), None
+        where, room = ctypes.addressof(cursor), (self._key.at, _VALUE_MOST, self._at["_other"], *self._value)
+        while changes is None or found:
+            found = []
+            with self._lock, self._beside:
+                self._need_open()
+                if changes is None:
+                    changes = self._changes
+                    _call.first(self._db, where)
+                if changes != self._changes:
+                    raise RuntimeError("the database changed during iteration")
+                while len(found) < _AT_A_TIME and _call.next(self._db, where, *room) == _DONE:
+                    found.append(keeps())
+            yield from found
+
+    def _this_key(self):
+        return self._key.taken(self._other.value)
+
+    def _this_value(self):
+        return self._room.taken(self._length.value)
+
+    def _all(self, keeps):
+        """What is kept of all pairs, as they stand now."""
+        with self._lock:
+            return list(self._walk(keeps))
 
     def keys(self):
-        return [key for key, _ in self._pairs()]
+        """A list of all keys. To hold none, iterate over the database itself."""
+        return self._all(self._this_key)
 
     def values(self):
-        return [value for _, value in self._pairs()]
+        """A list of all values."""
+        return self._all(self._this_value)
 
     def items(self):
-        return self._pairs()
+        """A list of all pairs."""
+        return self._all(lambda: (self._this_key(), self._this_value()))
 
     def __iter__(self):
-        return iter(self.keys())
+        self._need_open()
+        return self._walk(self._this_key)
 
     def setdefault(self, key, default=b""):
         """The value of a key, which is given the default where it has none."""
@@ -334,10 +368,16 @@ class Database(MutableMapping):
 
     def run(self, program, key, arg=b"", blank=None, now=None):
         """Runs a program on the record of a key, or on so many zeros where the key is not there and `blank` says how many, as one step.
-        The program is told the time `now`, in seconds, which is the system's where none is given."""
+        The program is told the time `now`, which is the system's in seconds where none is given: a program that counts in another unit
+        has to be given it."""
         name, arg = _bytes(key), _bytes(arg)
+        if blank is not None and not 0 <= blank <= _SIZE_MOST:
+            raise ValueError(f"blank is a number from 0 to {_SIZE_MOST}")
+        if now is not None and not 0 <= now <= _TIME_MOST:
+            raise ValueError(f"now is a number from 0 to {_TIME_MOST}")
         with self._lock, self._beside:
             self._need_writes()
+            self._changes += 1
             if getattr(program, "_of", None) is not self._token:
                 raise ProgramError("the program was not accepted by this database", None)
             status = _call.run(
@@ -374,7 +414,7 @@ class Database(MutableMapping):
                 with self._lock:
                     self._beside = self._alone
             if status != _DONE:
-                raise _of_fault(fault)
+                raise _of_fault(fault, self._name)
 
     def close(self):
         """Writes both files, unless the database is only read, and lets the lock go. A fault of the files leaves it open. In a child of the
@@ -403,8 +443,9 @@ class Database(MutableMapping):
     def __del__(self):
         try:
             self.close()
-        except Exception:
-            pass
+        except Exception as fault:
+            warnings.warn(f"what was not saved is lost: {fault}", ResourceWarning, source=self)
+            self._let_go()
 
 
 # Those that are open, for a child to leave them to its parent.
@@ -420,9 +461,14 @@ def _leave_all():
 os.register_at_fork(after_in_child=_leave_all)
 
 
-def _of_fault(fault):
-    text = fault.text.decode("utf-8", "replace")
-    return error(fault.system, text) if fault.system else error(text)
+def _of_fault(fault, name):
+    """The fault of the files of this name, which it names as the system's own errors do."""
+    text, name = fault.text.decode("utf-8", "replace"), os.fsdecode(name)
+    if fault.system:
+        return error(fault.system, text, name)
+    told = error(f"{text}: {name!r}")
+    told.filename = name
+    return told
 
 
 def open(file, flag="r", mode=0o666, *, wide=False, unsigned_keys=False, wait=True, timeout=None):

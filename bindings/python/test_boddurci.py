@@ -2,6 +2,7 @@
 beside a dict. BODDURCI_LIBRARY names the shared object; BODDURCI_CALLS, how many random calls there are (100,000 where it is not set)."""
 
 import dbm
+import errno
 import os
 import pathlib
 import random
@@ -141,6 +142,42 @@ class Mapping(InFolder):
         db.close()
         with boddurci.open(self.base) as db:
             self.assertEqual(db.keys(), [])
+
+
+    def test_iteration(self):
+        with boddurci.open(self.base, "c") as db:
+            db.update({b"%d" % i: b"x" for i in range(2500)})
+            self.assertEqual(sorted(db), sorted(db.keys()))
+            self.assertEqual(sorted(db), sorted(b"%d" % i for i in range(2500)))
+            self.assertEqual(set(db.values()), {b"x"})
+            turns = iter(db)
+            next(turns)
+            db[b"new"] = b"y"
+            with self.assertRaisesRegex(RuntimeError, "changed during iteration"):
+                list(turns)
+            # Another's walk is on its own way.
+            self.assertEqual(len([1 for _, _ in zip(db, db)]), 2501)
+
+    def test_a_fault_names_the_file(self):
+        with self.assertRaises(OSError) as caught:
+            boddurci.open(os.path.join(self.base, "db"), "w")
+        self.assertEqual((caught.exception.errno, caught.exception.filename), (errno.ENOENT, os.path.join(self.base, "db")))
+        with open(self.base + ".pag", "wb") as pages:
+            pages.write(b"x" * 1024)
+        with self.assertRaises(OSError) as caught:
+            boddurci.open(self.base, "w")
+        self.assertEqual((caught.exception.errno, caught.exception.filename), (None, self.base))
+        self.assertIn(self.base, str(caught.exception))
+
+    def test_what_is_lost_is_warned_of(self):
+        db = boddurci.open(self.base, "c")
+        db[b"a"] = b"1"
+        os.rename(self.base + ".lock", self.base + ".away")
+        with self.assertWarnsRegex(ResourceWarning, "what was not saved is lost: BASE.lock is another file"):
+            del db
+        os.rename(self.base + ".away", self.base + ".lock")
+        with boddurci.open(self.base, "w", wait=False) as db:
+            self.assertEqual(len(db), 0)
 
 
 class Saves(InFolder):
@@ -345,6 +382,10 @@ class Programs(InFolder):
             for _ in range(300):
                 self.assertEqual(db.run(counter, b"hits", blank=8), (1, 0))
             self.assertEqual(int.from_bytes(db[b"hits"], "little"), 300)
+            for numbers in ({"now": -1}, {"now": 2**64}, {"now": 2**64 + 5}, {"blank": -1}, {"blank": 2**64}):
+                with self.assertRaisesRegex(ValueError, f"{next(iter(numbers))} is a number from 0 to"):
+                    db.run(counter, b"hits", **numbers)
+            self.assertEqual(db.run(counter, b"hits", now=2**64 - 1), (1, 0))
 
     def test_time_and_argument(self):
         lease = (TOP / "examples/lease.s").read_text()

@@ -2,7 +2,8 @@
  * SAVE: they were taken; the word is how many are left.
  * KEEP: there are too few; the word is how long to wait until there are enough, and 2^64 - 1 where there never are. Where a length
  * is too short or the interval is 0, the word is 0.
- * A clock that goes back adds nothing. The cost times the interval is below 2^63. */
+ * A clock that goes back adds nothing. Where it was ahead once, by more than it takes to fill the bucket, that time is not believed: the
+ * bucket is as a new one. The cost times the interval is below 2^63. */
 #include "boddurci_record.h"
 
 struct bucket {
@@ -26,6 +27,10 @@ uint64_t program(void *record, uint64_t record_length, const void *argument, uin
     if (present) {
         tokens = bucket->tokens;
         filled = bucket->filled;
+    }
+    if (filled > now && (filled - now) / interval >= capacity) {
+        tokens = capacity;
+        filled = now;
     }
     if (now > filled) {
         uint64_t more = (now - filled) / interval;

@@ -9,10 +9,9 @@ use Rattle.dbm_script.specs.Script.{AnswersExceed}
 use Rattle.dbm_script.specs.declared.fault.LinesFault.{LinesFault}
 use Rattle.dbm_script.specs.declared.fault.LinesFault.TheVariants as lines
 use Rattle.dbm_words.specs.declared.wish.Form.{Form}
-use Rattle.dbm_words.specs.declared.wish.Notation.{Notation as Options}
 use Rattle.dbm_script.specs.declared.notations.Notation.{Notation}
 use Rattle.dbm_words.specs.declared.wish.Wish.{Wish}
-use Rattle.dbm_words.specs.declared.wish.Wish.TheVariants as wish
+use Rattle.dbm_words.specs.declared.scripts.Script.{Script}
 use Rattle.dbm_reports.specs.declared.subcommands.Report.{Report}
 use Rattle.dbm_reports.specs.declared.databases.Given.{Given}
 use Rattle.dbm_reports.specs.declared.fault.ReportFault.{ReportFault}
@@ -27,7 +26,7 @@ use Rattle.dbm_reports.specs.Notations.{notation_for}
 use Rattle.dbm_reports.specs.Options.{output_limit}
 use Rattle.dbm_reports.specs.Rows.{prefix_asked}
 use Rattle.dbm_reports.specs.Causes.{Causes, IsCaused, command_causes, listing_causes, IsOverlong, alone_causes, input_causes, lines_fault, numbered_causes, open_fault, opening_causes, play_causes, script_causes}
-use Rattle.dbm_reports.specs.Subcommands.{layout_causes, noted, subcommand_for, subcommand_in}
+use Rattle.dbm_reports.specs.Subcommands.{layout_causes, noted, script_in, subcommand_for, subcommand_in}
 
 -- the fault is this one, of which Q holds
 pub as_err : {T E : Type 0} (Q : E → Type 0) {e : E} (r : Result T E) → IsErrAnd r (λ fault. fault ≡ e) → Q e → IfErr r Q
@@ -110,10 +109,23 @@ pub numbered : (n : Option ℕ) (m : ℕ) (causes : ℕ → Causes) (fault : Rep
 numbered n m causes fault is h = subst (λ (o : Option ℕ). IsCaused (numbered_causes o causes) fault) (sym is) h
 
 -- a script whose limit is no number
-pub unlimited : (n : Notation Global) (base : Option (Bor (List ℕ))) (form : Form) (notation : Options) (max_output : Option (Bor (List ℕ))) (given : Given) (input : Option (List ℕ)) → output_limit max_output ≡ None
-    → IsCaused (subcommand_in n (wish.Script base form notation max_output) given input).causes BadNumber
-unlimited n None form notation max_output given input is = unnumbered (output_limit max_output) (alone_causes n form input) is
-unlimited n (Some base) form notation max_output given input is = unnumbered (output_limit max_output) (script_causes n form given input) is
+pub unlimited : (n : Notation Global) (base : Option (Bor (List ℕ))) (script : Script) (given : Given) (input : Option (List ℕ)) → output_limit script.max_output ≡ None
+    → IsCaused (script_in n base script given input).causes BadNumber
+unlimited n None script given input is = unnumbered (output_limit script.max_output) (alone_causes n script.form input) is
+unlimited n (Some base) script given input is = unnumbered (output_limit script.max_output) (script_causes n script.form given input) is
+
+-- what comes behind the limit of a script on an empty database, and on one of files
+pub caused_alone : (n : Notation Global) (script : Script) (given : Given) (input : Option (List ℕ)) (most : ℕ) (fault : ReportFault) → script.base ≡ None → output_limit script.max_output ≡ Some most
+    → IsCaused (alone_causes n script.form input most) fault → IsCaused (script_in n script.base script given input).causes fault
+caused_alone n script given input most fault none is h =
+    subst (λ (base : Option (Bor (List ℕ))). IsCaused (script_in n base script given input).causes fault) (sym none)
+    (numbered (output_limit script.max_output) most (alone_causes n script.form input) fault is h)
+
+pub caused_on : (n : Notation Global) (base : Bor (List ℕ)) (script : Script) (given : Given) (input : Option (List ℕ)) (most : ℕ) (fault : ReportFault) → script.base ≡ Some base → output_limit script.max_output ≡ Some most
+    → IsCaused (script_causes n script.form given input most) fault → IsCaused (script_in n script.base script given input).causes fault
+caused_on n base script given input most fault some is h =
+    subst (λ (o : Option (Bor (List ℕ))). IsCaused (script_in n o script given input).causes fault) (sym some)
+    (numbered (output_limit script.max_output) most (script_causes n script.form given input) fault is h)
 
 -- ---- notations
 

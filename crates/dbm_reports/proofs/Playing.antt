@@ -6,14 +6,12 @@ use Rattle.dbm_script.specs.Script.{AnswersExceed, IsScriptRun}
 use Rattle.dbm_script.proofs.Runs.{known_read}
 use Rattle.dbm_script.specs.declared.notations.Notation.{Notation}
 use Rattle.dbm_reports.specs.declared.subcommands.Report.{Report}
-use Rattle.dbm_words.specs.declared.wish.Form.{Form}
-use Rattle.dbm_words.specs.declared.wish.Notation.{Notation as Options}
-use Rattle.dbm_words.specs.declared.wish.Wish.TheVariants as wish
+use Rattle.dbm_words.specs.declared.scripts.Script.{Script}
 use Rattle.dbm_reports.specs.declared.databases.Given.{Given}
 use Rattle.dbm_reports.specs.Options.{output_limit}
 use Rattle.dbm_reports.specs.Causes.{IsOverlong}
 use Rattle.dbm_reports.specs.Reports.{OnDatabase, Plays, PlaysAlone, PlaysOn}
-use Rattle.dbm_reports.specs.Subcommands.{subcommand_in}
+use Rattle.dbm_reports.specs.Subcommands.{script_in}
 
 -- what was read is what is known
 pub plays_known : (n : Notation Global) (before : Database) (known : Option (List ℕ)) (read : List ℕ) (most : ℕ) (after : Database) (report : Report)
@@ -45,10 +43,14 @@ pub within : {X : Type 0} (limit : Option X) (most : X) (P : X → Type 0) → l
 within {X} limit most P is holds = subst (λ (o : Option X). IsSomeAnd o P) (sym is) holds
 
 -- a limit of a script on an empty database, and on one of files
-pub limited_alone : (n : Notation Global) (form : Form) (notation : Options) (max_output : Option (Bor (List ℕ))) (given : Given) (input : Option (List ℕ)) (most : ℕ) (report : Report) → output_limit max_output ≡ Some most
-    → PlaysAlone n form input most report → (subcommand_in n (wish.Script None form notation max_output) given input).reports report
-limited_alone n form notation max_output given input most report is plays = within (output_limit max_output) most (λ m. PlaysAlone n form input m report) is plays
+pub limited_alone : (n : Notation Global) (script : Script) (given : Given) (input : Option (List ℕ)) (most : ℕ) (report : Report) → script.base ≡ None → output_limit script.max_output ≡ Some most
+    → PlaysAlone n script.form input most report → (script_in n script.base script given input).reports report
+limited_alone n script given input most report none is plays =
+    subst (λ (base : Option (Bor (List ℕ))). (script_in n base script given input).reports report) (sym none)
+    (within (output_limit script.max_output) most (λ m. PlaysAlone n script.form input m report) is plays)
 
-pub limited_on : (n : Notation Global) (base : Bor (List ℕ)) (form : Form) (notation : Options) (max_output : Option (Bor (List ℕ))) (given : Given) (input : Option (List ℕ)) (most : ℕ) (report : Report) → output_limit max_output ≡ Some most
-    → OnDatabase form given (PlaysOn n input most report) → (subcommand_in n (wish.Script (Some base) form notation max_output) given input).reports report
-limited_on n base form notation max_output given input most report is plays = within (output_limit max_output) most (λ m. OnDatabase form given (PlaysOn n input m report)) is plays
+pub limited_on : (n : Notation Global) (base : Bor (List ℕ)) (script : Script) (given : Given) (input : Option (List ℕ)) (most : ℕ) (report : Report) → script.base ≡ Some base → output_limit script.max_output ≡ Some most
+    → OnDatabase script.form given (PlaysOn n input most report) → (script_in n script.base script given input).reports report
+limited_on n base script given input most report some is plays =
+    subst (λ (o : Option (Bor (List ℕ))). (script_in n o script given input).reports report) (sym some)
+    (within (output_limit script.max_output) most (λ m. OnDatabase script.form given (PlaysOn n input m report)) is plays)

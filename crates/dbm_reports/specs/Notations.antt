@@ -16,12 +16,12 @@ notation_by false None = Some Hex
 
 -- that of a wish; one whose words and lines have no bytes needs none
 abbrev pub notation_for : Wish → Option (Notation Global)
-notation_for (wish.Fetch base form notation key) = notation_by notation.text notation.layout
-notation_for (wish.Store base form notation key value insert) = notation_by notation.text notation.layout
-notation_for (wish.Delete base form notation key) = notation_by notation.text notation.layout
-notation_for (wish.Run base form notation key file arg blank now expect image) = notation_by notation.text notation.layout
-notation_for (wish.Batch base form notation file workers image) = notation_by notation.text notation.layout
-notation_for (wish.List base form notation prefix null json) = notation_by notation.text notation.layout
-notation_for (wish.Keys base form notation prefix null) = notation_by notation.text notation.layout
-notation_for (wish.Script base form notation max_output) = notation_by notation.text notation.layout
+notation_for (wish.Fetch fetch) = notation_by fetch.notation.text fetch.notation.layout
+notation_for (wish.Store store) = notation_by store.notation.text store.notation.layout
+notation_for (wish.Delete delete) = notation_by delete.notation.text delete.notation.layout
+notation_for (wish.Run run) = notation_by run.notation.text run.notation.layout
+notation_for (wish.Batch batch) = notation_by batch.notation.text batch.notation.layout
+notation_for (wish.List list) = notation_by list.notation.text list.notation.layout
+notation_for (wish.Keys keys) = notation_by keys.notation.text keys.notation.layout
+notation_for (wish.Script script) = notation_by script.notation.text script.notation.layout
 notation_for _ = Some Hex

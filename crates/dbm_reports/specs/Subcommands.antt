@@ -1,11 +1,15 @@
 -- Each subcommand: what comes of it, and why nothing does.
 use Rattle.std.specs.Prelude.{ℕ, Bool, true, false, List, Option, Some, None, IsSomeAnd, ⊤}
+use Rattle.std.specs.Borrow.{Bor}
 use Rattle.std.specs.declared.alloc.Global.{Global}
 use Rattle.dbm_script.specs.declared.notations.Notation.{Notation}
+use Rattle.dbm_words.specs.declared.runs.Run.{Run}
+use Rattle.dbm_words.specs.declared.scripts.Script.{Script}
 use Rattle.dbm_words.specs.declared.wish.Wish.{Wish}
 use Rattle.dbm_words.specs.declared.wish.Wish.TheVariants as wish
 use Rattle.dbm_reports.specs.declared.subcommands.Report.{Report}
 use Rattle.dbm_reports.specs.declared.databases.Given.{Given}
+use Rattle.dbm_reports.specs.declared.running.RunTexts.{RunTexts}
 use Rattle.dbm_reports.specs.Reports.{OnCommand, OnDatabase, Looks, Changes, Lists, Counts, Figures, PlaysAlone, PlaysOn, Widens, PrintsOf, IsAssembled, IsDisassembled, VerifyReports, OnRun, fetch_words, store_words, delete_words, small_form}
 use Rattle.dbm_reports.specs.Notations.{notation_for}
 use Rattle.dbm_reports.specs.Options.{output_limit}
@@ -31,67 +35,75 @@ noted None known = record {
 }
 noted (Some notation) known = known notation
 
+-- what is known of a script, by whether it has a base
+abbrev pub script_in : Notation Global → Option (Bor (List ℕ)) → Script → Given → Option (List ℕ) → Subcommand
+script_in n None script given input = record {
+  reports = λ report. IsSomeAnd (output_limit script.max_output) (λ most. PlaysAlone n script.form input most report);
+  causes = numbered_causes (output_limit script.max_output) (alone_causes n script.form input);
+}
+script_in n (Some base) script given input = record {
+  reports = λ report. IsSomeAnd (output_limit script.max_output) (λ most. OnDatabase script.form given (PlaysOn n input most report));
+  causes = numbered_causes (output_limit script.max_output) (script_causes n script.form given input);
+}
+
+-- the words of a run
+abbrev pub texts_of : Run → RunTexts
+texts_of run = record { key = run.key; arg = run.arg; blank = run.blank; now = run.now; expect = run.expect }
+
 -- What is known of a subcommand by its notation, the bytes of its files and of what is read. A batch is none of these.
 abbrev pub subcommand_in : Notation Global → Wish → Given → Option (List ℕ) → Subcommand
-subcommand_in n (wish.Fetch base form notation key) given input = record {
-  reports = λ report. OnCommand n form given (fetch_words key) (λ db command. Looks n db command report);
-  causes = command_causes n form given (fetch_words key);
+subcommand_in n (wish.Fetch fetch) given input = record {
+  reports = λ report. OnCommand n fetch.form given (fetch_words fetch.key) (λ db command. Looks n db command report);
+  causes = command_causes n fetch.form given (fetch_words fetch.key);
 }
-subcommand_in n (wish.Store base form notation key value insert) given input = record {
-  reports = λ report. OnCommand n form given (store_words key value insert) (λ db command. Changes n db command None report);
-  causes = command_causes n form given (store_words key value insert);
+subcommand_in n (wish.Store store) given input = record {
+  reports = λ report. OnCommand n store.form given (store_words store.key store.value store.insert) (λ db command. Changes n db command None report);
+  causes = command_causes n store.form given (store_words store.key store.value store.insert);
 }
-subcommand_in n (wish.Delete base form notation key) given input = record {
-  reports = λ report. OnCommand n form given (delete_words key) (λ db command. Changes n db command None report);
-  causes = command_causes n form given (delete_words key);
+subcommand_in n (wish.Delete delete) given input = record {
+  reports = λ report. OnCommand n delete.form given (delete_words delete.key) (λ db command. Changes n db command None report);
+  causes = command_causes n delete.form given (delete_words delete.key);
 }
-subcommand_in n (wish.Run base form notation key file arg blank now expect image) given input = record {
-  reports = OnRun n form given (record { key = key; arg = arg; blank = blank; now = now; expect = expect }) image;
-  causes = run_causes n form given (record { key = key; arg = arg; blank = blank; now = now; expect = expect }) image;
+subcommand_in n (wish.Run run) given input = record {
+  reports = OnRun n run.form given (texts_of run) run.image;
+  causes = run_causes n run.form given (texts_of run) run.image;
 }
-subcommand_in n (wish.Batch base form notation file workers image) given input = record {
+subcommand_in n (wish.Batch batch) given input = record {
   reports = λ report. ⊥;
   causes = no_causes;
 }
-subcommand_in n (wish.List base form notation prefix null json) given input = record {
-  reports = λ report. IsSomeAnd (prefix_asked n prefix) (λ begin. OnDatabase form given (Lists n (pairs_listing null json) begin report));
-  causes = listing_causes n form given prefix;
+subcommand_in n (wish.List list) given input = record {
+  reports = λ report. IsSomeAnd (prefix_asked n list.prefix) (λ begin. OnDatabase list.form given (Lists n (pairs_listing list.null list.json) begin report));
+  causes = listing_causes n list.form given list.prefix;
 }
-subcommand_in n (wish.Check base form json) given input = record {
-  reports = λ report. OnDatabase form given (Counts json report);
-  causes = opening_causes form given;
+subcommand_in n (wish.Check check) given input = record {
+  reports = λ report. OnDatabase check.form given (Counts check.json report);
+  causes = opening_causes check.form given;
 }
-subcommand_in n (wish.Keys base form notation prefix null) given input = record {
-  reports = λ report. IsSomeAnd (prefix_asked n prefix) (λ begin. OnDatabase form given (Lists n (keys_listing null) begin report));
-  causes = listing_causes n form given prefix;
+subcommand_in n (wish.Keys keys) given input = record {
+  reports = λ report. IsSomeAnd (prefix_asked n keys.prefix) (λ begin. OnDatabase keys.form given (Lists n (keys_listing keys.null) begin report));
+  causes = listing_causes n keys.form given keys.prefix;
 }
-subcommand_in n (wish.Stats base form json) given input = record {
-  reports = λ report. OnDatabase form given (Figures json report);
-  causes = opening_causes form given;
+subcommand_in n (wish.Stats stats) given input = record {
+  reports = λ report. OnDatabase stats.form given (Figures stats.json report);
+  causes = opening_causes stats.form given;
 }
-subcommand_in n (wish.Script None form notation max_output) given input = record {
-  reports = λ report. IsSomeAnd (output_limit max_output) (λ most. PlaysAlone n form input most report);
-  causes = numbered_causes (output_limit max_output) (alone_causes n form input);
+subcommand_in n (wish.Script script) given input = script_in n script.base script given input
+subcommand_in n (wish.Widen widen) given input = record {
+  reports = λ report. OnDatabase (small_form widen.unsigned) given (Widens report);
+  causes = opening_causes (small_form widen.unsigned) given;
 }
-subcommand_in n (wish.Script (Some base) form notation max_output) given input = record {
-  reports = λ report. IsSomeAnd (output_limit max_output) (λ most. OnDatabase form given (PlaysOn n input most report));
-  causes = numbered_causes (output_limit max_output) (script_causes n form given input);
-}
-subcommand_in n (wish.Widen base unsigned) given input = record {
-  reports = λ report. OnDatabase (small_form unsigned) given (Widens report);
-  causes = opening_causes (small_form unsigned) given;
-}
-subcommand_in n (wish.Asm file) given input = record {
+subcommand_in n (wish.Asm asm) given input = record {
   reports = PrintsOf IsAssembled given.file.items;
   causes = text_causes given.file.items;
 }
-subcommand_in n (wish.Disasm file) given input = record {
+subcommand_in n (wish.Disasm disasm) given input = record {
   reports = PrintsOf IsDisassembled given.file.items;
   causes = image_causes given.file.items;
 }
-subcommand_in n (wish.Verify file image explain) given input = record {
-  reports = VerifyReports explain image given.file.items;
-  causes = file_causes image given.file.items;
+subcommand_in n (wish.Verify verify) given input = record {
+  reports = VerifyReports verify.explain verify.image given.file.items;
+  causes = file_causes verify.image given.file.items;
 }
 
 -- what is known of a wish
@@ -100,10 +112,10 @@ subcommand_for wish given input = noted (notation_for wish) (λ n. subcommand_in
 
 -- the subcommand but a batch that reads standard input
 abbrev pub is_script : Wish → Bool
-is_script (wish.Script base form notation max_output) = true
+is_script (wish.Script script) = true
 is_script _ = false
 
 -- the subcommand that is none of these
 abbrev pub is_batch : Wish → Bool
-is_batch (wish.Batch base form notation file workers image) = true
+is_batch (wish.Batch batch) = true
 is_batch _ = false

@@ -7,7 +7,7 @@ ghost use Rattle.dbm_reports.specs.Subcommands.{layout_causes};
 use crate::fault::ReportFault;
 use byte_text::read_layout;
 use dbm_script::Notation;
-use dbm_words::{Notation as Options, Wish};
+use dbm_words::{Batch, Delete, Fetch, Keys, List, Notation as Options, Run, Script, Store, Wish};
 use std::alloc::Global;
 
 /// How the bytes of a wish are written in words and in lines: in hex, or as its options `--text` and `--as` say.
@@ -19,20 +19,20 @@ pub fn notation_of(alloc: Global, wish: &Wish<'_>) -> Result<Notation<Global>, R
     ensures fault { IfErr result (IsCaused (layout_causes (notation_for wish.now))) }
 {
     match *wish {
-        Wish::Fetch { notation, .. }
-        | Wish::Store { notation, .. }
-        | Wish::Delete { notation, .. }
-        | Wish::Run { notation, .. }
-        | Wish::Batch { notation, .. }
-        | Wish::List { notation, .. }
-        | Wish::Keys { notation, .. }
-        | Wish::Script { notation, .. } => notation_by(alloc, notation),
-        Wish::Check { .. }
-        | Wish::Stats { .. }
-        | Wish::Widen { .. }
-        | Wish::Asm { .. }
-        | Wish::Disasm { .. }
-        | Wish::Verify { .. } => Ok(Notation::Hex),
+        Wish::Fetch(Fetch { notation, .. })
+        | Wish::Store(Store { notation, .. })
+        | Wish::Delete(Delete { notation, .. })
+        | Wish::Run(Run { notation, .. })
+        | Wish::Batch(Batch { notation, .. })
+        | Wish::List(List { notation, .. })
+        | Wish::Keys(Keys { notation, .. })
+        | Wish::Script(Script { notation, .. }) => notation_by(alloc, notation),
+        Wish::Check(_)
+        | Wish::Stats(_)
+        | Wish::Widen(_)
+        | Wish::Asm(_)
+        | Wish::Disasm(_)
+        | Wish::Verify(_) => Ok(Notation::Hex),
     }
 }
 

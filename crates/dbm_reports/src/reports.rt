@@ -3,13 +3,12 @@ ghost use Rattle.std.specs.Prelude.{◌≡◌, cond, ◌≤◌, ◌∷◌, false
 ghost use Rattle.dbm_script.specs.Commands.{command_of};
 ghost use Rattle.dbm_script.specs.Notation.{reads_hex};
 ghost use Rattle.dbm_words.specs.declared.wish.Form.{Form};
-ghost use Rattle.dbm_words.specs.declared.wish.Wish.TheVariants as wish;
 ghost use Rattle.dbm_reports.specs.Causes.{IsCaused, command_causes, alone_causes, listing_causes, opening_causes, input_causes, script_causes};
 ghost use Rattle.dbm_reports.specs.Databases.{IsOpened};
 ghost use Rattle.dbm_reports.specs.declared.databases.Given.{Given};
 ghost use Rattle.dbm_reports.specs.Reports.{OnCommand, OnDatabase, Looks, Changes, Lists, Counts, Figures, PlaysAlone, PlaysOn, Widens, delete_words, fetch_words, small_form, store_name, store_words};
 ghost use Rattle.dbm_reports.specs.Rows.{keys_listing, pairs_listing, prefix_asked};
-ghost use Rattle.dbm_reports.specs.Subcommands.{is_batch, is_script, subcommand_for, subcommand_in};
+ghost use Rattle.dbm_reports.specs.Subcommands.{is_batch, is_script, script_in, subcommand_for, subcommand_in};
 
 use crate::databases::{Given, key_bytes_of, open, page_size_of};
 use crate::explaining::report_verify;
@@ -18,10 +17,10 @@ use crate::notations::notation_of;
 use crate::options::output_limit;
 use crate::programs::{assemble_file, disassemble_file};
 use crate::rows::{Listing, keys_listing, pairs_listing};
-use crate::running::{RunTexts, report_run};
+use crate::running::{report_run, texts_of};
 use crate::subcommands::{Report, change, check, figures, list, look, play, printed, widen_pages};
 use dbm_script::{Notation, ScriptFault, read_all, read_bytes, read_command};
-use dbm_words::{Form, Notation as Options, Wish};
+use dbm_words::{Form, Script, Wish};
 use sdbm_addr::Bytes;
 use sdbm_files::Image;
 use std::alloc::{AllocError, Global};
@@ -83,64 +82,20 @@ fn report_in<R: Read>(
     ensures unread { is_script wish.entry ≡ false → R.remaining reader.new ≡ R.remaining reader.old }
 {
     match wish {
-        Wish::Fetch { form, key, .. } => report_fetch(alloc, notation, given, form, key),
-        Wish::Store {
-            form,
-            key,
-            value,
-            insert,
-            ..
-        } => report_store(alloc, notation, given, form, key, value, insert),
-        Wish::Delete { form, key, .. } => report_delete(alloc, notation, given, form, key),
-        Wish::Run {
-            form,
-            key,
-            arg,
-            blank,
-            now,
-            expect,
-            image,
-            ..
-        } => {
-            let texts = RunTexts {
-                key,
-                arg,
-                blank,
-                now,
-                expect,
-            };
-            report_run(alloc, notation, given, form, texts, image)
-        }
-        Wish::List {
-            form,
-            prefix,
-            null,
-            json,
-            ..
-        } => report_list(alloc, notation, given, form, prefix, null, json),
-        Wish::Keys {
-            form,
-            prefix,
-            null,
-            ..
-        } => report_keys(alloc, notation, given, form, prefix, null),
-        Wish::Check { form, json, .. } => report_check(alloc, given, form, json),
-        Wish::Stats { form, json, .. } => report_stats(alloc, given, form, json),
-        Wish::Script {
-            base,
-            form,
-            notation: options,
-            max_output,
-        } => report_script(
-            alloc, notation, given, base, form, options, max_output, reader,
-        ),
-        Wish::Widen { unsigned, .. } => report_widen(alloc, given, unsigned),
-        Wish::Asm { .. } => assemble_file(alloc, given.file.as_slice()),
-        Wish::Disasm { .. } => disassemble_file(alloc, given.file.as_slice()),
-        Wish::Verify { image, explain, .. } => {
-            report_verify(alloc, given.file.as_slice(), image, explain)
-        }
-        Wish::Batch { .. } => unreachable!(),
+        Wish::Fetch(f) => report_fetch(alloc, notation, given, f.form, f.key),
+        Wish::Store(s) => report_store(alloc, notation, given, s.form, s.key, s.value, s.insert),
+        Wish::Delete(d) => report_delete(alloc, notation, given, d.form, d.key),
+        Wish::Run(r) => report_run(alloc, notation, given, r.form, texts_of(r), r.image),
+        Wish::List(l) => report_list(alloc, notation, given, l.form, l.prefix, l.null, l.json),
+        Wish::Keys(k) => report_keys(alloc, notation, given, k.form, k.prefix, k.null),
+        Wish::Check(c) => report_check(alloc, given, c.form, c.json),
+        Wish::Stats(s) => report_stats(alloc, given, s.form, s.json),
+        Wish::Script(s) => report_script(alloc, notation, given, s, reader),
+        Wish::Widen(w) => report_widen(alloc, given, w.unsigned),
+        Wish::Asm(_) => assemble_file(alloc, given.file.as_slice()),
+        Wish::Disasm(_) => disassemble_file(alloc, given.file.as_slice()),
+        Wish::Verify(v) => report_verify(alloc, given.file.as_slice(), v.image, v.explain),
+        Wish::Batch(_) => unreachable!(),
     }
 }
 
@@ -329,21 +284,18 @@ fn report_script<R: Read>(
     alloc: Global,
     notation: &Notation<Global>,
     given: &Given,
-    base: Option<&str>,
-    form: Form,
-    options: Options<'_>,
-    max_output: Option<&str>,
+    script: Script<'_>,
     reader: &mut R,
 ) -> Result<Report, ReportFault>
-    ensures ok { IfOk result (λ report. (subcommand_in notation.now (wish.Script base.entry form options.entry max_output.entry) given.now (R.remaining reader.old)).reports report) }
-    ensures fault { IfErr result (IsCaused (subcommand_in notation.now (wish.Script base.entry form options.entry max_output.entry) given.now (R.remaining reader.old)).causes) }
+    ensures ok { IfOk result (λ report. (script_in notation.now script.entry.base script.entry given.now (R.remaining reader.old)).reports report) }
+    ensures fault { IfErr result (IsCaused (script_in notation.now script.entry.base script.entry given.now (R.remaining reader.old)).causes) }
 {
-    let Some(most) = output_limit(max_output) else {
+    let Some(most) = output_limit(script.max_output) else {
         return Err(ReportFault::BadNumber);
     };
-    match base {
-        None => report_alone(alloc, notation, form, most, reader),
-        Some(_) => report_played(alloc, notation, given, form, most, reader),
+    match script.base {
+        None => report_alone(alloc, notation, script.form, most, reader),
+        Some(_) => report_played(alloc, notation, given, script.form, most, reader),
     }
 }
 

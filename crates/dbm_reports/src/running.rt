@@ -5,6 +5,7 @@ ghost use Rattle.store_cmd.specs.declared.Command.TheVariants as command;
 ghost use Rattle.dbm_reports.specs.Causes.{AreRunWords, IsCaused, no_causes, program_causes, run_causes, word_causes};
 ghost use Rattle.dbm_reports.specs.Databases.{IsOpened};
 ghost use Rattle.dbm_reports.specs.Reports.{Changes, IsFileImage, OnRun, RunsImage};
+ghost use Rattle.dbm_reports.specs.Subcommands.{texts_of};
 
 use crate::databases::{Given, open};
 use crate::fault::ReportFault;
@@ -12,7 +13,7 @@ use crate::options::expected_code;
 use crate::programs::{file_image, refused};
 use crate::subcommands::{Report, change};
 use dbm_script::{Notation, RunAsk, RunWords, command_of_run, read_run_words};
-use dbm_words::Form;
+use dbm_words::{Form, Run};
 use prog_registry::Registry;
 use sdbm_files::Image;
 use std::alloc::{AllocError, Global};
@@ -25,6 +26,19 @@ pub struct RunTexts<'a> {
     pub blank: &'a str,
     pub now: &'a str,
     pub expect: Option<&'a str>,
+}
+
+/// The words of a run.
+pub fn texts_of<'a>(run: Run<'a>) -> RunTexts<'a>
+    ensures { result ≡ texts_of run.entry }
+{
+    RunTexts {
+        key: run.key,
+        arg: run.arg,
+        blank: run.blank,
+        now: run.now,
+        expect: run.expect,
+    }
 }
 
 /// The answer to a run of the program of a file on the database of the files, which is to be written after it; or why the program

@@ -45,12 +45,12 @@ raised causes reports.NoMemory h = tt
 -- what comes of a wish that asks no batch, and why nothing does
 pub other_report : (wish : Wish) (given : Given) (input : Option (List ℕ)) (report : Report) → is_batch wish ≡ false
     → (subcommand_for wish given input).reports report → (service_for wish given input).reports report
-other_report (wish.Batch base form notation file workers image) given input report other comes = cc
+other_report (wish.Batch batch) given input report other comes = cc
 other_report _ given input report other comes = comes
 
 pub other_fault : (wish : Wish) (given : Given) (input : Option (List ℕ)) (fault : ReportFault) → is_batch wish ≡ false
     → IsCaused (subcommand_for wish given input).causes fault → HasCause (service_for wish given input).causes (report_fault fault)
-other_fault (wish.Batch base form notation file workers image) given input fault other caused = cc
+other_fault (wish.Batch batch) given input fault other caused = cc
 other_fault wish given input fault other caused = raised (service_for wish given input).causes fault caused
 
 -- a fault before the text

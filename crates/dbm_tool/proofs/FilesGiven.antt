@@ -15,9 +15,9 @@ use Rattle.dbm_tool.specs.Services.{batch_for, service_for}
 -- a wish has a database to be written exactly where its files are written
 pub database_of_wish : (wish : Wish) (given : Given) (input : Option (List ℕ)) (report : Report)
     → (service_for wish given input).reports report → is_some report.database ≡ writes_files wish
-database_of_wish (wish.Batch base form notation file workers image) given input report comes = of_batch (notation_by notation.text notation.layout) comes
+database_of_wish (wish.Batch batch) given input report comes = of_batch (notation_by batch.notation.text batch.notation.layout) comes
   where
-    of_batch : (o : Option (Notation Global)) → (batch_for o form given workers image input).reports report → is_some report.database ≡ true
+    of_batch : (o : Option (Notation Global)) → (batch_for o batch.form given batch.workers batch.image input).reports report → is_some report.database ≡ true
     of_batch None h = absurd h
     of_batch (Some n) h = ap (λ (db : Option Database). is_some db) h.1.1.1.1.written
 database_of_wish other given input report comes = database_given other given input report comes

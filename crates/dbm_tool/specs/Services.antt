@@ -32,8 +32,8 @@ batch_for (Some notation) form given workers image input = record {
 
 -- What is known of a wish, by the bytes of its files and of what is read.
 abbrev pub service_for : Wish → Given → Option (List ℕ) → Service
-service_for (wish.Batch base form notation file workers image) given input =
-    batch_for (notation_by notation.text notation.layout) form given workers image input
+service_for (wish.Batch batch) given input =
+    batch_for (notation_by batch.notation.text batch.notation.layout) batch.form given batch.workers batch.image input
 service_for other given input = record {
   reports = (subcommand_for other given input).reports;
   causes = only_report (subcommand_for other given input).causes;
@@ -41,5 +41,5 @@ service_for other given input = record {
 
 -- a script and a batch alone read
 abbrev pub reads_input : Wish → Bool
-reads_input (wish.Batch base form notation file workers image) = true
+reads_input (wish.Batch batch) = true
 reads_input other = is_script other

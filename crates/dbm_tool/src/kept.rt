@@ -1,9 +1,9 @@
 //! Lines of a script that ask nothing, found once it was answered.
 
 use dbm_faults::{Sentence, bad_lines_note};
-use dbm_reports::notation_of;
+use dbm_reports::notation_by;
 use dbm_script::{Notation, read_line};
-use dbm_words::Wish;
+use dbm_words::Notation as Options;
 use memchr::memmem;
 use std::alloc::Global;
 use std::io::{self, ErrorKind, Read, Write};
@@ -110,14 +110,14 @@ pub fn is_refused(answer: &[u8]) -> bool {
     answer.starts_with(b"refused Verify(")
 }
 
-/// The note on the lines of a script that ask nothing in the notation of its wish: which is the first, and how many more there are.
-/// `None` where there are none.
+/// The note on the lines of a script that ask nothing in the notation of its options: which is the first, and how many more there
+/// are. `None` where there are none.
 pub fn note_of_bad_lines(
     alloc: Global,
-    wish: &Wish<'_>,
+    options: Options<'_>,
     script: &[u8],
 ) -> Option<Sentence<'static>> {
-    let Ok(notation) = notation_of(alloc, wish) else {
+    let Ok(notation) = notation_by(alloc, options) else {
         return None;
     };
     let (first, count) = count_bad_lines(alloc, &notation, script);

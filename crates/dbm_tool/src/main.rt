@@ -30,7 +30,7 @@ use std::thread::Threads;
 use std::time::Duration;
 use std::{env, fs, io};
 use telling::{advise, note_absent, note_object, note_refusal, note_that};
-use words::{given_of, place_of};
+use words::{Told, given_of, place_of, told_of};
 
 fn main(rt: HostRuntime) -> ExitCode {
     let _standard = hold_standard(&rt);
@@ -70,6 +70,7 @@ fn run<R: Runtime<File = File> + AllocGlobal + Threads + Wait + Sync>(
     }
     match read_words(alloc, words.as_slice()) {
         Ok(request) => {
+            let told = told_of(&request);
             let mut reader = Kept::new(alloc, rt.reader());
             let ending = match serve_request(rt, request, &mut reader) {
                 Ok(ending) => ending,
@@ -79,8 +80,8 @@ fn run<R: Runtime<File = File> + AllocGlobal + Threads + Wait + Sync>(
             if reader.has_no_reader {
                 return ending;
             }
-            note(rt, &request.wish, &ending, &reader);
-            tell(rt, Some(&request), ending)
+            note(rt, &told, &ending, &reader);
+            tell(rt, Some(&told), ending)
         }
         Err(ToolFault::NoMemory) => tell(rt, None, Ending::Failed(ServeFault::NoMemory)),
         Err(fault) => tell(rt, None, Ending::Refused(fault)),
@@ -91,24 +92,24 @@ fn run<R: Runtime<File = File> + AllocGlobal + Threads + Wait + Sync>(
 // that is refused, and the lines of a script that ask nothing.
 fn note<R: Runtime<File = File> + AllocGlobal, I: Read>(
     rt: &R,
-    wish: &Wish<'_>,
+    told: &Told<'_>,
     ending: &Ending,
     input: &Kept<I>,
 ) {
     if !matches!(ending, Ending::Served(_)) {
         return;
     }
-    if !wish.writes() {
-        note_absent(rt, wish);
+    if !told.place.writes {
+        note_absent(rt, told);
     }
     if matches!(ending, Ending::Served(1)) {
-        note_object(rt, wish);
+        note_object(rt, told);
     }
     if let Some(refusal) = &input.refusal {
-        note_refusal(rt, wish, refusal.as_str());
+        note_refusal(rt, told, refusal.as_str());
     }
     if input.has_bad_line
-        && let Some(note) = note_of_bad_lines(rt.alloc(), wish, input.text())
+        && let Some(note) = note_of_bad_lines(rt.alloc(), told.notation, input.text())
     {
         note_that(rt, note);
     }
@@ -215,10 +216,10 @@ fn serve_change<R: Runtime<File = File> + AllocGlobal + Threads + Wait + Sync, I
     let mut lines = Vec::new(alloc);
     let outcome = serve(rt, alloc, wish, &given, reader, &mut lines);
     reader.has_bad_line = has_bad_line(lines.as_slice());
-    if let Wish::Run { image, .. } = wish
+    if let Wish::Run(run) = wish
         && is_refused(lines.as_slice())
     {
-        reader.refusal = refusal_of(alloc, given.file.as_slice(), image).unwrap_or(None);
+        reader.refusal = refusal_of(alloc, given.file.as_slice(), run.image).unwrap_or(None);
     }
     let old = Found {
         pages: given.pag,
@@ -240,7 +241,7 @@ fn serve_change<R: Runtime<File = File> + AllocGlobal + Threads + Wait + Sync, I
 // takes no help, that is the fault; where standard error fails, the status alone says it.
 fn tell<R: Runtime<File = File> + AllocGlobal>(
     rt: &R,
-    request: Option<&Request<'_>>,
+    told: Option<&Told<'_>>,
     ending: Ending,
 ) -> Ending
     ensures { IsTold ending result }
@@ -253,7 +254,7 @@ fn tell<R: Runtime<File = File> + AllocGlobal>(
     };
     if let Ending::Failed(fault) = &ending {
         let _ = eprintln!(rt; "dbm: {fault}");
-        advise(rt, request, *fault);
+        advise(rt, told, *fault);
     }
     ending
 }

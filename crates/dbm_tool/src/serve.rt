@@ -134,13 +134,10 @@ fn report_wish<T: Threads + Wait + Sync, R: Read>(
     ensures unread { reads_input wish.entry ≡ false → R.remaining reader.new ≡ R.remaining reader.old }
 {
     match wish {
-        Wish::Batch {
-            form,
-            notation,
-            workers,
-            image,
-            ..
-        } => report_batch(rt, alloc, given, form, notation, workers, image, reader),
+        Wish::Batch(b) => {
+            let (form, notation) = (b.form, b.notation);
+            report_batch(rt, alloc, given, form, notation, b.workers, b.image, reader)
+        }
         wish => report_other(alloc, wish, given, reader),
     }
 }

@@ -1,6 +1,6 @@
 //! What is printed on standard error behind a fault, and beside an answer.
 
-use crate::words::{has_image, place_of, words_of};
+use crate::words::Told;
 use dbm_faults::{
     Look, Sentence, ServeFault, Words, absent_note, finding_sentence, look_for, memory_sentence,
     object_note, refusal_note, sentence_of,
@@ -9,7 +9,6 @@ use dbm_files::{
     Finding, find_object, find_too_long, find_unread, find_unsafe, find_unwritten, has_no_files,
     names_of, resolve, sources,
 };
-use dbm_words::{Request, Wish};
 use std::alloc::AllocError;
 use std::fs::File;
 use std::rt::Runtime;
@@ -22,19 +21,41 @@ fn say<R: Runtime>(rt: &R, before: &str, sentence: Sentence<'_>) {
 /// Says in a line what a fault is about, and what to do.
 pub fn advise<R: Runtime<File = File> + AllocGlobal>(
     rt: &R,
-    request: Option<&Request<'_>>,
+    told: Option<&Told<'_>>,
     fault: ServeFault,
 ) {
-    let told = match request {
-        Some(request) => advise_on(rt, request, fault),
+    let done = match told {
+        Some(told) => advise_on(rt, told, fault),
         None => {
             tell_found(rt, &Words::unread(), fault, None);
             Ok(())
         }
     };
-    if told.is_err() {
+    if done.is_err() {
         say(rt, "  ", memory_sentence());
     }
+}
+
+// The same, of words that were read. The files are looked at once more where that says which of them the fault was about.
+fn advise_on<R: Runtime<File = File> + AllocGlobal>(
+    rt: &R,
+    told: &Told<'_>,
+    fault: ServeFault,
+) -> Result<(), AllocError> {
+    let base = base_behind(rt, told.words.base);
+    let words = &with_base(told.words, base.as_ref());
+    match look_for(fault) {
+        Look::Nothing => tell_found(rt, words, fault, None),
+        Look::Object => tell_object(rt, words, fault),
+        Look::Unread => tell_unread(rt, words, fault)?,
+        Look::Unwritten => tell_unwritten(rt, words, fault)?,
+        Look::Unsafe => tell_unsafe(rt, words, fault)?,
+        Look::TooLong => {
+            let sources = sources(rt.alloc(), told.place)?;
+            tell_found(rt, words, fault, find_too_long(rt, sources.as_slice()));
+        }
+    }
+    Ok(())
 }
 
 // The words with another base, where there is one.
@@ -54,29 +75,6 @@ fn base_behind<R: Runtime<File = File> + AllocGlobal>(
     base: Option<&str>,
 ) -> Option<String> {
     resolve(rt, base?).ok()
-}
-
-// The same, of a request. The files are looked at once more where that says which of them the fault was about.
-fn advise_on<R: Runtime<File = File> + AllocGlobal>(
-    rt: &R,
-    request: &Request<'_>,
-    fault: ServeFault,
-) -> Result<(), AllocError> {
-    let words = words_of(request);
-    let base = base_behind(rt, words.base);
-    let words = with_base(words, base.as_ref());
-    match look_for(fault) {
-        Look::Nothing => tell_found(rt, &words, fault, None),
-        Look::Object => tell_object(rt, &words, fault),
-        Look::Unread => tell_unread(rt, &words, fault)?,
-        Look::Unwritten => tell_unwritten(rt, &words, fault)?,
-        Look::Unsafe => tell_unsafe(rt, &words, fault)?,
-        Look::TooLong => {
-            let sources = sources(rt.alloc(), place_of(&request.wish))?;
-            tell_found(rt, &words, fault, find_too_long(rt, sources.as_slice()));
-        }
-    }
-    Ok(())
 }
 
 fn tell_object<R: Runtime<File = File> + AllocGlobal>(
@@ -151,9 +149,9 @@ pub fn note_that<R: Runtime>(rt: &R, note: Sentence<'_>) {
     say(rt, "dbm: note: ", note);
 }
 
-/// Says that neither file of the database was there that a wish has read.
-pub fn note_absent<R: Runtime<File = File> + AllocGlobal>(rt: &R, wish: &Wish<'_>) {
-    if let Some(base) = wish.base()
+/// Says that neither file of the database was there that was read.
+pub fn note_absent<R: Runtime<File = File> + AllocGlobal>(rt: &R, told: &Told<'_>) {
+    if let Some(base) = told.place.base
         && has_no_files(rt, Some(base))
     {
         note_that(rt, absent_note(base));
@@ -161,9 +159,9 @@ pub fn note_absent<R: Runtime<File = File> + AllocGlobal>(rt: &R, wish: &Wish<'_
 }
 
 /// Says of a program's image that was refused that it is an object, where it is one.
-pub fn note_object<R: Runtime<File = File>>(rt: &R, wish: &Wish<'_>) {
-    if let Some(file) = wish.file()
-        && has_image(wish)
+pub fn note_object<R: Runtime<File = File>>(rt: &R, told: &Told<'_>) {
+    if let Some(file) = told.place.file
+        && told.image
         && find_object(rt, file).is_some()
     {
         note_that(rt, object_note(file));
@@ -171,7 +169,7 @@ pub fn note_object<R: Runtime<File = File>>(rt: &R, wish: &Wish<'_>) {
 }
 
 /// Says why a program is refused that was to be run, and how to see more.
-pub fn note_refusal<R: Runtime>(rt: &R, wish: &Wish<'_>, refusal: &str) {
-    let file = wish.file().unwrap_or("FILE");
-    note_that(rt, refusal_note(refusal, file, has_image(wish)));
+pub fn note_refusal<R: Runtime>(rt: &R, told: &Told<'_>, refusal: &str) {
+    let file = told.place.file.unwrap_or("FILE");
+    note_that(rt, refusal_note(refusal, file, told.image));
 }

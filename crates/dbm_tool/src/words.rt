@@ -6,7 +6,10 @@ ghost use Rattle.dbm_reports.specs.Databases.{pag_limit};
 use dbm_faults::{Named, Numbers, Subject, Words};
 use dbm_files::{FileBytes, Place};
 use dbm_reports::{Given, PAG_LIMIT};
-use dbm_words::{Form, Request, Wish};
+use dbm_words::{
+    Batch, Check, Delete, Fetch, Form, Keys, List, Notation, Request, Run, Script, Stats, Store,
+    Wish,
+};
 
 /// What a wish says of its files.
 pub fn place_of<'a>(wish: &Wish<'a>) -> Place<'a>
@@ -34,11 +37,25 @@ pub fn given_of(bytes: FileBytes) -> Given
     }
 }
 
-/// The words of a request that a sentence may show.
-pub fn words_of<'a>(request: &Request<'a>) -> Words<'a> {
+/// What of a request the notes and the sentences take. It names no wish, so they are not checked anew where one changes.
+#[derive(Clone, Copy)]
+pub struct Told<'a> {
+    /// What it says of its files.
+    pub place: Place<'a>,
+    /// The words that a sentence may show.
+    pub words: Words<'a>,
+    /// How its bytes are written.
+    pub notation: Notation<'a>,
+    /// A program that is to be run or judged is given as its image.
+    pub image: bool,
+}
+
+/// What of a request the notes and the sentences take.
+pub fn told_of<'a>(request: &Request<'a>) -> Told<'a> {
     let wish = &request.wish;
     let form = form_of(wish);
-    Words {
+    let notation = notation_of(wish);
+    let words = Words {
         subject: subject_of(wish),
         base: wish.base(),
         file: wish.file(),
@@ -46,23 +63,30 @@ pub fn words_of<'a>(request: &Request<'a>) -> Words<'a> {
         wide: form.wide,
         first: first_bytes(wish),
         second: second_bytes(wish),
-        layout: layout_of(wish),
+        layout: notation.layout,
         numbers: numbers_of(wish, request.access.timeout),
+    };
+    Told {
+        place: place_of(wish),
+        words,
+        notation,
+        image: has_image(wish),
     }
 }
 
-/// Whether a program that is to be run or judged is given as its image.
-pub fn has_image(wish: &Wish<'_>) -> bool {
-    matches!(
-        wish,
-        Wish::Run { image: true, .. } | Wish::Verify { image: true, .. }
-    )
+// Whether a program that is to be run or judged is given as its image.
+fn has_image(wish: &Wish<'_>) -> bool {
+    match *wish {
+        Wish::Run(run) => run.image,
+        Wish::Verify(verify) => verify.image,
+        _ => false,
+    }
 }
 
 fn subject_of(wish: &Wish<'_>) -> Subject {
     match wish {
-        Wish::Asm { .. } => Subject::Asm,
-        Wish::Disasm { .. } => Subject::Disasm,
+        Wish::Asm(_) => Subject::Asm,
+        Wish::Disasm(_) => Subject::Disasm,
         _ => Subject::Other,
     }
 }
@@ -70,21 +94,21 @@ fn subject_of(wish: &Wish<'_>) -> Subject {
 // The options by which the files of a wish are read.
 fn form_of(wish: &Wish<'_>) -> Form {
     match *wish {
-        Wish::Fetch { form, .. }
-        | Wish::Store { form, .. }
-        | Wish::Delete { form, .. }
-        | Wish::Run { form, .. }
-        | Wish::Batch { form, .. }
-        | Wish::List { form, .. }
-        | Wish::Keys { form, .. }
-        | Wish::Check { form, .. }
-        | Wish::Stats { form, .. }
-        | Wish::Script { form, .. } => form,
-        Wish::Widen { unsigned, .. } => Form {
-            unsigned,
+        Wish::Fetch(Fetch { form, .. })
+        | Wish::Store(Store { form, .. })
+        | Wish::Delete(Delete { form, .. })
+        | Wish::Run(Run { form, .. })
+        | Wish::Batch(Batch { form, .. })
+        | Wish::List(List { form, .. })
+        | Wish::Keys(Keys { form, .. })
+        | Wish::Check(Check { form, .. })
+        | Wish::Stats(Stats { form, .. })
+        | Wish::Script(Script { form, .. }) => form,
+        Wish::Widen(widen) => Form {
+            unsigned: widen.unsigned,
             wide: false,
         },
-        Wish::Asm { .. } | Wish::Disasm { .. } | Wish::Verify { .. } => Form {
+        Wish::Asm(_) | Wish::Disasm(_) | Wish::Verify(_) => Form {
             unsigned: false,
             wide: false,
         },
@@ -94,18 +118,13 @@ fn form_of(wish: &Wish<'_>) -> Form {
 // The first of the words that are to be bytes.
 fn first_bytes<'a>(wish: &Wish<'a>) -> Option<Named<'a>> {
     match *wish {
-        Wish::Store { key, .. }
-        | Wish::Fetch { key, .. }
-        | Wish::Delete { key, .. }
-        | Wish::Run { key, .. } => named("KEY", key),
-        Wish::List {
-            prefix: Some(prefix),
-            ..
+        Wish::Store(Store { key, .. })
+        | Wish::Fetch(Fetch { key, .. })
+        | Wish::Delete(Delete { key, .. })
+        | Wish::Run(Run { key, .. }) => named("KEY", key),
+        Wish::List(List { prefix, .. }) | Wish::Keys(Keys { prefix, .. }) => {
+            named("--prefix", prefix?)
         }
-        | Wish::Keys {
-            prefix: Some(prefix),
-            ..
-        } => named("--prefix", prefix),
         _ => None,
     }
 }
@@ -113,8 +132,8 @@ fn first_bytes<'a>(wish: &Wish<'a>) -> Option<Named<'a>> {
 // The second of them.
 fn second_bytes<'a>(wish: &Wish<'a>) -> Option<Named<'a>> {
     match *wish {
-        Wish::Store { value, .. } => named("VALUE", value),
-        Wish::Run { arg, .. } => named("ARG", arg),
+        Wish::Store(store) => named("VALUE", store.value),
+        Wish::Run(run) => named("ARG", run.arg),
         _ => None,
     }
 }
@@ -123,44 +142,42 @@ fn named<'a>(name: &'static str, word: &'a str) -> Option<Named<'a>> {
     Some(Named { name, word })
 }
 
-// The layout of values.
-fn layout_of<'a>(wish: &Wish<'a>) -> Option<&'a str> {
+// The options by which the bytes of a wish are written.
+fn notation_of<'a>(wish: &Wish<'a>) -> Notation<'a> {
     match *wish {
-        Wish::Fetch { notation, .. }
-        | Wish::Store { notation, .. }
-        | Wish::Delete { notation, .. }
-        | Wish::Run { notation, .. }
-        | Wish::Batch { notation, .. }
-        | Wish::List { notation, .. }
-        | Wish::Keys { notation, .. }
-        | Wish::Script { notation, .. } => notation.layout,
-        _ => None,
+        Wish::Fetch(Fetch { notation, .. })
+        | Wish::Store(Store { notation, .. })
+        | Wish::Delete(Delete { notation, .. })
+        | Wish::Run(Run { notation, .. })
+        | Wish::Batch(Batch { notation, .. })
+        | Wish::List(List { notation, .. })
+        | Wish::Keys(Keys { notation, .. })
+        | Wish::Script(Script { notation, .. }) => notation,
+        _ => Notation {
+            text: false,
+            layout: None,
+        },
     }
 }
 
 // The words that are to be numbers.
 fn numbers_of<'a>(wish: &Wish<'a>, timeout: Option<&'a str>) -> Numbers<'a> {
     match *wish {
-        Wish::Run {
-            blank,
-            now,
-            expect,
-            ..
-        } => Numbers {
+        Wish::Run(run) => Numbers {
             timeout,
-            blank: Some(blank),
-            now: Some(now),
-            expect,
+            blank: Some(run.blank),
+            now: Some(run.now),
+            expect: run.expect,
             ..Numbers::none()
         },
-        Wish::Batch { workers, .. } => Numbers {
+        Wish::Batch(batch) => Numbers {
             timeout,
-            workers: Some(workers),
+            workers: Some(batch.workers),
             ..Numbers::none()
         },
-        Wish::Script { max_output, .. } => Numbers {
+        Wish::Script(script) => Numbers {
             timeout,
-            max_output,
+            max_output: script.max_output,
             ..Numbers::none()
         },
         _ => Numbers {

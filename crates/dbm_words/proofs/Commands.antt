@@ -2,7 +2,7 @@
 use Rattle.std.proofs.Common.{◌≡◌, ◌++◌, ◌∷◌, ◌&&◌, not, is_some, [], List, Bool, Bor, true, false, map, refl, ap, ◌∙◌, arith, append_assoc, append-nil}
 use Rattle.std.proofs.lemmas.List.{map-append}
 use Rattle.std.specs.List.{list_all}
-use Rattle.clap.specs.Words.{AddsArg, AddsCommandAliases, AddsInTurn, App, Rule, Shape, Text, app_of, rule_of, with_rule}
+use Rattle.clap.specs.Words.{AddsArg, AddsCommandAliases, AddsInTurn, App, Rule, Shape, Text, rule_of, with_rule}
 use Rattle.clap.specs.Simple.{app_of_fields}
 use Rattle.clap.specs.Walk.{is_empty}
 use Rattle.clap.specs.declared.Arg.{Arg}

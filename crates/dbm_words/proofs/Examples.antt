@@ -4,9 +4,9 @@ use Rattle.clap.specs.Words.{Row, Text, fault_of, subcommand_of}
 use Rattle.clap.specs.declared.error.kind.ErrorKind.TheVariants.{DisplayHelp, DisplayVersion, MissingRequiredArgument, UnknownArgument}
 use Rattle.clap.proofs.OnLiterals.{clap_on_literals}
 use Rattle.dbm_words.specs.CommandLine.{tool}
-use Rattle.dbm_words.specs.Wishes.{is_given, lacks_word, writes_files}
-use Rattle.dbm_words.specs.declared.wish.Form.{Form}
-use Rattle.dbm_words.specs.declared.wish.Notation.{Notation}
+use Rattle.dbm_words.specs.Given.{is_given}
+use Rattle.dbm_words.specs.Wishes.{lacks_word, writes_files}
+use Rattle.dbm_words.specs.declared.scripts.Script.{Script}
 use Rattle.dbm_words.specs.declared.wish.Wish.TheVariants as wish
 
 abbrev words : List Text
@@ -43,11 +43,11 @@ pub version_is_shown : fault_of tool (codes "--version" ∷ []) ≡ DisplayVersi
 unfolding clap_on_literals
 version_is_shown = refl
 
-pub script_keeps_nothing : (form : Form) (notation : Notation) (most : Option (Bor Text)) → writes_files (wish.Script None form notation most) ≡ false
-script_keeps_nothing form notation most = refl
+pub script_keeps_nothing : (script : Script) → writes_files (wish.Script (record script { base = None })) ≡ false
+script_keeps_nothing script = refl
 
-pub script_on_files_writes_them : (base : Bor Text) (form : Form) (notation : Notation) (most : Option (Bor Text)) → writes_files (wish.Script (Some base) form notation most) ≡ true
-script_on_files_writes_them base form notation most = refl
+pub script_on_files_writes_them : (base : Bor Text) (script : Script) → writes_files (wish.Script (record script { base = Some base })) ≡ true
+script_on_files_writes_them base script = refl
 
 pub get_fetches : option_map (λ p. p.0) (subcommand_of tool (codes "get" ∷ codes "db" ∷ codes "61" ∷ [])) ≡ Some (codes "fetch")
 unfolding clap_on_literals

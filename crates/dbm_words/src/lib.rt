@@ -8,12 +8,22 @@ ghost use Rattle.dbm_words.specs.Wishes.{IsAccessGiven, IsAsked, IsRefusedFor, l
 
 mod arguments;
 mod fault;
+mod listings;
 mod matched;
+mod pairs;
+mod programs;
+mod runs;
+mod scripts;
 mod subcommands;
 mod wish;
 
 pub use crate::fault::ToolFault;
+pub use crate::listings::{Check, Keys, List, Stats};
 use crate::matched::{access, asked};
+pub use crate::pairs::{Delete, Fetch, Store};
+pub use crate::programs::{Asm, Disasm, Verify};
+pub use crate::runs::{Batch, Run};
+pub use crate::scripts::{Script, Widen};
 use crate::subcommands::tool_command;
 pub use crate::wish::{Access, Form, Notation, Request, TimeUnit, Wish};
 use std::alloc::Global;

@@ -1,9 +1,14 @@
-//! From what `clap` matched to what was asked: one function a subcommand.
-ghost use Rattle.std.specs.Prelude.{◌≡◌, IfSome, IsNone, Some, true, false, codes, option_map};
+//! From what `clap` matched to what was asked. Each subcommand has its own words beside its struct.
+ghost use Rattle.std.specs.Prelude.{◌≡◌, IfSome, IsNone, Some, true, option_map};
 ghost use Rattle.clap.specs.Words.{first_of, found_of, rows_of};
-ghost use Rattle.dbm_words.specs.CommandLine as spec;
-ghost use Rattle.dbm_words.specs.Wishes.{SubcommandAsks, IsAccess, IsForm, IsNotation, has_words, is_given, lacks_word};
+ghost use Rattle.dbm_words.specs.Given.{IsAccess, IsForm, IsNotation, is_given};
+ghost use Rattle.dbm_words.specs.Wishes.{SubcommandAsks, lacks_word};
 
+use crate::listings::{Check, Keys, List, Stats};
+use crate::pairs::{Delete, Fetch, Store};
+use crate::programs::{Asm, Disasm, Verify};
+use crate::runs::{Batch, Run};
+use crate::scripts::{Script, Widen};
 use crate::wish::{Access, Form, Notation, Wish};
 use clap::ArgMatches;
 
@@ -14,33 +19,33 @@ pub fn asked<'a>(name: &str, matches: &ArgMatches<'a>) -> Option<Wish<'a>>
     ensures none { IsNone result → lacks_word (Some (name.now, rows_of (found_of matches.now))) ≡ true }
 {
     match name {
-        "fetch" => fetch(matches),
-        "store" => store(matches),
-        "delete" => delete(matches),
-        "list" => list(matches),
-        "keys" => keys(matches),
-        "check" => check(matches),
-        "stats" => stats(matches),
-        "script" => script(matches),
-        "widen" => widen(matches),
-        "asm" => asm(matches),
-        "disasm" => disasm(matches),
-        "verify" => verify(matches),
-        "run" => run(matches),
-        "batch" => batch(matches),
+        "fetch" => Some(Wish::Fetch(Fetch::matched(matches)?)),
+        "store" => Some(Wish::Store(Store::matched(matches)?)),
+        "delete" => Some(Wish::Delete(Delete::matched(matches)?)),
+        "list" => Some(Wish::List(List::matched(matches)?)),
+        "keys" => Some(Wish::Keys(Keys::matched(matches)?)),
+        "check" => Some(Wish::Check(Check::matched(matches)?)),
+        "stats" => Some(Wish::Stats(Stats::matched(matches)?)),
+        "script" => Some(Wish::Script(Script::matched(matches)?)),
+        "widen" => Some(Wish::Widen(Widen::matched(matches)?)),
+        "asm" => Some(Wish::Asm(Asm::matched(matches)?)),
+        "disasm" => Some(Wish::Disasm(Disasm::matched(matches)?)),
+        "verify" => Some(Wish::Verify(Verify::matched(matches)?)),
+        "run" => Some(Wish::Run(Run::matched(matches)?)),
+        "batch" => Some(Wish::Batch(Batch::matched(matches)?)),
         _ => None,
     }
 }
 
-// The word or value that was given for a name.
-fn word<'a>(matches: &ArgMatches<'a>, id: &str) -> Option<&'a str>
+/// The word or value that was given for a name.
+pub fn word<'a>(matches: &ArgMatches<'a>, id: &str) -> Option<&'a str>
     ensures { option_map (λ text. text.now) result ≡ first_of id.now (rows_of (found_of matches.now)) }
 {
     matches.get_str(id)
 }
 
-// Whether an option was given.
-fn has_flag(matches: &ArgMatches<'_>, id: &str) -> bool
+/// Whether an option was given.
+pub fn has_flag(matches: &ArgMatches<'_>, id: &str) -> bool
     ensures { result ≡ is_given id.now (rows_of (found_of matches.now)) }
 {
     match word(matches, id) {
@@ -49,7 +54,8 @@ fn has_flag(matches: &ArgMatches<'_>, id: &str) -> bool
     }
 }
 
-fn form(matches: &ArgMatches<'_>) -> Form
+/// How the files of a database are read.
+pub fn form(matches: &ArgMatches<'_>) -> Form
     ensures { IsForm (rows_of (found_of matches.now)) result }
 {
     Form {
@@ -58,7 +64,8 @@ fn form(matches: &ArgMatches<'_>) -> Form
     }
 }
 
-fn notation<'a>(matches: &ArgMatches<'a>) -> Notation<'a>
+/// How bytes are written in words and in lines.
+pub fn notation<'a>(matches: &ArgMatches<'a>) -> Notation<'a>
     ensures { IsNotation (rows_of (found_of matches.now)) result }
 {
     Notation {
@@ -75,174 +82,4 @@ pub fn access<'a>(matches: &ArgMatches<'a>) -> Access<'a>
         timeout: word(matches, "timeout"),
         must_exist: has_flag(matches, "must-exist"),
     }
-}
-
-fn fetch<'a>(matches: &ArgMatches<'a>) -> Option<Wish<'a>>
-    ensures some { IfSome result (SubcommandAsks (codes "fetch") (rows_of (found_of matches.now))) }
-    ensures none { IsNone result → has_words spec.fetch.rules (rows_of (found_of matches.now)) ≡ false }
-{
-    Some(Wish::Fetch {
-        base: word(matches, "BASE")?,
-        form: form(matches),
-        notation: notation(matches),
-        key: word(matches, "KEY")?,
-    })
-}
-
-fn store<'a>(matches: &ArgMatches<'a>) -> Option<Wish<'a>>
-    ensures some { IfSome result (SubcommandAsks (codes "store") (rows_of (found_of matches.now))) }
-    ensures none { IsNone result → has_words spec.store.rules (rows_of (found_of matches.now)) ≡ false }
-{
-    Some(Wish::Store {
-        base: word(matches, "BASE")?,
-        form: form(matches),
-        notation: notation(matches),
-        key: word(matches, "KEY")?,
-        value: word(matches, "VALUE")?,
-        insert: has_flag(matches, "insert"),
-    })
-}
-
-fn delete<'a>(matches: &ArgMatches<'a>) -> Option<Wish<'a>>
-    ensures some { IfSome result (SubcommandAsks (codes "delete") (rows_of (found_of matches.now))) }
-    ensures none { IsNone result → has_words spec.delete.rules (rows_of (found_of matches.now)) ≡ false }
-{
-    Some(Wish::Delete {
-        base: word(matches, "BASE")?,
-        form: form(matches),
-        notation: notation(matches),
-        key: word(matches, "KEY")?,
-    })
-}
-
-fn list<'a>(matches: &ArgMatches<'a>) -> Option<Wish<'a>>
-    ensures some { IfSome result (SubcommandAsks (codes "list") (rows_of (found_of matches.now))) }
-    ensures none { IsNone result → has_words spec.list.rules (rows_of (found_of matches.now)) ≡ false }
-{
-    Some(Wish::List {
-        base: word(matches, "BASE")?,
-        form: form(matches),
-        notation: notation(matches),
-        prefix: word(matches, "prefix"),
-        null: has_flag(matches, "null"),
-        json: has_flag(matches, "json"),
-    })
-}
-
-fn keys<'a>(matches: &ArgMatches<'a>) -> Option<Wish<'a>>
-    ensures some { IfSome result (SubcommandAsks (codes "keys") (rows_of (found_of matches.now))) }
-    ensures none { IsNone result → has_words spec.keys.rules (rows_of (found_of matches.now)) ≡ false }
-{
-    Some(Wish::Keys {
-        base: word(matches, "BASE")?,
-        form: form(matches),
-        notation: notation(matches),
-        prefix: word(matches, "prefix"),
-        null: has_flag(matches, "null"),
-    })
-}
-
-fn check<'a>(matches: &ArgMatches<'a>) -> Option<Wish<'a>>
-    ensures some { IfSome result (SubcommandAsks (codes "check") (rows_of (found_of matches.now))) }
-    ensures none { IsNone result → has_words spec.check.rules (rows_of (found_of matches.now)) ≡ false }
-{
-    Some(Wish::Check {
-        base: word(matches, "BASE")?,
-        form: form(matches),
-        json: has_flag(matches, "json"),
-    })
-}
-
-fn stats<'a>(matches: &ArgMatches<'a>) -> Option<Wish<'a>>
-    ensures some { IfSome result (SubcommandAsks (codes "stats") (rows_of (found_of matches.now))) }
-    ensures none { IsNone result → has_words spec.stats.rules (rows_of (found_of matches.now)) ≡ false }
-{
-    Some(Wish::Stats {
-        base: word(matches, "BASE")?,
-        form: form(matches),
-        json: has_flag(matches, "json"),
-    })
-}
-
-fn script<'a>(matches: &ArgMatches<'a>) -> Option<Wish<'a>>
-    ensures some { IfSome result (SubcommandAsks (codes "script") (rows_of (found_of matches.now))) }
-    ensures none { IsNone result → has_words spec.script.rules (rows_of (found_of matches.now)) ≡ false }
-{
-    Some(Wish::Script {
-        base: word(matches, "base"),
-        max_output: word(matches, "max-output"),
-        form: form(matches),
-        notation: notation(matches),
-    })
-}
-
-fn widen<'a>(matches: &ArgMatches<'a>) -> Option<Wish<'a>>
-    ensures some { IfSome result (SubcommandAsks (codes "widen") (rows_of (found_of matches.now))) }
-    ensures none { IsNone result → has_words spec.widen.rules (rows_of (found_of matches.now)) ≡ false }
-{
-    Some(Wish::Widen {
-        base: word(matches, "BASE")?,
-        unsigned: has_flag(matches, "unsigned"),
-    })
-}
-
-fn asm<'a>(matches: &ArgMatches<'a>) -> Option<Wish<'a>>
-    ensures some { IfSome result (SubcommandAsks (codes "asm") (rows_of (found_of matches.now))) }
-    ensures none { IsNone result → has_words spec.asm.rules (rows_of (found_of matches.now)) ≡ false }
-{
-    Some(Wish::Asm {
-        file: word(matches, "FILE")?,
-    })
-}
-
-fn disasm<'a>(matches: &ArgMatches<'a>) -> Option<Wish<'a>>
-    ensures some { IfSome result (SubcommandAsks (codes "disasm") (rows_of (found_of matches.now))) }
-    ensures none { IsNone result → has_words spec.disasm.rules (rows_of (found_of matches.now)) ≡ false }
-{
-    Some(Wish::Disasm {
-        file: word(matches, "FILE")?,
-    })
-}
-
-fn verify<'a>(matches: &ArgMatches<'a>) -> Option<Wish<'a>>
-    ensures some { IfSome result (SubcommandAsks (codes "verify") (rows_of (found_of matches.now))) }
-    ensures none { IsNone result → has_words spec.verify.rules (rows_of (found_of matches.now)) ≡ false }
-{
-    Some(Wish::Verify {
-        file: word(matches, "FILE")?,
-        image: has_flag(matches, "image"),
-        explain: has_flag(matches, "explain"),
-    })
-}
-
-fn run<'a>(matches: &ArgMatches<'a>) -> Option<Wish<'a>>
-    ensures some { IfSome result (SubcommandAsks (codes "run") (rows_of (found_of matches.now))) }
-    ensures none { IsNone result → has_words spec.run.rules (rows_of (found_of matches.now)) ≡ false }
-{
-    Some(Wish::Run {
-        base: word(matches, "BASE")?,
-        form: form(matches),
-        notation: notation(matches),
-        key: word(matches, "KEY")?,
-        file: word(matches, "FILE")?,
-        arg: word(matches, "ARG")?,
-        blank: word(matches, "BLANK")?,
-        now: word(matches, "NOW")?,
-        expect: word(matches, "expect"),
-        image: has_flag(matches, "image"),
-    })
-}
-
-fn batch<'a>(matches: &ArgMatches<'a>) -> Option<Wish<'a>>
-    ensures some { IfSome result (SubcommandAsks (codes "batch") (rows_of (found_of matches.now))) }
-    ensures none { IsNone result → has_words spec.batch.rules (rows_of (found_of matches.now)) ≡ false }
-{
-    Some(Wish::Batch {
-        base: word(matches, "BASE")?,
-        form: form(matches),
-        notation: notation(matches),
-        file: word(matches, "FILE")?,
-        workers: word(matches, "WORKERS")?,
-        image: has_flag(matches, "image"),
-    })
 }

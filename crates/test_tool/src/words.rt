@@ -27,8 +27,28 @@ fn asked<'a>(global: Global, words: &'a [&'a str]) -> Result<Request<'a>, ToolFa
     read_words(global, words)
 }
 
+// The subcommand that a wish asks, with its words and options.
+fn asked_text(global: Global, wish: &Wish<'_>) -> Result<String, AllocError> {
+    match wish {
+        Wish::Fetch(fetch) => format!(in global; "{fetch:?}"),
+        Wish::Store(store) => format!(in global; "{store:?}"),
+        Wish::Delete(delete) => format!(in global; "{delete:?}"),
+        Wish::Run(run) => format!(in global; "{run:?}"),
+        Wish::Batch(batch) => format!(in global; "{batch:?}"),
+        Wish::List(list) => format!(in global; "{list:?}"),
+        Wish::Keys(keys) => format!(in global; "{keys:?}"),
+        Wish::Check(check) => format!(in global; "{check:?}"),
+        Wish::Stats(stats) => format!(in global; "{stats:?}"),
+        Wish::Script(script) => format!(in global; "{script:?}"),
+        Wish::Widen(widen) => format!(in global; "{widen:?}"),
+        Wish::Asm(asm) => format!(in global; "{asm:?}"),
+        Wish::Disasm(disasm) => format!(in global; "{disasm:?}"),
+        Wish::Verify(verify) => format!(in global; "{verify:?}"),
+    }
+}
+
 fn wish_text(global: Global, wish: &Wish<'_>) -> Option<String> {
-    let mut out = format!(in global; "{wish:?}").ok()?;
+    let mut out = asked_text(global, wish).ok()?;
     write!(
         out,
         " base {:?} file {:?} writes {}",

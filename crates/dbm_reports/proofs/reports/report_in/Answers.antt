@@ -1,3 +1,6 @@
+use Rattle.std.proofs.Common.{IfErr, subst}
+use Rattle.dbm_reports.specs.Causes.{IsCaused, run_causes}
+use Rattle.dbm_reports.specs.declared.running.RunTexts.{RunTexts}
 use Rattle.dbm_reports.proofs.reports.report_in.Goals as goal
 
 pub returns-in-Fetch-clause-ok : goal.returns-in-Fetch-clause-ok
@@ -22,10 +25,12 @@ pub returns-in-Stats-clause-ok : goal.returns-in-Stats-clause-ok
 returns-in-Stats-clause-ok g c = rw (c.in-Stats.is) c.report_stats.ensures.ok
 
 pub returns-in-Script-clause-ok : goal.returns-in-Script-clause-ok
-returns-in-Script-clause-ok g c = rw (c.in-Script.is, c.in-Script.base-is) c.report_script.ensures.ok
+returns-in-Script-clause-ok g c = rw (c.in-Script.is) c.report_script.ensures.ok
 
 pub returns-in-Widen-clause-ok : goal.returns-in-Widen-clause-ok
 returns-in-Widen-clause-ok g c = rw (c.in-Widen.is) c.report_widen.ensures.ok
 
 pub returns-in-Run-clause-fault : goal.returns-in-Run-clause-fault
-returns-in-Run-clause-fault g c = rw (c.in-Run.is) c.report_run.ensures.fault
+returns-in-Run-clause-fault g c =
+    rw (c.in-Run.is)
+    (subst (λ (texts : RunTexts). IfErr c.report_run.result (IsCaused (run_causes c.args.notation.now c.in-Run.r.form c.args.given.now texts c.in-Run.r.image))) c.texts_of.ensures c.report_run.ensures.fault)

@@ -7,7 +7,7 @@ use Rattle.dbm_tool.proofs.serve.report_wish.Goals as goal
 
 -- a wish that reads nothing asks no script
 no_script : (wish : Wish) → reads_input wish ≡ false → is_script wish ≡ false
-no_script (wish.Batch base form notation file workers image) h = cc
+no_script (wish.Batch batch) h = cc
 no_script other h = h
 
 pub returns-in_default-clause-ok : goal.returns-in_default-clause-ok

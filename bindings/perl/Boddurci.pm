@@ -42,7 +42,8 @@ my %OPTIONS = (wide => 1, unsigned_keys => 2, no_wait => 8);
 # Rooms, which calls write into: a value, an image, a fault and a cursor.
 my ($VALUE_MOST, $IMAGE_MOST, $FAULT, $CURSOR) = (8008, 32768, "L l Z200", 16);
 
-my $library = $ENV{BODDURCI_LIBRARY} // dirname(abs_path(__FILE__)) . "/../../out/boddurci/libboddurci.so";
+my $here = dirname(abs_path(__FILE__));
+my $library = $ENV{BODDURCI_LIBRARY} // (grep { -e } map { "$here/$_" } "libboddurci.so", "../../out/boddurci/libboddurci.so")[0] // "libboddurci.so";
 -e $library or croak "$library is not there: make it with ./dbm --build-library, and name it in BODDURCI_LIBRARY";
 my $ffi = FFI::Platypus->new(api => 1, lib => $library);
 my @bytes = ("string", "size_t");

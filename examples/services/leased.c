@@ -1,0 +1,164 @@
+/* A lease service: who takes a name has it for some time, and with it a number that grows with each new owner, so that what a late owner
+ * still sends can be told from what the next one does.
+ *
+ *     cc -O2 -I ../../out/boddurci leased.c ../../out/boddurci/libboddurci.a -lpthread -o leased
+ *     ./leased BASE SOCKET ../c/owned_lease.bin
+ *
+ * Four threads answer lines on a Unix socket: `take NAME OWNER MILLISECONDS`, `renew NAME OWNER MILLISECONDS` and `give NAME OWNER`, of
+ * words without spaces and owners of up to 16 bytes, by `yes NUMBER` or `no`. A `yes` is sent once its lease is saved, so it stands
+ * whatever happens to the service: kill it, and start it again. SIGTERM ends it. */
+#define _POSIX_C_SOURCE 200809L
+#include <boddurci_files.h>
+#include <pthread.h>
+#include <signal.h>
+#include <stdio.h>
+#include <stdlib.h>
+#include <string.h>
+#include <sys/socket.h>
+#include <sys/un.h>
+#include <time.h>
+#include <unistd.h>
+
+enum { THREADS = 4, RECORD = 40, OWNER = 16 };
+enum { TAKE, RENEW, GIVE, NONE };
+
+/* The argument of the program, as examples/c/owned_lease.c has it; the processor keeps numbers with the lowest byte first, as it does. */
+struct request {
+    uint8_t owner[OWNER];
+    uint64_t duration, operation;
+};
+
+static boddurci_base *base;
+static uint32_t lease;
+static int listener;
+
+/* The service ends: what it has promised is saved, and what is not was not promised. */
+static void end_by(const char *what, const char *why)
+{
+    fprintf(stderr, "leased: %s: %s\n", what, why);
+    exit(1);
+}
+
+static uint64_t now(void)
+{
+    struct timespec time;
+    clock_gettime(CLOCK_REALTIME, &time);
+    return (uint64_t)time.tv_sec * 1000 + (uint64_t)time.tv_nsec / 1000000;
+}
+
+static uint64_t operation_of(const char *word)
+{
+    static const char *const words[] = {"take", "renew", "give"};
+    uint64_t at = 0;
+    while (at < NONE && strcmp(word, words[at]) != 0)
+        at++;
+    return at;
+}
+
+/* Runs the program on the lease of a name, and saves what it changed. */
+static int is_granted(const char *name, const struct request *request, uint64_t *number)
+{
+    uint64_t end = 0;
+    boddurci_fault fault;
+    boddurci *db = boddurci_take(base);
+    uint32_t status = boddurci_run(db, lease, (const uint8_t *)name, strlen(name), (const uint8_t *)request, sizeof *request,
+                                   request->operation == TAKE, RECORD, now(), &end, number);
+    boddurci_give(base);
+    if (status != BODDURCI_DONE && status != BODDURCI_MISSING)
+        end_by(name, boddurci_text(status));
+    if (status != BODDURCI_DONE || end != 1)
+        return 0;
+    if (boddurci_save(base, &fault) != BODDURCI_DONE)
+        end_by("the lease is not saved", fault.text);
+    return 1;
+}
+
+static void answer(const char *line, FILE *peer)
+{
+    char word[8] = "", name[256], owner[OWNER + 1];
+    unsigned long long milliseconds = 0;
+    int words = sscanf(line, "%7s %255s %16s %llu", word, name, owner, &milliseconds);
+    struct request request = {{0}, milliseconds, operation_of(word)};
+    uint64_t number = 0;
+    if (request.operation == NONE || words < (request.operation == GIVE ? 3 : 4)) {
+        fprintf(peer, "fault: take or renew NAME OWNER MILLISECONDS, or give NAME OWNER\n");
+    } else {
+        memcpy(request.owner, owner, strlen(owner));
+        if (is_granted(name, &request, &number))
+            fprintf(peer, "yes %llu\n", (unsigned long long)number);
+        else
+            fprintf(peer, "no\n");
+    }
+    fflush(peer);
+}
+
+/* One thread: it answers one connection after another. */
+static void *serve(void *unused)
+{
+    char line[512];
+    for (;;) {
+        int peer = accept(listener, NULL, NULL);
+        FILE *in = peer < 0 ? NULL : fdopen(peer, "r"), *out = in == NULL ? NULL : fdopen(dup(peer), "w");
+        while (out != NULL && fgets(line, sizeof line, in) != NULL)
+            answer(line, out);
+        if (out != NULL)
+            fclose(out);
+        if (in != NULL)
+            fclose(in);
+    }
+    return unused;
+}
+
+static void open_base(const char *name, const char *image_name)
+{
+    static uint8_t image[BODDURCI_IMAGE_MOST], text[200];
+    size_t length, unit, text_length;
+    boddurci_fault fault;
+    FILE *file = fopen(image_name, "rb");
+    if (file == NULL)
+        end_by(image_name, "cannot be read");
+    length = fread(image, 1, sizeof image, file);
+    fclose(file);
+    base = boddurci_open_files(name, 0, &fault);
+    if (base == NULL)
+        end_by(name, fault.text);
+    boddurci *db = boddurci_take(base);
+    uint32_t status = boddurci_submit(db, image, length, &lease, &unit, text, sizeof text, &text_length);
+    boddurci_give(base);
+    if (status != BODDURCI_DONE)
+        end_by(image_name, boddurci_text(status));
+}
+
+static void listen_at(const char *name)
+{
+    struct sockaddr_un address = {.sun_family = AF_UNIX};
+    if (strlen(name) >= sizeof address.sun_path)
+        end_by(name, "the name of the socket is too long");
+    strcpy(address.sun_path, name);
+    unlink(name);
+    listener = socket(AF_UNIX, SOCK_STREAM, 0);
+    if (listener < 0 || bind(listener, (struct sockaddr *)&address, sizeof address) != 0 || listen(listener, 16) != 0)
+        end_by(name, "no socket can be had");
+}
+
+int main(int count, char **words)
+{
+    pthread_t thread;
+    sigset_t ends;
+    int number;
+    if (count != 4)
+        end_by("usage", "leased BASE SOCKET IMAGE");
+    signal(SIGPIPE, SIG_IGN);
+    sigemptyset(&ends);
+    sigaddset(&ends, SIGTERM);
+    sigaddset(&ends, SIGINT);
+    pthread_sigmask(SIG_BLOCK, &ends, NULL);
+    open_base(words[1], words[3]);
+    listen_at(words[2]);
+    for (int at = 0; at < THREADS; at++)
+        if (pthread_create(&thread, NULL, serve, NULL) != 0)
+            end_by("usage", "no thread can be had");
+    sigwait(&ends, &number);
+    unlink(words[2]);
+    return 0;
+}

@@ -10,9 +10,7 @@ use Rattle.dbm_script.specs.declared.fault.LinesFault.{LinesFault}
 use Rattle.dbm_script.specs.declared.fault.LinesFault.TheVariants as lines
 use Rattle.dbm_words.specs.declared.wish.Form.{Form}
 use Rattle.dbm_script.specs.declared.notations.Notation.{Notation}
-use Rattle.dbm_words.specs.declared.wish.Wish.{Wish}
 use Rattle.dbm_words.specs.declared.scripts.Script.{Script}
-use Rattle.dbm_reports.specs.declared.subcommands.Report.{Report}
 use Rattle.dbm_reports.specs.declared.databases.Given.{Given}
 use Rattle.dbm_reports.specs.declared.fault.ReportFault.{ReportFault}
 use Rattle.dbm_reports.specs.declared.fault.ReportFault.TheVariants.{BadHex, BadText, BadLayout, BadNumber, Open, NotText, Assemble, Decode, Read, TooLong, OutputTooLong, NoMemory}
@@ -22,11 +20,10 @@ use Rattle.sdbm_files.specs.Opened.{IsOpenFault}
 use Rattle.sdbm_files.specs.declared.opening.OpenFault.{OpenFault}
 use Rattle.sdbm_files.specs.declared.opening.OpenFault.TheVariants as opening
 use Rattle.dbm_reports.specs.Databases.{Opens, key_bytes_of, page_size_of}
-use Rattle.dbm_reports.specs.Notations.{notation_for}
 use Rattle.dbm_reports.specs.Options.{output_limit}
 use Rattle.dbm_reports.specs.Rows.{prefix_asked}
 use Rattle.dbm_reports.specs.Causes.{Causes, IsCaused, command_causes, listing_causes, IsOverlong, alone_causes, input_causes, lines_fault, numbered_causes, open_fault, opening_causes, play_causes, script_causes}
-use Rattle.dbm_reports.specs.Subcommands.{layout_causes, noted, script_in, subcommand_for, subcommand_in}
+use Rattle.dbm_reports.specs.Scripts.{script_in}
 
 -- the fault is this one, of which Q holds
 pub as_err : {T E : Type 0} (Q : E → Type 0) {e : E} (r : Result T E) → IsErrAnd r (λ fault. fault ≡ e) → Q e → IfErr r Q
@@ -144,31 +141,3 @@ no_prefix n form given prefix none = by_reading (reads_hex n) refl
     by_reading : (hex : Bool) → reads_hex n ≡ hex → IsCaused (listing_causes n form given prefix) (cond hex BadHex BadText)
     by_reading true is = (is, none)
     by_reading false is = (is, none)
-
--- a layout that is none comes before all else
-pub unlaid : (wish : Wish) (given : Given) (input : Option (List ℕ)) (fault : ReportFault) → IsCaused (layout_causes (notation_for wish)) fault → IsCaused (subcommand_for wish given input).causes fault
-unlaid wish given input fault h = by_notation (notation_for wish) fault h
-  where
-    by_notation : (o : Option (Notation Global)) (fault : ReportFault) → IsCaused (layout_causes o) fault → IsCaused (noted o (λ n. subcommand_in n wish given input)).causes fault
-    by_notation None fault h = h
-    by_notation (Some n) BadHex h = absurd h
-    by_notation (Some n) BadText h = absurd h
-    by_notation (Some n) BadLayout h = absurd h
-    by_notation (Some n) BadNumber h = absurd h
-    by_notation (Some n) (Open reason) h = absurd h
-    by_notation (Some n) NotText h = absurd h
-    by_notation (Some n) (Assemble fault) h = absurd h
-    by_notation (Some n) (Decode fault) h = absurd h
-    by_notation (Some n) Read h = absurd h
-    by_notation (Some n) TooLong h = absurd h
-    by_notation (Some n) OutputTooLong h = absurd h
-    by_notation (Some n) NoMemory h = tt
-
--- what comes in a notation, where it is that of the wish
-pub noted_report : (wish : Wish) (n : Notation Global) (given : Given) (input : Option (List ℕ)) (report : Report) → notation_for wish ≡ Some n
-    → (subcommand_in n wish given input).reports report → (subcommand_for wish given input).reports report
-noted_report wish n given input report is h = subst (λ (o : Option (Notation Global)). (noted o (λ m. subcommand_in m wish given input)).reports report) (sym is) h
-
-pub noted_fault : (wish : Wish) (n : Notation Global) (given : Given) (input : Option (List ℕ)) (fault : ReportFault) → notation_for wish ≡ Some n
-    → IsCaused (subcommand_in n wish given input).causes fault → IsCaused (subcommand_for wish given input).causes fault
-noted_fault wish n given input fault is h = subst (λ (o : Option (Notation Global)). IsCaused (noted o (λ m. subcommand_in m wish given input)).causes fault) (sym is) h

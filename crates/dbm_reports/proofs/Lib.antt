@@ -4,3 +4,4 @@ pub mod Playing
 pub mod RunFaults
 pub mod FilesGiven
 pub mod Examples
+pub mod Written

@@ -11,7 +11,7 @@ use Rattle.dbm_reports.specs.declared.databases.Given.{Given}
 use Rattle.dbm_reports.specs.Options.{output_limit}
 use Rattle.dbm_reports.specs.Causes.{IsOverlong}
 use Rattle.dbm_reports.specs.Reports.{OnDatabase, Plays, PlaysAlone, PlaysOn}
-use Rattle.dbm_reports.specs.Subcommands.{script_in}
+use Rattle.dbm_reports.specs.Scripts.{script_in}
 
 -- what was read is what is known
 pub plays_known : (n : Notation Global) (before : Database) (known : Option (List ℕ)) (read : List ℕ) (most : ℕ) (after : Database) (report : Report)
@@ -41,6 +41,11 @@ overlong_known n before known read most is long = known_read known read (λ byte
 
 pub within : {X : Type 0} (limit : Option X) (most : X) (P : X → Type 0) → limit ≡ Some most → P most → IsSomeAnd limit P
 within {X} limit most P is holds = subst (λ (o : Option X). IsSomeAnd o P) (sym is) holds
+
+-- what follows from a limit, whichever it is
+pub on_limit : {X : Type 0} (limit : Option X) (P : X → Type 0) (Q : Type 0) → ((most : X) → P most → Q) → IsSomeAnd limit P → Q
+on_limit None P Q f h = absurd h
+on_limit (Some most) P Q f h = f most h
 
 -- a limit of a script on an empty database, and on one of files
 pub limited_alone : (n : Notation Global) (script : Script) (given : Given) (input : Option (List ℕ)) (most : ℕ) (report : Report) → script.base ≡ None → output_limit script.max_output ≡ Some most

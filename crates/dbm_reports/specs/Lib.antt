@@ -4,5 +4,12 @@ pub mod Options
 pub mod Rows
 pub mod Causes
 pub mod Reports
+pub mod Known
+pub mod Pairs
+pub mod Listings
+pub mod Scripts
+pub mod Programs
+pub mod Runs
 pub mod Subcommands
+pub mod Served
 pub mod FaultText

@@ -1,38 +1,55 @@
-//! Why a program is accepted or refused, from a file.
+//! Why a program is accepted or refused, from a file: `verify`.
 ghost use Rattle.std.specs.Prelude.{◌≡◌, IfOk, IfErr};
 ghost use Rattle.bpf_insn.specs.Code.{IsImage};
 ghost use Rattle.prog_registry.specs.Judged.{IsJudged, IsProgramOf};
 ghost use Rattle.dbm_reports.specs.Causes.{IsCaused, file_causes};
-ghost use Rattle.dbm_reports.specs.Reports.{EndsAs, EndsJudged, Explains, IsExplained, VerifyReports};
+ghost use Rattle.dbm_reports.specs.Reports.{EndsAs, EndsJudged, Explains, IsExplained};
 
+use crate::databases::Given;
 use crate::fault::ReportFault;
 use crate::listing::show_accepted;
 use crate::programs::{file_image, judge_image, refused, verify_file};
+use crate::subcommand::Subcommand;
 use crate::subcommands::{Report, printed};
 use bpf_explain::{explain_accepted, explain_refused};
 use bpf_insn::{Code, DecodeFault, decode};
 use bpf_verify::{Refused, Verified, VerifyFault, examine};
+use dbm_script::Notation;
+use dbm_words::Verify;
 use prog_registry::RegFault;
 use std::alloc::{AllocError, Global};
+use std::io::Read;
 
-/// Whether the program of a file is accepted, or why not. With `explain` the line of `verify_file` stands behind the program's
-/// instructions with what is known before each; of a file that is the image of no program there is this line alone.
-///
-/// # Errors
-/// Those of `file_image`, and `NoMemory`.
-pub fn report_verify(
-    alloc: Global,
-    file: &[u8],
-    is_image: bool,
-    explain: bool,
-) -> Result<Report, ReportFault>
-    ensures ok { IfOk result (VerifyReports explain is_image file.now) }
-    ensures fault { IfErr result (IsCaused (file_causes is_image file.now)) }
-{
-    if explain {
-        return explain_file(alloc, file, is_image);
+// With `explain` the line of `verify_file` stands behind the program's instructions with what is known before each; of a file that is
+// the image of no program there is this line alone.
+impl Subcommand for Verify<'_> {
+    ghost use Rattle.std.specs.Prelude.{false};
+    ghost use Rattle.dbm_reports.specs.Programs.{verify_in};
+    ghost use Rattle.dbm_reports.specs.Causes.{IsCaused};
+
+    type Fault = ReportFault;
+
+    ghost reports = { λ verify n given input report. (verify_in verify given).reports report };
+
+    ghost causes = { λ verify n given input fault. IsCaused (verify_in verify given).causes fault };
+
+    ghost writes = { λ verify. false };
+
+    ghost reads = { λ verify. false };
+
+    fn report<R: Read>(
+        &self,
+        alloc: Global,
+        _notation: &Notation<Global>,
+        given: &Given,
+        _reader: &mut R,
+    ) -> Result<Report, ReportFault> {
+        let file = given.file.as_slice();
+        if self.explain {
+            return explain_file(alloc, file, self.image);
+        }
+        verify_file(alloc, file, self.image)
     }
-    verify_file(alloc, file, is_image)
 }
 
 fn explain_file(alloc: Global, file: &[u8], is_image: bool) -> Result<Report, ReportFault>

@@ -2,7 +2,7 @@
 ghost use Rattle.std.specs.Prelude.{◌≡◌, IfErr, IfOk, None, Some};
 ghost use Rattle.dbm_reports.specs.Causes.{IsCaused};
 ghost use Rattle.dbm_reports.specs.Notations.{notation_by, notation_for};
-ghost use Rattle.dbm_reports.specs.Subcommands.{layout_causes};
+ghost use Rattle.dbm_reports.specs.Known.{layout_causes};
 
 use crate::fault::ReportFault;
 use byte_text::read_layout;

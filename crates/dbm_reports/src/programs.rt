@@ -1,32 +1,50 @@
-//! Programs as text and as images, from and to files.
+//! Programs as text and as images, from and to files: `asm` and `disasm`.
 ghost use Rattle.std.specs.Prelude.{◌≢◌, IfOk, IfErr};
 ghost use Rattle.prog_registry.specs.declared.fault.RegFault.TheVariants.{NoMemory};
-ghost use Rattle.dbm_reports.specs.Reports.{IsAssembled, IsDisassembled, IsTextImage, IsFileImage, Judges, PrintsOf, Refuses, Verifies};
-ghost use Rattle.dbm_reports.specs.Causes.{IsCaused, text_causes, image_causes, file_causes};
+ghost use Rattle.dbm_reports.specs.Reports.{IsTextImage, IsFileImage, Judges, Refuses, Verifies};
+ghost use Rattle.dbm_reports.specs.Causes.{IsCaused, text_causes, file_causes};
 
+use crate::databases::Given;
 use crate::fault::ReportFault;
 use crate::listing::show_accepted;
+use crate::subcommand::Subcommand;
 use crate::subcommands::{Report, printed};
 use bpf_asm::{FaultKind, assemble, disassemble};
 use bpf_insn::{DecodeFault, decode, encode};
-use dbm_script::show_refusal;
+use dbm_script::{Notation, show_refusal};
+use dbm_words::{Asm, Disasm};
 use prog_registry::{RegFault, Registry};
 use sdbm_files::Image;
 use std::alloc::{AllocError, Global};
+use std::io::Read;
 
-/// The image of a program's text, in hex, in a line.
-///
-/// # Errors
-/// `NotText` where the file is not UTF-8, `Assemble` where it is the text of no program, with a line and a fault, and `NoMemory`. Which
-/// line and fault are told is `assemble`'s.
-pub fn assemble_file(alloc: Global, file: &[u8]) -> Result<Report, ReportFault>
-    ensures ok { IfOk result (PrintsOf IsAssembled file.now) }
-    ensures fault { IfErr result (IsCaused (text_causes file.now)) }
-{
-    let image = text_image(alloc, file)?;
-    let mut line = hex::encode(alloc, image.as_slice())?.into_bytes();
-    line.push(b'\n')?;
-    Ok(printed(line))
+impl Subcommand for Asm<'_> {
+    ghost use Rattle.std.specs.Prelude.{false};
+    ghost use Rattle.dbm_reports.specs.Programs.{asm_in};
+    ghost use Rattle.dbm_reports.specs.Causes.{IsCaused};
+
+    type Fault = ReportFault;
+
+    ghost reports = { λ asm n given input report. (asm_in given).reports report };
+
+    ghost causes = { λ asm n given input fault. IsCaused (asm_in given).causes fault };
+
+    ghost writes = { λ asm. false };
+
+    ghost reads = { λ asm. false };
+
+    fn report<R: Read>(
+        &self,
+        alloc: Global,
+        _notation: &Notation<Global>,
+        given: &Given,
+        _reader: &mut R,
+    ) -> Result<Report, ReportFault> {
+        let image = text_image(alloc, given.file.as_slice())?;
+        let mut line = hex::encode(alloc, image.as_slice())?.into_bytes();
+        line.push(b'\n')?;
+        Ok(printed(line))
+    }
 }
 
 // The image of the program of which a file is the text.
@@ -48,7 +66,8 @@ fn text_image(alloc: Global, file: &[u8]) -> Result<Vec<u8>, ReportFault>
 /// The image of a program's file: the file itself, where it is an image, or that of the text in it.
 ///
 /// # Errors
-/// `NoMemory`; and where the file is a text, those of `assemble_file`.
+/// `NoMemory`; and where the file is a text, `NotText` where it is not UTF-8, and `Assemble` where it is the text of no program, with
+/// a line and a fault. Which line and fault are told is `assemble`'s.
 pub fn file_image(alloc: Global, file: &[u8], is_image: bool) -> Result<Vec<u8>, ReportFault>
     ensures ok { IfOk result (λ image. IsFileImage is_image file.now image.items) }
     ensures fault { IfErr result (IsCaused (file_causes is_image file.now)) }
@@ -107,18 +126,33 @@ pub fn refused(
     })
 }
 
-/// The text of a program's image, an instruction a line.
-///
-/// # Errors
-/// `Decode` where the file is the image of no program, with the first unit at fault, and `NoMemory`.
-pub fn disassemble_file(alloc: Global, file: &[u8]) -> Result<Report, ReportFault>
-    ensures ok { IfOk result (PrintsOf IsDisassembled file.now) }
-    ensures fault { IfErr result (IsCaused (image_causes file.now)) }
-{
-    let code = match decode(alloc, file) {
-        Ok(code) => code,
-        Err(DecodeFault::NoMemory) => return Err(ReportFault::NoMemory),
-        Err(fault) => return Err(ReportFault::Decode(fault)),
-    };
-    Ok(printed(disassemble(alloc, &code)?.into_bytes()))
+impl Subcommand for Disasm<'_> {
+    ghost use Rattle.std.specs.Prelude.{false};
+    ghost use Rattle.dbm_reports.specs.Programs.{disasm_in};
+    ghost use Rattle.dbm_reports.specs.Causes.{IsCaused};
+
+    type Fault = ReportFault;
+
+    ghost reports = { λ disasm n given input report. (disasm_in given).reports report };
+
+    ghost causes = { λ disasm n given input fault. IsCaused (disasm_in given).causes fault };
+
+    ghost writes = { λ disasm. false };
+
+    ghost reads = { λ disasm. false };
+
+    fn report<R: Read>(
+        &self,
+        alloc: Global,
+        _notation: &Notation<Global>,
+        given: &Given,
+        _reader: &mut R,
+    ) -> Result<Report, ReportFault> {
+        let code = match decode(alloc, given.file.as_slice()) {
+            Ok(code) => code,
+            Err(DecodeFault::NoMemory) => return Err(ReportFault::NoMemory),
+            Err(fault) => return Err(ReportFault::Decode(fault)),
+        };
+        Ok(printed(disassemble(alloc, &code)?.into_bytes()))
+    }
 }

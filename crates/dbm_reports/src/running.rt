@@ -1,25 +1,27 @@
-//! The subcommand that runs a program on the record of a key.
+//! The subcommand that runs a program on the record of a key: `run`.
 ghost use Rattle.std.specs.Prelude.{◌≡◌, ◌⊎◌, IfOk, IfErr, None, Some, slice_get, IsSome};
 ghost use Rattle.bpf_verify.specs.Verified.{Accepted};
 ghost use Rattle.store_cmd.specs.declared.Command.TheVariants as command;
-ghost use Rattle.dbm_reports.specs.Causes.{AreRunWords, IsCaused, no_causes, program_causes, run_causes, word_causes};
+ghost use Rattle.dbm_reports.specs.Causes.{AreRunWords, IsCaused, no_causes, program_causes, word_causes};
 ghost use Rattle.dbm_reports.specs.Databases.{IsOpened};
-ghost use Rattle.dbm_reports.specs.Reports.{Changes, IsFileImage, OnRun, RunsImage};
-ghost use Rattle.dbm_reports.specs.Subcommands.{texts_of};
+ghost use Rattle.dbm_reports.specs.Reports.{Changes, IsFileImage, RunsImage};
+ghost use Rattle.dbm_reports.specs.Runs.{texts_of};
 
 use crate::databases::{Given, open};
 use crate::fault::ReportFault;
 use crate::options::expected_code;
 use crate::programs::{file_image, refused};
+use crate::subcommand::Subcommand;
 use crate::subcommands::{Report, change};
 use dbm_script::{Notation, RunAsk, RunWords, command_of_run, read_run_words};
 use dbm_words::{Form, Run};
 use prog_registry::Registry;
 use sdbm_files::Image;
 use std::alloc::{AllocError, Global};
+use std::io::Read;
 
 /// The words of a run, and the code with which it is to end, as they were given.
-#[derive(Clone, Copy, Debug, PartialEq, Eq)]
+#[derive(Clone, Copy)]
 pub struct RunTexts<'a> {
     pub key: &'a str,
     pub arg: &'a str,
@@ -28,8 +30,8 @@ pub struct RunTexts<'a> {
     pub expect: Option<&'a str>,
 }
 
-/// The words of a run.
-pub fn texts_of<'a>(run: Run<'a>) -> RunTexts<'a>
+// The words of a run.
+fn texts_of<'a>(run: Run<'a>) -> RunTexts<'a>
     ensures { result ≡ texts_of run.entry }
 {
     RunTexts {
@@ -41,25 +43,34 @@ pub fn texts_of<'a>(run: Run<'a>) -> RunTexts<'a>
     }
 }
 
-/// The answer to a run of the program of a file on the database of the files, which is to be written after it; or why the program
-/// gets no number, as a line of a script would say it that submits its image first.
-///
-/// # Errors
-/// The first of: `BadHex`, or as text `BadText`, and `BadNumber` of the words, those of `open`, those of `file_image`; and `NoMemory`.
-pub fn report_run(
-    alloc: Global,
-    notation: &Notation<Global>,
-    given: &Given,
-    form: Form,
-    texts: RunTexts<'_>,
-    is_image: bool,
-) -> Result<Report, ReportFault>
-    ensures ok { IfOk result (OnRun notation.now form given.now texts.entry is_image) }
-    ensures fault { IfErr result (IsCaused (run_causes notation.now form given.now texts.entry is_image)) }
-{
-    let (words, expect) = run_words(alloc, notation, texts)?;
-    let (database, image) = database_and_image(alloc, given, form, is_image)?;
-    Ok(run_image(alloc, notation, database, image.as_slice(), words, expect)?)
+// The database is written after the run. Where the program gets no number, the report says why, as a line of a script would that
+// submits its image first.
+impl Subcommand for Run<'_> {
+    ghost use Rattle.std.specs.Prelude.{false, true};
+    ghost use Rattle.dbm_reports.specs.Runs.{run_in};
+    ghost use Rattle.dbm_reports.specs.Causes.{IsCaused};
+
+    type Fault = ReportFault;
+
+    ghost reports = { λ run n given input report. (run_in n run given).reports report };
+
+    ghost causes = { λ run n given input fault. IsCaused (run_in n run given).causes fault };
+
+    ghost writes = { λ run. true };
+
+    ghost reads = { λ run. false };
+
+    fn report<R: Read>(
+        &self,
+        alloc: Global,
+        notation: &Notation<Global>,
+        given: &Given,
+        _reader: &mut R,
+    ) -> Result<Report, ReportFault> {
+        let (words, expect) = run_words(alloc, notation, texts_of(*self))?;
+        let (database, image) = database_and_image(alloc, given, self.form, self.image)?;
+        Ok(run_image(alloc, notation, database, image.as_slice(), words, expect)?)
+    }
 }
 
 // What the words mean, read from left to right, and then the code.

@@ -1,4 +1,3 @@
 pub mod Faults
-pub mod FilesGiven
-pub mod BatchFaults
+pub mod Turns
 pub mod Examples

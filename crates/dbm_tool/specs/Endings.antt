@@ -6,7 +6,7 @@ use Rattle.dbm_tool.specs.declared.ending.Ending.{Ending}
 use Rattle.dbm_tool.specs.declared.ending.Ending.TheVariants.{Served, Refused, Failed}
 use Rattle.dbm_faults.specs.declared.fault.ServeFault.{ServeFault}
 use Rattle.dbm_faults.specs.declared.fault.ServeFault.TheVariants as fault
-use Rattle.dbm_tool.specs.declared.serve.Outcome.{Outcome}
+use Rattle.dbm_tool.specs.declared.outcome.Outcome.{Outcome}
 
 -- help and the version are no fault
 abbrev pub IsRefusalStatus : ToolFault → ℕ → Type 0

@@ -1,45 +1,50 @@
 -- What stands on the output, and which database is to be written, after a wish was served or refused.
-use Rattle.std.specs.Prelude.{◌≡◌, ℕ, List, Option, Some}
-use Rattle.std.specs.Io.KnownBytes.{Appends, Keeps}
-use Rattle.sdbm_addr.specs.Database.{Database, IsDatabase}
-use Rattle.byte_text.specs.Writing.{WritesPart}
+use Rattle.std.specs.Prelude.{◌≡◌, ℕ, Bool, false, List, Option, Some, None, IfSome, IsNone, Result, Ok, Err, is_some}
+use Rattle.std.specs.Io.KnownBytes.{Keeps}
+use Rattle.sdbm_addr.specs.Database.{Database}
 use Rattle.dbm_words.specs.declared.wish.Wish.{Wish}
+use Rattle.dbm_reports.specs.Served.{IsPrinted, WasCutShort, WasTooLong}
 use Rattle.dbm_reports.specs.declared.databases.Given.{Given}
-use Rattle.dbm_reports.specs.declared.subcommands.Report.{Report}
+use Rattle.dbm_reports.specs.declared.serving.Served.{Served}
+use Rattle.dbm_reports.specs.declared.serving.Unserved.{Unserved}
+use Rattle.dbm_reports.specs.declared.serving.Unserved.TheVariants as unserved
 use Rattle.dbm_faults.specs.declared.fault.ServeFault.{ServeFault}
 use Rattle.dbm_faults.specs.declared.fault.ServeFault.TheVariants.{FileTooLong, Write}
-use Rattle.dbm_reports.specs.Databases.{MayBeWritten, IsTooLong}
-use Rattle.dbm_tool.specs.Causes.{HasCause}
-use Rattle.dbm_tool.specs.Services.{service_for}
+use Rattle.dbm_batches.specs.Causes.{HasCause}
+use Rattle.dbm_tool.specs.Services.{Service, service_for}
+use Rattle.dbm_tool.specs.declared.outcome.Outcome.{Outcome}
 
 -- A wish is served: the text of what comes of it was written, the status is its own, and so is the database that is to be written.
-pub record IsServed (wish : Wish) (given : Given) (input old new : Option (List ℕ)) (status : ℕ) (database : Option Database) : Type 0 where
-  pub report : Report
-  pub reports : (service_for wish given input).reports report
-  pub printed : Appends old new report.text.items
-  pub status_is : status ≡ report.status
-  pub database_is : database ≡ report.database
-  pub short : MayBeWritten database
+abbrev pub IsServed : Wish → Given → Option (List ℕ) → Option (List ℕ) → Option (List ℕ) → ℕ → Option Database → Type 0
+IsServed wish given input old new status database = IsPrinted (service_for wish given input).reports old new status database
 
--- the first bytes of the text were written
-pub record WasCutShort (wish : Wish) (given : Given) (input old new : Option (List ℕ)) : Type 0 where
-  pub report : Report
-  pub reports : (service_for wish given input).reports report
-  pub part : WritesPart old new report.text.items
+-- Before the text is written a fault has its cause, and nothing was written; `Write` leaves a part of the text, and `FileTooLong` all
+-- of it.
+abbrev pub IsUnservedBy : Service → Option (List ℕ) → Option (List ℕ) → ServeFault → Type 0
+IsUnservedBy service old new Write = WasCutShort service.reports old new
+IsUnservedBy service old new FileTooLong = WasTooLong service.reports old new
+IsUnservedBy service old new fault = HasCause service.causes fault × Keeps old new
 
--- all of the text was written, and the database that is to be written is too long
-pub record WasTooLong (wish : Wish) (given : Given) (input old new : Option (List ℕ)) : Type 0 where
-  pub report : Report
-  pub reports : (service_for wish given input).reports report
-  pub printed : Appends old new report.text.items
-  pub database : Database
-  pub is : report.database ≡ Some database
-  pub sound : IsDatabase database
-  pub long : IsTooLong database
-
--- A wish is refused. Before the text is written a fault has its cause, and nothing was written; `Write` leaves a part of the text, and
--- `FileTooLong` all of it.
+-- a wish is refused
 abbrev pub IsUnserved : Wish → Given → Option (List ℕ) → Option (List ℕ) → Option (List ℕ) → ServeFault → Type 0
-IsUnserved wish given input old new Write = WasCutShort wish given input old new
-IsUnserved wish given input old new FileTooLong = WasTooLong wish given input old new
-IsUnserved wish given input old new fault = HasCause (service_for wish given input).causes fault × Keeps old new
+IsUnserved wish given input old new fault = IsUnservedBy (service_for wish given input) old new fault
+
+-- All that is known of an outcome: what is printed and what is to be written, or the fault; what is left of standard input.
+pub record IsOutcome (service : Service) (writes reads : Bool) (input left old new : Option (List ℕ)) (outcome : Outcome) : Type 0 where
+  pub served : IsNone outcome.err → IsPrinted service.reports old new outcome.status outcome.database
+  pub fault : IfSome outcome.err (IsUnservedBy service old new)
+  pub unread : reads ≡ false → left ≡ input
+  pub database : IsNone outcome.err → is_some outcome.database ≡ writes
+  pub status : IfSome outcome.err (λ fault. outcome.status ≡ 2)
+  pub none : IfSome outcome.err (λ fault. outcome.database ≡ None)
+
+-- the outcome of a fault
+abbrev pub failed : ServeFault → Outcome
+failed fault = record { err = Some fault; status = 2; database = None }
+
+-- what a subcommand comes to, as the outcome of a wish
+abbrev pub outcome_by : {F : Type 0} → (F → ServeFault) → Result Served (Unserved F) → Outcome
+outcome_by f (Ok served) = record { err = None; status = served.status; database = served.database }
+outcome_by f (Err (unserved.Unreported fault)) = failed (f fault)
+outcome_by f (Err unserved.Write) = failed Write
+outcome_by f (Err unserved.TooLong) = failed FileTooLong

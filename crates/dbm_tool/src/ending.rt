@@ -2,7 +2,7 @@
 ghost use Rattle.std.specs.Prelude.{◌≡◌};
 ghost use Rattle.dbm_tool.specs.Endings.{IsEndingOf, IsExitStatus, IsRefusalStatus};
 
-use crate::serve::{FAULT, Outcome};
+use crate::outcome::{FAULT, Outcome};
 use dbm_faults::ServeFault;
 use dbm_words::ToolFault;
 

@@ -3,10 +3,11 @@
 
 ghost use Rattle.dbm_tool.specs.Endings.{IsTold};
 
-mod batch;
 mod clock;
+mod dispatch;
 mod ending;
 mod kept;
+mod outcome;
 mod serve;
 mod telling;
 mod words;

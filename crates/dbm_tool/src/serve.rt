@@ -1,42 +1,17 @@
 //! What a wish comes to on the bytes of its files, standard input and standard output.
-ghost use Rattle.std.specs.Prelude.{◌≡◌, false, IfOk, IfErr, OnOk, IfSome, IsNone, Some, None, is_some};
+ghost use Rattle.std.specs.Prelude.{◌≡◌, false, IfSome, IsNone, None, is_some};
 ghost use Rattle.dbm_words.specs.Wishes.{writes_files};
-ghost use Rattle.dbm_reports.specs.Subcommands.{is_batch, is_script};
-ghost use Rattle.sdbm_addr.specs.Database.{Database, IsDatabase};
-ghost use Rattle.dbm_reports.specs.Databases.{IsTooLong, MayBeWritten};
-ghost use Rattle.dbm_faults.specs.declared.fault.ServeFault.TheVariants.{FileTooLong};
-ghost use Rattle.dbm_tool.specs.Causes.{HasCause};
 ghost use Rattle.dbm_tool.specs.Outcomes.{IsServed, IsUnserved};
-ghost use Rattle.dbm_tool.specs.Services.{reads_input, service_for};
+ghost use Rattle.dbm_tool.specs.Services.{reads_input};
 
-use crate::batch::report_batch;
-use byte_text::write_all;
-use dbm_faults::ServeFault;
-use dbm_reports::{Given, Report, is_too_long, report_on};
+use crate::dispatch::serve_wish;
+use crate::outcome::Outcome;
+use dbm_reports::Given;
 use dbm_words::Wish;
-use sdbm_files::Image;
 use std::alloc::Global;
 use std::io::{Read, Write};
 use std::sync::Wait;
 use std::thread::Threads;
-
-/// The status of every fault.
-pub const FAULT: u8 = 2;
-
-/// What came of a wish: the fault, where there was one, the status, and the database where its files are to be written.
-#[derive(Drop)]
-pub struct Outcome {
-    pub err: Option<ServeFault>,
-    pub status: u8,
-    pub database: Option<Image<Global>>,
-}
-
-// What came of a wish that was served.
-#[derive(Drop)]
-struct Served {
-    status: u8,
-    database: Option<Image<Global>>,
-}
 
 /// Serves a wish: reads what its words mean, opens the database, reads standard input for a script or a batch, does what is asked,
 /// and writes the lines that it prints. The status is 1 where the answer is that nothing was found or changed, and `FAULT` where there
@@ -66,94 +41,5 @@ pub fn serve<T: Threads + Wait + Sync, R: Read, W: Write>(
     ensures status { IfSome result.err (λ _. result.status ≡ 2) }
     ensures none { IfSome result.err (λ _. result.database ≡ None) }
 {
-    match serve_wish(rt, alloc, wish, given, reader, writer) {
-        Ok(served) => Outcome {
-            err: None,
-            status: served.status,
-            database: served.database,
-        },
-        Err(fault) => Outcome {
-            err: Some(fault),
-            status: FAULT,
-            database: None,
-        },
-    }
-}
-
-// Serves a wish: what comes of it is found before a line is written.
-fn serve_wish<T: Threads + Wait + Sync, R: Read, W: Write>(
-    rt: &T,
-    alloc: Global,
-    wish: Wish<'_>,
-    given: &Given,
-    reader: &mut R,
-    writer: &mut W,
-) -> Result<Served, ServeFault>
-    ensures ok { IfOk result (λ served. IsServed wish.entry given.now (R.remaining reader.old) (W.contents writer.old) (W.contents writer.new) served.status served.database) }
-    ensures fault { IfErr result (IsUnserved wish.entry given.now (R.remaining reader.old) (W.contents writer.old) (W.contents writer.new)) }
-    ensures database { IfOk result (λ served. is_some served.database ≡ writes_files wish.entry) }
-    ensures unread { reads_input wish.entry ≡ false → R.remaining reader.new ≡ R.remaining reader.old }
-{
-    let report = report_wish(rt, alloc, wish, given, reader)?;
-    let Ok(()) = write_all(writer, report.text.as_slice()) else {
-        return Err(ServeFault::Write);
-    };
-    check_length(&report.database)?;
-    Ok(Served {
-        status: report.status,
-        database: report.database,
-    })
-}
-
-// Refuses a database that is to be written and is too large.
-fn check_length(database: &Option<Image<Global>>) -> Result<(), ServeFault>
-    ensures ok { OnOk result (MayBeWritten database.now) }
-    ensures fault { IfErr result (λ fault. (fault ≡ FileTooLong) × ((db : Database) × ((database.now ≡ Some db) × (IsDatabase db × IsTooLong db)))) }
-{
-    match database {
-        Some(image) => {
-            if is_too_long(image) {
-                return Err(ServeFault::FileTooLong);
-            }
-            Ok(())
-        }
-        None => Ok(()),
-    }
-}
-
-// What comes of a wish: it is found before a line is written.
-fn report_wish<T: Threads + Wait + Sync, R: Read>(
-    rt: &T,
-    alloc: Global,
-    wish: Wish<'_>,
-    given: &Given,
-    reader: &mut R,
-) -> Result<Report, ServeFault>
-    ensures ok { IfOk result (λ report. (service_for wish.entry given.now (R.remaining reader.old)).reports report) }
-    ensures fault { IfErr result (HasCause (service_for wish.entry given.now (R.remaining reader.old)).causes) }
-    ensures unread { reads_input wish.entry ≡ false → R.remaining reader.new ≡ R.remaining reader.old }
-{
-    match wish {
-        Wish::Batch(b) => {
-            let (form, notation) = (b.form, b.notation);
-            report_batch(rt, alloc, given, form, notation, b.workers, b.image, reader)
-        }
-        wish => report_other(alloc, wish, given, reader),
-    }
-}
-
-// What comes of a wish that asks no batch.
-fn report_other<R: Read>(
-    alloc: Global,
-    wish: Wish<'_>,
-    given: &Given,
-    reader: &mut R,
-) -> Result<Report, ServeFault>
-    requires { is_batch wish ≡ false }
-    ensures ok { IfOk result (λ report. (service_for wish.entry given.now (R.remaining reader.old)).reports report) }
-    ensures fault { IfErr result (HasCause (service_for wish.entry given.now (R.remaining reader.old)).causes) }
-    ensures unread { is_script wish.entry ≡ false → R.remaining reader.new ≡ R.remaining reader.old }
-{
-    let report = report_on(alloc, wish, given, reader)?;
-    Ok(report)
+    serve_wish(rt, alloc, wish, given, reader, writer)
 }

@@ -1,0 +1,168 @@
+-- What comes of a batch: tasks that workers do on a database, each a run of one program.
+use Rattle.std.specs.Prelude.{◌≡◌, ◌⊎◌, ℕ, ◌≤◌, ◌++◌, Bool, List, [], ◌∷◌, length, map, Option, Some, None, IfSome, IsSome, ⊤}
+use Rattle.std.specs.List.{All, flat_map}
+use Rattle.std.specs.Borrow.{Bor}
+use Rattle.std.specs.declared.alloc.Global.{Global}
+use Rattle.sdbm_addr.specs.Database.{Database, map_of}
+use Rattle.store_cmd.specs.declared.Entry.{Entry}
+use Rattle.store_cmd.specs.declared.Reply.{Reply}
+use Rattle.store_cmd.specs.History.{History}
+use Rattle.bpf_verify.specs.Verified.{Accepted}
+use Rattle.prog_registry.specs.Judged.{IsProgramOf}
+use Rattle.prog_registry.specs.declared.registry.ProgId.{ProgId}
+use Rattle.store_shared.specs.Shared.{CallsState, opened_by}
+use Rattle.store_shared.specs.Closed.{Agrees, AreDistinct, Covers, IsRefusedClose}
+use Rattle.worker_pool.specs.Pool.{AreDone, IsPoolFault}
+use Rattle.worker_pool.specs.declared.task.PoolFault.{PoolFault}
+use Rattle.worker_pool.specs.declared.task.PoolFault.TheVariants as jobs
+use Rattle.worker_pool.specs.declared.task.Task.{Task}
+use Rattle.dbm_script.specs.Answers.{reply_text}
+use Rattle.dbm_script.specs.Images.{Denies}
+use Rattle.dbm_script.specs.Numbers.{number_of}
+use Rattle.dbm_script.specs.Tasks.{AreTasksOf, IsFirstBad}
+use Rattle.dbm_script.specs.declared.notations.Notation.{Notation}
+use Rattle.dbm_script.specs.declared.run_words.RunWords.{RunWords}
+use Rattle.dbm_words.specs.declared.wish.Form.{Form}
+use Rattle.dbm_batches.specs.declared.batch.Batch.{Batch}
+use Rattle.dbm_reports.specs.declared.databases.Given.{Given}
+use Rattle.dbm_reports.specs.declared.subcommands.Report.{Report}
+use Rattle.dbm_reports.specs.Causes.{IsLongScript, no_causes, program_causes}
+use Rattle.dbm_batches.specs.Causes.{WishCauses, no_wish_causes, only_report}
+use Rattle.dbm_reports.specs.Databases.{IsOpened, IsShut, Opens}
+use Rattle.dbm_reports.specs.Reports.{IsFileImage}
+
+-- ---- before standard input is read
+
+-- how many workers a text says
+abbrev pub workers_of : List ℕ → Option ℕ
+workers_of text = number_of 4294967295 text
+
+-- the one program of a registry is that of an image, and has the number 0
+pub record IsSubmitted (image : List ℕ) (programs : List Accepted) (id : ProgId) : Type 0 where
+  pub program : Accepted
+  pub is : IsProgramOf image program
+  pub alone : programs ≡ program ∷ []
+  pub first : id.0 ≡ 0
+
+-- A batch may begin: the words say how many workers, the files spell its database, and the program of the file's image is registered.
+pub record IsReady (form : Form) (given : Given) (workers : Bor (List ℕ)) (is_image : Bool) (batch : Batch) : Type 0 where
+  pub number : workers_of workers.now ≡ Some batch.workers
+  pub opened : IsOpened form given batch.database
+  pub image : List ℕ
+  pub image_is : IsFileImage is_image given.file.items image
+  pub submitted : IsSubmitted image batch.registry.programs batch.program
+
+-- ---- the tasks
+
+-- the run of a program that words ask
+abbrev pub task_for : ProgId → RunWords Global → Task Global
+task_for program words = record { key = words.key; prog = program; arg = words.arg; blank = words.blank; now = words.now }
+
+-- the lines of at most 16,777,216 bytes ask just these runs
+pub record AreShortTasks (notation : Notation Global) (bytes : List ℕ) (words : List (RunWords Global)) : Type 0 where
+  pub short : length bytes ≤ 16777216
+  pub are : AreTasksOf Global notation bytes words
+
+-- the first line of at most 16,777,216 bytes that asks no task
+pub record HasBadLine (notation : Notation Global) (bytes : List ℕ) (number : ℕ) : Type 0 where
+  pub short : length bytes ≤ 16777216
+  pub is : IsFirstBad Global notation bytes number
+
+-- P holds of the tasks that standard input asks, where it is known
+abbrev pub OnTasks : Notation Global → Batch → Option (List ℕ) → (List (Task Global) → Type 0) → Type 0
+OnTasks notation batch input P =
+    (words : List (RunWords Global)) × (IfSome input (λ bytes. AreShortTasks notation bytes words) × P (map (task_for batch.program) words))
+
+-- The calls of sessions lead from a database to another: they are in a legal history from the one to the other, each session's in their
+-- order, and no others are.
+pub record IsClosedAfter (before : Database) (calls : List (CallsState Global)) (after : Database) : Type 0 where
+  pub entries : List (Entry Global)
+  pub legal : History before.size before.kind (map_of before) entries (map_of after)
+  pub agree : All (Agrees entries) calls
+  pub distinct : AreDistinct calls
+  pub covers : Covers entries calls
+  pub kind : after.kind ≡ before.kind
+  pub size : after.size ≡ before.size
+
+-- All tasks are done on a database, each with its reply, and the calls of their workers lead to another.
+pub record LeadTo (batch : Batch) (tasks : List (Task Global)) (replies : List (Reply Global)) (after : Database) : Type 0 where
+  pub calls : List (CallsState Global)
+  pub done : AreDone batch.database.size batch.registry.programs tasks batch.workers replies calls
+  pub closed : IsClosedAfter batch.database calls after
+
+-- a reply in a line
+abbrev pub reply_line : Notation Global → Reply Global → List ℕ
+reply_line notation reply = reply_text notation reply ++ 10 ∷ []
+
+-- The replies to tasks are printed in the order of the tasks, a line each, and the database after them is written.
+pub record DoesTasks (notation : Notation Global) (batch : Batch) (tasks : List (Task Global)) (report : Report) : Type 0 where
+  pub replies : List (Reply Global)
+  pub after : Database
+  pub leads : LeadTo batch tasks replies after
+  pub text_is : report.text.items ≡ flat_map (reply_line notation) replies
+  pub status_is : report.status ≡ 0
+  pub written : report.database ≡ Some after
+
+-- P holds of a batch that may begin
+abbrev pub OnReady : Form → Given → Bor (List ℕ) → Bool → (Batch → Type 0) → Type 0
+OnReady form given workers is_image P = (batch : Batch) × (IsReady form given workers is_image batch × P batch)
+
+-- what comes of a batch by its words, its files and standard input
+abbrev pub OnBatch : Notation Global → Form → Given → Bor (List ℕ) → Bool → Option (List ℕ) → Report → Type 0
+OnBatch notation form given workers is_image input report =
+    OnReady form given workers is_image (λ batch. OnTasks notation batch input (λ tasks. DoesTasks notation batch tasks report))
+
+-- ---- faults
+
+-- the program of an image gets no number
+abbrev pub submit_causes : List ℕ → WishCauses
+submit_causes image = record no_wish_causes { submitting = Denies [] image }
+
+-- the number of workers, the files, and then the program's image
+abbrev pub ready_causes : Form → Given → Bor (List ℕ) → Bool → WishCauses
+ready_causes form given workers is_image = record (only_report (record no_causes {
+  numbers = workers_of workers.now ≡ None;
+  opening = λ reason. IsSome (workers_of workers.now) × IsShut form given reason;
+  no_text = IsSome (workers_of workers.now) × (program_causes form given is_image).no_text;
+  assembling = λ fault. IsSome (workers_of workers.now) × (program_causes form given is_image).assembling fault;
+})) {
+  submitting = λ fault. IsSome (workers_of workers.now) × (Opens form given × ((image : List ℕ) × (IsFileImage is_image given.file.items image × (submit_causes image).submitting fault)));
+}
+
+-- Not all tasks are done, for another reason than want of memory, which has a name of its own.
+abbrev pub IsUndone : Batch → List (Task Global) → PoolFault → Type 0
+IsUndone batch tasks jobs.NoMemory = ⊥
+IsUndone batch tasks fault = (calls : List (CallsState Global)) × IsPoolFault batch.database.size batch.registry.programs tasks batch.workers fault calls
+
+-- these are the calls that the workers of a batch leave, whether all tasks are done or not
+abbrev pub AreLeft : Batch → List (Task Global) → List (CallsState Global) → Type 0
+AreLeft batch tasks calls =
+    ((replies : List (Reply Global)) × AreDone batch.database.size batch.registry.programs tasks batch.workers replies calls)
+    ⊎ ((fault : PoolFault) × IsPoolFault batch.database.size batch.registry.programs tasks batch.workers fault calls)
+
+-- the workers' calls, and that they are what the store's trail has
+abbrev pub doing_causes : Batch → List (Task Global) → WishCauses
+doing_causes batch tasks = record no_wish_causes {
+  pool = IsUndone batch tasks;
+  closing = λ fault. (calls : List (CallsState Global)) × (AreLeft batch tasks calls × IsRefusedClose (opened_by batch.database) calls fault);
+}
+
+-- the lines, and then the tasks
+abbrev pub task_causes : Notation Global → Batch → Option (List ℕ) → WishCauses
+task_causes notation batch input = record no_wish_causes {
+  bad_line = λ number. IfSome input (λ bytes. HasBadLine notation bytes number);
+  pool = λ fault. OnTasks notation batch input (λ tasks. (doing_causes batch tasks).pool fault);
+  closing = λ fault. OnTasks notation batch input (λ tasks. (doing_causes batch tasks).closing fault);
+}
+
+-- a batch: standard input is read once it may begin
+abbrev pub batch_causes : Notation Global → Form → Given → Bor (List ℕ) → Bool → Option (List ℕ) → WishCauses
+batch_causes notation form given workers is_image input = record (ready_causes form given workers is_image) {
+  report = record (ready_causes form given workers is_image).report {
+    reading = OnReady form given workers is_image (λ batch. ⊤);
+    long = OnReady form given workers is_image (λ batch. IsLongScript input);
+  };
+  bad_line = λ number. OnReady form given workers is_image (λ batch. (task_causes notation batch input).bad_line number);
+  pool = λ fault. OnReady form given workers is_image (λ batch. (task_causes notation batch input).pool fault);
+  closing = λ fault. OnReady form given workers is_image (λ batch. (task_causes notation batch input).closing fault);
+}

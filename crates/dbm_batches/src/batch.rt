@@ -1,0 +1,255 @@
+//! The subcommand that runs a program on the records of many keys, by workers side by side.
+ghost use Rattle.std.specs.Prelude.{◌≡◌, ◌⊎◌, ◌≤◌, ◌++◌, true, length, is_some, IfOk, IfErr, OnOk, Some, map};
+ghost use Rattle.std.specs.List.{flat_map};
+ghost use Rattle.sdbm_addr.specs.Database.{Database};
+ghost use Rattle.store_shared.specs.Closed.{IsRefusedClose};
+ghost use Rattle.store_shared.specs.Shared.{opened_by};
+ghost use Rattle.dbm_batches.specs.Batches.{DoesTasks, IsClosedAfter, IsReady, IsSubmitted, LeadTo, OnBatch, OnTasks, batch_causes, doing_causes, ready_causes, reply_line, submit_causes, task_causes, task_for};
+ghost use Rattle.dbm_faults.specs.declared.fault.ServeFault.TheVariants.{Close};
+ghost use Rattle.dbm_faults.specs.Faults.{pool_fault};
+ghost use Rattle.dbm_batches.specs.Causes.{HasCause};
+ghost use Rattle.dbm_reports.specs.Served.{IsPrinted, IsUnserved};
+
+use dbm_faults::ServeFault;
+use dbm_reports::{
+    Given, Report, ReportFault, Served, Unserved, database_and_image, read_input, write_report,
+};
+use dbm_script::{Notation, RunWords, read_number, read_tasks, show_reply};
+use dbm_words::{Batch as Asked, Form};
+use prog_registry::{ProgId, Registry};
+use sdbm_files::Image;
+use std::alloc::{AllocError, Global};
+use std::io::{Read, Write};
+use std::sync::Wait;
+use std::thread::Threads;
+use store_cmd::Reply;
+use store_shared::{Calls, CloseFault, NoGate, Store};
+use worker_pool::{Answers, PoolFault, Task, run_jobs};
+
+/// A batch has at most this many workers.
+const WORKERS_MOST: u64 = 4_294_967_295;
+
+/// What a batch begins with: how many workers it has, the database, and the program, the only one of a registry.
+#[derive(Drop)]
+pub struct Batch {
+    pub workers: usize,
+    pub database: Image<Global>,
+    pub registry: Registry<Global>,
+    pub program: ProgId,
+}
+
+// What came of tasks that all were done: a reply for each, and the database after them.
+#[derive(Drop)]
+struct Done {
+    replies: Vec<Reply<Global>>,
+    database: Image<Global>,
+}
+
+/// Serves a batch whose bytes are in a notation: what comes of it is found, and then its lines are written.
+///
+/// # Errors
+/// As `serve` of `dbm_reports` has them, with the faults of `report_batch`.
+pub fn serve_batch<T: Threads + Wait + Sync, R: Read, W: Write>(
+    rt: &T,
+    alloc: Global,
+    notation: &Notation<Global>,
+    asked: Asked<'_>,
+    given: &Given,
+    reader: &mut R,
+    writer: &mut W,
+) -> Result<Served, Unserved<ServeFault>>
+    ensures ok { IfOk result (λ served. IsPrinted (OnBatch notation.now asked.entry.form given.now asked.entry.workers asked.entry.image (R.remaining reader.old)) (W.contents writer.old) (W.contents writer.new) served.status served.database) }
+    ensures fault { IfErr result (IsUnserved (OnBatch notation.now asked.entry.form given.now asked.entry.workers asked.entry.image (R.remaining reader.old)) (HasCause (batch_causes notation.now asked.entry.form given.now asked.entry.workers asked.entry.image (R.remaining reader.old))) (W.contents writer.old) (W.contents writer.new)) }
+    ensures database { IfOk result (λ served. is_some served.database ≡ true) }
+{
+    match report_batch(rt, alloc, notation, asked, given, reader) {
+        Ok(report) => write_report(report, writer),
+        Err(fault) => Err(Unserved::Unreported(fault)),
+    }
+}
+
+/// The replies to the tasks of standard input, each a run of the program of a file on the database of the files, done by so many
+/// workers; the database is to be written after them.
+///
+/// # Errors
+/// The first of: `BadNumber` of the workers, those of the files, those of the program's file, `Submit` where the program gets no
+/// number; `Read` and `TooLong` of standard input, `BadLine` with the first line that asks no task; `Pool` where not all tasks were
+/// done, and `Close` where the workers' calls are not those that the store has; and `NoMemory`.
+pub fn report_batch<T: Threads + Wait + Sync, R: Read>(
+    rt: &T,
+    alloc: Global,
+    notation: &Notation<Global>,
+    asked: Asked<'_>,
+    given: &Given,
+    reader: &mut R,
+) -> Result<Report, ServeFault>
+    ensures ok { IfOk result (OnBatch notation.now asked.entry.form given.now asked.entry.workers asked.entry.image (R.remaining reader.old)) }
+    ensures fault { IfErr result (HasCause (batch_causes notation.now asked.entry.form given.now asked.entry.workers asked.entry.image (R.remaining reader.old))) }
+{
+    let batch = ready_batch(alloc, given, asked.form, asked.workers, asked.image)?;
+    let input = read_input(alloc, reader)?;
+    run_batch(rt, alloc, notation, batch, input.as_slice())
+}
+
+// What the batch begins with, before standard input is read.
+fn ready_batch(
+    alloc: Global,
+    given: &Given,
+    form: Form,
+    workers: &str,
+    is_image: bool,
+) -> Result<Batch, ServeFault>
+    ensures ok { IfOk result (IsReady form given.now workers.entry is_image) }
+    ensures fault { IfErr result (HasCause (ready_causes form given.now workers.entry is_image)) }
+{
+    let Some(workers) = read_number(workers.as_bytes(), WORKERS_MOST) else {
+        return Err(ServeFault::Report(ReportFault::BadNumber));
+    };
+    let (database, image) = database_and_image(alloc, given, form, is_image)?;
+    let (registry, program) = register(alloc, image.as_slice())?;
+    Ok(Batch {
+        workers: workers as usize,
+        database,
+        registry,
+        program,
+    })
+}
+
+// A registry with the program of an image alone, and its number.
+fn register(alloc: Global, image: &[u8]) -> Result<(Registry<Global>, ProgId), ServeFault>
+    ensures ok { IfOk result (λ r. IsSubmitted image.now r.0.programs r.1) }
+    ensures fault { IfErr result (HasCause (submit_causes image.now)) }
+{
+    let mut registry = Registry::new(alloc)?;
+    let program = registry.submit(image)?;
+    Ok((registry, program))
+}
+
+// Does the tasks of a text, and prints their replies.
+fn run_batch<T: Threads + Wait + Sync>(
+    rt: &T,
+    alloc: Global,
+    notation: &Notation<Global>,
+    batch: Batch,
+    input: &[u8],
+) -> Result<Report, ServeFault>
+    requires { length input.now ≤ 16777216 }
+    ensures ok { IfOk result (λ report. OnTasks notation.now batch (Some input.now) (λ tasks. DoesTasks notation.now batch tasks report)) }
+    ensures fault { IfErr result (HasCause (task_causes notation.now batch (Some input.now))) }
+{
+    let words = read_tasks(alloc, notation, input)?;
+    let tasks = tasks_for(alloc, batch.program, words)?;
+    let done = do_tasks(rt, alloc, batch, tasks.as_slice())?;
+    Ok(Report {
+        text: show_replies(alloc, notation, done.replies.as_slice())?,
+        status: 0,
+        database: Some(done.database),
+    })
+}
+
+// The runs of a program that words ask.
+fn tasks_for(
+    alloc: Global,
+    program: ProgId,
+    words: Vec<RunWords<Global>>,
+) -> Result<Vec<Task<Global>>, AllocError>
+    ensures { IfOk result (λ tasks. tasks.items ≡ map (task_for program) words.items) }
+{
+    let mut tasks = Vec::with_capacity(alloc, words.len())?;
+    for asked in words {
+        tasks.push_reserved(task_for(program, asked));
+    }
+    Ok(tasks)
+}
+
+// The run of a program that words ask.
+fn task_for(program: ProgId, words: RunWords<Global>) -> Task<Global>
+    ensures { result ≡ task_for program words }
+{
+    Task {
+        key: words.key,
+        prog: program,
+        arg: words.arg,
+        blank: words.blank,
+        now: words.now,
+    }
+}
+
+// Lets the workers of a batch do tasks on a store over its database, which is then closed.
+fn do_tasks<T: Threads + Wait + Sync>(
+    rt: &T,
+    alloc: Global,
+    batch: Batch,
+    tasks: &[Task<Global>],
+) -> Result<Done, ServeFault>
+    ensures ok { IfOk result (λ done. LeadTo batch tasks.now done.replies.items done.database) }
+    ensures fault { IfErr result (HasCause (doing_causes batch tasks.now)) }
+{
+    let Batch {
+        workers,
+        database,
+        registry,
+        ..
+    } = batch;
+    let Ok(store) = Store::open(alloc, database, tasks.len(), NoGate) else {
+        return Err(ServeFault::NoMemory);
+    };
+    match run_jobs(rt, alloc, &store, &registry, tasks, workers) {
+        Ok(answers) => close(store, answers),
+        Err((fault, calls)) => Err(undone(store, fault, calls)),
+    }
+}
+
+// Why not all tasks were done; or why the store does not close with the calls of its workers, as it has to after each fault.
+fn undone(store: Store<Global, NoGate>, fault: PoolFault, calls: Vec<Calls<Global>>) -> ServeFault
+    ensures { (result ≡ pool_fault fault) ⊎ ((reason : CloseFault) × ((result ≡ Close reason) × IsRefusedClose store calls.items reason)) }
+{
+    match store.close(calls) {
+        Ok(_closed) => ServeFault::from(fault),
+        Err((reason, _store, _calls)) => ServeFault::Close(reason),
+    }
+}
+
+// Closes a store with the calls of its workers.
+fn close(store: Store<Global, NoGate>, answers: Answers<Global>) -> Result<Done, ServeFault>
+    ensures replies { IfOk result (λ done. done.replies ≡ answers.replies) }
+    ensures closed { IfOk result (λ done. (before : Database) → store ≡ opened_by before → IsClosedAfter before answers.calls.items done.database) }
+    ensures fault { IfErr result (λ fault. (reason : CloseFault) × ((fault ≡ Close reason) × IsRefusedClose store answers.calls.items reason)) }
+{
+    let Answers { replies, calls } = answers;
+    match store.close(calls) {
+        Ok(closed) => Ok(Done {
+            replies,
+            database: closed.image,
+        }),
+        Err((fault, _store, _calls)) => Err(ServeFault::Close(fault)),
+    }
+}
+
+// A line for each reply.
+fn show_replies(
+    alloc: Global,
+    notation: &Notation<Global>,
+    replies: &[Reply<Global>],
+) -> Result<Vec<u8>, AllocError>
+    ensures { IfOk result (λ text. text.items ≡ flat_map (reply_line notation.now) replies.now) }
+{
+    let mut text = Vec::new(alloc);
+    for reply in replies {
+        show_line(alloc, notation, reply, &mut text)?;
+    }
+    Ok(text)
+}
+
+// The line of a reply.
+fn show_line(
+    alloc: Global,
+    notation: &Notation<Global>,
+    reply: &Reply<Global>,
+    text: &mut Vec<u8>,
+) -> Result<(), AllocError>
+    ensures { OnOk result (text.new.items ≡ text.old.items ++ reply_line notation.now reply.now) }
+{
+    show_reply(alloc, notation, reply, text)?;
+    Ok(text.push(b'\n')?)
+}

@@ -1,0 +1,17 @@
+-- What is known of a subcommand: what comes of it, and why nothing does.
+use Rattle.std.specs.Prelude.{Option, Some, None, ⊤}
+use Rattle.std.specs.declared.alloc.Global.{Global}
+use Rattle.dbm_script.specs.declared.notations.Notation.{Notation}
+use Rattle.dbm_reports.specs.declared.subcommands.Report.{Report}
+use Rattle.dbm_reports.specs.Causes.{Causes, no_causes}
+
+pub record Known : Type 1 where
+  -- what comes of it
+  pub reports : Report → Type 0
+  -- why nothing comes of it
+  pub causes : Causes
+
+-- a layout that is none
+abbrev pub layout_causes : Option (Notation Global) → Causes
+layout_causes None = record no_causes { layouts = ⊤ }
+layout_causes (Some notation) = no_causes

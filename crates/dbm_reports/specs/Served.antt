@@ -1,0 +1,40 @@
+-- What stands on the output, and which database is to be written, after a subcommand was served or was not.
+use Rattle.std.specs.Prelude.{◌≡◌, ℕ, List, Option, Some}
+use Rattle.std.specs.Io.KnownBytes.{Appends, Keeps}
+use Rattle.sdbm_addr.specs.Database.{Database, IsDatabase}
+use Rattle.byte_text.specs.Writing.{WritesPart}
+use Rattle.dbm_reports.specs.declared.serving.Unserved.{Unserved}
+use Rattle.dbm_reports.specs.declared.serving.Unserved.TheVariants.{Unreported, Write, TooLong}
+use Rattle.dbm_reports.specs.declared.subcommands.Report.{Report}
+use Rattle.dbm_reports.specs.Databases.{IsTooLong, MayBeWritten}
+
+-- The text of what comes of a subcommand was written, the status is its own, and so is the database that is to be written.
+pub record IsPrinted (reports : Report → Type 0) (old new : Option (List ℕ)) (status : ℕ) (database : Option Database) : Type 0 where
+  pub report : Report
+  pub comes : reports report
+  pub printed : Appends old new report.text.items
+  pub status_is : status ≡ report.status
+  pub database_is : database ≡ report.database
+  pub short : MayBeWritten database
+
+-- the first bytes of the text were written
+pub record WasCutShort (reports : Report → Type 0) (old new : Option (List ℕ)) : Type 0 where
+  pub report : Report
+  pub comes : reports report
+  pub part : WritesPart old new report.text.items
+
+-- all of the text was written, and the database that is to be written is too long
+pub record WasTooLong (reports : Report → Type 0) (old new : Option (List ℕ)) : Type 0 where
+  pub report : Report
+  pub comes : reports report
+  pub printed : Appends old new report.text.items
+  pub database : Database
+  pub is : report.database ≡ Some database
+  pub sound : IsDatabase database
+  pub long : IsTooLong database
+
+-- Before the text is written a fault has its cause, and nothing was written; `Write` leaves a part of the text, and `TooLong` all of it.
+abbrev pub IsUnserved : {F : Type 0} → (Report → Type 0) → (F → Type 0) → Option (List ℕ) → Option (List ℕ) → Unserved F → Type 0
+IsUnserved reports causes old new (Unreported fault) = causes fault × Keeps old new
+IsUnserved reports causes old new Write = WasCutShort reports old new
+IsUnserved reports causes old new TooLong = WasTooLong reports old new

@@ -1,0 +1,96 @@
+//! How a subcommand is served: what comes of it is found, and then its lines are written.
+ghost use Rattle.std.specs.Prelude.{◌≡◌, false, IfOk, IfErr, OnOk, IsErrAnd, OnErr, Some, is_some};
+ghost use Rattle.sdbm_addr.specs.Database.{Database, IsDatabase};
+ghost use Rattle.dbm_reports.specs.Databases.{IsTooLong, MayBeWritten};
+ghost use Rattle.dbm_reports.specs.Served.{IsPrinted, IsUnserved};
+
+use crate::databases::{Given, is_too_long};
+use crate::subcommand::Subcommand;
+use crate::subcommands::Report;
+use byte_text::write_all;
+use dbm_script::Notation;
+use sdbm_files::Image;
+use std::alloc::Global;
+use std::io::{Read, Write};
+
+/// What came of a subcommand that was served: its status, and the database where its files are to be written.
+#[derive(Drop)]
+pub struct Served {
+    pub status: u8,
+    pub database: Option<Image<Global>>,
+}
+
+/// Why a subcommand was not served.
+#[derive(Drop)]
+pub enum Unserved<F: Drop> {
+    /// Nothing comes of it, and nothing was written.
+    Unreported(F),
+    /// Its lines could not all be written.
+    Write,
+    /// Its lines were written, and `.pag` would be above `PAG_LIMIT`.
+    TooLong,
+}
+
+/// Serves a subcommand whose bytes are in a notation: what comes of it is found, and then its lines are written.
+///
+/// # Errors
+/// `Unreported` with the fault of its `report`, and then nothing was written; `Write`, where the first bytes of its lines were; and
+/// `TooLong`, where all of them were.
+pub fn serve<S: Subcommand, R: Read, W: Write>(
+    alloc: Global,
+    notation: &Notation<Global>,
+    subcommand: &S,
+    given: &Given,
+    reader: &mut R,
+    writer: &mut W,
+) -> Result<Served, Unserved<S::Fault>>
+    ensures ok { IfOk result (λ served. IsPrinted (S.reports subcommand.now notation.now given.now (R.remaining reader.old)) (W.contents writer.old) (W.contents writer.new) served.status served.database) }
+    ensures fault { IfErr result (IsUnserved (S.reports subcommand.now notation.now given.now (R.remaining reader.old)) (S.causes subcommand.now notation.now given.now (R.remaining reader.old)) (W.contents writer.old) (W.contents writer.new)) }
+    ensures database { IfOk result (λ served. is_some served.database ≡ S.writes subcommand.now) }
+    ensures unread { S.reads subcommand.now ≡ false → R.remaining reader.new ≡ R.remaining reader.old }
+{
+    match subcommand.report(alloc, notation, given, reader) {
+        Ok(report) => write_report(report, writer),
+        Err(fault) => Err(Unserved::Unreported(fault)),
+    }
+}
+
+/// Writes the lines of a report.
+///
+/// # Errors
+/// `Write`, where the first bytes of its lines were written; and `TooLong`, where all of them were.
+pub fn write_report<F: Drop, W: Write>(
+    report: Report,
+    writer: &mut W,
+) -> Result<Served, Unserved<F>>
+    ensures ok { IfOk result (λ served. IsPrinted (λ told. told ≡ report) (W.contents writer.old) (W.contents writer.new) served.status served.database) }
+    ensures fault { IfErr result (IsUnserved (λ told. told ≡ report) (λ fault. ⊥) (W.contents writer.old) (W.contents writer.new)) }
+    ensures database { IfOk result (λ served. served.database ≡ report.database) }
+{
+    let Ok(()) = write_all(writer, report.text.as_slice()) else {
+        return Err(Unserved::Write);
+    };
+    let Ok(()) = check_length(&report.database) else {
+        return Err(Unserved::TooLong);
+    };
+    Ok(Served {
+        status: report.status,
+        database: report.database,
+    })
+}
+
+// Refuses a database that is to be written and is too large.
+fn check_length(database: &Option<Image<Global>>) -> Result<(), ()>
+    ensures ok { OnOk result (MayBeWritten database.now) }
+    ensures long { OnErr result ((db : Database) × ((database.now ≡ Some db) × (IsDatabase db × IsTooLong db))) }
+{
+    match database {
+        Some(image) => {
+            if is_too_long(image) {
+                return Err(());
+            }
+            Ok(())
+        }
+        None => Ok(()),
+    }
+}

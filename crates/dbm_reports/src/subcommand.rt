@@ -1,0 +1,46 @@
+//! What a subcommand is: what comes of it, and why nothing does.
+ghost use Rattle.std.specs.Prelude.{◌≡◌, Bool, IfErr, IfOk, List, Option, false, is_some, ℕ};
+ghost use Rattle.std.specs.declared.alloc.Global.{Global};
+ghost use Rattle.dbm_script.specs.declared.notations.Notation.{Notation};
+ghost use Rattle.dbm_reports.specs.declared.databases.Given.{Given};
+ghost use Rattle.dbm_reports.specs.declared.subcommands.Report.{Report};
+
+use crate::databases::Given;
+use crate::subcommands::Report;
+use dbm_script::Notation;
+use std::alloc::Global;
+use std::io::Read;
+
+/// A subcommand with its words and options. `serve` is proved once for all of them.
+pub trait Subcommand {
+    /// Why nothing comes of it.
+    type Fault: Drop;
+
+    // What comes of it, by its notation, the bytes of its files and standard input.
+    ghost reports: { Self → Notation Global → Given → Option (List ℕ) → Report → Type 0 };
+
+    // The cause of each fault.
+    ghost causes: { Self → Notation Global → Given → Option (List ℕ) → Self.Fault → Type 0 };
+
+    // The files of its database are written once it was served.
+    ghost writes: { Self → Bool };
+
+    // It reads standard input.
+    ghost reads: { Self → Bool };
+
+    /// What comes of it. It is found before a line is written.
+    ///
+    /// # Errors
+    /// The first that is met: words before files, and files before standard input.
+    fn report<R: Read>(
+        &self,
+        alloc: Global,
+        notation: &Notation<Global>,
+        given: &Given,
+        reader: &mut R,
+    ) -> Result<Report, Self::Fault>
+        ensures ok { IfOk result (reports self.now notation.now given.now (R.remaining reader.old)) }
+        ensures fault { IfErr result (causes self.now notation.now given.now (R.remaining reader.old)) }
+        ensures database { IfOk result (λ report. is_some report.database ≡ writes self.now) }
+        ensures unread { reads self.now ≡ false → R.remaining reader.new ≡ R.remaining reader.old };
+}

@@ -1,0 +1,52 @@
+use Rattle.dbm_reports.specs.Listings.{check_in, keys_in, list_in, stats_in}
+use Rattle.dbm_reports.specs.Pairs.{delete_in, fetch_in, store_in}
+use Rattle.dbm_reports.specs.Programs.{asm_in, disasm_in, verify_in}
+use Rattle.dbm_reports.specs.Runs.{run_in}
+use Rattle.dbm_reports.specs.Scripts.{script_in, widen_in}
+use Rattle.dbm_tool.specs.Services.{batch_in}
+use Rattle.dbm_tool.proofs.Turns.{batched, reported}
+use Rattle.dbm_tool.proofs.dispatch.serve_in.Goals as goal
+
+pub returns-in-Fetch : goal.returns-in-Fetch
+returns-in-Fetch g c = rw (c.in-Fetch.is) (reported (fetch_in c.args.n.now c.in-Fetch.fetch c.args.given.now) _ _ _ _ _ _ c.serve.result c.outcome_of.result c.outcome_of.ensures c.serve.ensures.ok c.serve.ensures.fault c.serve.ensures.database c.serve.ensures.unread)
+
+pub returns-in-Store : goal.returns-in-Store
+returns-in-Store g c = rw (c.in-Store.is) (reported (store_in c.args.n.now c.in-Store.store c.args.given.now) _ _ _ _ _ _ c.serve-in-Store.result c.outcome_of-in-Store.result c.outcome_of-in-Store.ensures c.serve-in-Store.ensures.ok c.serve-in-Store.ensures.fault c.serve-in-Store.ensures.database c.serve-in-Store.ensures.unread)
+
+pub returns-in-Delete : goal.returns-in-Delete
+returns-in-Delete g c = rw (c.in-Delete.is) (reported (delete_in c.args.n.now c.in-Delete.delete c.args.given.now) _ _ _ _ _ _ c.serve-in-Delete.result c.outcome_of-in-Delete.result c.outcome_of-in-Delete.ensures c.serve-in-Delete.ensures.ok c.serve-in-Delete.ensures.fault c.serve-in-Delete.ensures.database c.serve-in-Delete.ensures.unread)
+
+pub returns-in-Run : goal.returns-in-Run
+returns-in-Run g c = rw (c.in-Run.is) (reported (run_in c.args.n.now c.in-Run.asked c.args.given.now) _ _ _ _ _ _ c.serve-in-Run.result c.outcome_of-in-Run.result c.outcome_of-in-Run.ensures c.serve-in-Run.ensures.ok c.serve-in-Run.ensures.fault c.serve-in-Run.ensures.database c.serve-in-Run.ensures.unread)
+
+pub returns-in-List : goal.returns-in-List
+returns-in-List g c = rw (c.in-List.is) (reported (list_in c.args.n.now c.in-List.list c.args.given.now) _ _ _ _ _ _ c.serve-in-List.result c.outcome_of-in-List.result c.outcome_of-in-List.ensures c.serve-in-List.ensures.ok c.serve-in-List.ensures.fault c.serve-in-List.ensures.database c.serve-in-List.ensures.unread)
+
+pub returns-in-Keys : goal.returns-in-Keys
+returns-in-Keys g c = rw (c.in-Keys.is) (reported (keys_in c.args.n.now c.in-Keys.keys c.args.given.now) _ _ _ _ _ _ c.serve-in-Keys.result c.outcome_of-in-Keys.result c.outcome_of-in-Keys.ensures c.serve-in-Keys.ensures.ok c.serve-in-Keys.ensures.fault c.serve-in-Keys.ensures.database c.serve-in-Keys.ensures.unread)
+
+pub returns-in-Check : goal.returns-in-Check
+returns-in-Check g c = rw (c.in-Check.is) (reported (check_in c.in-Check.check c.args.given.now) _ _ _ _ _ _ c.serve-in-Check.result c.outcome_of-in-Check.result c.outcome_of-in-Check.ensures c.serve-in-Check.ensures.ok c.serve-in-Check.ensures.fault c.serve-in-Check.ensures.database c.serve-in-Check.ensures.unread)
+
+pub returns-in-Stats : goal.returns-in-Stats
+returns-in-Stats g c = rw (c.in-Stats.is) (reported (stats_in c.in-Stats.stats c.args.given.now) _ _ _ _ _ _ c.serve-in-Stats.result c.outcome_of-in-Stats.result c.outcome_of-in-Stats.ensures c.serve-in-Stats.ensures.ok c.serve-in-Stats.ensures.fault c.serve-in-Stats.ensures.database c.serve-in-Stats.ensures.unread)
+
+pub returns-in-Script : goal.returns-in-Script
+returns-in-Script g c = rw (c.in-Script.is) (reported (script_in c.args.n.now c.in-Script.script.base c.in-Script.script c.args.given.now (g.R.Read.remaining c.args.reader.now)) _ _ _ _ _ _ c.serve-in-Script.result c.outcome_of-in-Script.result c.outcome_of-in-Script.ensures c.serve-in-Script.ensures.ok c.serve-in-Script.ensures.fault c.serve-in-Script.ensures.database c.serve-in-Script.ensures.unread)
+
+pub returns-in-Widen : goal.returns-in-Widen
+returns-in-Widen g c = rw (c.in-Widen.is) (reported (widen_in c.in-Widen.widen c.args.given.now) _ _ _ _ _ _ c.serve-in-Widen.result c.outcome_of-in-Widen.result c.outcome_of-in-Widen.ensures c.serve-in-Widen.ensures.ok c.serve-in-Widen.ensures.fault c.serve-in-Widen.ensures.database c.serve-in-Widen.ensures.unread)
+
+pub returns-in-Asm : goal.returns-in-Asm
+returns-in-Asm g c = rw (c.in-Asm.is) (reported (asm_in c.args.given.now) _ _ _ _ _ _ c.serve-in-Asm.result c.outcome_of-in-Asm.result c.outcome_of-in-Asm.ensures c.serve-in-Asm.ensures.ok c.serve-in-Asm.ensures.fault c.serve-in-Asm.ensures.database c.serve-in-Asm.ensures.unread)
+
+pub returns-in-Disasm : goal.returns-in-Disasm
+returns-in-Disasm g c = rw (c.in-Disasm.is) (reported (disasm_in c.args.given.now) _ _ _ _ _ _ c.serve-in-Disasm.result c.outcome_of-in-Disasm.result c.outcome_of-in-Disasm.ensures c.serve-in-Disasm.ensures.ok c.serve-in-Disasm.ensures.fault c.serve-in-Disasm.ensures.database c.serve-in-Disasm.ensures.unread)
+
+pub returns-in-Verify : goal.returns-in-Verify
+returns-in-Verify g c = rw (c.in-Verify.is) (reported (verify_in c.in-Verify.verify c.args.given.now) _ _ _ _ _ _ c.serve-in-Verify.result c.outcome_of-in-Verify.result c.outcome_of-in-Verify.ensures c.serve-in-Verify.ensures.ok c.serve-in-Verify.ensures.fault c.serve-in-Verify.ensures.database c.serve-in-Verify.ensures.unread)
+
+pub returns-in-Batch : goal.returns-in-Batch
+returns-in-Batch g c =
+    rw (c.in-Batch.is)
+    (batched (batch_in c.args.n.now c.in-Batch.asked c.args.given.now (g.R.Read.remaining c.args.reader.now)) _ _ _ _ _ c.serve_batch.result c.outcome_of_batch.result c.outcome_of_batch.ensures c.serve_batch.ensures.ok c.serve_batch.ensures.fault c.serve_batch.ensures.database)

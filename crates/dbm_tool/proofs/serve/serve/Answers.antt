@@ -1,0 +1,19 @@
+use Rattle.dbm_tool.proofs.serve.serve.Goals as goal
+
+pub returns-clause-served : goal.returns-clause-served
+returns-clause-served g c = c.serve_wish.ensures.served
+
+pub returns-clause-fault : goal.returns-clause-fault
+returns-clause-fault g c = c.serve_wish.ensures.fault
+
+pub returns-clause-unread : goal.returns-clause-unread
+returns-clause-unread g c = c.serve_wish.ensures.unread
+
+pub returns-clause-database : goal.returns-clause-database
+returns-clause-database g c = c.serve_wish.ensures.database
+
+pub returns-clause-status : goal.returns-clause-status
+returns-clause-status g c = c.serve_wish.ensures.status
+
+pub returns-clause-none : goal.returns-clause-none
+returns-clause-none g c = c.serve_wish.ensures.none

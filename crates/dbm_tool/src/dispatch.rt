@@ -1,0 +1,111 @@
+//! Which subcommand is served.
+ghost use Rattle.std.specs.Prelude.{◌≡◌, None};
+ghost use Rattle.dbm_words.specs.Wishes.{writes_files};
+ghost use Rattle.dbm_faults.specs.Faults.{report_fault};
+ghost use Rattle.dbm_tool.specs.Outcomes.{IsOutcome, failed, outcome_by};
+ghost use Rattle.dbm_tool.specs.Services.{reads_input, service_for, service_in};
+
+use crate::outcome::{FAULT, Outcome};
+use dbm_batches::serve_batch;
+use dbm_faults::ServeFault;
+use dbm_reports::{Given, ReportFault, Served, Unserved, notation_of, serve};
+use dbm_script::Notation;
+use dbm_words::Wish;
+use std::alloc::Global;
+use std::io::{Read, Write};
+use std::sync::Wait;
+use std::thread::Threads;
+
+/// Serves a wish: the layout is read first.
+pub fn serve_wish<T: Threads + Wait + Sync, R: Read, W: Write>(
+    rt: &T,
+    alloc: Global,
+    wish: Wish<'_>,
+    given: &Given,
+    reader: &mut R,
+    writer: &mut W,
+) -> Outcome
+    ensures { IsOutcome (service_for wish.entry given.now (R.remaining reader.old)) (writes_files wish.entry) (reads_input wish.entry) (R.remaining reader.old) (R.remaining reader.new) (W.contents writer.old) (W.contents writer.new) result }
+{
+    match notation_of(alloc, &wish) {
+        Ok(notation) => serve_in(rt, alloc, &notation, wish, given, reader, writer),
+        Err(fault) => failed(ServeFault::from(fault)),
+    }
+}
+
+// Serves a wish whose bytes are in a notation.
+fn serve_in<T: Threads + Wait + Sync, R: Read, W: Write>(
+    rt: &T,
+    alloc: Global,
+    n: &Notation<Global>,
+    wish: Wish<'_>,
+    given: &Given,
+    reader: &mut R,
+    writer: &mut W,
+) -> Outcome
+    ensures { IsOutcome (service_in n.now wish.entry given.now (R.remaining reader.old)) (writes_files wish.entry) (reads_input wish.entry) (R.remaining reader.old) (R.remaining reader.new) (W.contents writer.old) (W.contents writer.new) result }
+{
+    match wish {
+        Wish::Fetch(fetch) => outcome_of(serve(alloc, n, &fetch, given, reader, writer)),
+        Wish::Store(store) => outcome_of(serve(alloc, n, &store, given, reader, writer)),
+        Wish::Delete(delete) => outcome_of(serve(alloc, n, &delete, given, reader, writer)),
+        Wish::Run(asked) => outcome_of(serve(alloc, n, &asked, given, reader, writer)),
+        Wish::Batch(asked) => {
+            outcome_of_batch(serve_batch(rt, alloc, n, asked, given, reader, writer))
+        }
+        Wish::List(list) => outcome_of(serve(alloc, n, &list, given, reader, writer)),
+        Wish::Keys(keys) => outcome_of(serve(alloc, n, &keys, given, reader, writer)),
+        Wish::Check(check) => outcome_of(serve(alloc, n, &check, given, reader, writer)),
+        Wish::Stats(stats) => outcome_of(serve(alloc, n, &stats, given, reader, writer)),
+        Wish::Script(script) => outcome_of(serve(alloc, n, &script, given, reader, writer)),
+        Wish::Widen(widen) => outcome_of(serve(alloc, n, &widen, given, reader, writer)),
+        Wish::Asm(asm) => outcome_of(serve(alloc, n, &asm, given, reader, writer)),
+        Wish::Disasm(disasm) => outcome_of(serve(alloc, n, &disasm, given, reader, writer)),
+        Wish::Verify(verify) => outcome_of(serve(alloc, n, &verify, given, reader, writer)),
+    }
+}
+
+// What a subcommand comes to.
+fn outcome_of(came: Result<Served, Unserved<ReportFault>>) -> Outcome
+    ensures { result ≡ outcome_by report_fault came }
+{
+    match came {
+        Ok(served) => served_outcome(served),
+        Err(Unserved::Unreported(fault)) => failed(ServeFault::from(fault)),
+        Err(Unserved::Write) => failed(ServeFault::Write),
+        Err(Unserved::TooLong) => failed(ServeFault::FileTooLong),
+    }
+}
+
+// What a batch comes to.
+fn outcome_of_batch(came: Result<Served, Unserved<ServeFault>>) -> Outcome
+    ensures { result ≡ outcome_by (λ fault. fault) came }
+{
+    match came {
+        Ok(served) => served_outcome(served),
+        Err(Unserved::Unreported(fault)) => failed(fault),
+        Err(Unserved::Write) => failed(ServeFault::Write),
+        Err(Unserved::TooLong) => failed(ServeFault::FileTooLong),
+    }
+}
+
+fn served_outcome(served: Served) -> Outcome
+    ensures { result ≡ record { err = None; status = served.status; database = served.database } }
+{
+    let Served { status, database } = served;
+    Outcome {
+        err: None,
+        status,
+        database,
+    }
+}
+
+fn failed(fault: ServeFault) -> Outcome
+    ensures { result ≡ failed fault }
+{
+    Outcome {
+        err: Some(fault),
+        status: FAULT,
+        database: None,
+    }
+}

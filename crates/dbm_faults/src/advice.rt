@@ -55,7 +55,7 @@ pub fn sentence_of<'a>(
         ServeFault::Report(fault) => report_sentence(alloc, words, fault),
         ServeFault::Submit(fault) => Some(or_memory(submit_sentence(words, fault))),
         ServeFault::Pool(fault) => Some(or_memory(pool_sentence(fault))),
-        ServeFault::FileTooLong => Some(too_long_sentence(words.base?)),
+        ServeFault::FileTooLong => Some(too_long_sentence(words.base?, words.wide)),
         ServeFault::WriteFile => Some(unwritten_sentence(words.base?)),
         fault => Some(rest_sentence(words, fault)),
     }

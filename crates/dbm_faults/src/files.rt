@@ -70,11 +70,13 @@ pub fn unwritten_sentence<'a>(base: &'a str) -> Sentence<'a> {
 }
 
 /// Of a database that would be too long.
-pub fn too_long_sentence<'a>(base: &'a str) -> Sentence<'a> {
-    with_one(
-        "{}.pag would have more than 1 GiB after the command: nothing was changed.",
-        Part::Name(base),
-    )
+pub fn too_long_sentence<'a>(base: &'a str, wide: bool) -> Sentence<'a> {
+    let text = if wide {
+        "{}.pag would have more than 1 GiB after the command: nothing was changed."
+    } else {
+        "{}.pag would have more than 1 GiB after the command: nothing was changed. Wide pages hold more, most of all with values above 300 bytes: dbm widen makes them."
+    };
+    with_one(text, Part::Name(base))
 }
 
 /// Of a redo file that is not of these files, or that no save has left.

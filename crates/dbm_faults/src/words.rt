@@ -85,7 +85,8 @@ impl<'a> Words<'a> {
     }
 }
 
-const NO_HEX: &str = "is neither hex, two digits for each byte, nor . for none";
+const NO_HEX: &str =
+    "is neither hex, two digits for each byte, nor . for none; with --text it is read as text";
 
 const NO_TEXT: &str =
     "is no text: docs/DBM.md has its escapes and its numbers; a backslash is written \\\\ and a comma \\,";

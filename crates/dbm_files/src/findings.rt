@@ -214,21 +214,37 @@ fn unwritten<R: Files<File = File>>(rt: &R, name: &str) -> Option<Matter> {
     None
 }
 
-/// The first of the files that are read that has more bytes than it may, if there is one.
+/// The first of the files that are read that has more bytes than it may, if there is one; else the first that is no file, but a device or
+/// a FIFO, which tells no length.
 pub fn find_too_long<'a, R: Files<File = File>>(
     rt: &R,
     sources: &'a [Source],
 ) -> Option<Finding<'a>> {
     for source in sources {
-        let name = source.name.as_str();
-        if let Ok(found) = fs::metadata(rt, name)
-            && found.len() > source.limit
-        {
-            let matter = Matter::TooLong(source.limit);
-            return Some(Finding { name, matter });
+        if is_longer(rt, source) {
+            return Some(too_long(source));
+        }
+    }
+    for source in sources {
+        if is_special(rt, source.name.as_str()) {
+            return Some(too_long(source));
         }
     }
     None
+}
+
+fn too_long(source: &Source) -> Finding<'_> {
+    Finding {
+        name: source.name.as_str(),
+        matter: Matter::TooLong(source.limit),
+    }
+}
+
+fn is_longer<R: Files<File = File>>(rt: &R, source: &Source) -> bool {
+    match fs::metadata(rt, source.name.as_str()) {
+        Ok(found) => found.len() > source.limit,
+        Err(_) => false,
+    }
 }
 
 /// Whether a file is an object as compilers write it, and no program of its own: its first bytes are those of ELF.

@@ -5,3 +5,4 @@ pub mod RunFaults
 pub mod FilesGiven
 pub mod Examples
 pub mod Written
+pub mod NewKeys

@@ -10,6 +10,7 @@ pub mod Listings
 pub mod Scripts
 pub mod Programs
 pub mod Runs
+pub mod Renaming
 pub mod Subcommands
 pub mod Served
 pub mod FaultText

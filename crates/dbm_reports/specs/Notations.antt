@@ -19,6 +19,7 @@ abbrev pub notation_for : Wish → Option (Notation Global)
 notation_for (wish.Fetch fetch) = notation_by fetch.notation.text fetch.notation.layout
 notation_for (wish.Store store) = notation_by store.notation.text store.notation.layout
 notation_for (wish.Delete delete) = notation_by delete.notation.text delete.notation.layout
+notation_for (wish.Rename rename) = notation_by rename.notation.text rename.notation.layout
 notation_for (wish.Run run) = notation_by run.notation.text run.notation.layout
 notation_for (wish.Batch batch) = notation_by batch.notation.text batch.notation.layout
 notation_for (wish.List list) = notation_by list.notation.text list.notation.layout

@@ -10,6 +10,7 @@ use Rattle.dbm_reports.specs.Known.{Known}
 use Rattle.dbm_reports.specs.Listings.{check_in, keys_in, list_in, stats_in}
 use Rattle.dbm_reports.specs.Pairs.{delete_in, fetch_in, store_in}
 use Rattle.dbm_reports.specs.Programs.{asm_in, disasm_in, verify_in}
+use Rattle.dbm_reports.specs.Renaming.{rename_in}
 use Rattle.dbm_reports.specs.Runs.{run_in}
 use Rattle.dbm_reports.specs.Scripts.{script_in, widen_in}
 
@@ -18,6 +19,7 @@ abbrev pub subcommand_in : Notation Global → Wish → Given → Option (List �
 subcommand_in n (wish.Fetch fetch) given input = fetch_in n fetch given
 subcommand_in n (wish.Store store) given input = store_in n store given
 subcommand_in n (wish.Delete delete) given input = delete_in n delete given
+subcommand_in n (wish.Rename rename) given input = rename_in n rename given
 subcommand_in n (wish.Run run) given input = run_in n run given
 subcommand_in n (wish.Batch batch) given input = record {
   reports = λ report. ⊥;

@@ -10,6 +10,7 @@ mod notations;
 mod options;
 mod pairs;
 mod programs;
+mod renaming;
 mod reports;
 mod rows;
 mod running;

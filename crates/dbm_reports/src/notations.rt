@@ -7,7 +7,9 @@ ghost use Rattle.dbm_reports.specs.Known.{layout_causes};
 use crate::fault::ReportFault;
 use byte_text::read_layout;
 use dbm_script::Notation;
-use dbm_words::{Batch, Delete, Fetch, Keys, List, Notation as Options, Run, Script, Store, Wish};
+use dbm_words::{
+    Batch, Delete, Fetch, Keys, List, Notation as Options, Rename, Run, Script, Store, Wish,
+};
 use std::alloc::Global;
 
 /// How the bytes of a wish are written in words and in lines: in hex, or as its options `--text` and `--as` say.
@@ -22,6 +24,7 @@ pub fn notation_of(alloc: Global, wish: &Wish<'_>) -> Result<Notation<Global>, R
         Wish::Fetch(Fetch { notation, .. })
         | Wish::Store(Store { notation, .. })
         | Wish::Delete(Delete { notation, .. })
+        | Wish::Rename(Rename { notation, .. })
         | Wish::Run(Run { notation, .. })
         | Wish::Batch(Batch { notation, .. })
         | Wish::List(List { notation, .. })

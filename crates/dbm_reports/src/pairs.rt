@@ -69,8 +69,8 @@ impl Subcommand for Store<'_> {
     }
 }
 
-// The name of the command of a store.
-fn store_name(insert: bool) -> &'static [u8]
+/// The name of the command of a store.
+pub fn store_name(insert: bool) -> &'static [u8]
     ensures { result.now ≡ store_name insert }
 {
     if insert { b"insert" } else { b"replace" }

@@ -10,7 +10,7 @@ use dbm_stats::show_string;
 use std::alloc::{AllocError, Allocator};
 
 /// How pairs are listed, each in a row.
-#[derive(Clone, Copy, Debug, PartialEq, Eq)]
+#[derive(Clone, Copy)]
 pub enum Listing {
     /// Key and value in a line.
     Pairs,

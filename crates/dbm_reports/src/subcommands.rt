@@ -81,8 +81,11 @@ fn answer_line(
     Ok((line, status_of(&answer, expect)))
 }
 
-// The text of an answer, as a line.
-fn shown(
+/// The text of an answer, as a line.
+///
+/// # Errors
+/// `AllocError` where no memory is left.
+pub fn shown(
     alloc: Global,
     notation: &Notation<Global>,
     answer: &Answer<Global>,
@@ -105,8 +108,8 @@ fn status_of(answer: &Answer<Global>, expect: Option<u64>) -> u8
     }
 }
 
-// The status of an answer of which nothing is asked: 1 where nothing was found, or nothing changed that was to be changed.
-fn answer_status(answer: &Answer<Global>) -> u8
+/// The status of an answer of which nothing is asked: 1 where nothing was found, or nothing changed that was to be changed.
+pub fn answer_status(answer: &Answer<Global>) -> u8
     ensures { result ≡ answer_status answer.now }
 {
     match answer {

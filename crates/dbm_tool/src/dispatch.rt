@@ -49,6 +49,7 @@ fn serve_in<T: Threads + Wait + Sync, R: Read, W: Write>(
         Wish::Fetch(fetch) => outcome_of(serve(alloc, n, &fetch, given, reader, writer)),
         Wish::Store(store) => outcome_of(serve(alloc, n, &store, given, reader, writer)),
         Wish::Delete(delete) => outcome_of(serve(alloc, n, &delete, given, reader, writer)),
+        Wish::Rename(rename) => outcome_of(serve(alloc, n, &rename, given, reader, writer)),
         Wish::Run(asked) => outcome_of(serve(alloc, n, &asked, given, reader, writer)),
         Wish::Batch(asked) => {
             outcome_of_batch(serve_batch(rt, alloc, n, asked, given, reader, writer))

@@ -7,8 +7,8 @@ use dbm_faults::{Named, Numbers, Subject, Words};
 use dbm_files::{FileBytes, Place};
 use dbm_reports::{Given, PAG_LIMIT};
 use dbm_words::{
-    Batch, Check, Delete, Fetch, Form, Keys, List, Notation, Request, Run, Script, Stats, Store,
-    Wish,
+    Batch, Check, Delete, Fetch, Form, Keys, List, Notation, Rename, Request, Run, Script, Stats,
+    Store, Wish,
 };
 
 /// What a wish says of its files.
@@ -97,6 +97,7 @@ fn form_of(wish: &Wish<'_>) -> Form {
         Wish::Fetch(Fetch { form, .. })
         | Wish::Store(Store { form, .. })
         | Wish::Delete(Delete { form, .. })
+        | Wish::Rename(Rename { form, .. })
         | Wish::Run(Run { form, .. })
         | Wish::Batch(Batch { form, .. })
         | Wish::List(List { form, .. })
@@ -121,6 +122,7 @@ fn first_bytes<'a>(wish: &Wish<'a>) -> Option<Named<'a>> {
         Wish::Store(Store { key, .. })
         | Wish::Fetch(Fetch { key, .. })
         | Wish::Delete(Delete { key, .. })
+        | Wish::Rename(Rename { key, .. })
         | Wish::Run(Run { key, .. }) => named("KEY", key),
         Wish::List(List { prefix, .. }) | Wish::Keys(Keys { prefix, .. }) => {
             named("--prefix", prefix?)
@@ -133,6 +135,7 @@ fn first_bytes<'a>(wish: &Wish<'a>) -> Option<Named<'a>> {
 fn second_bytes<'a>(wish: &Wish<'a>) -> Option<Named<'a>> {
     match *wish {
         Wish::Store(store) => named("VALUE", store.value),
+        Wish::Rename(rename) => named("NEWKEY", rename.new_key),
         Wish::Run(run) => named("ARG", run.arg),
         _ => None,
     }
@@ -148,6 +151,7 @@ fn notation_of<'a>(wish: &Wish<'a>) -> Notation<'a> {
         Wish::Fetch(Fetch { notation, .. })
         | Wish::Store(Store { notation, .. })
         | Wish::Delete(Delete { notation, .. })
+        | Wish::Rename(Rename { notation, .. })
         | Wish::Run(Run { notation, .. })
         | Wish::Batch(Batch { notation, .. })
         | Wish::List(List { notation, .. })

@@ -59,6 +59,9 @@ store = with_alias (codes "put") (subcommand (codes "store") (required_word (cod
 abbrev pub delete : Shape
 delete = with_alias (codes "del") (subcommand (codes "delete") (required_word (codes "BASE") ∷ required_word (codes "KEY") ∷ writing_in))
 
+abbrev pub rename : Shape
+rename = subcommand (codes "rename") (required_word (codes "BASE") ∷ required_word (codes "KEY") ∷ required_word (codes "NEWKEY") ∷ flag (codes "replace") ∷ flag (codes "text") ∷ writing_options)
+
 abbrev pub run : Shape
 run = subcommand (codes "run") (required_word (codes "BASE") ∷ required_word (codes "KEY") ∷ required_word (codes "FILE") ∷ required_word (codes "ARG") ∷ required_word (codes "BLANK") ∷ required_word (codes "NOW") ∷ valued_option (codes "expect") ∷ flag (codes "image") ∷ writing_in)
 
@@ -108,7 +111,7 @@ bare = record titled {
 abbrev pub tool : App
 tool = record {
   top = record bare { is_leaf = false };
-  subs = fetch ∷ store ∷ delete ∷ list ∷ keys ∷ check ∷ stats ∷ script ∷ widen ∷ asm ∷ disasm ∷ verify ∷ run ∷ batch ∷ [];
+  subs = fetch ∷ store ∷ delete ∷ rename ∷ list ∷ keys ∷ check ∷ stats ∷ script ∷ widen ∷ asm ∷ disasm ∷ verify ∷ run ∷ batch ∷ [];
 }
 
 -- a command with these rules, none of whose arguments holds for its subcommands too

@@ -5,6 +5,7 @@ use Rattle.dbm_words.specs.Given.{IsForm, IsNotation, IsWord, is_given}
 use Rattle.dbm_words.specs.declared.pairs.Fetch.{Fetch}
 use Rattle.dbm_words.specs.declared.pairs.Store.{Store}
 use Rattle.dbm_words.specs.declared.pairs.Delete.{Delete}
+use Rattle.dbm_words.specs.declared.pairs.Rename.{Rename}
 
 abbrev pub FetchAsks : List Row → Fetch → Type 0
 FetchAsks rows fetch =
@@ -17,3 +18,7 @@ StoreAsks rows store =
 abbrev pub DeleteAsks : List Row → Delete → Type 0
 DeleteAsks rows delete =
     IsWord (codes "BASE") rows delete.base × (IsForm rows delete.form × (IsNotation rows delete.notation × IsWord (codes "KEY") rows delete.key))
+
+abbrev pub RenameAsks : List Row → Rename → Type 0
+RenameAsks rows rename =
+    IsWord (codes "BASE") rows rename.base × (IsForm rows rename.form × (IsNotation rows rename.notation × (IsWord (codes "KEY") rows rename.key × (IsWord (codes "NEWKEY") rows rename.new_key × (rename.replace ≡ is_given (codes "replace") rows)))))

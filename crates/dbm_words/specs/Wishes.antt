@@ -10,7 +10,7 @@ use Rattle.clap.specs.declared.error.Error.{Error}
 use Rattle.dbm_words.specs.CommandLine.{tool}
 use Rattle.dbm_words.specs.Given.{IsAccess, has_words}
 use Rattle.dbm_words.specs.Listings.{CheckAsks, KeysAsks, ListAsks, StatsAsks}
-use Rattle.dbm_words.specs.Pairs.{DeleteAsks, FetchAsks, StoreAsks}
+use Rattle.dbm_words.specs.Pairs.{DeleteAsks, FetchAsks, RenameAsks, StoreAsks}
 use Rattle.dbm_words.specs.Programs.{AsmAsks, DisasmAsks, VerifyAsks}
 use Rattle.dbm_words.specs.Runs.{BatchAsks, RunAsks}
 use Rattle.dbm_words.specs.Scripts.{ScriptAsks, WidenAsks}
@@ -27,6 +27,7 @@ abbrev pub base_of : Wish → Option Text
 base_of (wish.Fetch fetch) = Some fetch.base.now
 base_of (wish.Store store) = Some store.base.now
 base_of (wish.Delete delete) = Some delete.base.now
+base_of (wish.Rename rename) = Some rename.base.now
 base_of (wish.Run run) = Some run.base.now
 base_of (wish.Batch batch) = Some batch.base.now
 base_of (wish.List list) = Some list.base.now
@@ -53,6 +54,7 @@ abbrev pub writes_files : Wish → Bool
 writes_files (wish.Fetch fetch) = false
 writes_files (wish.Store store) = true
 writes_files (wish.Delete delete) = true
+writes_files (wish.Rename rename) = true
 writes_files (wish.Run run) = true
 writes_files (wish.Batch batch) = true
 writes_files (wish.List list) = false
@@ -84,6 +86,7 @@ abbrev pub SubcommandAsks : Text → List Row → Wish → Type 0
 SubcommandAsks name rows (wish.Fetch fetch) = (name ≡ codes "fetch") × FetchAsks rows fetch
 SubcommandAsks name rows (wish.Store store) = (name ≡ codes "store") × StoreAsks rows store
 SubcommandAsks name rows (wish.Delete delete) = (name ≡ codes "delete") × DeleteAsks rows delete
+SubcommandAsks name rows (wish.Rename rename) = (name ≡ codes "rename") × RenameAsks rows rename
 SubcommandAsks name rows (wish.Run run) = (name ≡ codes "run") × RunAsks rows run
 SubcommandAsks name rows (wish.Batch batch) = (name ≡ codes "batch") × BatchAsks rows batch
 SubcommandAsks name rows (wish.List list) = (name ≡ codes "list") × ListAsks rows list

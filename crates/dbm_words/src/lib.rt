@@ -20,7 +20,7 @@ mod wish;
 pub use crate::fault::ToolFault;
 pub use crate::listings::{Check, Keys, List, Stats};
 use crate::matched::{access, asked};
-pub use crate::pairs::{Delete, Fetch, Store};
+pub use crate::pairs::{Delete, Fetch, Rename, Store};
 pub use crate::programs::{Asm, Disasm, Verify};
 pub use crate::runs::{Batch, Run};
 pub use crate::scripts::{Script, Widen};

@@ -5,7 +5,7 @@ ghost use Rattle.dbm_words.specs.Given.{IsAccess, IsForm, IsNotation, is_given};
 ghost use Rattle.dbm_words.specs.Wishes.{SubcommandAsks, lacks_word};
 
 use crate::listings::{Check, Keys, List, Stats};
-use crate::pairs::{Delete, Fetch, Store};
+use crate::pairs::{Delete, Fetch, Rename, Store};
 use crate::programs::{Asm, Disasm, Verify};
 use crate::runs::{Batch, Run};
 use crate::scripts::{Script, Widen};
@@ -22,6 +22,7 @@ pub fn asked<'a>(name: &str, matches: &ArgMatches<'a>) -> Option<Wish<'a>>
         "fetch" => Some(Wish::Fetch(Fetch::matched(matches)?)),
         "store" => Some(Wish::Store(Store::matched(matches)?)),
         "delete" => Some(Wish::Delete(Delete::matched(matches)?)),
+        "rename" => Some(Wish::Rename(Rename::matched(matches)?)),
         "list" => Some(Wish::List(List::matched(matches)?)),
         "keys" => Some(Wish::Keys(Keys::matched(matches)?)),
         "check" => Some(Wish::Check(Check::matched(matches)?)),

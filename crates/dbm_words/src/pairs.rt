@@ -1,9 +1,9 @@
-//! What the subcommands of one pair ask: `fetch`, `store` and `delete`.
+//! What the subcommands of one pair ask: `fetch`, `store`, `delete` and `rename`.
 ghost use Rattle.std.specs.Prelude.{◌≡◌, IfSome, IsNone, false};
 ghost use Rattle.clap.specs.Words.{found_of, rows_of};
 ghost use Rattle.dbm_words.specs.CommandLine as spec;
 ghost use Rattle.dbm_words.specs.Given.{has_words};
-ghost use Rattle.dbm_words.specs.Pairs.{DeleteAsks, FetchAsks, StoreAsks};
+ghost use Rattle.dbm_words.specs.Pairs.{DeleteAsks, FetchAsks, RenameAsks, StoreAsks};
 
 use crate::matched::{form, has_flag, notation, word};
 use crate::wish::{Form, Notation};
@@ -36,6 +36,17 @@ pub struct Delete<'a> {
     pub form: Form,
     pub notation: Notation<'a>,
     pub key: &'a str,
+}
+
+/// The pair of a key is to get another key, with `replace` also where a pair has that one.
+#[derive(Clone, Copy, Debug)]
+pub struct Rename<'a> {
+    pub base: &'a str,
+    pub form: Form,
+    pub notation: Notation<'a>,
+    pub key: &'a str,
+    pub new_key: &'a str,
+    pub replace: bool,
 }
 
 impl<'a> Fetch<'a> {
@@ -81,6 +92,23 @@ impl<'a> Delete<'a> {
             form: form(matches),
             notation: notation(matches),
             key: word(matches, "KEY")?,
+        })
+    }
+}
+
+impl<'a> Rename<'a> {
+    /// What the matches of `rename` ask. There is none where they lack a word that it has to have.
+    pub fn matched(matches: &ArgMatches<'a>) -> Option<Rename<'a>>
+        ensures some { IfSome result (RenameAsks (rows_of (found_of matches.now))) }
+        ensures none { IsNone result → has_words spec.rename.rules (rows_of (found_of matches.now)) ≡ false }
+    {
+        Some(Rename {
+            base: word(matches, "BASE")?,
+            form: form(matches),
+            notation: notation(matches),
+            key: word(matches, "KEY")?,
+            new_key: word(matches, "NEWKEY")?,
+            replace: has_flag(matches, "replace"),
         })
     }
 }

@@ -21,6 +21,7 @@ pub fn tool_command<'a>(alloc: Global) -> Result<Command<'a>, AllocError>
     let command = with_subcommand(command, fetch_command(alloc));
     let command = with_subcommand(command, store_command(alloc));
     let command = with_subcommand(command, delete_command(alloc));
+    let command = with_subcommand(command, rename_command(alloc));
     let command = with_subcommand(command, list_command(alloc));
     let command = with_subcommand(command, keys_command(alloc));
     let command = with_subcommand(command, check_command(alloc));
@@ -53,7 +54,7 @@ fn titled_command<'a>(alloc: Global) -> Command<'a>
         .about("A key-value store in the files of an sdbm database")
         .after_help(
             "Bytes are written in hex, two digits a byte, or as . for none; with --text as text.\n\
-             The status is 0; 1 where fetch, store, delete or run answers missing, exists, crowded or refused,\n\
+             The status is 0; 1 where fetch, store, delete, rename or run answers missing, exists, crowded or refused,\n\
              or verify answers refused; and 2 for a fault, which standard error names.\n\n\
              Example: dbm store users ab xyz --text\n\
              stores the value xyz of the key ab in users.dir and users.pag.",
@@ -170,6 +171,38 @@ fn delete_command<'a>(alloc: Global) -> Result<Command<'a>, AllocError>
     let about = "Delete the pair of a key";
     let notes = "Prints deleted, or missing with status 1.\n\nExample: dbm delete users ab --text";
     aliased_subcommand(alloc, "delete", "del", about, notes, args)
+}
+
+fn rename_command<'a>(alloc: Global) -> Result<Command<'a>, AllocError>
+    ensures { IfOk result (IsSubcommand spec.rename) }
+{
+    let new_key = required_word(
+        alloc,
+        "NEWKEY",
+        "The key that the pair gets, in hex, or with --text as text; . for the empty one",
+    );
+    let replace = flag(
+        alloc,
+        "replace",
+        "Take the place of a pair that has the new key",
+    );
+    let args = vec![in alloc;
+        base(alloc),
+        key(alloc),
+        new_key,
+        replace,
+        text(alloc),
+        unsigned(alloc),
+        wide(alloc),
+        must_exist(alloc),
+        timeout(alloc),
+    ]?;
+    let about = "Give a pair another key";
+    let notes =
+        "Prints renamed, or with status 1 missing (there is no pair with KEY), exists (there is one with NEWKEY;\n\
+         only without --replace), crowded (there is no room) or refused PairTooLarge. Then nothing is changed.\n\n\
+         Example: dbm rename users ab cd --text";
+    subcommand(alloc, "rename", about, notes, args)
 }
 
 fn list_command<'a>(alloc: Global) -> Result<Command<'a>, AllocError>

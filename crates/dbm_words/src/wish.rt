@@ -3,7 +3,7 @@ ghost use Rattle.std.specs.Prelude.{◌≡◌, option_map};
 ghost use Rattle.dbm_words.specs.Wishes.{base_of, file_of, time_asked, with_time, writes_files};
 
 use crate::listings::{Check, Keys, List, Stats};
-use crate::pairs::{Delete, Fetch, Store};
+use crate::pairs::{Delete, Fetch, Rename, Store};
 use crate::programs::{Asm, Disasm, Verify};
 use crate::runs::{Batch, Run};
 use crate::scripts::{Script, Widen};
@@ -27,7 +27,7 @@ pub struct Notation<'a> {
 }
 
 /// How a database is come by, as the options `--timeout` and `--must-exist` say.
-#[derive(Clone, Copy, Debug)]
+#[derive(Clone, Copy)]
 pub struct Access<'a> {
     /// For how many seconds the run waits for the lock; without it, for as long as others hold it.
     pub timeout: Option<&'a str>,
@@ -36,7 +36,7 @@ pub struct Access<'a> {
 }
 
 /// In which unit the time of day is asked, which is counted from the beginning of 1970 in UTC.
-#[derive(Clone, Copy, Debug)]
+#[derive(Clone, Copy)]
 pub enum TimeUnit {
     Seconds,
     Milliseconds,
@@ -49,6 +49,7 @@ pub enum Wish<'a> {
     Fetch(Fetch<'a>),
     Store(Store<'a>),
     Delete(Delete<'a>),
+    Rename(Rename<'a>),
     Run(Run<'a>),
     Batch(Batch<'a>),
     List(List<'a>),
@@ -78,6 +79,7 @@ impl<'a> Wish<'a> {
             Wish::Fetch(fetch) => Some(fetch.base),
             Wish::Store(store) => Some(store.base),
             Wish::Delete(delete) => Some(delete.base),
+            Wish::Rename(rename) => Some(rename.base),
             Wish::Run(run) => Some(run.base),
             Wish::Batch(batch) => Some(batch.base),
             Wish::List(list) => Some(list.base),
@@ -104,15 +106,18 @@ impl<'a> Wish<'a> {
         }
     }
 
-    /// Whether the files of its database are written once it was served: by `store`, `delete`, `run`, `batch`, `widen`, and `script`
-    /// with a base. A `store`, `delete` or `run` that changed nothing writes them too.
+    /// Whether the files of its database are written once it was served: by `store`, `delete`, `rename`, `run`, `batch`, `widen`, and `script`
+    /// with a base. A `store`, `delete`, `rename` or `run` that changed nothing writes them too.
     pub fn writes(&self) -> bool
         ensures { result ≡ writes_files self.now }
     {
         match *self {
-            Wish::Store(_) | Wish::Delete(_) | Wish::Run(_) | Wish::Batch(_) | Wish::Widen(_) => {
-                true
-            }
+            Wish::Store(_)
+            | Wish::Delete(_)
+            | Wish::Rename(_)
+            | Wish::Run(_)
+            | Wish::Batch(_)
+            | Wish::Widen(_) => true,
             Wish::Script(script) => script.base.is_some(),
             Wish::Fetch(_)
             | Wish::List(_)

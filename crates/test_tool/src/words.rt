@@ -33,6 +33,7 @@ fn asked_text(global: Global, wish: &Wish<'_>) -> Result<String, AllocError> {
         Wish::Fetch(fetch) => format!(in global; "{fetch:?}"),
         Wish::Store(store) => format!(in global; "{store:?}"),
         Wish::Delete(delete) => format!(in global; "{delete:?}"),
+        Wish::Rename(rename) => format!(in global; "{rename:?}"),
         Wish::Run(run) => format!(in global; "{run:?}"),
         Wish::Batch(batch) => format!(in global; "{batch:?}"),
         Wish::List(list) => format!(in global; "{list:?}"),

@@ -1,6 +1,7 @@
 use Rattle.dbm_reports.specs.Listings.{check_in, keys_in, list_in, stats_in}
 use Rattle.dbm_reports.specs.Pairs.{delete_in, fetch_in, store_in}
 use Rattle.dbm_reports.specs.Programs.{asm_in, disasm_in, verify_in}
+use Rattle.dbm_reports.specs.Renaming.{rename_in}
 use Rattle.dbm_reports.specs.Runs.{run_in}
 use Rattle.dbm_reports.specs.Scripts.{script_in, widen_in}
 use Rattle.dbm_tool.specs.Services.{batch_in}
@@ -15,6 +16,9 @@ returns-in-Store g c = rw (c.in-Store.is) (reported (store_in c.args.n.now c.in-
 
 pub returns-in-Delete : goal.returns-in-Delete
 returns-in-Delete g c = rw (c.in-Delete.is) (reported (delete_in c.args.n.now c.in-Delete.delete c.args.given.now) _ _ _ _ _ _ c.serve-in-Delete.result c.outcome_of-in-Delete.result c.outcome_of-in-Delete.ensures c.serve-in-Delete.ensures.ok c.serve-in-Delete.ensures.fault c.serve-in-Delete.ensures.database c.serve-in-Delete.ensures.unread)
+
+pub returns-in-Rename : goal.returns-in-Rename
+returns-in-Rename g c = rw (c.in-Rename.is) (reported (rename_in c.args.n.now c.in-Rename.rename c.args.given.now) _ _ _ _ _ _ c.serve-in-Rename.result c.outcome_of-in-Rename.result c.outcome_of-in-Rename.ensures c.serve-in-Rename.ensures.ok c.serve-in-Rename.ensures.fault c.serve-in-Rename.ensures.database c.serve-in-Rename.ensures.unread)
 
 pub returns-in-Run : goal.returns-in-Run
 returns-in-Run g c = rw (c.in-Run.is) (reported (run_in c.args.n.now c.in-Run.asked c.args.given.now) _ _ _ _ _ _ c.serve-in-Run.result c.outcome_of-in-Run.result c.outcome_of-in-Run.ensures c.serve-in-Run.ensures.ok c.serve-in-Run.ensures.fault c.serve-in-Run.ensures.database c.serve-in-Run.ensures.unread)

@@ -1,4 +1,4 @@
-use Rattle.dbm_words.specs.CommandLine.{fetch, store, delete, list, keys, check, stats, script, widen, asm, disasm, verify, run, batch}
+use Rattle.dbm_words.specs.CommandLine.{fetch, store, delete, rename, list, keys, check, stats, script, widen, asm, disasm, verify, run, batch}
 use Rattle.dbm_words.proofs.subcommands.tool_command.Goals as goal
 
 pub returns : goal.returns
@@ -6,14 +6,15 @@ returns c =
     let fetched = c.with_subcommand-command.ensures _ fetch c.bare_command-command.ensures c.fetch_command.ensures in
     let stored = c.with_subcommand-command-2.ensures _ store fetched c.store_command.ensures in
     let deleted = c.with_subcommand-command-3.ensures _ delete stored c.delete_command.ensures in
-    let listed = c.with_subcommand-command-4.ensures _ list deleted c.list_command.ensures in
-    let keyed = c.with_subcommand-command-5.ensures _ keys listed c.keys_command.ensures in
-    let checked = c.with_subcommand-command-6.ensures _ check keyed c.check_command.ensures in
-    let counted = c.with_subcommand-command-7.ensures _ stats checked c.stats_command.ensures in
-    let scripted = c.with_subcommand-command-8.ensures _ script counted c.script_command.ensures in
-    let widened = c.with_subcommand-command-9.ensures _ widen scripted c.widen_command.ensures in
-    let assembled = c.with_subcommand-command-10.ensures _ asm widened c.asm_command.ensures in
-    let disassembled = c.with_subcommand-command-11.ensures _ disasm assembled c.disasm_command.ensures in
-    let verified = c.with_subcommand-command-12.ensures _ verify disassembled c.verify_command.ensures in
-    let ran = c.with_subcommand-command-13.ensures _ run verified c.run_command.ensures in
+    let renamed = c.with_subcommand-command-4.ensures _ rename deleted c.rename_command.ensures in
+    let listed = c.with_subcommand-command-5.ensures _ list renamed c.list_command.ensures in
+    let keyed = c.with_subcommand-command-6.ensures _ keys listed c.keys_command.ensures in
+    let checked = c.with_subcommand-command-7.ensures _ check keyed c.check_command.ensures in
+    let counted = c.with_subcommand-command-8.ensures _ stats checked c.stats_command.ensures in
+    let scripted = c.with_subcommand-command-9.ensures _ script counted c.script_command.ensures in
+    let widened = c.with_subcommand-command-10.ensures _ widen scripted c.widen_command.ensures in
+    let assembled = c.with_subcommand-command-11.ensures _ asm widened c.asm_command.ensures in
+    let disassembled = c.with_subcommand-command-12.ensures _ disasm assembled c.disasm_command.ensures in
+    let verified = c.with_subcommand-command-13.ensures _ verify disassembled c.verify_command.ensures in
+    let ran = c.with_subcommand-command-14.ensures _ run verified c.run_command.ensures in
     c.with_subcommand.ensures _ batch ran c.batch_command.ensures

@@ -8,7 +8,8 @@
 
 `open` can stand for `dbm.open`: keys and values are bytes, a str counts as its UTF-8. A database is in memory while it is open, under an
 exclusive lock on BASE.lock unless it is only read; `sync` and `close` write its files, and a crash meanwhile leaves the database before or
-after. Threads may share it. A child of the process that has opened it may not: there each call but `close` is an error, and nothing is saved.
+after. Threads may share it; a signal handler that comes in the midst of a call may not use it. Nor may a child of the process that has
+opened it: there each call but `close` is an error, and nothing is saved.
 
 It stands on the shared object that `./dbm --build-library` makes: the file that BODDURCI_LIBRARY names, else libboddurci.so beside this
 file, in out/boddurci of the repository, or where the system finds it.
@@ -316,7 +317,7 @@ class Database(MutableMapping):
             return list(self._walk(keeps))
 
     def keys(self):
-        """A list of all keys. To hold none, iterate over the database itself."""
+        """A list of all keys. To hold none, iterate over the database itself; where it changes meanwhile that ends in RuntimeError."""
         return self._all(self._this_key)
 
     def values(self):

@@ -1,6 +1,6 @@
 #!/usr/bin/perl
 # Counters that a Perl program has kept as decimal numbers in an SDBM file, taken over into records of 8 bytes, on which dbm counts. Perl
-# reads them as before, by SDBM_File, while dbm writes.
+# reads them by SDBM_File as before, and unpacks them, while dbm writes.
 #
 #     counters.pl take OLD NEW          takes all counters of OLD over into NEW, in one save for each 50,000
 #     counters.pl count BASE KEY..      adds 1 to each of these, all in one save, and prints their numbers
@@ -16,6 +16,14 @@ use SDBM_File;
 my $dbm = $ENV{DBM} // "dbm";
 my $counter = dirname(__FILE__) . "/../counter.s";
 
+# The status of dbm on these words, and what it prints. No shell reads them.
+sub run_of {
+    open my $out, "-|", $dbm, @_ or die "counters.pl: $dbm: $!\n";
+    my @said = <$out>;
+    close $out;
+    return ($?, @said);
+}
+
 # What dbm answers to the lines of a script on a base.
 sub answers {
     my ($base, @lines) = @_;
@@ -25,20 +33,22 @@ sub answers {
     seek $script, 0, 0;
     open my $keep, "<&", \*STDIN or die $!;
     open STDIN, "<&", $script or die $!;
-    my @said = qx{"$dbm" script --base "$base"};
-    my $status = $?;
+    my ($status, @said) = run_of("script", "--base", $base);
     open STDIN, "<&", $keep or die $!;
     die "counters.pl: dbm ended with $status\n" if $status;
     chomp @said;
     return @said;
 }
 
-# Reads the pairs of a base as Perl does, under the lock of dbm where that is there, and lets a function have each.
+# Reads the pairs of a base as Perl does, under the lock of dbm where that is there, and lets a function have each. A save that was cut off
+# is ended by dbm first: Perl knows nothing of it.
 sub each_pair {
     my ($base, $does) = @_;
-    if (open my $lock, "<", "$base.lock") {
-        flock $lock, LOCK_SH;
-        return read_pairs($base, $does);
+    while (open my $lock, "<", "$base.lock") {
+        flock $lock, LOCK_SH or die "counters.pl: $base.lock: $!\n";
+        return read_pairs($base, $does) if !-e "$base.redo";
+        close $lock;
+        answers($base);
     }
     return read_pairs($base, $does);
 }
@@ -57,6 +67,7 @@ sub take {
     my (@lines, $count);
     each_pair($old, sub {
         my ($key, $value) = @_;
+        die "counters.pl: $key has $value, which is no counter\n" if $value !~ /^[0-9]{1,19}$/;
         push @lines, "insert " . (unpack("H*", $key) || ".") . " " . unpack("H*", pack("Q<", $value));
     });
     while (my @some = splice @lines, 0, 50_000) {
@@ -67,13 +78,15 @@ sub take {
 
 sub count {
     my ($base, @keys) = @_;
-    my $image = qx{"$dbm" asm "$counter"};
+    my ($status, $image) = run_of("asm", $counter);
+    die "counters.pl: dbm ended with $status\n" if $status;
     chomp $image;
     my @lines = map { my $key = unpack("H*", $_) || "."; ("run $key 0 . 8 0", "fetch $key") } @keys;
     my (undef, @said) = answers($base, "program $image", @lines);
     for my $key (@keys) {
-        my (undef, $found) = splice @said, 0, 2;
-        print "$key ", unpack("Q<", pack("H*", substr $found, 6)), "\n";
+        my ($ran, $found) = splice @said, 0, 2;
+        die "counters.pl: $key: $ran\n" if $ran !~ /^ran 1 / || $found !~ /^found ([0-9a-f]{16})/;
+        print "$key ", unpack("Q<", pack("H*", $1)), "\n";
     }
 }
 

@@ -5,7 +5,7 @@
  *     ./leased BASE SOCKET ../c/owned_lease.bin
  *
  * Four threads answer lines on a Unix socket: `take NAME OWNER MILLISECONDS`, `renew NAME OWNER MILLISECONDS` and `give NAME OWNER`, of
- * words without spaces and owners of up to 16 bytes, by `yes NUMBER` or `no`. A `yes` is sent once its lease is saved, so it stands
+ * words without spaces, names of up to 256 bytes and owners of up to 16, by `yes NUMBER` or `no`. A `yes` is sent once its lease is saved, so it stands
  * whatever happens to the service: kill it, and start it again. SIGTERM ends it. */
 #define _POSIX_C_SOURCE 200809L
 #include <boddurci_files.h>
@@ -19,7 +19,7 @@
 #include <time.h>
 #include <unistd.h>
 
-enum { THREADS = 4, RECORD = 40, OWNER = 16 };
+enum { THREADS = 4, RECORD = 40, OWNER = 16, NAME = 256 };
 enum { TAKE, RENEW, GIVE, NONE };
 
 /* The argument of the program, as examples/c/owned_lease.c has it; the processor keeps numbers with the lowest byte first, as it does. */
@@ -75,12 +75,12 @@ static int is_granted(const char *name, const struct request *request, uint64_t 
 
 static void answer(const char *line, FILE *peer)
 {
-    char word[8] = "", name[256], owner[OWNER + 1];
+    char word[8] = "", name[NAME + 2], owner[OWNER + 2], rest[2];
     unsigned long long milliseconds = 0;
-    int words = sscanf(line, "%7s %255s %16s %llu", word, name, owner, &milliseconds);
+    int words = sscanf(line, "%7s %257s %17s %llu %1s", word, name, owner, &milliseconds, rest);
     struct request request = {{0}, milliseconds, operation_of(word)};
     uint64_t number = 0;
-    if (request.operation == NONE || words < (request.operation == GIVE ? 3 : 4)) {
+    if (request.operation == NONE || words != (request.operation == GIVE ? 3 : 4) || strlen(name) > NAME || strlen(owner) > OWNER) {
         fprintf(peer, "fault: take or renew NAME OWNER MILLISECONDS, or give NAME OWNER\n");
     } else {
         memcpy(request.owner, owner, strlen(owner));
@@ -92,14 +92,14 @@ static void answer(const char *line, FILE *peer)
     fflush(peer);
 }
 
-/* One thread: it answers one connection after another. */
+/* One thread: it answers one connection after another, each up to a line that is too long or does not end. */
 static void *serve(void *unused)
 {
     char line[512];
     for (;;) {
         int peer = accept(listener, NULL, NULL);
         FILE *in = peer < 0 ? NULL : fdopen(peer, "r"), *out = in == NULL ? NULL : fdopen(dup(peer), "w");
-        while (out != NULL && fgets(line, sizeof line, in) != NULL)
+        while (out != NULL && fgets(line, sizeof line, in) != NULL && strchr(line, '\n') != NULL)
             answer(line, out);
         if (out != NULL)
             fclose(out);
@@ -149,11 +149,11 @@ int main(int count, char **words)
     if (count != 4)
         end_by("usage", "leased BASE SOCKET IMAGE");
     signal(SIGPIPE, SIG_IGN);
+    open_base(words[1], words[3]);
     sigemptyset(&ends);
     sigaddset(&ends, SIGTERM);
     sigaddset(&ends, SIGINT);
     pthread_sigmask(SIG_BLOCK, &ends, NULL);
-    open_base(words[1], words[3]);
     listen_at(words[2]);
     for (int at = 0; at < THREADS; at++)
         if (pthread_create(&thread, NULL, serve, NULL) != 0)

@@ -53,9 +53,9 @@ def main():
         sys.exit("usage: limiter.py BASE SOCKET")
     base, where = sys.argv[1:]
     over = threading.Event()
-    for number in (signal.SIGTERM, signal.SIGINT):
-        signal.signal(number, lambda *_: over.set())
     with boddurci.open(base, "c") as db:
+        for number in (signal.SIGTERM, signal.SIGINT):
+            signal.signal(number, lambda *_: over.set())
         if os.path.exists(where):
             os.unlink(where)
         with Limiter(where, db) as limiter:
@@ -63,7 +63,7 @@ def main():
             while not over.wait(1):
                 db.sync()
             limiter.shutdown()
-    os.unlink(where)
+            os.unlink(where)
 
 
 if __name__ == "__main__":

@@ -40,13 +40,22 @@ sub answers {
     return @said;
 }
 
+# Whether a save of dbm was cut off behind its commit, which is the first byte of the redo file. Without that the files are as they were.
+sub is_cut_off {
+    my ($base) = @_;
+    open my $redo, "<:raw", "$base.redo" or return 0;
+    my $mark = "";
+    read $redo, $mark, 1;
+    return $mark eq "\1";
+}
+
 # Reads the pairs of a base as Perl does, under the lock of dbm where that is there, and lets a function have each. A save that was cut off
 # is ended by dbm first: Perl knows nothing of it.
 sub each_pair {
     my ($base, $does) = @_;
     while (open my $lock, "<", "$base.lock") {
         flock $lock, LOCK_SH or die "counters.pl: $base.lock: $!\n";
-        return read_pairs($base, $does) if !-e "$base.redo";
+        return read_pairs($base, $does) if !is_cut_off($base);
         close $lock;
         answers($base);
     }

@@ -22,12 +22,13 @@ use Rattle.dbm_faults.specs.declared.fault.ServeFault.TheVariants.{NotText, Read
 use Rattle.dbm_script.specs.declared.notations.Notation.{Notation}
 use Rattle.dbm_script.specs.declared.run_words.RunWords.{RunWords}
 use Rattle.dbm_script.proofs.Runs.{known_read}
-use Rattle.dbm_words.specs.declared.wish.Form.{Form}
+use Rattle.dbm_words.specs.declared.options.Form.{Form}
 use Rattle.dbm_reports.specs.declared.databases.Given.{Given}
 use Rattle.dbm_batches.specs.Batches.{AreLeft, AreShortTasks, HasBadLine, IsReady, OnTasks, batch_causes, doing_causes, ready_causes, submit_causes, task_causes, task_for, workers_of}
 use Rattle.dbm_reports.specs.declared.fault.ReportFault.{ReportFault}
 use Rattle.dbm_reports.specs.declared.fault.ReportFault.TheVariants as reports
-use Rattle.dbm_reports.specs.Causes.{Causes, IsCaused, input_causes, no_causes, program_causes}
+use Rattle.dbm_reports.specs.Causes.{Causes, IsCaused, input_causes, no_causes}
+use Rattle.dbm_runs.specs.Running.{program_causes}
 use Rattle.dbm_faults.specs.Faults.{pool_fault, report_fault}
 use Rattle.dbm_batches.specs.Causes.{HasCause, IsReported}
 use Rattle.dbm_reports.specs.Databases.{Opens}

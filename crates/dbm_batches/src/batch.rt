@@ -11,11 +11,10 @@ ghost use Rattle.dbm_batches.specs.Causes.{HasCause};
 ghost use Rattle.dbm_reports.specs.Served.{IsPrinted, IsUnserved};
 
 use dbm_faults::ServeFault;
-use dbm_reports::{
-    Given, Report, ReportFault, Served, Unserved, database_and_image, read_input, write_report,
-};
+use dbm_reports::{Given, Report, ReportFault, Served, Unserved, read_input, write_report};
+use dbm_runs::{Batch as Asked, database_and_image};
 use dbm_script::{Notation, RunWords, read_number, read_tasks, show_reply};
-use dbm_words::{Batch as Asked, Form};
+use dbm_words::Form;
 use prog_registry::{ProgId, Registry};
 use sdbm_files::Image;
 use std::alloc::{AllocError, Global};

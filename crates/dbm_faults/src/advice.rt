@@ -9,8 +9,9 @@ use crate::programs::{
     assemble_sentence, decode_sentence, no_text_sentence, pool_sentence, submit_sentence,
 };
 use crate::sentence::{Part, Sentence, plain, with_one};
-use crate::words::{Words, hex_sentence, layout_sentence, number_sentence, text_sentence};
+use crate::words::{hex_sentence, layout_sentence, number_sentence, text_sentence};
 use dbm_reports::ReportFault;
+use dbm_words::Words;
 use prog_registry::RegFault;
 use std::alloc::Global;
 

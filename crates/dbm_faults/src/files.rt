@@ -1,8 +1,9 @@
 //! Sentences about files of a database: which of them the system refuses, and which are no database.
 
+use crate::finding::{Finding, Matter};
 use crate::sentence::{Part, Sentence, plain, with_four, with_one, with_three, with_two};
-use crate::words::Words;
-use dbm_files::{Finding, Matter, folder_of};
+use dbm_files::folder_of;
+use dbm_words::Words;
 use sdbm_files::OpenFault;
 
 /// Of the base, as sentences show it.

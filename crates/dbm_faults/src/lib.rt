@@ -5,6 +5,7 @@
 mod advice;
 mod fault;
 mod files;
+mod finding;
 mod notes;
 mod programs;
 mod sentence;
@@ -13,6 +14,6 @@ mod words;
 pub use advice::{Look, look_for, memory_sentence, sentence_of};
 pub use fault::ServeFault;
 pub use files::finding_sentence;
-pub use notes::{absent_note, bad_lines_note, object_note, refusal_note};
+pub use finding::{Finding, Matter, Reason};
+pub use notes::{absent_note, bad_lines_note, object_note, refusal_note, wait_note};
 pub use sentence::{Part, Sentence};
-pub use words::{Named, Numbers, Subject, Words};

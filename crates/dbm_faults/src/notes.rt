@@ -31,6 +31,27 @@ pub fn refusal_note<'a>(refusal: &'a str, file: &'a str, image: bool) -> Sentenc
     )
 }
 
+/// The run waits for the lock of a base: which process has it, and what that is called, where the system tells it.
+pub fn wait_note<'a>(base: &'a str, holder: Option<u64>, name: Option<&'a String>) -> Sentence<'a> {
+    let base = Part::Name(base);
+    let Some(process) = holder else {
+        return with_one(
+            "waiting for {}.lock, which another run has; --timeout SECONDS ends the wait",
+            base,
+        );
+    };
+    let name = match name {
+        Some(name) => Part::Name(name.as_str()),
+        None => Part::Text("?"),
+    };
+    with_three(
+        "waiting for {}.lock, which process {} ({}) has; --timeout SECONDS ends the wait",
+        base,
+        Part::Number(process),
+        name,
+    )
+}
+
 /// The line of a script that is the first that asks nothing, counted from 1, and how many more there are.
 pub fn bad_lines_note(first: u64, more: u64) -> Sentence<'static> {
     let first = Part::Number(first);

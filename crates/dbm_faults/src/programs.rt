@@ -1,9 +1,9 @@
 //! Sentences about programs: texts and images that are none, and workers that did not do their tasks.
 
 use crate::sentence::{Part, Sentence, plain, with_one, with_three, with_two};
-use crate::words::{Subject, Words};
 use bpf_asm::{AsmFault, FaultKind};
 use bpf_insn::DecodeFault;
+use dbm_words::{Subject, Words};
 use prog_registry::RegFault;
 use store_cmd::Refusal;
 use worker_pool::PoolFault;

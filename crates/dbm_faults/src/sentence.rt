@@ -1,7 +1,7 @@
 //! A sentence as a value: a pattern, and what stands in its places.
 
+use crate::finding::Reason;
 use bpf_verify::VerifyFault;
-use dbm_files::Reason;
 use std::fmt;
 
 /// What stands in a place of a sentence.

@@ -2,8 +2,8 @@
 ghost use Rattle.sdbm_saves.specs.Redo.{CanEnd};
 ghost use Rattle.sdbm_saves.specs.Recording.{image_of};
 
+use crate::absent::is_special;
 use crate::fault::FilesFault;
-use crate::findings::is_special;
 use crate::host::{RealFiles, folder_of, forget_redo};
 use crate::links::resolve;
 use crate::lock::{lock_to_read, lock_to_write};

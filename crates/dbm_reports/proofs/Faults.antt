@@ -1,29 +1,14 @@
 -- The fault of a step, as a fault of the whole.
-use Rattle.std.proofs.Common.{◌≡◌, ℕ, List, Option, Some, None, Bor, Result, Ok, Err, IfErr, IsErrAnd, Bool, true, false, cond, refl, sym, subst}
-use Rattle.std.specs.declared.alloc.Global.{Global}
-use Rattle.std.proofs.lemmas.Option.{none-some}
-use Rattle.sdbm_addr.specs.Database.{Database}
-use Rattle.dbm_script.specs.Commands.{command_of}
-use Rattle.dbm_script.specs.Notation.{reads_hex}
-use Rattle.dbm_script.specs.Script.{AnswersExceed}
-use Rattle.dbm_script.specs.declared.fault.LinesFault.{LinesFault}
-use Rattle.dbm_script.specs.declared.fault.LinesFault.TheVariants as lines
-use Rattle.dbm_words.specs.declared.wish.Form.{Form}
-use Rattle.dbm_script.specs.declared.notations.Notation.{Notation}
-use Rattle.dbm_words.specs.declared.scripts.Script.{Script}
+use Rattle.std.proofs.Common.{◌≡◌, ℕ, List, Result, Ok, Err, IfErr, IsErrAnd, sym, subst, IfOk}
+use Rattle.dbm_words.specs.declared.options.Form.{Form}
 use Rattle.dbm_reports.specs.declared.databases.Given.{Given}
-use Rattle.dbm_reports.specs.declared.fault.ReportFault.{ReportFault}
-use Rattle.dbm_reports.specs.declared.fault.ReportFault.TheVariants.{BadHex, BadText, BadLayout, BadNumber, Open, NotText, Assemble, Decode, Read, TooLong, OutputTooLong, NoMemory}
 use Rattle.sdbm_addr.specs.declared.KeyBytes.{KeyBytes}
 use Rattle.sdbm_addr.specs.declared.PageSize.{PageSize}
 use Rattle.sdbm_files.specs.Opened.{IsOpenFault}
 use Rattle.sdbm_files.specs.declared.opening.OpenFault.{OpenFault}
 use Rattle.sdbm_files.specs.declared.opening.OpenFault.TheVariants as opening
-use Rattle.dbm_reports.specs.Databases.{Opens, key_bytes_of, page_size_of}
-use Rattle.dbm_reports.specs.Options.{output_limit}
-use Rattle.dbm_reports.specs.Rows.{prefix_asked}
-use Rattle.dbm_reports.specs.Causes.{Causes, IsCaused, command_causes, listing_causes, IsOverlong, alone_causes, input_causes, lines_fault, numbered_causes, open_fault, opening_causes, play_causes, script_causes}
-use Rattle.dbm_reports.specs.Scripts.{script_in}
+use Rattle.dbm_reports.specs.Databases.{key_bytes_of, page_size_of}
+use Rattle.dbm_reports.specs.Causes.{IsCaused, open_fault, opening_causes}
 
 -- the fault is this one, of which Q holds
 pub as_err : {T E : Type 0} (Q : E → Type 0) {e : E} (r : Result T E) → IsErrAnd r (λ fault. fault ≡ e) → Q e → IfErr r Q
@@ -46,98 +31,6 @@ shut_fault form given kind size dir pag fault kinds sizes dirs pags is = of faul
     of (opening.Dir reason) h = h
     of (opening.Misplaced number) h = h
 
--- standard input is read behind the opening
-pub input_fault : (n : Notation Global) (form : Form) (given : Given) (input : Option (List ℕ)) (most : ℕ) (fault : ReportFault) → Opens form given → IsCaused (input_causes input) fault → IsCaused (script_causes n form given input most) fault
-input_fault n form given input most BadHex opens h = h
-input_fault n form given input most BadText opens h = h
-input_fault n form given input most BadLayout opens h = h
-input_fault n form given input most BadNumber opens h = h
-input_fault n form given input most (Open reason) opens h = absurd h
-input_fault n form given input most NotText opens h = h
-input_fault n form given input most (Assemble fault) opens h = h
-input_fault n form given input most (Decode fault) opens h = h
-input_fault n form given input most Read opens h = opens
-input_fault n form given input most TooLong opens h = (opens, h)
-input_fault n form given input most OutputTooLong opens h = absurd h
-input_fault n form given input most NoMemory opens h = tt
-
--- standard input is read for a script on an empty database
-pub alone_fault : (n : Notation Global) (form : Form) (input : Option (List ℕ)) (most : ℕ) (fault : ReportFault) → IsCaused (input_causes input) fault → IsCaused (alone_causes n form input most) fault
-alone_fault n form input most BadHex h = h
-alone_fault n form input most BadText h = h
-alone_fault n form input most BadLayout h = h
-alone_fault n form input most BadNumber h = h
-alone_fault n form input most (Open reason) h = h
-alone_fault n form input most NotText h = h
-alone_fault n form input most (Assemble fault) h = h
-alone_fault n form input most (Decode fault) h = h
-alone_fault n form input most Read h = h
-alone_fault n form input most TooLong h = h
-alone_fault n form input most OutputTooLong h = absurd h
-alone_fault n form input most NoMemory h = h
-
--- a script that was read is played behind other steps
-pub played_fault : (causes : Causes) (n : Notation Global) (db : Database) (input : Option (List ℕ)) (most : ℕ) (fault : ReportFault) → (IsOverlong n db input most → causes.overlong) → IsCaused (play_causes n db input most) fault → IsCaused causes fault
-played_fault causes n db input most BadHex f h = absurd h
-played_fault causes n db input most BadText f h = absurd h
-played_fault causes n db input most BadLayout f h = absurd h
-played_fault causes n db input most BadNumber f h = absurd h
-played_fault causes n db input most (Open reason) f h = absurd h
-played_fault causes n db input most NotText f h = absurd h
-played_fault causes n db input most (Assemble fault) f h = absurd h
-played_fault causes n db input most (Decode fault) f h = absurd h
-played_fault causes n db input most Read f h = absurd h
-played_fault causes n db input most TooLong f h = absurd h
-played_fault causes n db input most OutputTooLong f h = f h
-played_fault causes n db input most NoMemory f h = tt
-
--- the fault of lines that were not all run
-pub lines_caused : (n : Notation Global) (db : Database) (input : List ℕ) (most : ℕ) (fault : LinesFault) → (fault ≡ lines.OutputTooLong → AnswersExceed Global n db input most) → IsCaused (play_causes n db (Some input) most) (lines_fault fault)
-lines_caused n db input most lines.OutputTooLong long = long refl
-lines_caused n db input most lines.NoMemory long = tt
-
--- a number that is none comes before all else
-pub unnumbered : (n : Option ℕ) (causes : ℕ → Causes) → n ≡ None → IsCaused (numbered_causes n causes) BadNumber
-unnumbered None causes is = tt
-unnumbered (Some n) causes is = absurd (none-some n (sym is))
-
--- what comes behind a number
-pub numbered : (n : Option ℕ) (m : ℕ) (causes : ℕ → Causes) (fault : ReportFault) → n ≡ Some m → IsCaused (causes m) fault → IsCaused (numbered_causes n causes) fault
-numbered n m causes fault is h = subst (λ (o : Option ℕ). IsCaused (numbered_causes o causes) fault) (sym is) h
-
--- a script whose limit is no number
-pub unlimited : (n : Notation Global) (base : Option (Bor (List ℕ))) (script : Script) (given : Given) (input : Option (List ℕ)) → output_limit script.max_output ≡ None
-    → IsCaused (script_in n base script given input).causes BadNumber
-unlimited n None script given input is = unnumbered (output_limit script.max_output) (alone_causes n script.form input) is
-unlimited n (Some base) script given input is = unnumbered (output_limit script.max_output) (script_causes n script.form given input) is
-
--- what comes behind the limit of a script on an empty database, and on one of files
-pub caused_alone : (n : Notation Global) (script : Script) (given : Given) (input : Option (List ℕ)) (most : ℕ) (fault : ReportFault) → script.base ≡ None → output_limit script.max_output ≡ Some most
-    → IsCaused (alone_causes n script.form input most) fault → IsCaused (script_in n script.base script given input).causes fault
-caused_alone n script given input most fault none is h =
-    subst (λ (base : Option (Bor (List ℕ))). IsCaused (script_in n base script given input).causes fault) (sym none)
-    (numbered (output_limit script.max_output) most (alone_causes n script.form input) fault is h)
-
-pub caused_on : (n : Notation Global) (base : Bor (List ℕ)) (script : Script) (given : Given) (input : Option (List ℕ)) (most : ℕ) (fault : ReportFault) → script.base ≡ Some base → output_limit script.max_output ≡ Some most
-    → IsCaused (script_causes n script.form given input most) fault → IsCaused (script_in n script.base script given input).causes fault
-caused_on n base script given input most fault some is h =
-    subst (λ (o : Option (Bor (List ℕ))). IsCaused (script_in n o script given input).causes fault) (sym some)
-    (numbered (output_limit script.max_output) most (script_causes n script.form given input) fault is h)
-
--- ---- notations
-
--- words that are no command, in hex or as text
-pub no_command : (n : Notation Global) (form : Form) (given : Given) (words : List (List ℕ)) → command_of n words ≡ None → IsCaused (command_causes n form given words) (cond (reads_hex n) BadHex BadText)
-no_command n form given words none = by_reading (reads_hex n) refl
-  where
-    by_reading : (hex : Bool) → reads_hex n ≡ hex → IsCaused (command_causes n form given words) (cond hex BadHex BadText)
-    by_reading true is = (is, none)
-    by_reading false is = (is, none)
-
--- a prefix that is no bytes, in hex or as text
-pub no_prefix : (n : Notation Global) (form : Form) (given : Given) (prefix : Option (Bor (List ℕ))) → prefix_asked n prefix ≡ None → IsCaused (listing_causes n form given prefix) (cond (reads_hex n) BadHex BadText)
-no_prefix n form given prefix none = by_reading (reads_hex n) refl
-  where
-    by_reading : (hex : Bool) → reads_hex n ≡ hex → IsCaused (listing_causes n form given prefix) (cond hex BadHex BadText)
-    by_reading true is = (is, none)
-    by_reading false is = (is, none)
+pub both_ok : {T E : Type 0} (P Q R : T → Type 0) (r : Result T E) → ((x : T) → P x → Q x → R x) → IfOk r P → IfOk r Q → IfOk r R
+both_ok P Q R (Ok x) f p q = f x p q
+both_ok P Q R (Err e) f p q = tt

@@ -4,7 +4,7 @@ use Rattle.sdbm_addr.specs.Database.{Database}
 use Rattle.dbm_reports.specs.Served.{IsPrinted, IsUnserved}
 use Rattle.dbm_reports.specs.declared.serving.Unserved.{Unserved}
 use Rattle.dbm_reports.specs.declared.serving.Unserved.TheVariants.{Unreported, Write, TooLong}
-use Rattle.dbm_reports.specs.declared.subcommands.Report.{Report}
+use Rattle.dbm_reports.specs.declared.report.Report.{Report}
 
 pub printed_of : (Comes : Report → Type 0) (report : Report) (old new : Option (List ℕ)) (status : ℕ) (database : Option Database) → Comes report → IsPrinted (λ told. told ≡ report) old new status database
     → IsPrinted Comes old new status database

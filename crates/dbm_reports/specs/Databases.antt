@@ -9,7 +9,7 @@ use Rattle.sdbm_addr.specs.Files.{ArePagBytes, SpellsDatabase}
 use Rattle.sdbm_files.specs.Opened.{IsOpenFault}
 use Rattle.sdbm_files.specs.declared.opening.OpenFault.{OpenFault}
 use Rattle.sdbm_files.specs.declared.opening.OpenFault.TheVariants as opening
-use Rattle.dbm_words.specs.declared.wish.Form.{Form}
+use Rattle.dbm_words.specs.declared.options.Form.{Form}
 use Rattle.dbm_reports.specs.declared.databases.Given.{Given}
 
 -- how keys hash and how large pages are, by the options

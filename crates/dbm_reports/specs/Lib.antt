@@ -1,16 +1,7 @@
 pub mod Databases
 pub mod Notations
-pub mod Options
-pub mod Rows
 pub mod Causes
 pub mod Reports
 pub mod Known
-pub mod Pairs
-pub mod Listings
-pub mod Scripts
-pub mod Programs
-pub mod Runs
-pub mod Renaming
-pub mod Subcommands
 pub mod Served
 pub mod FaultText

@@ -5,7 +5,7 @@ use Rattle.sdbm_addr.specs.Database.{Database, IsDatabase}
 use Rattle.byte_text.specs.Writing.{WritesPart}
 use Rattle.dbm_reports.specs.declared.serving.Unserved.{Unserved}
 use Rattle.dbm_reports.specs.declared.serving.Unserved.TheVariants.{Unreported, Write, TooLong}
-use Rattle.dbm_reports.specs.declared.subcommands.Report.{Report}
+use Rattle.dbm_reports.specs.declared.report.Report.{Report}
 use Rattle.dbm_reports.specs.Databases.{IsTooLong, MayBeWritten}
 
 -- The text of what comes of a subcommand was written, the status is its own, and so is the database that is to be written.

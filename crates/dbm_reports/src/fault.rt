@@ -1,12 +1,13 @@
 //! Why nothing comes of a wish.
-ghost use Rattle.std.specs.Prelude.{◌≡◌};
+ghost use Rattle.std.specs.Prelude.{◌≡◌, cond};
+ghost use Rattle.dbm_script.specs.Notation.{reads_hex};
 ghost use Rattle.dbm_reports.specs.declared.fault.ReportFault.TheVariants.{NoMemory};
 
 use bpf_asm::AsmFault;
 use bpf_insn::DecodeFault;
-use dbm_script::{LinesFault, WordFault};
+use dbm_script::{LinesFault, Notation, WordFault};
 use sdbm_files::OpenFault;
-use std::alloc::{AllocError, AllocFailed};
+use std::alloc::{AllocError, AllocFailed, Global};
 use std::error::Error;
 use std::fmt;
 
@@ -122,4 +123,14 @@ impl From<LinesFault> for ReportFault {
             LinesFault::NoMemory => ReportFault::NoMemory,
         }
     }
+}
+
+/// The fault of a word that is no bytes in a notation.
+pub fn bad_words(notation: &Notation<Global>) -> ReportFault
+    ensures { result ≡ cond (reads_hex notation.now) ReportFault.BadHex ReportFault.BadText }
+{
+    if notation.is_hex() {
+        return ReportFault::BadHex;
+    }
+    ReportFault::BadText
 }

@@ -1,30 +1,21 @@
-//! What comes of each subcommand of the program but a batch: what it prints, and the database that is to be written.
+//! What a subcommand is, how one is served, and what several of them share: the database of the files, the answer to a command, standard
+//! input, the file of a program.
 #![tactic(auto)]
 
 mod databases;
-mod explaining;
 mod fault;
-mod listing;
-mod listings;
+mod input;
 mod notations;
-mod options;
-mod pairs;
-mod programs;
-mod renaming;
-mod reports;
-mod rows;
-mod running;
-mod scripts;
+mod program_file;
+mod report;
 mod serving;
 mod subcommand;
-mod subcommands;
 
-pub use databases::{Given, PAG_LIMIT, is_too_long};
-pub use explaining::refusal_of;
-pub use fault::ReportFault;
-pub use notations::{notation_by, notation_of};
-pub use reports::read_input;
-pub use running::database_and_image;
+pub use databases::{Given, PAG_LIMIT, is_too_long, key_bytes_of, open, page_size_of};
+pub use fault::{ReportFault, bad_words};
+pub use input::read_input;
+pub use notations::notation_by;
+pub use program_file::{file_image, refused, text_image};
+pub use report::{NOT_RUN, Report, answer_status, change, look, printed, show_ok, shown};
 pub use serving::{Served, Unserved, serve, write_report};
 pub use subcommand::Subcommand;
-pub use subcommands::Report;

@@ -5,8 +5,8 @@ ghost use Rattle.dbm_reports.specs.Databases.{IsTooLong, MayBeWritten};
 ghost use Rattle.dbm_reports.specs.Served.{IsPrinted, IsUnserved};
 
 use crate::databases::{Given, is_too_long};
+use crate::report::Report;
 use crate::subcommand::Subcommand;
-use crate::subcommands::Report;
 use byte_text::write_all;
 use dbm_script::Notation;
 use sdbm_files::Image;

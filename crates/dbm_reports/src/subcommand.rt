@@ -3,10 +3,10 @@ ghost use Rattle.std.specs.Prelude.{◌≡◌, Bool, IfErr, IfOk, List, Option, 
 ghost use Rattle.std.specs.declared.alloc.Global.{Global};
 ghost use Rattle.dbm_script.specs.declared.notations.Notation.{Notation};
 ghost use Rattle.dbm_reports.specs.declared.databases.Given.{Given};
-ghost use Rattle.dbm_reports.specs.declared.subcommands.Report.{Report};
+ghost use Rattle.dbm_reports.specs.declared.report.Report.{Report};
 
 use crate::databases::Given;
-use crate::subcommands::Report;
+use crate::report::Report;
 use dbm_script::Notation;
 use std::alloc::Global;
 use std::io::Read;

@@ -1,7 +1,7 @@
 -- The status with which the program ends.
 use Rattle.std.specs.Prelude.{◌≡◌, ◌⊎◌, ℕ, Option, Some, None}
-use Rattle.dbm_words.specs.Wishes.{IsAnswer}
-use Rattle.dbm_words.specs.declared.fault.ToolFault.{ToolFault}
+use Rattle.dbm_command_line.specs.Wishes.{IsAnswer}
+use Rattle.dbm_command_line.specs.declared.fault.ToolFault.{ToolFault}
 use Rattle.dbm_tool.specs.declared.ending.Ending.{Ending}
 use Rattle.dbm_tool.specs.declared.ending.Ending.TheVariants.{Served, Refused, Failed}
 use Rattle.dbm_faults.specs.declared.fault.ServeFault.{ServeFault}

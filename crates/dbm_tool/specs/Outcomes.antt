@@ -2,7 +2,7 @@
 use Rattle.std.specs.Prelude.{◌≡◌, ℕ, Bool, false, List, Option, Some, None, IfSome, IsNone, Result, Ok, Err, is_some}
 use Rattle.std.specs.Io.KnownBytes.{Keeps}
 use Rattle.sdbm_addr.specs.Database.{Database}
-use Rattle.dbm_words.specs.declared.wish.Wish.{Wish}
+use Rattle.dbm_command_line.specs.declared.wish.Wish.{Wish}
 use Rattle.dbm_reports.specs.Served.{IsPrinted, WasCutShort, WasTooLong}
 use Rattle.dbm_reports.specs.declared.databases.Given.{Given}
 use Rattle.dbm_reports.specs.declared.serving.Served.{Served}

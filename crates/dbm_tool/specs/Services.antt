@@ -1,15 +1,29 @@
 -- Each wish: what comes of it, and why nothing does.
-use Rattle.std.specs.Prelude.{ℕ, Bool, true, List, Option, Some, None}
+use Rattle.std.specs.Prelude.{ℕ, Bool, true, false, List, Option, Some, None}
 use Rattle.std.specs.declared.alloc.Global.{Global}
 use Rattle.dbm_script.specs.declared.notations.Notation.{Notation}
-use Rattle.dbm_words.specs.declared.runs.Batch.{Batch}
-use Rattle.dbm_words.specs.declared.wish.Wish.{Wish}
-use Rattle.dbm_words.specs.declared.wish.Wish.TheVariants as wish
+use Rattle.dbm_command_line.specs.Wishes.{notation_of}
+use Rattle.dbm_command_line.specs.declared.wish.Wish.{Wish}
+use Rattle.dbm_command_line.specs.declared.wish.Wish.TheVariants as wish
+use Rattle.dbm_runs.specs.declared.batch.Batch.{Batch}
 use Rattle.dbm_reports.specs.declared.databases.Given.{Given}
-use Rattle.dbm_reports.specs.declared.subcommands.Report.{Report}
+use Rattle.dbm_reports.specs.declared.report.Report.{Report}
 use Rattle.dbm_reports.specs.Known.{Known, layout_causes}
-use Rattle.dbm_reports.specs.Notations.{notation_for}
-use Rattle.dbm_reports.specs.Subcommands.{is_script, subcommand_in}
+use Rattle.dbm_reports.specs.Notations.{notation_by}
+use Rattle.dbm_pairs.specs.Fetch.{fetch_in}
+use Rattle.dbm_pairs.specs.Store.{store_in}
+use Rattle.dbm_pairs.specs.Delete.{delete_in}
+use Rattle.dbm_pairs.specs.Rename.{rename_in}
+use Rattle.dbm_runs.specs.Run.{run_in}
+use Rattle.dbm_listings.specs.List.{list_in}
+use Rattle.dbm_listings.specs.Keys.{keys_in}
+use Rattle.dbm_listings.specs.Check.{check_in}
+use Rattle.dbm_listings.specs.Stats.{stats_in}
+use Rattle.dbm_scripts.specs.Script.{script_in}
+use Rattle.dbm_scripts.specs.Widen.{widen_in}
+use Rattle.dbm_programs.specs.Asm.{asm_in}
+use Rattle.dbm_programs.specs.Disasm.{disasm_in}
+use Rattle.dbm_programs.specs.Verify.{verify_in}
 use Rattle.dbm_batches.specs.Batches.{OnBatch, batch_causes}
 use Rattle.dbm_batches.specs.Causes.{WishCauses, only_report}
 
@@ -35,8 +49,25 @@ batch_in n batch given input = record {
 
 -- What is known of a wish by its notation, the bytes of its files and of what is read.
 abbrev pub service_in : Notation Global → Wish → Given → Option (List ℕ) → Service
+service_in n (wish.Fetch fetch) given input = reporting (fetch_in n fetch given)
+service_in n (wish.Store store) given input = reporting (store_in n store given)
+service_in n (wish.Delete delete) given input = reporting (delete_in n delete given)
+service_in n (wish.Rename rename) given input = reporting (rename_in n rename given)
+service_in n (wish.Run run) given input = reporting (run_in n run given)
 service_in n (wish.Batch batch) given input = batch_in n batch given input
-service_in n other given input = reporting (subcommand_in n other given input)
+service_in n (wish.List list) given input = reporting (list_in n list given)
+service_in n (wish.Keys keys) given input = reporting (keys_in n keys given)
+service_in n (wish.Check check) given input = reporting (check_in check given)
+service_in n (wish.Stats stats) given input = reporting (stats_in stats given)
+service_in n (wish.Script script) given input = reporting (script_in n script.base script given input)
+service_in n (wish.Widen widen) given input = reporting (widen_in widen given)
+service_in n (wish.Asm asm) given input = reporting (asm_in given)
+service_in n (wish.Disasm disasm) given input = reporting (disasm_in given)
+service_in n (wish.Verify verify) given input = reporting (verify_in verify given)
+
+-- the notation of a wish, where its layout is one
+abbrev pub notation_for : Wish → Option (Notation Global)
+notation_for wish = notation_by (notation_of wish).text (notation_of wish).layout
 
 -- what is known in a notation; where the layout is none, nothing comes of it
 abbrev pub noted : Option (Notation Global) → (Notation Global → Service) → Service
@@ -53,4 +84,5 @@ service_for wish given input = noted (notation_for wish) (λ n. service_in n wis
 -- a script and a batch alone read
 abbrev pub reads_input : Wish → Bool
 reads_input (wish.Batch batch) = true
-reads_input other = is_script other
+reads_input (wish.Script script) = true
+reads_input _ = false

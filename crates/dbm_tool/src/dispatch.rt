@@ -1,16 +1,16 @@
 //! Which subcommand is served.
 ghost use Rattle.std.specs.Prelude.{◌≡◌, None};
-ghost use Rattle.dbm_words.specs.Wishes.{writes_files};
+ghost use Rattle.dbm_command_line.specs.Wishes.{writes_files};
 ghost use Rattle.dbm_faults.specs.Faults.{report_fault};
 ghost use Rattle.dbm_tool.specs.Outcomes.{IsOutcome, failed, outcome_by};
 ghost use Rattle.dbm_tool.specs.Services.{reads_input, service_for, service_in};
 
 use crate::outcome::{FAULT, Outcome};
 use dbm_batches::serve_batch;
+use dbm_command_line::Wish;
 use dbm_faults::ServeFault;
-use dbm_reports::{Given, ReportFault, Served, Unserved, notation_of, serve};
+use dbm_reports::{Given, ReportFault, Served, Unserved, notation_by, serve};
 use dbm_script::Notation;
-use dbm_words::Wish;
 use std::alloc::Global;
 use std::io::{Read, Write};
 use std::sync::Wait;
@@ -27,7 +27,7 @@ pub fn serve_wish<T: Threads + Wait + Sync, R: Read, W: Write>(
 ) -> Outcome
     ensures { IsOutcome (service_for wish.entry given.now (R.remaining reader.old)) (writes_files wish.entry) (reads_input wish.entry) (R.remaining reader.old) (R.remaining reader.new) (W.contents writer.old) (W.contents writer.new) result }
 {
-    match notation_of(alloc, &wish) {
+    match notation_by(alloc, wish.notation()) {
         Ok(notation) => serve_in(rt, alloc, &notation, wish, given, reader, writer),
         Err(fault) => failed(ServeFault::from(fault)),
     }

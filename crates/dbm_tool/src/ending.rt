@@ -3,8 +3,8 @@ ghost use Rattle.std.specs.Prelude.{◌≡◌};
 ghost use Rattle.dbm_tool.specs.Endings.{IsEndingOf, IsExitStatus, IsRefusalStatus};
 
 use crate::outcome::{FAULT, Outcome};
+use dbm_command_line::ToolFault;
 use dbm_faults::ServeFault;
-use dbm_words::ToolFault;
 
 /// How a run of the program ends.
 #[derive(Drop)]

@@ -6,20 +6,23 @@ ghost use Rattle.dbm_tool.specs.Endings.{IsTold};
 mod clock;
 mod dispatch;
 mod ending;
-mod kept;
 mod outcome;
+mod request;
 mod serve;
-mod telling;
-mod words;
 
 use clock::read_clock;
+use dbm_command_line::{Request, ToolFault, Wish, read_words};
 use dbm_faults::ServeFault;
-use dbm_files::{Held, Taken, has_no_files, save_files, take_files};
-use dbm_reports::{Given, ReportFault, refusal_of};
+use dbm_files::{Held, Taken, has_no_files, save_files};
+use dbm_programs::refusal_of;
+use dbm_reports::{Given, NOT_RUN, ReportFault};
 use dbm_script::read_number;
-use dbm_words::{Request, ToolFault, Wish, read_words};
+use dbm_telling::{
+    Kept, Told, Watched, advise, has_bad_line, is_refused, note_absent, note_object,
+    note_of_bad_lines, note_refusal, note_that, take_and_tell,
+};
 use ending::{Ending, ending_of, exit_status};
-use kept::{Kept, Watched, has_bad_line, is_refused, note_of_bad_lines};
+use request::{given_of, place_of, told_of};
 use sdbm_saves::Found;
 use serve::serve;
 use std::fs::File;
@@ -30,8 +33,6 @@ use std::sync::Wait;
 use std::thread::Threads;
 use std::time::Duration;
 use std::{env, fs, io};
-use telling::{advise, note_absent, note_object, note_refusal, note_that};
-use words::{Told, given_of, place_of, told_of};
 
 fn main(rt: HostRuntime) -> ExitCode {
     let _standard = hold_standard(&rt);
@@ -77,9 +78,9 @@ fn run<R: Runtime<File = File> + AllocGlobal + Threads + Wait + Sync>(
                 Ok(ending) => ending,
                 Err(fault) => Ending::Failed(fault),
             };
-            // A command such as `head` has what it wants and is gone: that is no fault to tell of.
+            // A command such as `head` has what it wants and is gone: that is no fault.
             if reader.has_no_reader {
-                return ending;
+                return Ending::Served(0);
             }
             note(rt, &told, &ending, &reader);
             tell(rt, Some(&told), ending)
@@ -103,7 +104,7 @@ fn note<R: Runtime<File = File> + AllocGlobal, I: Read>(
     if !told.place.writes {
         note_absent(rt, told);
     }
-    if matches!(ending, Ending::Served(1)) {
+    if matches!(ending, Ending::Served(1 | NOT_RUN)) {
         note_object(rt, told);
     }
     if let Some(refusal) = &input.refusal {
@@ -132,7 +133,7 @@ fn serve_request<R: Runtime<File = File> + AllocGlobal + Threads + Wait + Sync, 
     if access.must_exist && has_no_files(rt, wish.base()) {
         return Err(ServeFault::Absent);
     }
-    serve_files(rt, wish, patience, reader)
+    serve_files(rt, wish, patience, access.verbose, reader)
 }
 
 // Whether the files of a base have names of their own: those of a folder, as of `users/`, would be `users/.dir` and `users/.pag`.
@@ -162,13 +163,14 @@ fn serve_files<R: Runtime<File = File> + AllocGlobal + Threads + Wait + Sync, I:
     rt: &R,
     wish: Wish<'_>,
     patience: Option<Duration>,
+    verbose: bool,
     reader: &mut Kept<I>,
 ) -> Result<Ending, ServeFault> {
     let place = place_of(&wish);
     if place.writes && io::writer(rt).write(&[]).is_err() {
         return Err(ServeFault::Write);
     }
-    let taken = take_files(rt, place, patience)?;
+    let taken = take_and_tell(rt, place, patience, verbose)?;
     match wish.time_asked() {
         Some(unit) => {
             let time = read_clock(rt, rt.alloc(), unit)?;

@@ -1,13 +1,13 @@
 //! What a wish comes to on the bytes of its files, standard input and standard output.
 ghost use Rattle.std.specs.Prelude.{◌≡◌, false, IfSome, IsNone, None, is_some};
-ghost use Rattle.dbm_words.specs.Wishes.{writes_files};
+ghost use Rattle.dbm_command_line.specs.Wishes.{writes_files};
 ghost use Rattle.dbm_tool.specs.Outcomes.{IsServed, IsUnserved};
 ghost use Rattle.dbm_tool.specs.Services.{reads_input};
 
 use crate::dispatch::serve_wish;
 use crate::outcome::Outcome;
+use dbm_command_line::Wish;
 use dbm_reports::Given;
-use dbm_words::Wish;
 use std::alloc::Global;
 use std::io::{Read, Write};
 use std::sync::Wait;

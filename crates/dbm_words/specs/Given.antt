@@ -5,9 +5,9 @@ use Rattle.std.specs.Option.{option_map_or}
 use Rattle.std.specs.Str.{bytes_eq}
 use Rattle.std.specs.Borrow.{Bor}
 use Rattle.clap.specs.Words.{Row, Rule, Text, first_of}
-use Rattle.dbm_words.specs.declared.wish.Access.{Access}
-use Rattle.dbm_words.specs.declared.wish.Form.{Form}
-use Rattle.dbm_words.specs.declared.wish.Notation.{Notation}
+use Rattle.dbm_words.specs.declared.options.Access.{Access}
+use Rattle.dbm_words.specs.declared.options.Form.{Form}
+use Rattle.dbm_words.specs.declared.options.NotationOptions.{NotationOptions}
 
 -- the words gave this flag
 abbrev pub is_given : Text → List Row → Bool
@@ -25,14 +25,14 @@ abbrev pub IsForm : List Row → Form → Type 0
 IsForm rows form =
     (form.unsigned ≡ is_given (codes "unsigned") rows) × (form.wide ≡ is_given (codes "wide") rows)
 
-abbrev pub IsNotation : List Row → Notation → Type 0
+abbrev pub IsNotation : List Row → NotationOptions → Type 0
 IsNotation rows notation =
     (notation.text ≡ is_given (codes "text") rows) × IsGiven (codes "as") rows notation.layout
 
 -- the options by which a database is come by
 abbrev pub IsAccess : List Row → Access → Type 0
 IsAccess rows access =
-    IsGiven (codes "timeout") rows access.timeout × (access.must_exist ≡ is_given (codes "must-exist") rows)
+    IsGiven (codes "timeout") rows access.timeout × ((access.must_exist ≡ is_given (codes "must-exist") rows) × (access.verbose ≡ is_given (codes "verbose") rows))
 
 -- each word that has to be there is there
 abbrev pub has_words : List Rule → List Row → Bool

@@ -148,6 +148,18 @@ pub fn timeout<'a>(alloc: Global) -> Arg<'a>
     )
 }
 
+/// The option for a run that says who has the lock.
+pub fn verbose<'a>(alloc: Global) -> Arg<'a>
+    ensures rule { rule_of result ≡ spec.flag (codes "verbose") }
+    ensures local { result.global ≡ false }
+{
+    flag(
+        alloc,
+        "verbose",
+        "Say who has the lock, where this run waits half a second for it, as it does at a terminal",
+    )
+}
+
 /// The option for a database that has to be there.
 pub fn must_exist<'a>(alloc: Global) -> Arg<'a>
     ensures rule { rule_of result ≡ spec.flag (codes "must-exist") }

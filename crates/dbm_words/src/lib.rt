@@ -1,55 +1,14 @@
-//! The words of the command line, and what they ask.
+//! What the subcommands have in common on the command line: the words and options that they share, as `clap` is told them, what was
+//! matched of them, and the words that a sentence may show.
 #![tactic(auto)]
 
-ghost use Rattle.std.specs.Prelude.{◌≡◌, IfOk, IfErr, IsErrOf, true, false, [], map};
-ghost use Rattle.clap.specs.Words.{fault_of, subcommand_of};
-ghost use Rattle.dbm_words.specs.CommandLine.{tool};
-ghost use Rattle.dbm_words.specs.Wishes.{IsAccessGiven, IsAsked, IsRefusedFor, lacks_word};
-
-mod arguments;
-mod fault;
-mod listings;
+pub mod arguments;
 mod matched;
-mod pairs;
-mod programs;
-mod runs;
-mod scripts;
-mod subcommands;
-mod wish;
+mod options;
+mod shape;
+mod shown;
 
-pub use crate::fault::ToolFault;
-pub use crate::listings::{Check, Keys, List, Stats};
-use crate::matched::{access, asked};
-pub use crate::pairs::{Delete, Fetch, Rename, Store};
-pub use crate::programs::{Asm, Disasm, Verify};
-pub use crate::runs::{Batch, Run};
-pub use crate::scripts::{Script, Widen};
-use crate::subcommands::tool_command;
-pub use crate::wish::{Access, Form, Notation, Request, TimeUnit, Wish};
-use std::alloc::Global;
-
-/// What the words behind the program's name ask, and how its database is come by.
-///
-/// # Errors
-/// `Refused` where they are no words of the command line, or ask for help or the version; the error in it has the text for the
-/// user. `NoWord` only where a word is missing that the subcommand has to have. `NoMemory` where no memory was left.
-pub fn read_words<'a>(alloc: Global, words: &'a [&'a str]) -> Result<Request<'a>, ToolFault>
-    ensures wish { IfOk result (λ request. IsAsked (subcommand_of tool (map (λ word. word.now) words.now)) request.wish) }
-    ensures access { IfOk result (λ request. IsAccessGiven (subcommand_of tool (map (λ word. word.now) words.now)) request.access) }
-    ensures accepted { IfOk result (λ _. fault_of tool (map (λ word. word.now) words.now) ≡ []) }
-    ensures refused { IfErr result (IsRefusedFor (fault_of tool (map (λ word. word.now) words.now))) }
-    ensures no_word { IsErrOf result ToolFault.NoWord → lacks_word (subcommand_of tool (map (λ word. word.now) words.now)) ≡ true }
-{
-    let command = tool_command(alloc)?;
-    let matches = command.try_get_matches_from(words)?;
-    let Some((name, inner)) = matches.subcommand() else {
-        return Err(ToolFault::NoWord);
-    };
-    match asked(name, inner) {
-        Some(wish) => Ok(Request {
-            wish,
-            access: access(inner),
-        }),
-        None => Err(ToolFault::NoWord),
-    }
-}
+pub use matched::{access, form, has_flag, notation, word};
+pub use options::{Access, Form, NotationOptions, TimeUnit};
+pub use shape::{aliased_subcommand, subcommand};
+pub use shown::{Named, Numbers, Subject, Words};

@@ -1,42 +1,10 @@
-//! From what `clap` matched to what was asked. Each subcommand has its own words beside its struct.
-ghost use Rattle.std.specs.Prelude.{◌≡◌, IfSome, IsNone, Some, true, option_map};
+//! What `clap` matched of the words and options that subcommands share.
+ghost use Rattle.std.specs.Prelude.{◌≡◌, option_map};
 ghost use Rattle.clap.specs.Words.{first_of, found_of, rows_of};
 ghost use Rattle.dbm_words.specs.Given.{IsAccess, IsForm, IsNotation, is_given};
-ghost use Rattle.dbm_words.specs.Wishes.{SubcommandAsks, lacks_word};
 
-use crate::listings::{Check, Keys, List, Stats};
-use crate::pairs::{Delete, Fetch, Rename, Store};
-use crate::programs::{Asm, Disasm, Verify};
-use crate::runs::{Batch, Run};
-use crate::scripts::{Script, Widen};
-use crate::wish::{Access, Form, Notation, Wish};
+use crate::options::{Access, Form, NotationOptions};
 use clap::ArgMatches;
-
-/// What the subcommand of this name asks by its matches. There is none where they lack a word that it has to have, or where no
-/// subcommand has this name.
-pub fn asked<'a>(name: &str, matches: &ArgMatches<'a>) -> Option<Wish<'a>>
-    ensures some { IfSome result (SubcommandAsks name.now (rows_of (found_of matches.now))) }
-    ensures none { IsNone result → lacks_word (Some (name.now, rows_of (found_of matches.now))) ≡ true }
-{
-    match name {
-        "fetch" => Some(Wish::Fetch(Fetch::matched(matches)?)),
-        "store" => Some(Wish::Store(Store::matched(matches)?)),
-        "delete" => Some(Wish::Delete(Delete::matched(matches)?)),
-        "rename" => Some(Wish::Rename(Rename::matched(matches)?)),
-        "list" => Some(Wish::List(List::matched(matches)?)),
-        "keys" => Some(Wish::Keys(Keys::matched(matches)?)),
-        "check" => Some(Wish::Check(Check::matched(matches)?)),
-        "stats" => Some(Wish::Stats(Stats::matched(matches)?)),
-        "script" => Some(Wish::Script(Script::matched(matches)?)),
-        "widen" => Some(Wish::Widen(Widen::matched(matches)?)),
-        "asm" => Some(Wish::Asm(Asm::matched(matches)?)),
-        "disasm" => Some(Wish::Disasm(Disasm::matched(matches)?)),
-        "verify" => Some(Wish::Verify(Verify::matched(matches)?)),
-        "run" => Some(Wish::Run(Run::matched(matches)?)),
-        "batch" => Some(Wish::Batch(Batch::matched(matches)?)),
-        _ => None,
-    }
-}
 
 /// The word or value that was given for a name.
 pub fn word<'a>(matches: &ArgMatches<'a>, id: &str) -> Option<&'a str>
@@ -66,10 +34,10 @@ pub fn form(matches: &ArgMatches<'_>) -> Form
 }
 
 /// How bytes are written in words and in lines.
-pub fn notation<'a>(matches: &ArgMatches<'a>) -> Notation<'a>
+pub fn notation<'a>(matches: &ArgMatches<'a>) -> NotationOptions<'a>
     ensures { IsNotation (rows_of (found_of matches.now)) result }
 {
-    Notation {
+    NotationOptions {
         text: has_flag(matches, "text"),
         layout: word(matches, "as"),
     }
@@ -82,5 +50,6 @@ pub fn access<'a>(matches: &ArgMatches<'a>) -> Access<'a>
     Access {
         timeout: word(matches, "timeout"),
         must_exist: has_flag(matches, "must-exist"),
+        verbose: has_flag(matches, "verbose"),
     }
 }

@@ -1,6 +1,7 @@
 //! What command lines ask, why they are refused, and what help prints.
 
-use dbm_words::{Access, Request, TimeUnit, ToolFault, Wish, read_words};
+use dbm_command_line::{Request, ToolFault, Wish, read_words};
+use dbm_words::{Access, TimeUnit};
 use std::alloc::{AllocError, Global};
 use std::fmt::Write;
 
@@ -67,12 +68,16 @@ fn request_text(global: Global, request: &Request<'_>) -> Option<String> {
     let Access {
         timeout,
         must_exist,
+        verbose,
     } = request.access;
     if let Some(seconds) = timeout {
         write!(out, " timeout {seconds}").ok()?;
     }
     if must_exist {
         out.push_str(" must exist").ok()?;
+    }
+    if verbose {
+        out.push_str(" verbose").ok()?;
     }
     Some(out)
 }

@@ -7,7 +7,7 @@ use Rattle.std.specs.declared.vec.Vec.{Vec}
 use Rattle.store_cmd.specs.declared.Reply.{Reply}
 use Rattle.store_shared.specs.Shared.{Opened, opened_by}
 use Rattle.worker_pool.specs.Pool.{AreDone, IsPoolFault}
-use Rattle.dbm_reports.proofs.RunFaults.{both_ok}
+use Rattle.dbm_reports.proofs.Faults.{both_ok}
 use Rattle.dbm_batches.specs.Batches.{IsClosedAfter, LeadTo}
 use Rattle.dbm_batches.specs.declared.batch.Done.{Done}
 use Rattle.dbm_batches.proofs.BatchFaults.{closing_fault, undone_fault}

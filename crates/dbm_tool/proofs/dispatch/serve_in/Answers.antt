@@ -1,9 +1,17 @@
-use Rattle.dbm_reports.specs.Listings.{check_in, keys_in, list_in, stats_in}
-use Rattle.dbm_reports.specs.Pairs.{delete_in, fetch_in, store_in}
-use Rattle.dbm_reports.specs.Programs.{asm_in, disasm_in, verify_in}
-use Rattle.dbm_reports.specs.Renaming.{rename_in}
-use Rattle.dbm_reports.specs.Runs.{run_in}
-use Rattle.dbm_reports.specs.Scripts.{script_in, widen_in}
+use Rattle.dbm_listings.specs.Check.{check_in}
+use Rattle.dbm_listings.specs.Keys.{keys_in}
+use Rattle.dbm_listings.specs.List.{list_in}
+use Rattle.dbm_listings.specs.Stats.{stats_in}
+use Rattle.dbm_pairs.specs.Delete.{delete_in}
+use Rattle.dbm_pairs.specs.Fetch.{fetch_in}
+use Rattle.dbm_pairs.specs.Store.{store_in}
+use Rattle.dbm_programs.specs.Asm.{asm_in}
+use Rattle.dbm_programs.specs.Disasm.{disasm_in}
+use Rattle.dbm_programs.specs.Verify.{verify_in}
+use Rattle.dbm_pairs.specs.Rename.{rename_in}
+use Rattle.dbm_runs.specs.Run.{run_in}
+use Rattle.dbm_scripts.specs.Script.{script_in}
+use Rattle.dbm_scripts.specs.Widen.{widen_in}
 use Rattle.dbm_tool.specs.Services.{batch_in}
 use Rattle.dbm_tool.proofs.Turns.{batched, reported}
 use Rattle.dbm_tool.proofs.dispatch.serve_in.Goals as goal

@@ -1,0 +1,34 @@
+use Rattle.dbm_pairs.specs.Fetch.{fetch}
+use Rattle.dbm_pairs.specs.Store.{store}
+use Rattle.dbm_pairs.specs.Delete.{delete}
+use Rattle.dbm_pairs.specs.Rename.{rename}
+use Rattle.dbm_listings.specs.List.{list}
+use Rattle.dbm_listings.specs.Keys.{keys}
+use Rattle.dbm_listings.specs.Check.{check}
+use Rattle.dbm_listings.specs.Stats.{stats}
+use Rattle.dbm_scripts.specs.Script.{script}
+use Rattle.dbm_scripts.specs.Widen.{widen}
+use Rattle.dbm_programs.specs.Asm.{asm}
+use Rattle.dbm_programs.specs.Disasm.{disasm}
+use Rattle.dbm_programs.specs.Verify.{verify}
+use Rattle.dbm_runs.specs.Run.{run}
+use Rattle.dbm_runs.specs.Batch.{batch}
+use Rattle.dbm_command_line.proofs.tool.tool_command.Goals as goal
+
+pub returns : goal.returns
+returns c =
+    let fetched = c.with_subcommand-command.ensures _ fetch c.bare_command-command.ensures c.fetch_command.ensures in
+    let stored = c.with_subcommand-command-2.ensures _ store fetched c.store_command.ensures in
+    let deleted = c.with_subcommand-command-3.ensures _ delete stored c.delete_command.ensures in
+    let renamed = c.with_subcommand-command-4.ensures _ rename deleted c.rename_command.ensures in
+    let listed = c.with_subcommand-command-5.ensures _ list renamed c.list_command.ensures in
+    let keyed = c.with_subcommand-command-6.ensures _ keys listed c.keys_command.ensures in
+    let checked = c.with_subcommand-command-7.ensures _ check keyed c.check_command.ensures in
+    let counted = c.with_subcommand-command-8.ensures _ stats checked c.stats_command.ensures in
+    let scripted = c.with_subcommand-command-9.ensures _ script counted c.script_command.ensures in
+    let widened = c.with_subcommand-command-10.ensures _ widen scripted c.widen_command.ensures in
+    let assembled = c.with_subcommand-command-11.ensures _ asm widened c.asm_command.ensures in
+    let disassembled = c.with_subcommand-command-12.ensures _ disasm assembled c.disasm_command.ensures in
+    let verified = c.with_subcommand-command-13.ensures _ verify disassembled c.verify_command.ensures in
+    let ran = c.with_subcommand-command-14.ensures _ run verified c.run_command.ensures in
+    c.with_subcommand.ensures _ batch ran c.batch_command.ensures

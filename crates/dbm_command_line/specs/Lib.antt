@@ -1,0 +1,2 @@
+pub mod Tool
+pub mod Wishes

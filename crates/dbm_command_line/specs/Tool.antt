@@ -1,0 +1,38 @@
+-- The program: its subcommands in their order.
+use Rattle.std.specs.Prelude.{true, false, [], ◌∷◌, codes}
+use Rattle.clap.specs.Words.{App, Shape}
+use Rattle.clap.specs.Simple.{new_shape}
+use Rattle.dbm_pairs.specs.Fetch.{fetch}
+use Rattle.dbm_pairs.specs.Store.{store}
+use Rattle.dbm_pairs.specs.Delete.{delete}
+use Rattle.dbm_pairs.specs.Rename.{rename}
+use Rattle.dbm_runs.specs.Run.{run}
+use Rattle.dbm_runs.specs.Batch.{batch}
+use Rattle.dbm_listings.specs.List.{list}
+use Rattle.dbm_listings.specs.Keys.{keys}
+use Rattle.dbm_listings.specs.Check.{check}
+use Rattle.dbm_listings.specs.Stats.{stats}
+use Rattle.dbm_scripts.specs.Script.{script}
+use Rattle.dbm_scripts.specs.Widen.{widen}
+use Rattle.dbm_programs.specs.Asm.{asm}
+use Rattle.dbm_programs.specs.Disasm.{disasm}
+use Rattle.dbm_programs.specs.Verify.{verify}
+
+-- the program's name, with a version
+abbrev pub titled : Shape
+titled = record (new_shape (codes "dbm")) { has_version = true }
+
+-- the program without its subcommands: the words do not begin with its name, and no words at all are answered with help
+abbrev pub bare : Shape
+bare = record titled {
+  no_binary_name = true;
+  subcommand_required = true;
+  arg_required_else_help = true;
+}
+
+-- the program
+abbrev pub tool : App
+tool = record {
+  top = record bare { is_leaf = false };
+  subs = fetch ∷ store ∷ delete ∷ rename ∷ list ∷ keys ∷ check ∷ stats ∷ script ∷ widen ∷ asm ∷ disasm ∷ verify ∷ run ∷ batch ∷ [];
+}

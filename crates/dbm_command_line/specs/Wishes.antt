@@ -1,0 +1,163 @@
+-- What the words of the command line ask.
+use Rattle.std.specs.Prelude.{◌≡◌, ◌≢◌, ◌⊎◌, ⊤, Bool, true, false, not, List, Option, Some, None, codes, find, if◌then◌else◌, is_some, option_map}
+use Rattle.std.specs.Option.{option_map_or}
+use Rattle.std.specs.Str.{bytes_eq}
+use Rattle.std.specs.Borrow.{Bor}
+use Rattle.clap.specs.Words.{IsAmong, Kinds, Row, Text, kind_of}
+use Rattle.clap.specs.declared.error.kind.ErrorKind.TheVariants.{DisplayHelp, DisplayVersion, OutOfMemory}
+use Rattle.clap.specs.declared.error.Error.{Error}
+use Rattle.dbm_command_line.specs.Tool.{tool}
+use Rattle.dbm_words.specs.Given.{IsAccess, has_words}
+use Rattle.dbm_listings.specs.Check.{CheckAsks}
+use Rattle.dbm_listings.specs.Keys.{KeysAsks}
+use Rattle.dbm_listings.specs.List.{ListAsks}
+use Rattle.dbm_listings.specs.Stats.{StatsAsks}
+use Rattle.dbm_pairs.specs.Delete.{DeleteAsks}
+use Rattle.dbm_pairs.specs.Fetch.{FetchAsks}
+use Rattle.dbm_pairs.specs.Rename.{RenameAsks}
+use Rattle.dbm_pairs.specs.Store.{StoreAsks}
+use Rattle.dbm_programs.specs.Asm.{AsmAsks}
+use Rattle.dbm_programs.specs.Disasm.{DisasmAsks}
+use Rattle.dbm_programs.specs.Verify.{VerifyAsks}
+use Rattle.dbm_runs.specs.Batch.{BatchAsks}
+use Rattle.dbm_runs.specs.Run.{RunAsks}
+use Rattle.dbm_scripts.specs.Script.{ScriptAsks}
+use Rattle.dbm_scripts.specs.Widen.{WidenAsks}
+use Rattle.dbm_command_line.specs.declared.fault.ToolFault.{ToolFault}
+use Rattle.dbm_command_line.specs.declared.fault.ToolFault.TheVariants.{Refused, NoMemory, NoWord}
+use Rattle.dbm_words.specs.declared.options.Access.{Access}
+use Rattle.dbm_words.specs.declared.options.NotationOptions.{NotationOptions}
+use Rattle.dbm_words.specs.declared.options.TimeUnit.{TimeUnit}
+use Rattle.dbm_words.specs.declared.options.TimeUnit.TheVariants.{Seconds, Milliseconds}
+use Rattle.dbm_command_line.specs.declared.wish.Wish.{Wish}
+use Rattle.dbm_command_line.specs.declared.wish.Wish.TheVariants as wish
+
+-- the database that a wish is about
+abbrev pub base_of : Wish → Option Text
+base_of (wish.Fetch fetch) = Some fetch.base.now
+base_of (wish.Store store) = Some store.base.now
+base_of (wish.Delete delete) = Some delete.base.now
+base_of (wish.Rename rename) = Some rename.base.now
+base_of (wish.Run run) = Some run.base.now
+base_of (wish.Batch batch) = Some batch.base.now
+base_of (wish.List list) = Some list.base.now
+base_of (wish.Keys keys) = Some keys.base.now
+base_of (wish.Check check) = Some check.base.now
+base_of (wish.Stats stats) = Some stats.base.now
+base_of (wish.Script script) = option_map (λ text. text.now) script.base
+base_of (wish.Widen widen) = Some widen.base.now
+base_of (wish.Asm asm) = None
+base_of (wish.Disasm disasm) = None
+base_of (wish.Verify verify) = None
+
+-- the program's file that a wish is about
+abbrev pub file_of : Wish → Option Text
+file_of (wish.Run run) = Some run.file.now
+file_of (wish.Batch batch) = Some batch.file.now
+file_of (wish.Asm asm) = Some asm.file.now
+file_of (wish.Disasm disasm) = Some disasm.file.now
+file_of (wish.Verify verify) = Some verify.file.now
+file_of _ = None
+
+-- the files of its database are written once it was served, also where nothing has changed
+abbrev pub writes_files : Wish → Bool
+writes_files (wish.Fetch fetch) = false
+writes_files (wish.Store store) = true
+writes_files (wish.Delete delete) = true
+writes_files (wish.Rename rename) = true
+writes_files (wish.Run run) = true
+writes_files (wish.Batch batch) = true
+writes_files (wish.List list) = false
+writes_files (wish.Keys keys) = false
+writes_files (wish.Check check) = false
+writes_files (wish.Stats stats) = false
+writes_files (wish.Script script) = is_some script.base
+writes_files (wish.Widen widen) = true
+writes_files (wish.Asm asm) = false
+writes_files (wish.Disasm disasm) = false
+writes_files (wish.Verify verify) = false
+
+abbrev no_notation : NotationOptions
+no_notation = record { text = false; layout = None }
+
+-- the options by which the bytes of a wish are written; of one whose words and lines have no bytes, none
+abbrev pub notation_of : Wish → NotationOptions
+notation_of (wish.Fetch fetch) = fetch.notation
+notation_of (wish.Store store) = store.notation
+notation_of (wish.Delete delete) = delete.notation
+notation_of (wish.Rename rename) = rename.notation
+notation_of (wish.Run run) = run.notation
+notation_of (wish.Batch batch) = batch.notation
+notation_of (wish.List list) = list.notation
+notation_of (wish.Keys keys) = keys.notation
+notation_of (wish.Script script) = script.notation
+notation_of (wish.Check check) = no_notation
+notation_of (wish.Stats stats) = no_notation
+notation_of (wish.Widen widen) = no_notation
+notation_of (wish.Asm asm) = no_notation
+notation_of (wish.Disasm disasm) = no_notation
+notation_of (wish.Verify verify) = no_notation
+
+-- the unit that a word for the time names, where it asks for the clock's
+abbrev pub unit_named : Text → Option TimeUnit
+unit_named word = if bytes_eq word (codes "now") then Some Seconds else if bytes_eq word (codes "now-ms") then Some Milliseconds else None
+
+-- the unit in which a wish asks for the time of day
+abbrev pub time_asked : Wish → Option TimeUnit
+time_asked (wish.Run run) = unit_named run.now.now
+time_asked _ = None
+
+-- the wish whose run is told the time by this word
+abbrev pub with_time : Bor Text → Wish → Wish
+with_time time (wish.Run run) = wish.Run (record run { now = time })
+with_time time other = other
+
+-- The wish is what the subcommand of this name asks, by the words and options that were given to it.
+abbrev pub SubcommandAsks : Text → List Row → Wish → Type 0
+SubcommandAsks name rows (wish.Fetch fetch) = (name ≡ codes "fetch") × FetchAsks rows fetch
+SubcommandAsks name rows (wish.Store store) = (name ≡ codes "store") × StoreAsks rows store
+SubcommandAsks name rows (wish.Delete delete) = (name ≡ codes "delete") × DeleteAsks rows delete
+SubcommandAsks name rows (wish.Rename rename) = (name ≡ codes "rename") × RenameAsks rows rename
+SubcommandAsks name rows (wish.Run run) = (name ≡ codes "run") × RunAsks rows run
+SubcommandAsks name rows (wish.Batch batch) = (name ≡ codes "batch") × BatchAsks rows batch
+SubcommandAsks name rows (wish.List list) = (name ≡ codes "list") × ListAsks rows list
+SubcommandAsks name rows (wish.Keys keys) = (name ≡ codes "keys") × KeysAsks rows keys
+SubcommandAsks name rows (wish.Check check) = (name ≡ codes "check") × CheckAsks rows check
+SubcommandAsks name rows (wish.Stats stats) = (name ≡ codes "stats") × StatsAsks rows stats
+SubcommandAsks name rows (wish.Script script) = (name ≡ codes "script") × ScriptAsks rows script
+SubcommandAsks name rows (wish.Widen widen) = (name ≡ codes "widen") × WidenAsks rows widen
+SubcommandAsks name rows (wish.Asm asm) = (name ≡ codes "asm") × AsmAsks rows asm
+SubcommandAsks name rows (wish.Disasm disasm) = (name ≡ codes "disasm") × DisasmAsks rows disasm
+SubcommandAsks name rows (wish.Verify verify) = (name ≡ codes "verify") × VerifyAsks rows verify
+
+-- the matches name a subcommand, and the wish is what it asks
+abbrev pub IsAsked : Option (Text × List Row) → Wish → Type 0
+IsAsked None wish = ⊥
+IsAsked (Some matches) wish = SubcommandAsks matches.0 matches.1 wish
+
+-- the matches name a subcommand, and these are its options by which a database is come by
+abbrev pub IsAccessGiven : Option (Text × List Row) → Access → Type 0
+IsAccessGiven None access = ⊥
+IsAccessGiven (Some matches) access = IsAccess matches.1 access
+
+-- the matches name no subcommand of the program, or lack a word that it has to have
+abbrev pub lacks_word : Option (Text × List Row) → Bool
+lacks_word None = true
+lacks_word (Some matches) = not (option_map_or (λ shape. has_words shape.rules matches.1)
+    (find (λ shape. bytes_eq shape.name matches.0) tool.subs) false)
+
+-- what becomes of an error of `clap`
+abbrev pub IsFaultOf : Error → ToolFault → Type 0
+IsFaultOf error (Refused kept) = (kept ≡ error) × (kind_of error ≢ OutOfMemory)
+IsFaultOf error NoMemory = kind_of error ≡ OutOfMemory
+IsFaultOf error NoWord = ⊥
+
+-- where `clap` refused the words, it did so for one of these reasons
+abbrev pub IsRefusedFor : Kinds → ToolFault → Type 0
+IsRefusedFor kinds (Refused error) = IsAmong (kind_of error) kinds
+IsRefusedFor kinds _ = ⊤
+
+-- the fault is help or the version, which was asked for
+abbrev pub IsAnswer : ToolFault → Type 0
+IsAnswer (Refused error) = (kind_of error ≡ DisplayHelp) ⊎ (kind_of error ≡ DisplayVersion)
+IsAnswer _ = ⊥

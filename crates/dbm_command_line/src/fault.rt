@@ -1,0 +1,69 @@
+//! Why the words of a command line ask nothing.
+ghost use Rattle.std.specs.Prelude.{◌≡◌, ◌↔◌, IsTrue};
+ghost use Rattle.dbm_command_line.specs.Wishes.{IsAnswer, IsFaultOf};
+ghost use Rattle.dbm_command_line.specs.declared.fault.ToolFault.TheVariants.{NoMemory};
+
+use clap::error::ErrorKind;
+use std::alloc::AllocError;
+use std::io;
+use std::rt::Runtime;
+use thiserror::Error;
+
+/// Why the words of a command line ask nothing. It prints as the text for the user.
+#[derive(Debug, Drop, Error)]
+pub enum ToolFault {
+    /// The words are refused, or ask for help or the version, which is then the text of the error.
+    #[error("{0}")]
+    Refused(clap::Error),
+    /// No memory was left.
+    #[error("NoMemory")]
+    NoMemory,
+    /// A word that the subcommand has to have is not there.
+    #[error("NoWord")]
+    NoWord,
+}
+
+impl ToolFault {
+    /// Whether the words asked for help or the version. That text goes to standard output, with status 0; every other fault
+    /// goes to standard error, with status 2.
+    pub fn is_answer(&self) -> bool
+        ensures { IsTrue result ↔ IsAnswer self.now }
+    {
+        match self {
+            ToolFault::Refused(error) => !error.use_stderr(),
+            _ => false,
+        }
+    }
+
+    /// Prints the text for the user: help and the version to standard output, every other to standard error. `clap`'s own text begins
+    /// with `error: `, the name of a fault of this program with `dbm: `.
+    ///
+    /// # Errors
+    /// That of the stream.
+    pub fn print<R: Runtime>(&self, rt: &R) -> io::Result<()> {
+        match self {
+            ToolFault::Refused(error) => error.print(rt),
+            ToolFault::NoMemory | ToolFault::NoWord => eprintln!(rt; "dbm: {self}"),
+        }
+    }
+}
+
+impl From<AllocError> for ToolFault {
+    ghost from_gives = { λ _ fault. fault ≡ NoMemory };
+
+    fn from(_error: AllocError) -> ToolFault {
+        ToolFault::NoMemory
+    }
+}
+
+impl From<clap::Error> for ToolFault {
+    ghost from_gives = { IsFaultOf };
+
+    fn from(error: clap::Error) -> ToolFault {
+        if error.kind() == ErrorKind::OutOfMemory {
+            ToolFault::NoMemory
+        } else {
+            ToolFault::Refused(error)
+        }
+    }
+}

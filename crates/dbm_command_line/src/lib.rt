@@ -1,0 +1,45 @@
+//! The command line as a whole: which subcommands there are, and what its words ask.
+#![tactic(auto)]
+
+ghost use Rattle.std.specs.Prelude.{◌≡◌, IfOk, IfErr, IsErrOf, true, false, [], map};
+ghost use Rattle.clap.specs.Words.{fault_of, subcommand_of};
+ghost use Rattle.dbm_command_line.specs.Tool.{tool};
+ghost use Rattle.dbm_command_line.specs.Wishes.{IsAccessGiven, IsAsked, IsRefusedFor, lacks_word};
+
+mod fault;
+mod matched;
+mod tool;
+mod wish;
+
+pub use crate::fault::ToolFault;
+use crate::matched::asked;
+use crate::tool::tool_command;
+pub use crate::wish::{Request, Wish};
+use dbm_words::access;
+use std::alloc::Global;
+
+/// What the words behind the program's name ask, and how its database is come by.
+///
+/// # Errors
+/// `Refused` where they are no words of the command line, or ask for help or the version; the error in it has the text for the
+/// user. `NoWord` only where a word is missing that the subcommand has to have. `NoMemory` where no memory was left.
+pub fn read_words<'a>(alloc: Global, words: &'a [&'a str]) -> Result<Request<'a>, ToolFault>
+    ensures wish { IfOk result (λ request. IsAsked (subcommand_of tool (map (λ word. word.now) words.now)) request.wish) }
+    ensures access { IfOk result (λ request. IsAccessGiven (subcommand_of tool (map (λ word. word.now) words.now)) request.access) }
+    ensures accepted { IfOk result (λ _. fault_of tool (map (λ word. word.now) words.now) ≡ []) }
+    ensures refused { IfErr result (IsRefusedFor (fault_of tool (map (λ word. word.now) words.now))) }
+    ensures no_word { IsErrOf result ToolFault.NoWord → lacks_word (subcommand_of tool (map (λ word. word.now) words.now)) ≡ true }
+{
+    let command = tool_command(alloc)?;
+    let matches = command.try_get_matches_from(words)?;
+    let Some((name, inner)) = matches.subcommand() else {
+        return Err(ToolFault::NoWord);
+    };
+    match asked(name, inner) {
+        Some(wish) => Ok(Request {
+            wish,
+            access: access(inner),
+        }),
+        None => Err(ToolFault::NoWord),
+    }
+}

@@ -1,0 +1,38 @@
+//! From what `clap` matched to what was asked. Each subcommand has its own words beside its struct.
+ghost use Rattle.std.specs.Prelude.{◌≡◌, IfSome, IsNone, Some, true};
+ghost use Rattle.clap.specs.Words.{found_of, rows_of};
+ghost use Rattle.dbm_command_line.specs.Wishes.{SubcommandAsks, lacks_word};
+
+use crate::wish::Wish;
+use clap::ArgMatches;
+use dbm_listings::{Check, Keys, List, Stats};
+use dbm_pairs::{Delete, Fetch, Rename, Store};
+use dbm_programs::{Asm, Disasm, Verify};
+use dbm_runs::{Batch, Run};
+use dbm_scripts::{Script, Widen};
+
+/// What the subcommand of this name asks by its matches. There is none where they lack a word that it has to have, or where no
+/// subcommand has this name.
+pub fn asked<'a>(name: &str, matches: &ArgMatches<'a>) -> Option<Wish<'a>>
+    ensures some { IfSome result (SubcommandAsks name.now (rows_of (found_of matches.now))) }
+    ensures none { IsNone result → lacks_word (Some (name.now, rows_of (found_of matches.now))) ≡ true }
+{
+    match name {
+        "fetch" => Some(Wish::Fetch(Fetch::matched(matches)?)),
+        "store" => Some(Wish::Store(Store::matched(matches)?)),
+        "delete" => Some(Wish::Delete(Delete::matched(matches)?)),
+        "rename" => Some(Wish::Rename(Rename::matched(matches)?)),
+        "list" => Some(Wish::List(List::matched(matches)?)),
+        "keys" => Some(Wish::Keys(Keys::matched(matches)?)),
+        "check" => Some(Wish::Check(Check::matched(matches)?)),
+        "stats" => Some(Wish::Stats(Stats::matched(matches)?)),
+        "script" => Some(Wish::Script(Script::matched(matches)?)),
+        "widen" => Some(Wish::Widen(Widen::matched(matches)?)),
+        "asm" => Some(Wish::Asm(Asm::matched(matches)?)),
+        "disasm" => Some(Wish::Disasm(Disasm::matched(matches)?)),
+        "verify" => Some(Wish::Verify(Verify::matched(matches)?)),
+        "run" => Some(Wish::Run(Run::matched(matches)?)),
+        "batch" => Some(Wish::Batch(Batch::matched(matches)?)),
+        _ => None,
+    }
+}

@@ -1,0 +1,75 @@
+//! The program as `clap` is told it, with all its subcommands.
+ghost use Rattle.std.specs.Prelude.{IfOk};
+ghost use Rattle.clap.specs.Words.{App, Shape};
+ghost use Rattle.clap.specs.Words as rules;
+ghost use Rattle.dbm_words.specs.CommandLine.{IsCommand, IsSubcommand};
+ghost use Rattle.dbm_command_line.specs.Tool.{tool};
+ghost use Rattle.dbm_command_line.specs.Tool as spec;
+
+use clap::Command;
+use dbm_listings::{check_command, keys_command, list_command, stats_command};
+use dbm_pairs::{delete_command, fetch_command, rename_command, store_command};
+use dbm_programs::{asm_command, disasm_command, verify_command};
+use dbm_runs::{batch_command, run_command};
+use dbm_scripts::{script_command, widen_command};
+use std::alloc::{AllocError, Global};
+
+/// The program with all its subcommands. The error comes where no memory was left.
+pub fn tool_command<'a>(alloc: Global) -> Result<Command<'a>, AllocError>
+    ensures { IfOk result (IsCommand tool) }
+{
+    let command = bare_command(alloc);
+    let command = with_subcommand(command, fetch_command(alloc));
+    let command = with_subcommand(command, store_command(alloc));
+    let command = with_subcommand(command, delete_command(alloc));
+    let command = with_subcommand(command, rename_command(alloc));
+    let command = with_subcommand(command, list_command(alloc));
+    let command = with_subcommand(command, keys_command(alloc));
+    let command = with_subcommand(command, check_command(alloc));
+    let command = with_subcommand(command, stats_command(alloc));
+    let command = with_subcommand(command, script_command(alloc));
+    let command = with_subcommand(command, widen_command(alloc));
+    let command = with_subcommand(command, asm_command(alloc));
+    let command = with_subcommand(command, disasm_command(alloc));
+    let command = with_subcommand(command, verify_command(alloc));
+    let command = with_subcommand(command, run_command(alloc));
+    with_subcommand(command, batch_command(alloc))
+}
+
+// A command with one more subcommand, where memory was left for both.
+fn with_subcommand<'a>(
+    command: Result<Command<'a>, AllocError>,
+    more: Result<Command<'a>, AllocError>,
+) -> Result<Command<'a>, AllocError>
+    ensures { (app : App) → (shape : Shape) → IfOk command.entry (IsCommand app) → IfOk more.entry (IsSubcommand shape) → IfOk result (IsCommand (rules.with_subcommand app shape)) }
+{
+    command?.subcommand(more?)
+}
+
+// The program's name, version and help.
+fn titled_command<'a>(alloc: Global) -> Command<'a>
+    ensures { IsSubcommand spec.titled result }
+{
+    Command::new(alloc, "dbm")
+        .version("0.1.0")
+        .about("A key-value store in the files of an sdbm database")
+        .after_help(
+            "Bytes are written in hex, two digits a byte, or as . for none; with --text as text.\n\
+             The status is 0; 1 where fetch, store, delete, rename or run answers missing, exists, crowded or refused,\n\
+             verify answers refused, or run --expect ended with another code; 2 for a fault, which standard error\n\
+             names; and 3 where run --expect ran nothing.\n\n\
+             Example: dbm store users ab xyz --text\n\
+             stores the value xyz of the key ab in users.dir and users.pag.",
+        )
+}
+
+// The program without its subcommands.
+fn bare_command<'a>(alloc: Global) -> Result<Command<'a>, AllocError>
+    ensures { IfOk result (IsSubcommand spec.bare) }
+{
+    titled_command(alloc)
+        .no_binary_name(true)
+        .subcommand_required(true)
+        .arg_required_else_help(true)
+        .bin_name("dbm")
+}

@@ -1,0 +1,170 @@
+//! What a command line can ask.
+ghost use Rattle.std.specs.Prelude.{◌≡◌, option_map};
+ghost use Rattle.dbm_command_line.specs.Wishes.{base_of, file_of, notation_of, time_asked, with_time, writes_files};
+
+use dbm_listings::{Check, Keys, List, Stats};
+use dbm_pairs::{Delete, Fetch, Rename, Store};
+use dbm_programs::{Asm, Disasm, Verify};
+use dbm_runs::{Batch, Run};
+use dbm_scripts::{Script, Widen};
+use dbm_words::{Access, NotationOptions, TimeUnit, Words};
+
+/// What a command line asks: one subcommand with its words and options, as they were given. No word is read as bytes or as a
+/// number yet. A `base` names the files of a database, `BASE.dir` and `BASE.pag`.
+#[derive(Clone, Copy)]
+pub enum Wish<'a> {
+    Fetch(Fetch<'a>),
+    Store(Store<'a>),
+    Delete(Delete<'a>),
+    Rename(Rename<'a>),
+    Run(Run<'a>),
+    Batch(Batch<'a>),
+    List(List<'a>),
+    Keys(Keys<'a>),
+    Check(Check<'a>),
+    Stats(Stats<'a>),
+    Script(Script<'a>),
+    Widen(Widen<'a>),
+    Asm(Asm<'a>),
+    Disasm(Disasm<'a>),
+    Verify(Verify<'a>),
+}
+
+/// What a command line asks, and how its database is come by.
+#[derive(Clone, Copy)]
+pub struct Request<'a> {
+    pub wish: Wish<'a>,
+    pub access: Access<'a>,
+}
+
+impl<'a> Wish<'a> {
+    /// The database whose files are to be read, where there is one.
+    pub fn base(&self) -> Option<&'a str>
+        ensures { option_map (λ text. text.now) result ≡ base_of self.now }
+    {
+        match *self {
+            Wish::Fetch(fetch) => Some(fetch.base),
+            Wish::Store(store) => Some(store.base),
+            Wish::Delete(delete) => Some(delete.base),
+            Wish::Rename(rename) => Some(rename.base),
+            Wish::Run(run) => Some(run.base),
+            Wish::Batch(batch) => Some(batch.base),
+            Wish::List(list) => Some(list.base),
+            Wish::Keys(keys) => Some(keys.base),
+            Wish::Check(check) => Some(check.base),
+            Wish::Stats(stats) => Some(stats.base),
+            Wish::Script(script) => script.base,
+            Wish::Widen(widen) => Some(widen.base),
+            Wish::Asm(_) | Wish::Disasm(_) | Wish::Verify(_) => None,
+        }
+    }
+
+    /// The program's file that is to be read, where there is one.
+    pub fn file(&self) -> Option<&'a str>
+        ensures { option_map (λ text. text.now) result ≡ file_of self.now }
+    {
+        match *self {
+            Wish::Run(run) => Some(run.file),
+            Wish::Batch(batch) => Some(batch.file),
+            Wish::Asm(asm) => Some(asm.file),
+            Wish::Disasm(disasm) => Some(disasm.file),
+            Wish::Verify(verify) => Some(verify.file),
+            _ => None,
+        }
+    }
+
+    /// Whether the files of its database are written once it was served: by `store`, `delete`, `rename`, `run`, `batch`, `widen`, and `script`
+    /// with a base. A `store`, `delete`, `rename` or `run` that changed nothing writes them too.
+    pub fn writes(&self) -> bool
+        ensures { result ≡ writes_files self.now }
+    {
+        match *self {
+            Wish::Store(_)
+            | Wish::Delete(_)
+            | Wish::Rename(_)
+            | Wish::Run(_)
+            | Wish::Batch(_)
+            | Wish::Widen(_) => true,
+            Wish::Script(script) => script.base.is_some(),
+            Wish::Fetch(_)
+            | Wish::List(_)
+            | Wish::Keys(_)
+            | Wish::Check(_)
+            | Wish::Stats(_)
+            | Wish::Asm(_)
+            | Wish::Disasm(_)
+            | Wish::Verify(_) => false,
+        }
+    }
+
+    /// The unit in which the time of day is asked: by `run` with `now` or `now-ms` for its time.
+    pub fn time_asked(&self) -> Option<TimeUnit>
+        ensures { result ≡ time_asked self.now }
+    {
+        match *self {
+            Wish::Run(run) => match run.now {
+                "now" => Some(TimeUnit::Seconds),
+                "now-ms" => Some(TimeUnit::Milliseconds),
+                _ => None,
+            },
+            _ => None,
+        }
+    }
+
+    /// The same wish, but a run is told the time by this word.
+    pub fn with_time(self, time: &'a str) -> Wish<'a>
+        ensures { result ≡ with_time time.entry self.entry }
+    {
+        match self {
+            Wish::Run(run) => Wish::Run(Run { now: time, ..run }),
+            other => other,
+        }
+    }
+
+    /// The options by which its bytes are written; of one whose words and lines have no bytes, none.
+    pub fn notation(&self) -> NotationOptions<'a>
+        ensures { result ≡ notation_of self.now }
+    {
+        match *self {
+            Wish::Fetch(Fetch { notation, .. })
+            | Wish::Store(Store { notation, .. })
+            | Wish::Delete(Delete { notation, .. })
+            | Wish::Rename(Rename { notation, .. })
+            | Wish::Run(Run { notation, .. })
+            | Wish::Batch(Batch { notation, .. })
+            | Wish::List(List { notation, .. })
+            | Wish::Keys(Keys { notation, .. })
+            | Wish::Script(Script { notation, .. }) => notation,
+            Wish::Check(_)
+            | Wish::Stats(_)
+            | Wish::Widen(_)
+            | Wish::Asm(_)
+            | Wish::Disasm(_)
+            | Wish::Verify(_) => NotationOptions {
+                text: false,
+                layout: None,
+            },
+        }
+    }
+
+    /// Its words, as sentences show them.
+    pub fn words(&self) -> Words<'a> {
+        match self {
+            Wish::Fetch(fetch) => fetch.words(),
+            Wish::Store(store) => store.words(),
+            Wish::Delete(delete) => delete.words(),
+            Wish::Rename(rename) => rename.words(),
+            Wish::Run(run) => run.words(),
+            Wish::Batch(batch) => batch.words(),
+            Wish::List(list) => list.words(),
+            Wish::Keys(keys) => keys.words(),
+            Wish::Check(check) => check.words(),
+            Wish::Stats(stats) => stats.words(),
+            Wish::Script(script) => script.words(),
+            Wish::Widen(widen) => widen.words(),
+            Wish::Asm(asm) => asm.words(),
+            Wish::Disasm(disasm) => disasm.words(),
+            Wish::Verify(verify) => verify.words(),
+        }
+    }
+}

@@ -1,0 +1,120 @@
+//! `list`: pairs, sorted by the bytes of their keys.
+ghost use Rattle.std.specs.Prelude.{◌≡◌, IfOk, IfSome, IsNone, false};
+ghost use Rattle.clap.specs.Words.{found_of, rows_of};
+ghost use Rattle.dbm_words.specs.CommandLine.{IsSubcommand};
+ghost use Rattle.dbm_words.specs.Given.{has_words};
+ghost use Rattle.dbm_listings.specs.List as spec;
+ghost use Rattle.dbm_listings.specs.List.{ListAsks};
+
+use crate::chosen::report_rows;
+use crate::rows::pairs_listing;
+use clap::{ArgMatches, Command};
+use dbm_reports::{Given, Report, ReportFault, Subcommand};
+use dbm_script::Notation;
+use dbm_words::arguments::{
+    base, json, layout, null, prefix, text, timeout, unsigned, verbose, wide,
+};
+use dbm_words::{
+    Form, Named, NotationOptions, Words, aliased_subcommand, form, has_flag, notation, word,
+};
+use std::alloc::{AllocError, Global};
+use std::io::Read;
+
+/// All pairs, or those whose keys begin with a prefix: with `null` as raw bytes, each key and value ended by a zero byte, with
+/// `json` as objects.
+#[derive(Clone, Copy, Debug)]
+pub struct List<'a> {
+    pub base: &'a str,
+    pub form: Form,
+    pub notation: NotationOptions<'a>,
+    pub prefix: Option<&'a str>,
+    pub null: bool,
+    pub json: bool,
+}
+
+impl<'a> List<'a> {
+    /// What the matches of `list` ask. There is none where they lack a word that it has to have.
+    pub fn matched(matches: &ArgMatches<'a>) -> Option<List<'a>>
+        ensures some { IfSome result (ListAsks (rows_of (found_of matches.now))) }
+        ensures none { IsNone result → has_words spec.list.rules (rows_of (found_of matches.now)) ≡ false }
+    {
+        Some(List {
+            base: word(matches, "BASE")?,
+            form: form(matches),
+            notation: notation(matches),
+            prefix: word(matches, "prefix"),
+            null: has_flag(matches, "null"),
+            json: has_flag(matches, "json"),
+        })
+    }
+
+    /// Its words, as sentences show them.
+    pub fn words(&self) -> Words<'a> {
+        Words {
+            first: match self.prefix {
+                Some(word) => Some(Named {
+                    name: "--prefix",
+                    word,
+                }),
+                None => None,
+            },
+            layout: self.notation.layout,
+            ..Words::on(Some(self.base), self.form)
+        }
+    }
+}
+
+/// The subcommand `list`, as `clap` is told it.
+///
+/// # Errors
+/// `AllocError` where no memory is left.
+pub fn list_command<'a>(alloc: Global) -> Result<Command<'a>, AllocError>
+    ensures { IfOk result (IsSubcommand spec.list) }
+{
+    let args = vec![in alloc;
+        base(alloc),
+        prefix(alloc),
+        null(alloc),
+        json(alloc),
+        text(alloc),
+        layout(alloc),
+        unsigned(alloc),
+        wide(alloc),
+        timeout(alloc),
+        verbose(alloc),
+    ]?;
+    let about = "Print all pairs, sorted by the bytes of their keys";
+    let notes =
+        "Prints KEY VALUE for each pair, both in hex, or . for no bytes; with --json an object\n\
+         for each in a line of its own, whatever -0 says. With -0 a zero byte within a key or a value\n\
+         looks like an end. A reader of a pipe may leave, as head does: that is no fault.\n\n\
+         Example: dbm list users --text";
+    aliased_subcommand(alloc, "list", "ls", about, notes, args)
+}
+
+impl Subcommand for List<'_> {
+    ghost use Rattle.std.specs.Prelude.{false};
+    ghost use Rattle.dbm_listings.specs.List.{list_in};
+    ghost use Rattle.dbm_reports.specs.Causes.{IsCaused};
+
+    type Fault = ReportFault;
+
+    ghost reports = { λ list n given input report. (list_in n list given).reports report };
+
+    ghost causes = { λ list n given input fault. IsCaused (list_in n list given).causes fault };
+
+    ghost writes = { λ list. false };
+
+    ghost reads = { λ list. false };
+
+    fn report<R: Read>(
+        &self,
+        alloc: Global,
+        notation: &Notation<Global>,
+        given: &Given,
+        _reader: &mut R,
+    ) -> Result<Report, ReportFault> {
+        let listing = pairs_listing(self.null, self.json);
+        report_rows(alloc, notation, given, self.form, self.prefix, listing)
+    }
+}

@@ -1,0 +1,115 @@
+//! `stats`: what is in a database, in numbers.
+ghost use Rattle.std.specs.Prelude.{◌≡◌, IfOk, IfSome, IsNone, false, length};
+ghost use Rattle.clap.specs.Words.{found_of, rows_of};
+ghost use Rattle.dbm_words.specs.CommandLine.{IsSubcommand};
+ghost use Rattle.dbm_words.specs.Given.{has_words};
+ghost use Rattle.dbm_listings.specs.Stats as spec;
+ghost use Rattle.dbm_listings.specs.Stats.{StatsAsks};
+ghost use Rattle.dbm_listings.specs.Listings.{Figures, figures_shown};
+
+use clap::{ArgMatches, Command};
+use dbm_reports::{Given, Report, ReportFault, Subcommand, open, printed};
+use dbm_script::Notation;
+use dbm_stats::{figures_object, figures_text};
+use dbm_words::arguments::{base, json, timeout, unsigned, verbose, wide};
+use dbm_words::{Form, Words, form, has_flag, subcommand, word};
+use sdbm_files::Image;
+use sdbm_stats::{Stats as Numbers, stats_of};
+use std::alloc::{AllocError, Global};
+use std::io::Read;
+
+/// What is in a database, in numbers.
+#[derive(Clone, Copy, Debug)]
+pub struct Stats<'a> {
+    pub base: &'a str,
+    pub form: Form,
+    pub json: bool,
+}
+
+impl<'a> Stats<'a> {
+    /// What the matches of `stats` ask. There is none where they lack a word that it has to have.
+    pub fn matched(matches: &ArgMatches<'a>) -> Option<Stats<'a>>
+        ensures some { IfSome result (StatsAsks (rows_of (found_of matches.now))) }
+        ensures none { IsNone result → has_words spec.stats.rules (rows_of (found_of matches.now)) ≡ false }
+    {
+        Some(Stats {
+            base: word(matches, "BASE")?,
+            form: form(matches),
+            json: has_flag(matches, "json"),
+        })
+    }
+
+    /// Its words, as sentences show them.
+    pub fn words(&self) -> Words<'a> {
+        Words::on(Some(self.base), self.form)
+    }
+}
+
+/// The subcommand `stats`, as `clap` is told it.
+///
+/// # Errors
+/// `AllocError` where no memory is left.
+pub fn stats_command<'a>(alloc: Global) -> Result<Command<'a>, AllocError>
+    ensures { IfOk result (IsSubcommand spec.stats) }
+{
+    let args = vec![in alloc;
+        base(alloc),
+        json(alloc),
+        unsigned(alloc),
+        wide(alloc),
+        timeout(alloc),
+        verbose(alloc),
+    ]?;
+    let about = "Print what is in a database, in numbers";
+    let notes =
+        "Prints how many pairs and bytes there are, how full the pages are, and how deep the directory is.\n\n\
+         Example: dbm stats users";
+    subcommand(alloc, "stats", about, notes, args)
+}
+
+impl Subcommand for Stats<'_> {
+    ghost use Rattle.std.specs.Prelude.{false};
+    ghost use Rattle.dbm_listings.specs.Stats.{stats_in};
+    ghost use Rattle.dbm_reports.specs.Causes.{IsCaused};
+
+    type Fault = ReportFault;
+
+    ghost reports = { λ stats n given input report. (stats_in stats given).reports report };
+
+    ghost causes = { λ stats n given input fault. IsCaused (stats_in stats given).causes fault };
+
+    ghost writes = { λ stats. false };
+
+    ghost reads = { λ stats. false };
+
+    fn report<R: Read>(
+        &self,
+        alloc: Global,
+        _notation: &Notation<Global>,
+        given: &Given,
+        _reader: &mut R,
+    ) -> Result<Report, ReportFault> {
+        let image = open(alloc, given, self.form)?;
+        Ok(figures(alloc, &image, self.json)?)
+    }
+}
+
+// What is in a database, in numbers, as text or as a JSON object.
+fn figures(alloc: Global, image: &Image<Global>, json: bool) -> Result<Report, AllocError>
+    ensures { IfOk result (λ report. Figures json report image.now) }
+{
+    let stats = stats_of(alloc, image)?;
+    let text = show_figures(alloc, &stats, json)?;
+    Ok(printed(text))
+}
+
+// The numbers of a database as text or as a JSON object.
+fn show_figures(alloc: Global, stats: &Numbers<Global>, json: bool) -> Result<Vec<u8>, AllocError>
+    requires { length stats.now.bars.items ≡ 10 }
+    ensures { IfOk result (λ text. text.items ≡ figures_shown json stats.now) }
+{
+    if json {
+        return figures_object(alloc, stats);
+    }
+    figures_text(alloc, stats)
+}

@@ -1,0 +1,19 @@
+use Rattle.std.proofs.Common.{Option, ap, is_some, sym, ◌∙◌, ◌∷◌, [], List, ℕ}
+use Rattle.sdbm_addr.specs.Database.{Database}
+use Rattle.dbm_script.specs.Commands.{command_of}
+use Rattle.dbm_pairs.proofs.store.StoreSubcommand.report.Goals as goal
+
+pub returns-clause-ok : goal.returns-clause-ok
+returns-clause-ok g c = record {
+  before = c.in_ok-image.image;
+  opened = c.in_ok-image.ensures.ok.0;
+  command = c.in_ok-image.command;
+  is = ap (λ (name : List ℕ). command_of c.args.notation.now (name ∷ (c.args.self.now.key.now ∷ (c.args.self.now.value.now ∷ [])))) (sym c.store_name-name.ensures)
+      ∙ ap (λ (key : List ℕ). command_of c.args.notation.now (c.store_name-name.result.now ∷ (key ∷ (c.args.self.now.value.now ∷ [])))) (sym c.as_bytes.ensures.value)
+      ∙ ap (λ (value : List ℕ). command_of c.args.notation.now (c.store_name-name.result.now ∷ (c.as_bytes.result.now ∷ (value ∷ [])))) (sym c.as_bytes-2.ensures.value)
+      ∙ c.in_ok-image.ensures.ok.1;
+  holds = c.in_ok-change.ensures;
+}
+
+pub returns-clause-database : goal.returns-clause-database
+returns-clause-database g c = ap (λ (db : Option Database). is_some db) c.in_ok-change.ensures.1.1

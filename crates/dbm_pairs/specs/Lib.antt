@@ -1,0 +1,5 @@
+pub mod Commands
+pub mod Fetch
+pub mod Store
+pub mod Delete
+pub mod Rename

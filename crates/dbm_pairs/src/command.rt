@@ -1,0 +1,51 @@
+//! One command on the database of the files.
+ghost use Rattle.std.specs.Prelude.{◌≡◌, ◌∷◌, map, IfOk, IfErr, Some};
+ghost use Rattle.dbm_script.specs.Commands.{command_of};
+ghost use Rattle.dbm_words.specs.declared.options.Form.{Form};
+ghost use Rattle.dbm_reports.specs.Causes.{IsCaused};
+ghost use Rattle.dbm_reports.specs.Databases.{IsOpened};
+ghost use Rattle.dbm_reports.specs.declared.databases.Given.{Given};
+ghost use Rattle.dbm_pairs.specs.Commands.{command_causes};
+
+use dbm_reports::{Given, ReportFault, bad_words, open};
+use dbm_script::{Notation, read_command};
+use dbm_words::Form;
+use sdbm_files::Image;
+use std::alloc::Global;
+use store_cmd::Command;
+
+/// The command that words ask, and the database of the files. The words are read first.
+///
+/// # Errors
+/// `BadHex`, or as text `BadText`, where a word is no bytes, and those of `open`.
+pub fn command_on(
+    alloc: Global,
+    notation: &Notation<Global>,
+    given: &Given,
+    form: Form,
+    name: &[u8],
+    args: &[&[u8]],
+) -> Result<(Image<Global>, Command<Global>), ReportFault>
+    ensures ok { IfOk result (λ r. IsOpened form given.now r.0 × (command_of notation.now (name.now ∷ map (λ x. x.now) args.now) ≡ Some r.1)) }
+    ensures fault { IfErr result (IsCaused (command_causes notation.now form given.now (name.now ∷ map (λ x. x.now) args.now))) }
+{
+    let command = command_in(alloc, notation, name, args)?;
+    let image = open(alloc, given, form)?;
+    Ok((image, command))
+}
+
+// The command that words ask.
+fn command_in(
+    alloc: Global,
+    notation: &Notation<Global>,
+    name: &[u8],
+    args: &[&[u8]],
+) -> Result<Command<Global>, ReportFault>
+    ensures ok { IfOk result (λ command. command_of notation.now (name.now ∷ map (λ x. x.now) args.now) ≡ Some command) }
+    ensures fault { (form : Form) → (given : Given) → IfErr result (IsCaused (command_causes notation.now form given (name.now ∷ map (λ x. x.now) args.now))) }
+{
+    let Some(command) = read_command(alloc, notation, name, args)? else {
+        return Err(bad_words(notation));
+    };
+    Ok(command)
+}

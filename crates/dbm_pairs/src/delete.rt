@@ -1,0 +1,103 @@
+//! `delete`: the pair of a key is gone.
+ghost use Rattle.std.specs.Prelude.{◌≡◌, IfOk, IfSome, IsNone, false};
+ghost use Rattle.clap.specs.Words.{found_of, rows_of};
+ghost use Rattle.dbm_words.specs.CommandLine.{IsSubcommand};
+ghost use Rattle.dbm_words.specs.Given.{has_words};
+ghost use Rattle.dbm_pairs.specs.Delete as spec;
+ghost use Rattle.dbm_pairs.specs.Delete.{DeleteAsks};
+
+use crate::command::command_on;
+use clap::{ArgMatches, Command};
+use dbm_reports::{Given, Report, ReportFault, Subcommand, change};
+use dbm_script::Notation;
+use dbm_words::arguments::{base, key, layout, must_exist, text, timeout, unsigned, verbose, wide};
+use dbm_words::{Form, Named, NotationOptions, Words, aliased_subcommand, form, notation, word};
+use std::alloc::{AllocError, Global};
+use std::io::Read;
+
+/// The pair of a key is to be deleted.
+#[derive(Clone, Copy, Debug)]
+pub struct Delete<'a> {
+    pub base: &'a str,
+    pub form: Form,
+    pub notation: NotationOptions<'a>,
+    pub key: &'a str,
+}
+
+impl<'a> Delete<'a> {
+    /// What the matches of `delete` ask. There is none where they lack a word that it has to have.
+    pub fn matched(matches: &ArgMatches<'a>) -> Option<Delete<'a>>
+        ensures some { IfSome result (DeleteAsks (rows_of (found_of matches.now))) }
+        ensures none { IsNone result → has_words spec.delete.rules (rows_of (found_of matches.now)) ≡ false }
+    {
+        Some(Delete {
+            base: word(matches, "BASE")?,
+            form: form(matches),
+            notation: notation(matches),
+            key: word(matches, "KEY")?,
+        })
+    }
+
+    /// Its words, as sentences show them.
+    pub fn words(&self) -> Words<'a> {
+        Words {
+            first: Some(Named {
+                name: "KEY",
+                word: self.key,
+            }),
+            layout: self.notation.layout,
+            ..Words::on(Some(self.base), self.form)
+        }
+    }
+}
+
+/// The subcommand `delete`, as `clap` is told it.
+///
+/// # Errors
+/// `AllocError` where no memory is left.
+pub fn delete_command<'a>(alloc: Global) -> Result<Command<'a>, AllocError>
+    ensures { IfOk result (IsSubcommand spec.delete) }
+{
+    let args = vec![in alloc;
+        base(alloc),
+        key(alloc),
+        text(alloc),
+        layout(alloc),
+        unsigned(alloc),
+        wide(alloc),
+        must_exist(alloc),
+        timeout(alloc),
+        verbose(alloc),
+    ]?;
+    let about = "Delete the pair of a key";
+    let notes = "Prints deleted, or missing with status 1.\n\nExample: dbm delete users ab --text";
+    aliased_subcommand(alloc, "delete", "del", about, notes, args)
+}
+
+impl Subcommand for Delete<'_> {
+    ghost use Rattle.std.specs.Prelude.{false, true};
+    ghost use Rattle.dbm_pairs.specs.Delete.{delete_in};
+    ghost use Rattle.dbm_reports.specs.Causes.{IsCaused};
+
+    type Fault = ReportFault;
+
+    ghost reports = { λ delete n given input report. (delete_in n delete given).reports report };
+
+    ghost causes = { λ delete n given input fault. IsCaused (delete_in n delete given).causes fault };
+
+    ghost writes = { λ delete. true };
+
+    ghost reads = { λ delete. false };
+
+    fn report<R: Read>(
+        &self,
+        alloc: Global,
+        notation: &Notation<Global>,
+        given: &Given,
+        _reader: &mut R,
+    ) -> Result<Report, ReportFault> {
+        let args = [self.key.as_bytes()];
+        let (image, command) = command_on(alloc, notation, given, self.form, b"delete", &args)?;
+        Ok(change(alloc, notation, image, command, None)?)
+    }
+}

@@ -1,0 +1,130 @@
+//! `rename`: a pair gets another key.
+ghost use Rattle.std.specs.Prelude.{◌≡◌, IfOk, IfSome, IsNone, false};
+ghost use Rattle.clap.specs.Words.{found_of, rows_of};
+ghost use Rattle.dbm_words.specs.CommandLine.{IsSubcommand};
+ghost use Rattle.dbm_words.specs.Given.{has_words};
+ghost use Rattle.dbm_pairs.specs.Rename as spec;
+ghost use Rattle.dbm_pairs.specs.Rename.{RenameAsks};
+
+use crate::command::command_on;
+use crate::renaming::rename;
+use crate::store::store_name;
+use clap::{ArgMatches, Command};
+use dbm_reports::{Given, Report, ReportFault, Subcommand};
+use dbm_script::Notation;
+use dbm_words::arguments::{
+    base, flag, key, must_exist, required_word, text, timeout, unsigned, verbose, wide,
+};
+use dbm_words::{Form, Named, NotationOptions, Words, form, has_flag, notation, subcommand, word};
+use std::alloc::{AllocError, Global};
+use std::io::Read;
+
+/// The pair of a key is to get another key, with `replace` also where a pair has that one.
+#[derive(Clone, Copy, Debug)]
+pub struct Rename<'a> {
+    pub base: &'a str,
+    pub form: Form,
+    pub notation: NotationOptions<'a>,
+    pub key: &'a str,
+    pub new_key: &'a str,
+    pub replace: bool,
+}
+
+impl<'a> Rename<'a> {
+    /// What the matches of `rename` ask. There is none where they lack a word that it has to have.
+    pub fn matched(matches: &ArgMatches<'a>) -> Option<Rename<'a>>
+        ensures some { IfSome result (RenameAsks (rows_of (found_of matches.now))) }
+        ensures none { IsNone result → has_words spec.rename.rules (rows_of (found_of matches.now)) ≡ false }
+    {
+        Some(Rename {
+            base: word(matches, "BASE")?,
+            form: form(matches),
+            notation: notation(matches),
+            key: word(matches, "KEY")?,
+            new_key: word(matches, "NEWKEY")?,
+            replace: has_flag(matches, "replace"),
+        })
+    }
+
+    /// Its words, as sentences show them.
+    pub fn words(&self) -> Words<'a> {
+        Words {
+            first: Some(Named {
+                name: "KEY",
+                word: self.key,
+            }),
+            second: Some(Named {
+                name: "NEWKEY",
+                word: self.new_key,
+            }),
+            layout: self.notation.layout,
+            ..Words::on(Some(self.base), self.form)
+        }
+    }
+}
+
+/// The subcommand `rename`, as `clap` is told it.
+///
+/// # Errors
+/// `AllocError` where no memory is left.
+pub fn rename_command<'a>(alloc: Global) -> Result<Command<'a>, AllocError>
+    ensures { IfOk result (IsSubcommand spec.rename) }
+{
+    let new_key = required_word(
+        alloc,
+        "NEWKEY",
+        "The key that the pair gets, in hex, or with --text as text; . for the empty one",
+    );
+    let replace = flag(
+        alloc,
+        "replace",
+        "Take the place of a pair that has the new key",
+    );
+    let args = vec![in alloc;
+        base(alloc),
+        key(alloc),
+        new_key,
+        replace,
+        text(alloc),
+        unsigned(alloc),
+        wide(alloc),
+        must_exist(alloc),
+        timeout(alloc),
+        verbose(alloc),
+    ]?;
+    let about = "Give a pair another key";
+    let notes =
+        "Prints renamed, or with status 1 missing (there is no pair with KEY), exists (there is one with NEWKEY;\n\
+         only without --replace), crowded (there is no room) or refused PairTooLarge. Then nothing is changed.\n\n\
+         Example: dbm rename users ab cd --text";
+    subcommand(alloc, "rename", about, notes, args)
+}
+
+impl Subcommand for Rename<'_> {
+    ghost use Rattle.std.specs.Prelude.{false, true};
+    ghost use Rattle.dbm_pairs.specs.Rename.{rename_in};
+    ghost use Rattle.dbm_reports.specs.Causes.{IsCaused};
+
+    type Fault = ReportFault;
+
+    ghost reports = { λ rename n given input report. (rename_in n rename given).reports report };
+
+    ghost causes = { λ rename n given input fault. IsCaused (rename_in n rename given).causes fault };
+
+    ghost writes = { λ rename. true };
+
+    ghost reads = { λ rename. false };
+
+    fn report<R: Read>(
+        &self,
+        alloc: Global,
+        notation: &Notation<Global>,
+        given: &Given,
+        _reader: &mut R,
+    ) -> Result<Report, ReportFault> {
+        let name = store_name(!self.replace);
+        let args = [self.key.as_bytes(), self.new_key.as_bytes()];
+        let (image, command) = command_on(alloc, notation, given, self.form, name, &args)?;
+        Ok(rename(alloc, notation, image, command)?)
+    }
+}

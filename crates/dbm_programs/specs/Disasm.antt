@@ -1,0 +1,39 @@
+-- What `disasm` takes and asks, what comes of it, and why nothing does.
+use Rattle.std.specs.Prelude.{◌≡◌, List, [], ◌∷◌, codes, ℕ}
+use Rattle.clap.specs.Words.{Shape, Row}
+use Rattle.dbm_words.specs.Given.{IsWord}
+use Rattle.dbm_programs.specs.declared.disasm.Disasm.{Disasm}
+use Rattle.dbm_reports.specs.declared.databases.Given.{Given}
+use Rattle.dbm_reports.specs.Known.{Known}
+use Rattle.dbm_reports.specs.Reports.{PrintsOf}
+use Rattle.bpf_insn.specs.declared.insn.Insn.{Insn}
+use Rattle.bpf_insn.specs.Code.{IsImage}
+use Rattle.bpf_asm.specs.Denotes.{Denotes}
+use Rattle.bpf_asm.specs.Printed.{text_of}
+use Rattle.prog_registry.specs.Judged.{IsUndecoded}
+use Rattle.dbm_words.specs.CommandLine.{required_word, subcommand}
+use Rattle.dbm_reports.specs.Causes.{Causes, no_causes}
+
+abbrev pub disasm : Shape
+disasm = subcommand (codes "disasm") (required_word (codes "FILE") ∷ [])
+
+abbrev pub DisasmAsks : List Row → Disasm → Type 0
+DisasmAsks rows disasm =
+    IsWord (codes "FILE") rows disasm.file
+
+-- a text of the code that an image spells
+pub record IsDisassembled (image text : List ℕ) : Type 0 where
+  pub code : List Insn
+  pub is_image : IsImage code image
+  pub denotes : Denotes text code
+  pub is : text ≡ text_of code
+
+-- the file of a program's image
+abbrev pub image_causes : List ℕ → Causes
+image_causes file = record no_causes { decoding = IsUndecoded file }
+
+abbrev pub disasm_in : Given → Known
+disasm_in given = record {
+  reports = PrintsOf IsDisassembled given.file.items;
+  causes = image_causes given.file.items;
+}

@@ -1,0 +1,4 @@
+pub mod Judging
+pub mod Asm
+pub mod Disasm
+pub mod Verify

@@ -1,0 +1,23 @@
+-- What `verify` takes and asks, what comes of it, and why nothing does.
+use Rattle.std.specs.Prelude.{◌≡◌, List, [], ◌∷◌, codes}
+use Rattle.clap.specs.Words.{Shape, Row}
+use Rattle.dbm_words.specs.Given.{IsWord, is_given}
+use Rattle.dbm_programs.specs.declared.verify.Verify.{Verify}
+use Rattle.dbm_reports.specs.declared.databases.Given.{Given}
+use Rattle.dbm_reports.specs.Causes.{file_causes}
+use Rattle.dbm_reports.specs.Known.{Known}
+use Rattle.dbm_programs.specs.Judging.{VerifyReports}
+use Rattle.dbm_words.specs.CommandLine.{required_word, flag, subcommand}
+
+abbrev pub verify : Shape
+verify = subcommand (codes "verify") (required_word (codes "FILE") ∷ flag (codes "image") ∷ flag (codes "explain") ∷ [])
+
+abbrev pub VerifyAsks : List Row → Verify → Type 0
+VerifyAsks rows verify =
+    IsWord (codes "FILE") rows verify.file × ((verify.image ≡ is_given (codes "image") rows) × (verify.explain ≡ is_given (codes "explain") rows))
+
+abbrev pub verify_in : Verify → Given → Known
+verify_in verify given = record {
+  reports = VerifyReports verify.explain verify.image given.file.items;
+  causes = file_causes verify.image given.file.items;
+}

@@ -1,0 +1,91 @@
+//! `disasm`: the text of a program's image.
+ghost use Rattle.std.specs.Prelude.{◌≡◌, IfOk, IfSome, IsNone, false};
+ghost use Rattle.clap.specs.Words.{found_of, rows_of};
+ghost use Rattle.dbm_words.specs.CommandLine.{IsSubcommand};
+ghost use Rattle.dbm_words.specs.Given.{has_words};
+ghost use Rattle.dbm_programs.specs.Disasm as spec;
+ghost use Rattle.dbm_programs.specs.Disasm.{DisasmAsks};
+
+use bpf_asm::disassemble;
+use bpf_insn::{DecodeFault, decode};
+use clap::{ArgMatches, Command};
+use dbm_reports::{Given, Report, ReportFault, Subcommand, printed};
+use dbm_script::Notation;
+use dbm_words::arguments::file;
+use dbm_words::{Subject, Words, subcommand, word};
+use std::alloc::{AllocError, Global};
+use std::io::Read;
+
+/// The text of a program's image.
+#[derive(Clone, Copy, Debug)]
+pub struct Disasm<'a> {
+    pub file: &'a str,
+}
+
+impl<'a> Disasm<'a> {
+    /// What the matches of `disasm` ask. There is none where they lack a word that it has to have.
+    pub fn matched(matches: &ArgMatches<'a>) -> Option<Disasm<'a>>
+        ensures some { IfSome result (DisasmAsks (rows_of (found_of matches.now))) }
+        ensures none { IsNone result → has_words spec.disasm.rules (rows_of (found_of matches.now)) ≡ false }
+    {
+        Some(Disasm {
+            file: word(matches, "FILE")?,
+        })
+    }
+
+    /// Its words, as sentences show them.
+    pub fn words(&self) -> Words<'a> {
+        Words {
+            subject: Subject::Disasm,
+            file: Some(self.file),
+            ..Words::none()
+        }
+    }
+}
+
+/// The subcommand `disasm`, as `clap` is told it.
+///
+/// # Errors
+/// `AllocError` where no memory is left.
+pub fn disasm_command<'a>(alloc: Global) -> Result<Command<'a>, AllocError>
+    ensures { IfOk result (IsSubcommand spec.disasm) }
+{
+    let args = vec![in alloc; file(alloc, "The program as the bytes of its image")]?;
+    let about = "Print the text of a program's image";
+    let notes =
+        "Prints one instruction a line. The bytes of an image come from the hex that asm prints so:\n\
+         dbm asm counter.s | xxd -r -p > counter.image\n\n\
+         Example: dbm disasm counter.image";
+    subcommand(alloc, "disasm", about, notes, args)
+}
+
+impl Subcommand for Disasm<'_> {
+    ghost use Rattle.std.specs.Prelude.{false};
+    ghost use Rattle.dbm_programs.specs.Disasm.{disasm_in};
+    ghost use Rattle.dbm_reports.specs.Causes.{IsCaused};
+
+    type Fault = ReportFault;
+
+    ghost reports = { λ disasm n given input report. (disasm_in given).reports report };
+
+    ghost causes = { λ disasm n given input fault. IsCaused (disasm_in given).causes fault };
+
+    ghost writes = { λ disasm. false };
+
+    ghost reads = { λ disasm. false };
+
+    fn report<R: Read>(
+        &self,
+        alloc: Global,
+        _notation: &Notation<Global>,
+        given: &Given,
+        _reader: &mut R,
+    ) -> Result<Report, ReportFault> {
+        let code = match decode(alloc, given.file.as_slice()) {
+            Ok(code) => code,
+            Err(DecodeFault::NoMemory) => return Err(ReportFault::NoMemory),
+            Err(fault) => return Err(ReportFault::Decode(fault)),
+        };
+        Ok(printed(disassemble(alloc, &code)?.into_bytes()))
+    }
+}

@@ -1,0 +1,50 @@
+//! Whether the program of a file is accepted, or why it is refused.
+ghost use Rattle.std.specs.Prelude.{◌≡◌, IfOk, IfErr};
+ghost use Rattle.dbm_reports.specs.Causes.{IsCaused, file_causes};
+ghost use Rattle.dbm_programs.specs.Judging.{Judges, Verifies, accepted_line};
+
+use dbm_reports::{Report, ReportFault, file_image, printed, refused};
+use itoa::Buffer;
+use prog_registry::Registry;
+use std::alloc::{AllocError, Allocator, Global};
+
+/// Whether the program of a file is accepted, or why not, as a line of a script would say it that submits its image first.
+///
+/// # Errors
+/// Those of `file_image`, and `NoMemory`.
+pub fn verify_file(alloc: Global, file: &[u8], is_image: bool) -> Result<Report, ReportFault>
+    ensures ok { IfOk result (Verifies is_image file.now) }
+    ensures fault { IfErr result (IsCaused (file_causes is_image file.now)) }
+{
+    let image = file_image(alloc, file, is_image)?;
+    Ok(judge_image(alloc, image.as_slice())?)
+}
+
+/// Whether an image is that of an accepted program.
+///
+/// # Errors
+/// `AllocError` where no memory is left.
+pub fn judge_image(alloc: Global, image: &[u8]) -> Result<Report, AllocError>
+    ensures { IfOk result (Judges image.now) }
+{
+    let mut registry = Registry::new(alloc)?;
+    match registry.submit(image) {
+        Ok(_) => Ok(printed(show_accepted(alloc, image.len() / 8)?)),
+        Err(fault) => refused(alloc, fault, 1, None),
+    }
+}
+
+/// The line `accepted UNITS`.
+///
+/// # Errors
+/// `AllocError` where no memory is left for the text.
+pub fn show_accepted<A: Allocator + Copy>(alloc: A, units: usize) -> Result<Vec<u8, A>, AllocError>
+    ensures { IfOk result (λ text. text.items ≡ accepted_line units) }
+{
+    let mut text = Vec::new(alloc);
+    text.extend_from_slice(b"accepted ")?;
+    let mut digits = Buffer::new();
+    text.extend_from_slice(digits.format(units).as_bytes())?;
+    text.push(b'\n')?;
+    Ok(text)
+}

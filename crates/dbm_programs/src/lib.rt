@@ -1,0 +1,11 @@
+//! The subcommands that are about programs alone: `asm`, `disasm` and `verify`.
+#![tactic(auto)]
+
+mod asm;
+mod disasm;
+mod judging;
+mod verify;
+
+pub use asm::{Asm, asm_command};
+pub use disasm::{Disasm, disasm_command};
+pub use verify::{Verify, refusal_of, verify_command};

@@ -1,0 +1,235 @@
+//! `verify`: whether a program is accepted, or why it is refused.
+ghost use Rattle.std.specs.Prelude.{◌≡◌, IfOk, IfSome, IsNone, false, IfErr};
+ghost use Rattle.clap.specs.Words.{found_of, rows_of};
+ghost use Rattle.dbm_words.specs.CommandLine.{IsSubcommand};
+ghost use Rattle.dbm_words.specs.Given.{has_words};
+ghost use Rattle.dbm_programs.specs.Verify as spec;
+ghost use Rattle.dbm_programs.specs.Verify.{VerifyAsks};
+ghost use Rattle.bpf_insn.specs.Code.{IsImage};
+ghost use Rattle.prog_registry.specs.Judged.{IsJudged, IsProgramOf};
+ghost use Rattle.dbm_reports.specs.Causes.{IsCaused, file_causes};
+ghost use Rattle.dbm_programs.specs.Judging.{EndsAs, EndsJudged, Explains, IsExplained};
+
+use crate::judging::{judge_image, show_accepted, verify_file};
+use bpf_explain::{explain_accepted, explain_refused};
+use bpf_insn::{Code, DecodeFault, decode};
+use bpf_verify::{Refused, Verified, VerifyFault, examine};
+use clap::{ArgMatches, Command};
+use dbm_reports::{Given, Report, ReportFault, Subcommand, file_image, printed, refused};
+use dbm_script::Notation;
+use dbm_words::arguments::{file, flag, image};
+use dbm_words::{Words, has_flag, subcommand, word};
+use prog_registry::RegFault;
+use std::alloc::{AllocError, Global};
+use std::io::Read;
+
+/// Whether a program is accepted: that of a text, or with `image` that of an image. With `explain` it is told why.
+#[derive(Clone, Copy, Debug)]
+pub struct Verify<'a> {
+    pub file: &'a str,
+    pub image: bool,
+    pub explain: bool,
+}
+
+impl<'a> Verify<'a> {
+    /// What the matches of `verify` ask. There is none where they lack a word that it has to have.
+    pub fn matched(matches: &ArgMatches<'a>) -> Option<Verify<'a>>
+        ensures some { IfSome result (VerifyAsks (rows_of (found_of matches.now))) }
+        ensures none { IsNone result → has_words spec.verify.rules (rows_of (found_of matches.now)) ≡ false }
+    {
+        Some(Verify {
+            file: word(matches, "FILE")?,
+            image: has_flag(matches, "image"),
+            explain: has_flag(matches, "explain"),
+        })
+    }
+
+    /// Its words, as sentences show them.
+    pub fn words(&self) -> Words<'a> {
+        Words {
+            image: self.image,
+            file: Some(self.file),
+            ..Words::none()
+        }
+    }
+}
+
+/// The subcommand `verify`, as `clap` is told it.
+///
+/// # Errors
+/// `AllocError` where no memory is left.
+pub fn verify_command<'a>(alloc: Global) -> Result<Command<'a>, AllocError>
+    ensures { IfOk result (IsSubcommand spec.verify) }
+{
+    let args = vec![in alloc;
+        file(alloc, "The program as text, one instruction a line"),
+        image(alloc),
+        flag(
+            alloc,
+            "explain",
+            "Print what is known before each instruction, and in words why the program is refused"
+        ),
+    ]?;
+    let about = "Say whether a program is accepted, or why it is refused";
+    let notes =
+        "Prints accepted UNITS, its length in units of 8 bytes, or refused FAULT with status 1. With --explain\n\
+         that line is the last one; of a file that is no program's image it stands alone.\n\n\
+         Example: dbm verify counter.s";
+    subcommand(alloc, "verify", about, notes, args)
+}
+
+// With `explain` the line of `verify_file` stands behind the program's instructions with what is known before each; of a file that is
+// the image of no program there is this line alone.
+impl Subcommand for Verify<'_> {
+    ghost use Rattle.std.specs.Prelude.{false};
+    ghost use Rattle.dbm_programs.specs.Verify.{verify_in};
+    ghost use Rattle.dbm_reports.specs.Causes.{IsCaused};
+
+    type Fault = ReportFault;
+
+    ghost reports = { λ verify n given input report. (verify_in verify given).reports report };
+
+    ghost causes = { λ verify n given input fault. IsCaused (verify_in verify given).causes fault };
+
+    ghost writes = { λ verify. false };
+
+    ghost reads = { λ verify. false };
+
+    fn report<R: Read>(
+        &self,
+        alloc: Global,
+        _notation: &Notation<Global>,
+        given: &Given,
+        _reader: &mut R,
+    ) -> Result<Report, ReportFault> {
+        let file = given.file.as_slice();
+        if self.explain {
+            return explain_file(alloc, file, self.image);
+        }
+        verify_file(alloc, file, self.image)
+    }
+}
+
+fn explain_file(alloc: Global, file: &[u8], is_image: bool) -> Result<Report, ReportFault>
+    ensures ok { IfOk result (Explains is_image file.now) }
+    ensures fault { IfErr result (IsCaused (file_causes is_image file.now)) }
+{
+    let image = file_image(alloc, file, is_image)?;
+    let source = source_of(file, is_image);
+    Ok(explain_image(alloc, image.as_slice(), source)?)
+}
+
+// The text of a program's file, where it is one.
+fn source_of(file: &[u8], is_image: bool) -> Option<&str> {
+    if is_image {
+        return None;
+    }
+    str::from_utf8(file).ok()
+}
+
+// What is said of an image.
+fn explain_image(alloc: Global, image: &[u8], source: Option<&str>) -> Result<Report, AllocError>
+    ensures { IfOk result (IsExplained image.now) }
+{
+    match decode(alloc, image) {
+        Ok(code) => explain_code(alloc, code, image, source),
+        Err(DecodeFault::NoMemory) => Err(AllocError),
+        Err(_) => judge_image(alloc, image),
+    }
+}
+
+// What is said of the code of an image.
+fn explain_code(
+    alloc: Global,
+    code: Code<Global>,
+    image: &[u8],
+    source: Option<&str>,
+) -> Result<Report, AllocError>
+    requires { IsImage code image.now }
+    ensures { IfOk result (EndsJudged image.now) }
+{
+    match examine(alloc, code) {
+        Ok(verified) => explain_verified(alloc, verified, image, source),
+        Err(
+            Refused {
+                fault: VerifyFault::NoMemory,
+                ..
+            },
+        ) => Err(AllocError),
+        Err(program) => explain_refusal(alloc, program, image, source),
+    }
+}
+
+// What is said of an accepted program of an image.
+fn explain_verified(
+    alloc: Global,
+    verified: Verified<Global>,
+    image: &[u8],
+    source: Option<&str>,
+) -> Result<Report, AllocError>
+    requires { IsProgramOf image.now verified }
+    ensures { IfOk result (EndsJudged image.now) }
+{
+    let rows = explain_accepted(alloc, &verified)?.text(alloc, source)?;
+    let line = show_accepted(alloc, image.len() / 8)?;
+    behind(rows, printed(line))
+}
+
+// What is said of a refused code of an image.
+fn explain_refusal(
+    alloc: Global,
+    program: Refused<Global>,
+    image: &[u8],
+    source: Option<&str>,
+) -> Result<Report, AllocError>
+    requires { IsJudged image.now program.fault }
+    ensures { IfOk result (EndsJudged image.now) }
+{
+    let rows = explain_refused(alloc, &program)?.text(alloc, source)?;
+    let last = refused(alloc, RegFault::Verify(program.fault), 1, None)?;
+    behind(rows, last)
+}
+
+// Rows, and the line that is said behind them.
+fn behind(rows: String, last: Report) -> Result<Report, AllocError>
+    ensures { IfOk result (EndsAs last) }
+{
+    let mut text = rows.into_bytes();
+    text.push(b'\n')?;
+    text.extend_from_slice(last.text.as_slice())?;
+    let Report {
+        status,
+        database,
+        ..
+    } = last;
+    Ok(Report {
+        text,
+        status,
+        database,
+    })
+}
+
+/// Why the program of a file is refused, in a sentence, and nothing where it is accepted or is none.
+///
+/// # Errors
+/// `AllocError` where no memory is left.
+pub fn refusal_of(
+    alloc: Global,
+    file: &[u8],
+    is_image: bool,
+) -> Result<Option<String>, AllocError> {
+    let Ok(image) = file_image(alloc, file, is_image) else {
+        return Ok(None);
+    };
+    let Ok(code) = decode(alloc, image.as_slice()) else {
+        return Ok(None);
+    };
+    match examine(alloc, code) {
+        Ok(_) => Ok(None),
+        Err(refused) => {
+            let source = source_of(file, is_image);
+            let told = explain_refused(alloc, &refused)?.refusal(alloc, source)?;
+            Ok(Some(told))
+        }
+    }
+}

@@ -1,0 +1,71 @@
+//! The file of a program.
+ghost use Rattle.std.specs.Prelude.{◌≢◌, IfOk, IfErr};
+ghost use Rattle.prog_registry.specs.declared.fault.RegFault.TheVariants.{NoMemory};
+ghost use Rattle.dbm_reports.specs.Reports.{IsTextImage, IsFileImage, Refuses};
+ghost use Rattle.dbm_reports.specs.Causes.{IsCaused, text_causes, file_causes};
+
+use crate::fault::ReportFault;
+use crate::report::Report;
+use bpf_asm::{FaultKind, assemble};
+use bpf_insn::encode;
+use dbm_script::show_refusal;
+use prog_registry::RegFault;
+use sdbm_files::Image;
+use std::alloc::{AllocError, Global};
+
+/// The image of the program of which a file is the text.
+///
+/// # Errors
+/// Those of `file_image` for a text.
+pub fn text_image(alloc: Global, file: &[u8]) -> Result<Vec<u8>, ReportFault>
+    ensures ok { IfOk result (λ image. IsTextImage file.now image.items) }
+    ensures fault { IfErr result (IsCaused (text_causes file.now)) }
+{
+    let Ok(text) = str::from_utf8(file) else {
+        return Err(ReportFault::NotText);
+    };
+    let code = match assemble(alloc, text) {
+        Ok(code) => code,
+        Err(fault) if fault.kind == FaultKind::NoMemory => return Err(ReportFault::NoMemory),
+        Err(fault) => return Err(ReportFault::Assemble(fault)),
+    };
+    Ok(encode(alloc, &code)?)
+}
+
+/// The image of a program's file: the file itself, where it is an image, or that of the text in it.
+///
+/// # Errors
+/// `NoMemory`; and where the file is a text, `NotText` where it is not UTF-8, and `Assemble` where it is the text of no program, with
+/// a line and a fault. Which line and fault are told is `assemble`'s.
+pub fn file_image(alloc: Global, file: &[u8], is_image: bool) -> Result<Vec<u8>, ReportFault>
+    ensures ok { IfOk result (λ image. IsFileImage is_image file.now image.items) }
+    ensures fault { IfErr result (IsCaused (file_causes is_image file.now)) }
+{
+    if is_image {
+        return Ok(file.to_vec(alloc)?);
+    }
+    text_image(alloc, file)
+}
+
+/// The line that says why an image gets no number, with a status, and the database that is to be written. Want of memory is no such line.
+///
+/// # Errors
+/// `AllocError` where no memory is left, or where that is the fault.
+pub fn refused(
+    alloc: Global,
+    fault: RegFault,
+    status: u8,
+    database: Option<Image<Global>>,
+) -> Result<Report, AllocError>
+    ensures line { IfOk result (Refuses fault status database) }
+    ensures told { IfOk result (λ report. fault ≢ NoMemory) }
+{
+    let mut text = Vec::new(alloc);
+    show_refusal(alloc, fault, &mut text)?;
+    text.push(b'\n')?;
+    Ok(Report {
+        text,
+        status,
+        database,
+    })
+}

@@ -1,0 +1,167 @@
+//! What comes of a subcommand, and of a command on a database that is open.
+ghost use Rattle.std.specs.Prelude.{◌≡◌, ◌++◌, ◌∷◌, [], None, IfOk};
+ghost use Rattle.dbm_script.specs.Answers.{answer_text};
+ghost use Rattle.dbm_reports.specs.Reports.{IsCommandReport, Looks, Changes, answer_status, code_status, ok_line, run_status, status_of};
+
+use dbm_script::{Answer, Notation, answer_command, show_answer};
+use itoa::Buffer;
+use sdbm_files::Image;
+use std::alloc::{AllocError, Allocator, Global};
+use store_cmd::{Command, Reply};
+
+/// The status of a run that is to end with a code, and did not run.
+pub const NOT_RUN: u8 = 3;
+
+/// What comes of a subcommand: the text that it prints, its status, and the database that is to be written, where one is.
+#[derive(Drop)]
+pub struct Report {
+    pub text: Vec<u8>,
+    pub status: u8,
+    pub database: Option<Image<Global>>,
+}
+
+/// The answer to a command that changes no file.
+///
+/// # Errors
+/// `AllocError` where no memory is left.
+pub fn look(
+    alloc: Global,
+    notation: &Notation<Global>,
+    image: Image<Global>,
+    command: Command<Global>,
+) -> Result<Report, AllocError>
+    ensures { IfOk result (Looks notation.now image command) }
+{
+    let mut image = image;
+    let (text, status) = answer_line(alloc, notation, &mut image, command, None)?;
+    Ok(Report {
+        text,
+        status,
+        database: None,
+    })
+}
+
+/// The answer to a command after which the files are written. A run may be one that is to end with a certain code.
+///
+/// # Errors
+/// `AllocError` where no memory is left.
+pub fn change(
+    alloc: Global,
+    notation: &Notation<Global>,
+    image: Image<Global>,
+    command: Command<Global>,
+    expect: Option<u64>,
+) -> Result<Report, AllocError>
+    ensures { IfOk result (Changes notation.now image command expect) }
+{
+    let mut image = image;
+    let (text, status) = answer_line(alloc, notation, &mut image, command, expect)?;
+    Ok(Report {
+        text,
+        status,
+        database: Some(image),
+    })
+}
+
+// Answers a command: the line that is printed, and the status that goes with it.
+fn answer_line(
+    alloc: Global,
+    notation: &Notation<Global>,
+    image: &mut Image<Global>,
+    command: Command<Global>,
+    expect: Option<u64>,
+) -> Result<(Vec<u8>, u8), AllocError>
+    ensures { IfOk result (λ r. IsCommandReport notation.now image.old command expect image.new (record { text = r.0; status = r.1; database = None })) }
+{
+    let answer = answer_command(alloc, image, command)?;
+    let line = shown(alloc, notation, &answer)?;
+    Ok((line, status_of(&answer, expect)))
+}
+
+/// The text of an answer, as a line.
+///
+/// # Errors
+/// `AllocError` where no memory is left.
+pub fn shown(
+    alloc: Global,
+    notation: &Notation<Global>,
+    answer: &Answer<Global>,
+) -> Result<Vec<u8>, AllocError>
+    ensures { IfOk result (λ line. line.items ≡ answer_text notation.now answer.now ++ 10 ∷ []) }
+{
+    let mut text = Vec::new(alloc);
+    show_answer(alloc, notation, answer, &mut text)?;
+    text.push(b'\n')?;
+    Ok(text)
+}
+
+// The status that goes with an answer, where a run is to end with a code, or where nothing is asked of it.
+fn status_of(answer: &Answer<Global>, expect: Option<u64>) -> u8
+    ensures { result ≡ status_of expect answer.now }
+{
+    match expect {
+        None => answer_status(answer),
+        Some(code) => code_status(answer, code),
+    }
+}
+
+/// The status of an answer of which nothing is asked: 1 where nothing was found, or nothing changed that was to be changed.
+pub fn answer_status(answer: &Answer<Global>) -> u8
+    ensures { result ≡ answer_status answer.now }
+{
+    match answer {
+        Answer::Replied(entry) => match entry.reply {
+            Reply::Missing | Reply::Exists | Reply::Crowded => 1,
+            _ => 0,
+        },
+        Answer::Refused(_) => 1,
+    }
+}
+
+// The status of a run that is to end with a code, by its answer.
+fn code_status(answer: &Answer<Global>, code: u64) -> u8
+    ensures { result ≡ code_status code answer.now }
+{
+    match answer {
+        Answer::Replied(entry) => run_status(&entry.reply, code),
+        Answer::Refused(_) => NOT_RUN,
+    }
+}
+
+// The same, by its reply.
+fn run_status(reply: &Reply<Global>, code: u64) -> u8
+    ensures { result ≡ run_status code reply.now }
+{
+    match reply {
+        Reply::Ran { code: ended, .. } => { if *ended == code { 0 } else { 1 } }
+        _ => NOT_RUN,
+    }
+}
+
+/// A text that is printed, and that is all.
+pub fn printed(text: Vec<u8>) -> Report
+    ensures text { result.text ≡ text }
+    ensures status { result.status ≡ 0 }
+    ensures database { result.database ≡ None }
+{
+    Report {
+        text,
+        status: 0,
+        database: None,
+    }
+}
+
+/// The line `ok N`.
+///
+/// # Errors
+/// `AllocError` where no memory is left for the text.
+pub fn show_ok<A: Allocator + Copy>(alloc: A, count: usize) -> Result<Vec<u8, A>, AllocError>
+    ensures { IfOk result (λ text. text.items ≡ ok_line count) }
+{
+    let mut text = Vec::new(alloc);
+    text.extend_from_slice(b"ok ")?;
+    let mut digits = Buffer::new();
+    text.extend_from_slice(digits.format(count).as_bytes())?;
+    text.push(b'\n')?;
+    Ok(text)
+}

@@ -1,0 +1,3 @@
+pub mod Running
+pub mod Run
+pub mod Batch

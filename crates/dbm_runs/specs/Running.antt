@@ -1,0 +1,91 @@
+-- The run of a program of a file on a database, and why there is none.
+use Rattle.std.specs.Prelude.{◌≡◌, ℕ, ◌⊎◌, Bool, true, false, List, [], Option, Some, None, IsSome, option_map}
+use Rattle.std.specs.Borrow.{Bor}
+use Rattle.std.specs.declared.alloc.Global.{Global}
+use Rattle.sdbm_addr.specs.Database.{Database}
+use Rattle.store_cmd.specs.declared.Command.TheVariants.{Run}
+use Rattle.bpf_verify.specs.Verified.{Accepted}
+use Rattle.prog_registry.specs.Judged.{IsProgramOf}
+use Rattle.prog_registry.specs.declared.fault.RegFault.{RegFault}
+use Rattle.dbm_script.specs.declared.notations.Notation.{Notation}
+use Rattle.dbm_script.specs.Images.{Denies}
+use Rattle.dbm_words.specs.declared.options.Form.{Form}
+use Rattle.dbm_reports.specs.declared.report.Report.{Report}
+use Rattle.dbm_reports.specs.declared.databases.Given.{Given}
+use Rattle.dbm_runs.specs.declared.run.RunTexts.{RunTexts}
+use Rattle.dbm_script.specs.declared.run_words.RunWords.{RunWords}
+use Rattle.dbm_reports.specs.Databases.{IsOpened, IsShut, Opens}
+use Rattle.dbm_script.specs.Notation.{reads_hex}
+use Rattle.dbm_script.specs.Tasks.{HasBadBytes, HasBadNumber, run_words_of}
+use Rattle.dbm_script.specs.Numbers.{number_of}
+use Rattle.dbm_reports.specs.Reports.{Changes, IsFileImage, Refuses}
+use Rattle.dbm_reports.specs.Causes.{Causes, no_causes, file_causes}
+
+-- the code with which a run is to end, where there is one
+abbrev pub expected_code : Option (Bor (List ℕ)) → Option (Option ℕ)
+expected_code None = Some None
+expected_code (Some text) = option_map Some (number_of 18446744073709551615 text.now)
+
+-- what the words of a run mean
+abbrev pub run_asked : Notation Global → RunTexts → Option (RunWords Global)
+run_asked notation texts = run_words_of notation texts.key.now texts.arg.now texts.blank.now texts.now.now
+
+-- what they mean, and the code with which it is to end
+abbrev pub AreRunWords : Notation Global → RunTexts → RunWords Global → Option ℕ → Type 0
+AreRunWords notation texts words expect = (run_asked notation texts ≡ Some words) × (expected_code texts.expect ≡ Some expect)
+
+abbrev pub Means : Notation Global → RunTexts → Type 0
+Means notation texts = (words : RunWords Global) × ((expect : Option ℕ) × AreRunWords notation texts words expect)
+
+-- the words mean a run, and the code is no number
+abbrev pub HasBadCode : Notation Global → RunTexts → Type 0
+HasBadCode notation texts = IsSome (run_asked notation texts) × (expected_code texts.expect ≡ None)
+
+abbrev pub word_causes : Notation Global → RunTexts → Causes
+word_causes notation texts = record no_causes {
+  words = (reads_hex notation ≡ true) × HasBadBytes notation texts.key.now texts.arg.now;
+  texts = (reads_hex notation ≡ false) × HasBadBytes notation texts.key.now texts.arg.now;
+  numbers = HasBadNumber notation texts.key.now texts.arg.now texts.blank.now texts.now.now ⊎ HasBadCode notation texts;
+}
+
+-- the files of a database, and then a program's file
+abbrev pub program_causes : Form → Given → Bool → Causes
+program_causes form given is_image = record no_causes {
+  opening = IsShut form given;
+  no_text = Opens form given × (file_causes is_image given.file.items).no_text;
+  assembling = λ fault. Opens form given × (file_causes is_image given.file.items).assembling fault;
+}
+
+-- a run: its words come before the files
+abbrev pub run_causes : Notation Global → Form → Given → RunTexts → Bool → Causes
+run_causes notation form given texts is_image = record no_causes {
+  words = (word_causes notation texts).words;
+  texts = (word_causes notation texts).texts;
+  numbers = (word_causes notation texts).numbers;
+  opening = λ reason. Means notation texts × IsShut form given reason;
+  no_text = Means notation texts × (program_causes form given is_image).no_text;
+  assembling = λ fault. Means notation texts × (program_causes form given is_image).assembling fault;
+}
+
+-- the status where the program is refused: 3 where it is to end with a code
+abbrev pub refusal_status : Option ℕ → ℕ
+refusal_status None = 1
+refusal_status (Some code) = 3
+
+-- The run of an image's accepted program answers a command, after which the files are written; or the image gets no number in a
+-- registry without programs, and the files are written as they are.
+abbrev pub RunsImage : Notation Global → Database → RunWords Global → Option ℕ → List ℕ → Report → Type 0
+RunsImage notation before words expect image report =
+    ((p : Accepted) × (IsProgramOf image p × Changes notation before (Run words.key p.code words.arg words.blank words.now) expect report))
+    ⊎ ((fault : RegFault) × (Denies [] image fault × Refuses fault (refusal_status expect) (Some before) report))
+
+-- what comes of a run by its words, on the database of the files, of the program of a file
+pub record OnRun (notation : Notation Global) (form : Form) (given : Given) (texts : RunTexts) (is_image : Bool) (report : Report) : Type 0 where
+  pub before : Database
+  pub opened : IsOpened form given before
+  pub words : RunWords Global
+  pub expect : Option ℕ
+  pub are : AreRunWords notation texts words expect
+  pub image : List ℕ
+  pub image_is : IsFileImage is_image given.file.items image
+  pub runs : RunsImage notation before words expect image report

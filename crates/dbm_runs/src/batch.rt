@@ -1,0 +1,93 @@
+//! The words of `batch`: a program runs on the records of many keys, by workers side by side.
+ghost use Rattle.std.specs.Prelude.{◌≡◌, IfOk, IfSome, IsNone, false};
+ghost use Rattle.clap.specs.Words.{found_of, rows_of};
+ghost use Rattle.dbm_words.specs.CommandLine.{IsSubcommand};
+ghost use Rattle.dbm_words.specs.Given.{has_words};
+ghost use Rattle.dbm_runs.specs.Batch as spec;
+ghost use Rattle.dbm_runs.specs.Batch.{BatchAsks};
+
+use clap::{ArgMatches, Command};
+use dbm_words::arguments::{
+    base, file, image, layout, must_exist, required_word, text, timeout, unsigned, verbose, wide,
+};
+use dbm_words::{
+    Form, NotationOptions, Numbers, Words, form, has_flag, notation, subcommand, word,
+};
+use std::alloc::{AllocError, Global};
+
+/// A program is to be run on the records of many keys by so many workers, each run as a line on standard input says: the program
+/// of a text, or with `image` that of an image.
+#[derive(Clone, Copy, Debug)]
+pub struct Batch<'a> {
+    pub base: &'a str,
+    pub form: Form,
+    pub notation: NotationOptions<'a>,
+    pub file: &'a str,
+    pub workers: &'a str,
+    pub image: bool,
+}
+
+impl<'a> Batch<'a> {
+    /// What the matches of `batch` ask. There is none where they lack a word that it has to have.
+    pub fn matched(matches: &ArgMatches<'a>) -> Option<Batch<'a>>
+        ensures some { IfSome result (BatchAsks (rows_of (found_of matches.now))) }
+        ensures none { IsNone result → has_words spec.batch.rules (rows_of (found_of matches.now)) ≡ false }
+    {
+        Some(Batch {
+            base: word(matches, "BASE")?,
+            form: form(matches),
+            notation: notation(matches),
+            file: word(matches, "FILE")?,
+            workers: word(matches, "WORKERS")?,
+            image: has_flag(matches, "image"),
+        })
+    }
+
+    /// Its words, as sentences show them.
+    pub fn words(&self) -> Words<'a> {
+        Words {
+            file: Some(self.file),
+            layout: self.notation.layout,
+            numbers: Numbers {
+                workers: Some(self.workers),
+                ..Numbers::none()
+            },
+            ..Words::on(Some(self.base), self.form)
+        }
+    }
+}
+
+/// The subcommand `batch`, as `clap` is told it.
+///
+/// # Errors
+/// `AllocError` where no memory is left.
+pub fn batch_command<'a>(alloc: Global) -> Result<Command<'a>, AllocError>
+    ensures { IfOk result (IsSubcommand spec.batch) }
+{
+    let args = vec![in alloc;
+        base(alloc),
+        file(alloc, "The program as text, one instruction a line"),
+        required_word(
+            alloc,
+            "WORKERS",
+            "How many workers share the tasks, each in a thread of its own where one can be made"
+        ),
+        image(alloc),
+        text(alloc),
+        layout(alloc),
+        unsigned(alloc),
+        wide(alloc),
+        must_exist(alloc),
+        timeout(alloc),
+        verbose(alloc),
+    ]?;
+    let about = "Run a program on the records of many keys, by workers side by side";
+    let notes =
+        "Standard input has a task in each line: KEY ARG BLANK NOW, as the words of run. An empty line is skipped.\n\
+         Prints for each task, in their order, ran CODE WORD, missing, or crowded (there is no room for a new\n\
+         record). Nothing is printed or written where a line is no task, the program is not accepted, or a task\n\
+         is refused; the fault is then bad line N, Verify(FAULT), or Refused(N, FAULT) with the task's number from\n\
+         0 on.\n\n\
+         Example: printf '6162 . 8 0\\n6364 . 8 0\\n' | dbm batch users counter.s 2";
+    subcommand(alloc, "batch", about, notes, args)
+}

@@ -1,0 +1,10 @@
+//! The subcommands that run programs on records: `run`, and the words of `batch`.
+#![tactic(auto)]
+
+mod batch;
+mod run;
+mod running;
+
+pub use batch::{Batch, batch_command};
+pub use run::{Run, run_command};
+pub use running::database_and_image;

@@ -1,0 +1,216 @@
+//! `run`: a program runs on the record of a key.
+ghost use Rattle.std.specs.Prelude.{◌≡◌, IfOk, IfSome, IsNone, false, IfErr};
+ghost use Rattle.clap.specs.Words.{found_of, rows_of};
+ghost use Rattle.dbm_words.specs.CommandLine.{IsSubcommand};
+ghost use Rattle.dbm_words.specs.Given.{has_words};
+ghost use Rattle.dbm_runs.specs.Run as spec;
+ghost use Rattle.dbm_runs.specs.Run.{RunAsks};
+ghost use Rattle.dbm_reports.specs.Causes.{IsCaused};
+ghost use Rattle.dbm_runs.specs.Run.{texts_of};
+ghost use Rattle.dbm_runs.specs.Running.{AreRunWords, expected_code, word_causes};
+
+use crate::running::{database_and_image, run_image};
+use clap::{ArgMatches, Command};
+use dbm_reports::{Given, Report, ReportFault, Subcommand};
+use dbm_script::{Notation, RunWords, read_number, read_run_words};
+use dbm_words::arguments::{
+    base, file, image, key, layout, must_exist, required_word, text, timeout, unsigned,
+    valued_option, verbose, wide,
+};
+use dbm_words::{
+    Form, Named, NotationOptions, Numbers, Words, form, has_flag, notation, subcommand, word,
+};
+use std::alloc::{AllocError, Global};
+use std::io::Read;
+
+/// A program is to be run on the record of a key: that of a text, or with `image` that of an image. `expect` is the code with
+/// which it is to end.
+#[derive(Clone, Copy, Debug)]
+pub struct Run<'a> {
+    pub base: &'a str,
+    pub form: Form,
+    pub notation: NotationOptions<'a>,
+    pub key: &'a str,
+    pub file: &'a str,
+    pub arg: &'a str,
+    pub blank: &'a str,
+    pub now: &'a str,
+    pub expect: Option<&'a str>,
+    pub image: bool,
+}
+
+impl<'a> Run<'a> {
+    /// What the matches of `run` ask. There is none where they lack a word that it has to have.
+    pub fn matched(matches: &ArgMatches<'a>) -> Option<Run<'a>>
+        ensures some { IfSome result (RunAsks (rows_of (found_of matches.now))) }
+        ensures none { IsNone result → has_words spec.run.rules (rows_of (found_of matches.now)) ≡ false }
+    {
+        Some(Run {
+            base: word(matches, "BASE")?,
+            form: form(matches),
+            notation: notation(matches),
+            key: word(matches, "KEY")?,
+            file: word(matches, "FILE")?,
+            arg: word(matches, "ARG")?,
+            blank: word(matches, "BLANK")?,
+            now: word(matches, "NOW")?,
+            expect: word(matches, "expect"),
+            image: has_flag(matches, "image"),
+        })
+    }
+
+    /// Its words, as sentences show them.
+    pub fn words(&self) -> Words<'a> {
+        Words {
+            file: Some(self.file),
+            image: self.image,
+            first: Some(Named {
+                name: "KEY",
+                word: self.key,
+            }),
+            second: Some(Named {
+                name: "ARG",
+                word: self.arg,
+            }),
+            layout: self.notation.layout,
+            numbers: Numbers {
+                blank: Some(self.blank),
+                now: Some(self.now),
+                expect: self.expect,
+                ..Numbers::none()
+            },
+            ..Words::on(Some(self.base), self.form)
+        }
+    }
+}
+
+/// The subcommand `run`, as `clap` is told it.
+///
+/// # Errors
+/// `AllocError` where no memory is left.
+pub fn run_command<'a>(alloc: Global) -> Result<Command<'a>, AllocError>
+    ensures { IfOk result (IsSubcommand spec.run) }
+{
+    let args = vec![in alloc;
+        base(alloc),
+        key(alloc),
+        file(alloc, "The program as text, one instruction a line"),
+        required_word(
+            alloc,
+            "ARG",
+            "What the program is given, in hex, or with --text as text; . for nothing"
+        ),
+        required_word(
+            alloc,
+            "BLANK",
+            "How many zeros it runs on where the key is not there, or . to answer missing then",
+        ),
+        required_word(
+            alloc,
+            "NOW",
+            "The time that it is told: a number in whatever unit it counts, now for the seconds since 1970, or now-ms"
+        ),
+        valued_option(
+            alloc,
+            "expect",
+            "CODE",
+            "Let the status be 0 where the program ended with this code, 1 where with another, 3 where it did not run"
+        ),
+        image(alloc),
+        text(alloc),
+        layout(alloc),
+        unsigned(alloc),
+        wide(alloc),
+        must_exist(alloc),
+        timeout(alloc),
+        verbose(alloc),
+    ]?;
+    let about = "Run a program on the record of a key";
+    let notes =
+        "Prints ran CODE WORD, or with status 1 (3 with --expect) missing, crowded (there is no room for a new record) or\n\
+         refused FAULT (the program is not accepted, or KEY and BLANK or ARG are too long). CODE 1 kept the\n\
+         record, 2 deleted the pair, and any other changed nothing; WORD is what the program replied.\n\n\
+         Example: dbm run users hits counter.s . 8 now --text";
+    subcommand(alloc, "run", about, notes, args)
+}
+
+/// The words of a run, and the code with which it is to end, as they were given.
+#[derive(Clone, Copy)]
+pub struct RunTexts<'a> {
+    pub key: &'a str,
+    pub arg: &'a str,
+    pub blank: &'a str,
+    pub now: &'a str,
+    pub expect: Option<&'a str>,
+}
+
+// The words of a run.
+fn texts_of<'a>(run: Run<'a>) -> RunTexts<'a>
+    ensures { result ≡ texts_of run.entry }
+{
+    RunTexts {
+        key: run.key,
+        arg: run.arg,
+        blank: run.blank,
+        now: run.now,
+        expect: run.expect,
+    }
+}
+
+// The database is written after the run. Where the program gets no number, the report says why, as a line of a script would that
+// submits its image first.
+impl Subcommand for Run<'_> {
+    ghost use Rattle.std.specs.Prelude.{false, true};
+    ghost use Rattle.dbm_runs.specs.Run.{run_in};
+    ghost use Rattle.dbm_reports.specs.Causes.{IsCaused};
+
+    type Fault = ReportFault;
+
+    ghost reports = { λ run n given input report. (run_in n run given).reports report };
+
+    ghost causes = { λ run n given input fault. IsCaused (run_in n run given).causes fault };
+
+    ghost writes = { λ run. true };
+
+    ghost reads = { λ run. false };
+
+    fn report<R: Read>(
+        &self,
+        alloc: Global,
+        notation: &Notation<Global>,
+        given: &Given,
+        _reader: &mut R,
+    ) -> Result<Report, ReportFault> {
+        let (words, expect) = run_words(alloc, notation, texts_of(*self))?;
+        let (database, image) = database_and_image(alloc, given, self.form, self.image)?;
+        Ok(run_image(alloc, notation, database, image.as_slice(), words, expect)?)
+    }
+}
+
+// What the words mean, read from left to right, and then the code.
+fn run_words(
+    alloc: Global,
+    notation: &Notation<Global>,
+    texts: RunTexts<'_>,
+) -> Result<(RunWords<Global>, Option<u64>), ReportFault>
+    ensures ok { IfOk result (λ r. AreRunWords notation.now texts.entry r.0 r.1) }
+    ensures fault { IfErr result (IsCaused (word_causes notation.now texts.entry)) }
+{
+    let (key, arg) = (texts.key.as_bytes(), texts.arg.as_bytes());
+    let (blank, now) = (texts.blank.as_bytes(), texts.now.as_bytes());
+    let words = read_run_words(alloc, notation, key, arg, blank, now)?;
+    match expected_code(texts.expect) {
+        Some(expect) => Ok((words, expect)),
+        None => Err(ReportFault::BadNumber),
+    }
+}
+
+// The code with which a run is to end, if with a certain one, and none where the option is no number.
+fn expected_code(expect: Option<&str>) -> Option<Option<u64>>
+    ensures { result ≡ expected_code expect.entry }
+{
+    match expect {
+        None => Some(None),
+        Some(text) => Some(Some(read_number(text.as_bytes(), u64::MAX)?)),
+    }
+}

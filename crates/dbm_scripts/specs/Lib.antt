@@ -1,0 +1,3 @@
+pub mod Playing
+pub mod Script
+pub mod Widen

@@ -1,0 +1,63 @@
+-- Scripts on a database: their answers, and why there are none.
+use Rattle.std.specs.Prelude.{◌≡◌, ℕ, ◌≤◌, List, length, Option, Some, None, IfSome, ⊤}
+use Rattle.std.specs.Borrow.{Bor}
+use Rattle.std.specs.declared.alloc.Global.{Global}
+use Rattle.sdbm_addr.specs.Database.{Database, empty_database}
+use Rattle.dbm_script.specs.declared.notations.Notation.{Notation}
+use Rattle.dbm_script.specs.Script.{IsScriptRun, AnswersExceed}
+use Rattle.dbm_words.specs.declared.options.Form.{Form}
+use Rattle.dbm_reports.specs.declared.report.Report.{Report}
+use Rattle.dbm_reports.specs.declared.databases.Given.{Given}
+use Rattle.dbm_reports.specs.Databases.{IsOpened, key_bytes_of, page_size_of, IsShut, Opens}
+use Rattle.dbm_script.specs.Numbers.{number_of}
+use Rattle.dbm_reports.specs.Causes.{Causes, no_causes, IsLongScript, input_causes}
+
+-- the answers to a script, whose bytes may not be known, and the database after it; the answers have at most so many bytes
+pub record Plays (notation : Notation Global) (before : Database) (input : Option (List ℕ)) (most : ℕ) (after : Database) (report : Report) : Type 0 where
+  pub runs : IfSome input (λ bytes. IsScriptRun Global notation before bytes report.text.items after)
+  pub short : length report.text.items ≤ most
+  pub kind : after.kind ≡ before.kind
+  pub size : after.size ≡ before.size
+  pub status_is : report.status ≡ 0
+
+-- on an empty database, which is not kept
+abbrev pub PlaysAlone : Notation Global → Form → Option (List ℕ) → ℕ → Report → Type 0
+PlaysAlone notation form input most report =
+    (after : Database) × (Plays notation (empty_database (key_bytes_of form.unsigned) (page_size_of form.wide)) input most after report × (report.database ≡ None))
+
+-- on a database, which is written after it
+abbrev pub PlaysOn : Notation Global → Option (List ℕ) → ℕ → Report → Database → Type 0
+PlaysOn notation input most report before = (after : Database) × (Plays notation before input most after report × (report.database ≡ Some after))
+
+-- how many bytes the answers to a script have at most: without the option as many as can be counted
+abbrev pub output_limit : Option (Bor (List ℕ)) → Option ℕ
+output_limit None = Some 18446744073709551615
+output_limit (Some text) = number_of 18446744073709551615 text.now
+
+-- the answers to a script on a database have more bytes than so many
+abbrev pub IsOverlong : Notation Global → Database → Option (List ℕ) → ℕ → Type 0
+IsOverlong notation db input most = IfSome input (λ bytes. AnswersExceed Global notation db bytes most)
+
+-- a script that was read, on a database that is open
+abbrev pub play_causes : Notation Global → Database → Option (List ℕ) → ℕ → Causes
+play_causes notation db input most = record no_causes { overlong = IsOverlong notation db input most }
+
+-- a script on an empty database
+abbrev pub alone_causes : Notation Global → Form → Option (List ℕ) → ℕ → Causes
+alone_causes notation form input most = record (input_causes input) {
+  overlong = IsOverlong notation (empty_database (key_bytes_of form.unsigned) (page_size_of form.wide)) input most;
+}
+
+-- a script on the database of the files, which are opened before it is read
+abbrev pub script_causes : Notation Global → Form → Given → Option (List ℕ) → ℕ → Causes
+script_causes notation form given input most = record no_causes {
+  opening = IsShut form given;
+  reading = Opens form given;
+  long = Opens form given × IsLongScript input;
+  overlong = (db : Database) × (IsOpened form given db × IsOverlong notation db input most);
+}
+
+-- a number that comes before all else
+abbrev pub numbered_causes : Option ℕ → (ℕ → Causes) → Causes
+numbered_causes None causes = record no_causes { numbers = ⊤ }
+numbered_causes (Some n) causes = causes n

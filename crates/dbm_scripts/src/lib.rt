@@ -1,0 +1,9 @@
+//! The subcommands that are about all of a database: `script` and `widen`.
+#![tactic(auto)]
+
+mod playing;
+mod script;
+mod widen;
+
+pub use script::{Script, script_command};
+pub use widen::{Widen, widen_command};

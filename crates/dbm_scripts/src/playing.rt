@@ -1,0 +1,85 @@
+//! A script on a database.
+ghost use Rattle.std.specs.Prelude.{◌≡◌, Some, IfOk, IfErr};
+ghost use Rattle.sdbm_addr.specs.Database.{Database};
+ghost use Rattle.dbm_reports.specs.Causes.{IsCaused};
+ghost use Rattle.dbm_reports.specs.Reports.{OnDatabase};
+ghost use Rattle.dbm_scripts.specs.Playing.{Plays, PlaysAlone, PlaysOn, alone_causes, output_limit, play_causes, script_causes};
+
+use dbm_reports::{
+    Given, Report, ReportFault, key_bytes_of, open, page_size_of, printed, read_input,
+};
+use dbm_script::{Notation, read_number, run_lines};
+use dbm_words::Form;
+use sdbm_files::Image;
+use std::alloc::Global;
+use std::io::Read;
+
+/// How many bytes the answers to a script have at most, by the option: as many as can be counted where it is not given, and none where
+/// it is no number.
+pub fn output_limit(max_output: Option<&str>) -> Option<u64>
+    ensures { result ≡ output_limit max_output.entry }
+{
+    match max_output {
+        None => Some(u64::MAX),
+        Some(text) => read_number(text.as_bytes(), u64::MAX),
+    }
+}
+
+/// A script on an empty database, which is not kept.
+///
+/// # Errors
+/// Those of `read_input` and of `play`.
+pub fn report_alone<R: Read>(
+    alloc: Global,
+    notation: &Notation<Global>,
+    form: Form,
+    most: u64,
+    reader: &mut R,
+) -> Result<Report, ReportFault>
+    ensures ok { IfOk result (PlaysAlone notation.now form (R.remaining reader.old) most) }
+    ensures fault { IfErr result (IsCaused (alone_causes notation.now form (R.remaining reader.old) most)) }
+{
+    let image = Image::empty(alloc, key_bytes_of(form), page_size_of(form));
+    let script = read_input(alloc, reader)?;
+    let Report { text, .. } = play(alloc, notation, image, script.as_slice(), most)?;
+    Ok(printed(text))
+}
+
+/// A script on the database of the files.
+///
+/// # Errors
+/// Those of `open`, of `read_input` and of `play`.
+pub fn report_played<R: Read>(
+    alloc: Global,
+    notation: &Notation<Global>,
+    given: &Given,
+    form: Form,
+    most: u64,
+    reader: &mut R,
+) -> Result<Report, ReportFault>
+    ensures ok { IfOk result (λ report. OnDatabase form given.now (PlaysOn notation.now (R.remaining reader.old) most report)) }
+    ensures fault { IfErr result (IsCaused (script_causes notation.now form given.now (R.remaining reader.old) most)) }
+{
+    let image = open(alloc, given, form)?;
+    let script = read_input(alloc, reader)?;
+    play(alloc, notation, image, script.as_slice(), most)
+}
+
+// The answers to a script, which are to have at most so many bytes, and the database after it, which is to be written.
+fn play(
+    alloc: Global,
+    notation: &Notation<Global>,
+    image: Image<Global>,
+    script: &[u8],
+    most: u64,
+) -> Result<Report, ReportFault>
+    ensures ok { IfOk result (λ report. (after : Database) × (Plays notation.now image (Some script.now) most after report × (report.database ≡ Some after))) }
+    ensures fault { IfErr result (IsCaused (play_causes notation.now image (Some script.now) most)) }
+{
+    let (image, text) = run_lines(alloc, notation, image, script, most)?;
+    Ok(Report {
+        text,
+        status: 0,
+        database: Some(image),
+    })
+}

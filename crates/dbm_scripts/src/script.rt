@@ -1,0 +1,118 @@
+//! `script`: the commands of standard input, a line each.
+ghost use Rattle.std.specs.Prelude.{◌≡◌, IfOk, IfSome, IsNone, false};
+ghost use Rattle.clap.specs.Words.{found_of, rows_of};
+ghost use Rattle.dbm_words.specs.CommandLine.{IsSubcommand};
+ghost use Rattle.dbm_words.specs.Given.{has_words};
+ghost use Rattle.dbm_scripts.specs.Script as spec;
+ghost use Rattle.dbm_scripts.specs.Script.{ScriptAsks};
+
+use crate::playing::{output_limit, report_alone, report_played};
+use clap::{ArgMatches, Command};
+use dbm_reports::{Given, Report, ReportFault, Subcommand};
+use dbm_script::Notation;
+use dbm_words::arguments::{
+    layout, must_exist, text, timeout, unsigned, valued_option, verbose, wide,
+};
+use dbm_words::{Form, NotationOptions, Numbers, Words, form, notation, subcommand, word};
+use std::alloc::{AllocError, Global};
+use std::io::Read;
+
+/// The script on standard input is to be run, without a base on an empty database that is not kept. Its answers are to have at
+/// most `max_output` bytes.
+#[derive(Clone, Copy, Debug)]
+pub struct Script<'a> {
+    pub base: Option<&'a str>,
+    pub form: Form,
+    pub notation: NotationOptions<'a>,
+    pub max_output: Option<&'a str>,
+}
+
+impl<'a> Script<'a> {
+    /// What the matches of `script` ask. There is none where they lack a word that it has to have.
+    pub fn matched(matches: &ArgMatches<'a>) -> Option<Script<'a>>
+        ensures some { IfSome result (ScriptAsks (rows_of (found_of matches.now))) }
+        ensures none { IsNone result → has_words spec.script.rules (rows_of (found_of matches.now)) ≡ false }
+    {
+        Some(Script {
+            base: word(matches, "base"),
+            max_output: word(matches, "max-output"),
+            form: form(matches),
+            notation: notation(matches),
+        })
+    }
+
+    /// Its words, as sentences show them.
+    pub fn words(&self) -> Words<'a> {
+        Words {
+            layout: self.notation.layout,
+            numbers: Numbers {
+                max_output: self.max_output,
+                ..Numbers::none()
+            },
+            ..Words::on(self.base, self.form)
+        }
+    }
+}
+
+/// The subcommand `script`, as `clap` is told it.
+///
+/// # Errors
+/// `AllocError` where no memory is left.
+pub fn script_command<'a>(alloc: Global) -> Result<Command<'a>, AllocError>
+    ensures { IfOk result (IsSubcommand spec.script) }
+{
+    let help = "The database in BASE.dir and BASE.pag; without it, an empty one that is not kept";
+    let limit = "Be refused, with nothing printed or kept, where the answers have more bytes";
+    let args = vec![in alloc;
+        valued_option(alloc, "base", "BASE", help),
+        valued_option(alloc, "max-output", "BYTES", limit),
+        text(alloc),
+        layout(alloc),
+        unsigned(alloc),
+        wide(alloc),
+        must_exist(alloc),
+        timeout(alloc),
+        verbose(alloc),
+    ]?;
+    let about = "Run the commands on standard input, a line each";
+    let notes =
+        "The lines are fetch KEY, insert KEY VALUE, replace KEY VALUE, delete KEY, count, program IMAGE and\n\
+         run KEY PROG ARG BLANK NOW. insert answers exists where the key is there, and replace replaces.\n\
+         IMAGE is what asm prints, and PROG the number that program answered, from 0. Prints a line of\n\
+         answer to each, bad line to any other that is not empty. All lines together have at most 16 MiB,\n\
+         and their answers up to 2,003 times as much. Where that is more than BYTES, the fault is OutputTooLong.\n\n\
+         Example: dbm script --base users < first.script";
+    subcommand(alloc, "script", about, notes, args)
+}
+
+impl Subcommand for Script<'_> {
+    ghost use Rattle.std.specs.Prelude.{is_some, true};
+    ghost use Rattle.dbm_scripts.specs.Script.{script_in};
+    ghost use Rattle.dbm_reports.specs.Causes.{IsCaused};
+
+    type Fault = ReportFault;
+
+    ghost reports = { λ script n given input report. (script_in n script.base script given input).reports report };
+
+    ghost causes = { λ script n given input fault. IsCaused (script_in n script.base script given input).causes fault };
+
+    ghost writes = { λ script. is_some script.base };
+
+    ghost reads = { λ script. true };
+
+    fn report<R: Read>(
+        &self,
+        alloc: Global,
+        notation: &Notation<Global>,
+        given: &Given,
+        reader: &mut R,
+    ) -> Result<Report, ReportFault> {
+        let Some(most) = output_limit(self.max_output) else {
+            return Err(ReportFault::BadNumber);
+        };
+        match self.base {
+            None => report_alone(alloc, notation, self.form, most, reader),
+            Some(_) => report_played(alloc, notation, given, self.form, most, reader),
+        }
+    }
+}

@@ -1,0 +1,148 @@
+//! Lines of a script that ask nothing, found once it was answered.
+
+use dbm_faults::{Sentence, bad_lines_note};
+use dbm_reports::notation_by;
+use dbm_script::{Notation, read_line};
+use dbm_words::NotationOptions;
+use memchr::memmem;
+use std::alloc::Global;
+use std::io::{self, ErrorKind, Read, Write};
+
+/// A reader that keeps what it gives. Where memory runs out it keeps nothing.
+#[derive(Drop)]
+pub struct Kept<R: Read> {
+    reader: R,
+    text: Vec<u8>,
+    has_lost: bool,
+    /// Whether `bad line` is among the answers to what was read.
+    pub has_bad_line: bool,
+    /// Why a program was refused that was to be run.
+    pub refusal: Option<String>,
+    /// Whether the reader of a pipe was gone to which answers were written.
+    pub has_no_reader: bool,
+}
+
+impl<R: Read> Kept<R> {
+    /// The reader, of which nothing was read.
+    pub fn new(alloc: Global, reader: R) -> Self {
+        Kept {
+            reader,
+            text: Vec::new(alloc),
+            has_lost: false,
+            has_bad_line: false,
+            refusal: None,
+            has_no_reader: false,
+        }
+    }
+
+    /// What was read, and nothing where memory ran out.
+    pub fn text(&self) -> &[u8] {
+        if self.has_lost {
+            return &[];
+        }
+        self.text.as_slice()
+    }
+}
+
+impl<R: Read> Read for Kept<R> {
+    ghost remaining = { λ kept. R.remaining kept.reader };
+
+    fn read(&mut self, buf: &mut [u8]) -> io::Result<usize> {
+        let count = self.reader.read(buf)?;
+        self.has_lost = self.has_lost || self.text.extend_from_slice(&buf[..count]).is_err();
+        Ok(count)
+    }
+}
+
+/// A writer that looks for `bad line` in what it is given, and whether a pipe has a reader.
+#[derive(Drop)]
+pub struct Watched<W: Write> {
+    writer: W,
+    has_bad_line: bool,
+    has_no_reader: bool,
+}
+
+impl<W: Write> Watched<W> {
+    /// The writer, which was given nothing.
+    pub fn new(writer: W) -> Self {
+        Watched {
+            writer,
+            has_bad_line: false,
+            has_no_reader: false,
+        }
+    }
+
+    /// Whether it was given that answer.
+    pub fn has_bad_line(&self) -> bool {
+        self.has_bad_line
+    }
+
+    /// Whether it is a pipe, and its reader was gone.
+    pub fn has_no_reader(&self) -> bool {
+        self.has_no_reader
+    }
+}
+
+impl<W: Write> Write for Watched<W> {
+    ghost contents = { λ watched. W.contents watched.writer };
+
+    fn write(&mut self, buf: &[u8]) -> io::Result<usize> {
+        self.has_bad_line = self.has_bad_line || has_bad_line(buf);
+        let written = self.writer.write(buf);
+        if let Err(error) = &written {
+            self.has_no_reader = error.kind() == ErrorKind::BrokenPipe;
+        }
+        written
+    }
+
+    fn flush(&mut self) -> io::Result<()> {
+        self.writer.flush()
+    }
+}
+
+/// Whether `bad line` is among some answers.
+pub fn has_bad_line(answers: &[u8]) -> bool {
+    memmem::find(answers, b"bad line\n").is_some()
+}
+
+/// Whether an answer is that the verifier refuses a program.
+pub fn is_refused(answer: &[u8]) -> bool {
+    answer.starts_with(b"refused Verify(")
+}
+
+/// The note on the lines of a script that ask nothing in the notation of its options: which is the first, and how many more there
+/// are. `None` where there are none.
+pub fn note_of_bad_lines(
+    alloc: Global,
+    options: NotationOptions<'_>,
+    script: &[u8],
+) -> Option<Sentence<'static>> {
+    let Ok(notation) = notation_by(alloc, options) else {
+        return None;
+    };
+    let (first, count) = count_bad_lines(alloc, &notation, script);
+    if count == 0 {
+        return None;
+    }
+    Some(bad_lines_note(first.saturating_add(1), count - 1))
+}
+
+// The first of the lines that ask nothing, counted from 0, and how many there are.
+fn count_bad_lines(alloc: Global, notation: &Notation<Global>, script: &[u8]) -> (u64, u64) {
+    let mut first = 0u64;
+    let mut count = 0u64;
+    for (at, line) in script.split(|byte| *byte == b'\n').enumerate() {
+        if is_bad(alloc, notation, line) {
+            if count == 0 {
+                first = at as u64;
+            }
+            count = count.saturating_add(1);
+        }
+    }
+    (first, count)
+}
+
+// Whether a line asks nothing. An empty one is skipped.
+fn is_bad(alloc: Global, notation: &Notation<Global>, line: &[u8]) -> bool {
+    !line.is_empty() && matches!(read_line(alloc, notation, line), Ok(None))
+}

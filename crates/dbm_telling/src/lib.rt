@@ -1,0 +1,13 @@
+//! What the program prints on standard error behind a fault and beside an answer, and what it keeps for that of standard input and output.
+#![tactic(auto)]
+
+mod findings;
+mod kept;
+mod telling;
+mod told;
+mod waiting;
+
+pub use kept::{Kept, Watched, has_bad_line, is_refused, note_of_bad_lines};
+pub use telling::{advise, note_absent, note_object, note_refusal, note_that};
+pub use told::Told;
+pub use waiting::take_and_tell;

@@ -1,0 +1,105 @@
+//! A run that waits for the lock of its database, and says so.
+
+use dbm_faults::wait_note;
+use dbm_files::{FilesFault, Place, Taken, names_of, resolve, take_files};
+use std::fs::{self, File};
+use std::os::unix::fs::MetadataExt;
+use std::rt::Runtime;
+use std::time::{Clock, Duration};
+
+/// A run waits so many milliseconds before it says that it waits.
+const SILENT_WAIT: u64 = 500;
+
+/// What `take_files` does; but where the run is verbose, or standard error is a terminal, it says who has the lock once it has waited for
+/// half a second.
+///
+/// # Errors
+/// Those of `take_files`.
+pub fn take_and_tell<R: Runtime<File = File> + Clock + AllocGlobal>(
+    rt: &R,
+    place: Place<'_>,
+    patience: Option<Duration>,
+    verbose: bool,
+) -> Result<Taken, FilesFault> {
+    let silent = Duration::from_millis(SILENT_WAIT);
+    let rest = match patience {
+        Some(patience) if patience <= silent => return take_files(rt, place, Some(patience)),
+        Some(patience) => Some(patience.saturating_sub(silent)),
+        None => None,
+    };
+    if !verbose && !is_at_terminal(rt) {
+        return take_files(rt, place, patience);
+    }
+    match take_files(rt, place, Some(silent)) {
+        Err(FilesFault::Locked) => {
+            tell_wait(rt, place.base);
+            take_files(rt, place, rest)
+        }
+        taken => taken,
+    }
+}
+
+// Whether standard error is a terminal, where the system tells that.
+fn is_at_terminal<R: Runtime<File = File> + AllocGlobal>(rt: &R) -> bool {
+    match fs::read_link(rt, "/proc/self/fd/2") {
+        Ok(path) => path.as_str().starts_with("/dev/pts/") || path.as_str().starts_with("/dev/tty"),
+        Err(_) => false,
+    }
+}
+
+// Says who has the lock. Where standard error fails, nobody is told.
+fn tell_wait<R: Runtime<File = File> + AllocGlobal>(rt: &R, base: Option<&str>) {
+    let Some(base) = base else {
+        return;
+    };
+    let Ok(base) = resolve(rt, base) else {
+        return;
+    };
+    let holder = holder_of(rt, base.as_str());
+    let name = match holder {
+        Some(process) => name_of(rt, process),
+        None => None,
+    };
+    let note = wait_note(base.as_str(), holder, name.as_ref());
+    let _ = eprintln!(rt; "dbm: note: {note}");
+}
+
+// The number of the process that has the lock of a base, where the system tells it.
+fn holder_of<R: Runtime<File = File> + AllocGlobal>(rt: &R, base: &str) -> Option<u64> {
+    let names = names_of(rt.alloc(), base).ok()?;
+    let number = fs::metadata(rt, names.lock.as_str()).ok()?.ino();
+    let locks = fs::read_to_string(rt, "/proc/locks").ok()?;
+    let mut holder = None;
+    for line in locks.as_str().lines() {
+        if holder.is_none() {
+            holder = holder_in(line, number);
+        }
+    }
+    holder
+}
+
+// The process of a line of /proc/locks, where the line is of a lock that a process has on the file with this number: the line's number, the
+// kind of the lock, two words on how it is held, the process, and the file as two numbers of its device and its own. Who waits has an arrow
+// before the kind. A process that cannot be seen from here has no number.
+fn holder_in(line: &str, number: u64) -> Option<u64> {
+    let mut words = line.split_whitespace().skip(1);
+    if words.next()? != "FLOCK" {
+        return None;
+    }
+    let process = words.nth(2)?.parse::<u64>().ok()?;
+    let (_, own) = words.next()?.rsplit_once(':')?;
+    if own.parse::<u64>() != Ok(number) || process == 0 {
+        return None;
+    }
+    Some(process)
+}
+
+// What a process is called.
+fn name_of<R: Runtime<File = File> + AllocGlobal>(rt: &R, process: u64) -> Option<String> {
+    let path = format!(in rt.alloc(); "/proc/{process}/comm").ok()?;
+    let mut name = fs::read_to_string(rt, path.as_str()).ok()?;
+    if name.as_str().ends_with('\n') {
+        let _ = name.pop();
+    }
+    Some(name)
+}

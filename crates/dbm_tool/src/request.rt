@@ -1,0 +1,56 @@
+//! A request as the files and the sentences take it: plain records of its words.
+ghost use Rattle.std.specs.Prelude.{◌≡◌, option_map};
+ghost use Rattle.dbm_command_line.specs.Wishes.{base_of, file_of, writes_files};
+ghost use Rattle.dbm_reports.specs.Databases.{pag_limit};
+
+use dbm_command_line::{Request, Wish};
+use dbm_files::{FileBytes, Place};
+use dbm_reports::{Given, PAG_LIMIT};
+use dbm_telling::Told;
+use dbm_words::{Numbers, Words};
+
+/// What a wish says of its files.
+pub fn place_of<'a>(wish: &Wish<'a>) -> Place<'a>
+    ensures base { option_map (λ text. text.now) result.base ≡ base_of wish.now }
+    ensures file { option_map (λ text. text.now) result.file ≡ file_of wish.now }
+    ensures writes { result.writes ≡ writes_files wish.now }
+    ensures limit { result.pages_limit ≡ pag_limit }
+{
+    Place {
+        base: wish.base(),
+        file: wish.file(),
+        writes: wish.writes(),
+        pages_limit: PAG_LIMIT,
+    }
+}
+
+/// The bytes of files, as a report takes them.
+pub fn given_of(bytes: FileBytes) -> Given
+    ensures { result ≡ record { dir = bytes.directory; pag = bytes.pages; file = bytes.program } }
+{
+    Given {
+        dir: bytes.directory,
+        pag: bytes.pages,
+        file: bytes.program,
+    }
+}
+
+/// What of a request the notes and the sentences take.
+pub fn told_of<'a>(request: &Request<'a>) -> Told<'a> {
+    let wish = &request.wish;
+    let words = wish.words();
+    let numbers = Numbers {
+        timeout: request.access.timeout,
+        ..words.numbers
+    };
+    Told {
+        place: place_of(wish),
+        words: Words {
+            base: wish.base(),
+            file: wish.file(),
+            numbers,
+            ..words
+        },
+        notation: wish.notation(),
+    }
+}

@@ -1,13 +1,16 @@
 /* Databases in files, from C: every call and every status of boddurci_files.h, in the folder that is the argument. tests/c_library builds
  * and runs it. It leaves the database `visits`, of 1,000 pairs. */
 #define _POSIX_C_SOURCE 200809L
+#define _DEFAULT_SOURCE
 #include "boddurci_files.h"
 #include <errno.h>
 #include <fcntl.h>
+#include <pthread.h>
 #include <signal.h>
 #include <stdio.h>
 #include <stdlib.h>
 #include <string.h>
+#include <sys/file.h>
 #include <sys/stat.h>
 #include <sys/wait.h>
 #include <time.h>
@@ -31,6 +34,49 @@ static boddurci_fault fault;
 static int fails(const char *name, uint32_t flags, uint32_t status)
 {
     return boddurci_open_files(name, flags, &fault) == NULL && fault.status == status && fault.text[0] != 0;
+}
+
+struct opening {
+    const char *name;
+    uint32_t flags;
+    int is_locked;
+};
+
+static void *open_there(void *what)
+{
+    boddurci_fault told;
+    struct opening *opening = what;
+    boddurci_base *base = boddurci_open_files(opening->name, opening->flags, &told);
+    opening->is_locked = base == NULL && told.status == BODDURCI_LOCKED && told.text[0] != 0;
+    boddurci_close_files(base);
+    return NULL;
+}
+
+/* Whether another thread that does not wait finds the lock taken. */
+static int is_locked(const char *name, uint32_t more)
+{
+    pthread_t thread;
+    struct opening opening = {name, BODDURCI_NO_WAIT | more, 0};
+    EXPECT(pthread_create(&thread, NULL, open_there, &opening) == 0 && pthread_join(thread, NULL) == 0);
+    return opening.is_locked;
+}
+
+static boddurci_base *opened(const char *name, uint32_t flags);
+
+static void *open_and_end(void *name)
+{
+    return opened(name, 0);
+}
+
+/* What a thread that has ended has opened is nobody else's, whatever number the system gives the next thread. */
+static void test_ended_thread(void)
+{
+    pthread_t thread;
+    void *base;
+    EXPECT(pthread_create(&thread, NULL, open_and_end, "visits") == 0 && pthread_join(thread, &base) == 0);
+    for (int i = 0; i < 3; i++)
+        EXPECT(is_locked("visits", 0) && fails("visits", BODDURCI_NO_WAIT, BODDURCI_LOCKED));
+    boddurci_close_files(base);
 }
 
 static void write_text(const char *name, const char *bytes, size_t length)
@@ -94,8 +140,9 @@ static void test_new(void)
     for (int i = 0; i < PAIRS; i++)
         store_one(base, i);
     EXPECT(boddurci_save(base, &fault) == BODDURCI_DONE && is_there("visits.pag") && !is_there("visits.redo"));
-    EXPECT(fails("visits", BODDURCI_NO_WAIT, BODDURCI_LOCKED));
-    EXPECT(fails("visits", BODDURCI_NO_WAIT | BODDURCI_READ_ONLY, BODDURCI_LOCKED));
+    EXPECT(fails("visits", 0, BODDURCI_OPEN_HERE) && fails("visits", BODDURCI_NO_WAIT, BODDURCI_OPEN_HERE));
+    EXPECT(fails("visits", BODDURCI_READ_ONLY, BODDURCI_OPEN_HERE));
+    EXPECT(is_locked("visits", 0) && is_locked("visits", BODDURCI_READ_ONLY));
     /* What is not saved is not there. */
     store_one(base, PAIRS);
     boddurci_close_files(base);
@@ -171,7 +218,7 @@ static void test_other_base(void)
     EXPECT(symlink("visits.dir", "linked.dir") == 0);
     boddurci_base *base = opened("linked", 0);
     EXPECT(count_of(base) == PAIRS && !is_there("linked.lock"));
-    EXPECT(fails("visits", BODDURCI_NO_WAIT, BODDURCI_LOCKED));
+    EXPECT(is_locked("visits", 0));
     boddurci_close_files(base);
     EXPECT(symlink("nowhere", "astray.pag") == 0 && fails("astray", 0, BODDURCI_FILE_FAILED) && fault.system == ENOENT);
 }
@@ -277,7 +324,7 @@ static void test_names(void)
     boddurci_give(NULL);
     for (uint32_t status = 0; status < 50; status++) {
         int is_one = status <= BODDURCI_CHANGED || (status >= BODDURCI_IS_CLOSED && status <= BODDURCI_NO_TICKET) ||
-                     (status >= BODDURCI_FILE_FAILED && status <= BODDURCI_INTERRUPTED);
+                     (status >= BODDURCI_FILE_FAILED && status <= BODDURCI_OPEN_HERE);
         EXPECT((strcmp(boddurci_files_text(status), "no status") != 0) == is_one);
     }
     EXPECT(strcmp(boddurci_version(), BODDURCI_VERSION) == 0);
@@ -374,6 +421,14 @@ static int in_child(boddurci_base *base)
     int is_refused = boddurci_save(base, &fault) == BODDURCI_FORKED && boddurci_take(base) == NULL;
     boddurci_give(base);
     boddurci_close_files(base);
+    /* Its parent's lock is not its own, and those that it takes are. */
+    alarm(60);
+    for (int i = 0; i < 3 && is_refused; i++) {
+        boddurci_base *first = opened("first", 0), *second = opened("second", 0);
+        is_refused = fails("forked", BODDURCI_NO_WAIT, BODDURCI_LOCKED) && fails("first", 0, BODDURCI_OPEN_HERE);
+        boddurci_close_files(first);
+        boddurci_close_files(second);
+    }
     return is_refused ? 0 : 1;
 }
 
@@ -387,7 +442,7 @@ static void test_forked(void)
     if (child == 0)
         _exit(in_child(base));
     EXPECT(child > 0 && waitpid(child, &status, 0) == child && WIFEXITED(status) && WEXITSTATUS(status) == 0);
-    EXPECT(fails("forked", BODDURCI_NO_WAIT, BODDURCI_LOCKED) && boddurci_save(base, &fault) == BODDURCI_DONE);
+    EXPECT(is_locked("forked", 0) && boddurci_save(base, &fault) == BODDURCI_DONE);
     /* A child that lives on does not keep the lock. */
     child = fork();
     if (child == 0) {
@@ -418,7 +473,8 @@ static void test_within(void)
     struct sigaction action;
     memset(&action, 0, sizeof action);
     action.sa_handler = heard;
-    boddurci_base *base = opened("visits", 0);
+    int lock = open("visits.lock", O_RDWR);
+    EXPECT(lock >= 0 && flock(lock, LOCK_EX) == 0);
     double start = seconds();
     EXPECT(boddurci_open_files_within("visits", 0, 100, &fault) == NULL && fault.status == BODDURCI_LOCKED);
     EXPECT(seconds() - start > 0.09 && boddurci_open_files_within("visits", 0, 0, &fault) == NULL && fault.status == BODDURCI_LOCKED);
@@ -427,8 +483,8 @@ static void test_within(void)
         alarm(1);
         EXPECT(boddurci_open_files_within("visits", 0, milliseconds, &fault) == NULL && fault.status == BODDURCI_INTERRUPTED);
     }
-    boddurci_close_files(base);
-    base = boddurci_open_files_within("visits", 0, INT64_MAX, &fault);
+    close(lock);
+    boddurci_base *base = boddurci_open_files_within("visits", 0, INT64_MAX, &fault);
     EXPECT(base != NULL && count_of(base) == PAIRS);
     boddurci_close_files(base);
 }
@@ -439,6 +495,7 @@ int main(int argc, char **argv)
         return 2;
     test_new();
     test_reader();
+    test_ended_thread();
     test_failing();
     test_unchanged();
     test_links();

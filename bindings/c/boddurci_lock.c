@@ -5,6 +5,7 @@
 #include "boddurci_saves.h"
 #include <errno.h>
 #include <fcntl.h>
+#include <pthread.h>
 #include <stdlib.h>
 #include <string.h>
 #include <sys/file.h>
@@ -85,6 +86,66 @@ static int64_t end_of(int64_t milliseconds)
     return milliseconds < 0 ? -1 : milliseconds < INT64_MAX - start ? start + milliseconds : INT64_MAX;
 }
 
+/* The places whose locks this process has. A fork waits until nobody is at them, so that a child finds them whole. */
+static struct boddurci_place *held;
+static unsigned long threads; /* which have taken a lock so far */
+static __thread unsigned long this_thread; /* its number among these, from 1 on: the system gives its own numbers out again */
+static pthread_mutex_t held_mutex = PTHREAD_MUTEX_INITIALIZER;
+static pthread_once_t held_once = PTHREAD_ONCE_INIT;
+
+static void take_held(void)
+{
+    pthread_mutex_lock(&held_mutex);
+}
+
+static void give_held(void)
+{
+    pthread_mutex_unlock(&held_mutex);
+}
+
+static void guard_forks(void)
+{
+    pthread_atfork(take_held, give_held, give_held);
+}
+
+static void note_held(struct boddurci_place *place)
+{
+    take_held();
+    if (this_thread == 0)
+        this_thread = ++threads;
+    place->holder = this_thread;
+    place->process = getpid();
+    place->held = held;
+    held = place;
+    give_held();
+}
+
+static void forget_held(const struct boddurci_place *place)
+{
+    take_held();
+    for (struct boddurci_place **at = &held; *at != NULL; at = &(*at)->held)
+        if (*at == place) {
+            *at = place->held;
+            break;
+        }
+    give_held();
+}
+
+/* Whether this thread has taken the lock already: it would wait for itself. What a parent has is not a child's. */
+static int has_it_here(const struct boddurci_place *place)
+{
+    struct stat wanted, had;
+    int is_here = 0;
+    if (fstat(place->lock, &wanted) != 0)
+        return 0;
+    take_held();
+    for (const struct boddurci_place *at = held; at != NULL && !is_here; at = at->held)
+        is_here = at->process == getpid() && at->holder == this_thread && fstat(at->lock, &had) == 0 &&
+                  had.st_dev == wanted.st_dev && had.st_ino == wanted.st_ino;
+    give_held();
+    return is_here;
+}
+
 /* Waits for a lock. The system has one that is waited for without an end, and one that is tried: between two tries there are rests. */
 static int wait_for(int lock, int how, int64_t end)
 {
@@ -161,6 +222,7 @@ void boddurci_give_lock(struct boddurci_place *place, int is_own)
 {
     if (place->lock < 0)
         return;
+    forget_held(place);
     if (is_own)
         flock(place->lock, LOCK_UN);
     close(place->lock);
@@ -179,17 +241,24 @@ static uint32_t no_lock(boddurci_fault *fault)
 uint32_t boddurci_take_lock(struct boddurci_place *place, int reads, int64_t milliseconds, boddurci_fault *fault)
 {
     int64_t end = end_of(milliseconds);
+    pthread_once(&held_once, guard_forks);
     for (;;) {
         uint32_t status = open_lock(place, reads, fault);
         if (status != BODDURCI_DONE || place->lock < 0)
             return status;
+        if (has_it_here(place)) {
+            boddurci_give_lock(place, 0);
+            return boddurci_fail(fault, BODDURCI_OPEN_HERE, 0, boddurci_files_text(BODDURCI_OPEN_HERE));
+        }
         if (wait_for(place->lock, reads ? LOCK_SH : LOCK_EX, end) != 0) {
             status = no_lock(fault);
             boddurci_give_lock(place, 0);
             return status;
         }
-        if (boddurci_is_held(place))
+        if (boddurci_is_held(place)) {
+            note_held(place);
             return BODDURCI_DONE;
+        }
         /* Another lock has its name by now. */
         boddurci_give_lock(place, 1);
     }

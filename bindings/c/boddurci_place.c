@@ -44,7 +44,7 @@ static int open_folder(const char *base)
 uint32_t boddurci_place_of(struct boddurci_place *place, const char *base, boddurci_fault *fault)
 {
     static const char *const endings[4] = {".pag", ".dir", ".redo", ".lock"};
-    static const struct boddurci_place none = {-1, {NULL, NULL, NULL, NULL}, {{0, 0, 0}, {0, 0, 0}}, -1, 0};
+    static const struct boddurci_place none = {.folder = -1, .lock = -1};
     const char *end = strrchr(base, '/');
     *place = none;
     for (enum boddurci_file file = BODDURCI_PAGES; file <= BODDURCI_LOCK; file++) {

@@ -74,6 +74,9 @@ struct boddurci_place {
     char *names[4];               /* of the files, in the folder */
     struct boddurci_seen seen[2]; /* the data files that were there when they were last opened */
     int lock;                     /* the file of the lock, or -1 */
+    struct boddurci_place *held;  /* the next of those whose locks this process has */
+    unsigned long holder;         /* the thread that has taken the lock, by a number of its own */
+    pid_t process;                /* and its process */
     int is_lock_early;            /* this run has made it, and there was no .pag yet */
 };
 
@@ -112,7 +115,7 @@ int boddurci_keep_opened(int opened);
  * No end of the waiting is a time below 0. The place is to be closed in any case. */
 uint32_t boddurci_enter(struct boddurci_place *place, const char *name, int reads, int64_t milliseconds, boddurci_fault *fault);
 
-/* Takes the lock of a place that is entered without. */
+/* Takes the lock of a place that is entered without. OPEN_HERE where this thread has it already, and would wait for itself. */
 uint32_t boddurci_take_lock(struct boddurci_place *place, int reads, int64_t milliseconds, boddurci_fault *fault);
 
 /* Whether the name of the lock leads to the file that is held. */

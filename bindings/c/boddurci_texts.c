@@ -23,6 +23,7 @@ const char *boddurci_files_text(uint32_t status)
     case BODDURCI_FORKED: return "it was opened by another process";
     case BODDURCI_BAD_NAME: return "no name of a database";
     case BODDURCI_INTERRUPTED: return "a signal came while the lock was waited for";
+    case BODDURCI_OPEN_HERE: return "this thread has it open already";
     default: return boddurci_text(status);
     }
 }

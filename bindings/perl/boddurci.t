@@ -2,6 +2,7 @@
 use strict;
 use warnings;
 use Cwd qw(abs_path);
+use Fcntl qw(:flock);
 use File::Basename qw(dirname);
 use File::Temp qw(tempdir);
 use POSIX ();
@@ -36,7 +37,7 @@ is(delete $db{""}, "");
 is(delete $db{""}, undef);
 dies_with(sub { $db{big} = "x" x 1006 }, qr/too many bytes/);
 dies_with(sub { $db{"\x{263a}"} = 1 }, qr/bytes/);
-dies_with(sub { tie my %other, "Boddurci", $base, "w", no_wait => 1 }, qr/another has the lock/);
+dies_with(sub { tie my %other, "Boddurci", $base, "w", no_wait => 1 }, qr/this thread has it open already/);
 
 my $counter = tied(%db)->program(text_of("$top/examples/counter.s"));
 is_deeply([tied(%db)->run($counter, "hits")], []);
@@ -59,11 +60,18 @@ dies_with(sub { tie my %none, "Boddurci", "$base\0x", "c" }, qr/zero byte/);
 dies_with(sub { tie my %none, "Boddurci", $_, "c" }, qr/the name is empty/) for "", ".", "..", "a/", "a/.", "a/..";
 dies_with(sub { tie my %none, "Boddurci", $base, "w", timeout => -1 }, qr/a timeout is/);
 dies_with(sub { tie my %none, "Boddurci", $base, "w", nothing => 1 }, qr/no option/);
-dies_with(sub { tie my %other, "Boddurci", $base, "w", timeout => 0.1 }, qr/another has the lock/);
-for my $timeout (undef, 60) {
-    local $SIG{ALRM} = sub { die "a signal" };
-    alarm 1;
-    dies_with(sub { tie my %other, "Boddurci", $base, "w", timeout => $timeout }, qr/a signal/);
+dies_with(sub { tie my %other, "Boddurci", $base, "w" }, qr/this thread has it open already/);
+{
+    tie my %held, "Boddurci", "$base.held", "c";
+    untie %held;
+    open(my $lock, "<", "$base.held.lock") or die;
+    flock($lock, LOCK_EX) or die;
+    dies_with(sub { tie my %other, "Boddurci", "$base.held", "w", timeout => 0.1 }, qr/another has the lock/);
+    for my $timeout (undef, 60) {
+        local $SIG{ALRM} = sub { die "a signal" };
+        alarm 1;
+        dies_with(sub { tie my %other, "Boddurci", "$base.held", "w", timeout => $timeout }, qr/a signal/);
+    }
 }
 
 # A child is refused, and saves nothing.
@@ -83,7 +91,9 @@ waitpid $child, 0;
 sysread $reading, my $refused, 10;
 is($refused, 7);
 is(delete $db{child}, "parent");
-dies_with(sub { tie my %other, "Boddurci", $base, "w", no_wait => 1 }, qr/another has the lock/);
+open(my $kept, "<", "$base.lock") or die;
+ok(!flock($kept, LOCK_EX | LOCK_NB), "the child has let no lock go");
+close $kept;
 $db{$_} = $_ x 3 for 1 .. 2000;
 is(scalar(keys %db), 2002);
 untie %db;

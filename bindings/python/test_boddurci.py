@@ -3,6 +3,7 @@ beside a dict. BODDURCI_LIBRARY names the shared object; BODDURCI_CALLS, how man
 
 import dbm
 import errno
+import fcntl
 import os
 import pathlib
 import random
@@ -110,7 +111,9 @@ class Mapping(InFolder):
             self.assertEqual(db[b"a"], b"1")
 
     def test_time(self):
-        with boddurci.open(self.base, "c"):
+        boddurci.open(self.base, "c").close()
+        with open(self.base + ".lock", "rb") as lock:
+            fcntl.flock(lock, fcntl.LOCK_EX)
             start = time.monotonic()
             with self.assertRaisesRegex(boddurci.error, "another has the lock"):
                 boddurci.open(self.base, "w", timeout=0.2)
@@ -123,6 +126,22 @@ class Mapping(InFolder):
                 signal.setitimer(signal.ITIMER_REAL, 0.1, 0.1)
                 with self.assertRaises(KeyboardInterrupt):
                     boddurci.open(self.base, "w", timeout=timeout)
+
+    def test_a_thread_that_opens_twice_is_told_so(self):
+        with boddurci.open(self.base, "c") as db:
+            db[b"a"] = b"1"
+            for flag in "r", "w":
+                for more in {}, {"wait": False}, {"timeout": 60}:
+                    with self.assertRaisesRegex(boddurci.error, "this thread has it open already"):
+                        boddurci.open(self.base, flag, **more)
+            # Another thread waits, as another process does.
+            seen = []
+            other = threading.Thread(target=lambda: seen.append(boddurci.open(self.base, "r")[b"a"]))
+            other.start()
+            time.sleep(0.1)
+            self.assertEqual(seen, [])
+        other.join()
+        self.assertEqual(seen, [b"1"])
 
     def heard(self, *_):
         """A signal: the second one ends the wait."""
@@ -319,8 +338,8 @@ class Children(InFolder):
             db[b"a"] = b"1"
             program = db.program((TOP / "examples/counter.s").read_text())
             self.assertEqual(self.in_child(lambda: self.refused(db, program)), "9")
-            with self.assertRaisesRegex(boddurci.error, "another has the lock"):
-                boddurci.open(self.base, "w", wait=False)
+            with open(self.base + ".lock", "rb") as lock, self.assertRaises(BlockingIOError):
+                fcntl.flock(lock, fcntl.LOCK_EX | fcntl.LOCK_NB)
             db[b"a"] = b"2"
         with boddurci.open(self.base, wait=False) as db:
             self.assertEqual(db[b"a"], b"2")

@@ -6,9 +6,8 @@
 # Each call is a run of dbm, which waits for others on BASE, changes one record and saves it. DBM names the program, or dbm is on the PATH.
 set -u
 bucket=$(dirname "$0")/../c/token_bucket.bin
-# The bytes of a user may be any, so they are given in hex.
-user=hex:$(printf %s "$2" | od -An -v -tx1 | tr -d ' \n')
-said=$("${DBM:-dbm}" run "$1" "$user" "$bucket" u64:100,u64:10,u64:1 16 now-ms --image --text)
+# A user may be any text, so the key is taken as it is; behind -- it may begin with a dash.
+said=$("${DBM:-dbm}" run --image --text --raw-key -- "$1" "$2" "$bucket" u64:100,u64:10,u64:1 16 now-ms)
 case $said in
     "ran 1 "*) exit 0 ;;
     "ran 0 "*) echo "${said#ran 0 }" && exit 1 ;;

@@ -1,5 +1,5 @@
 -- Keys that were read as the words of a store.
-use Rattle.std.proofs.Common.{◌≡◌, Bor, Bool, true, false, List, ℕ, Option, Some, None, ap, is_some, sym}
+use Rattle.std.proofs.Common.{◌≡◌, Bool, true, false, List, ℕ, Option, Some, None, ap, is_some, sym}
 use Rattle.std.specs.declared.alloc.Global.{Global}
 use Rattle.std.proofs.lemmas.Option.{none-some}
 use Rattle.sdbm_addr.specs.Database.{Database}
@@ -27,9 +27,9 @@ stores_of (Some key) (Some value) mode command is = ap (λ (o : Option (Command 
     is_some_store None = false
     is_some_store (Some c) = is_store c
 
-pub stores : (n : Notation Global) (key new : Bor (List ℕ)) (insert : Bool) (command : Command Global) → command_of n (store_words key new insert) ≡ Some command → is_store command ≡ true
-stores n key new true command is = stores_of (bytes_of n key.now) (bytes_of n new.now) Insert command is
-stores n key new false command is = stores_of (bytes_of n key.now) (bytes_of n new.now) Replace command is
+pub stores : (n : Notation Global) (key new : List ℕ) (insert : Bool) (command : Command Global) → command_of n (store_words key new insert) ≡ Some command → is_store command ≡ true
+stores n key new true command is = stores_of (bytes_of n key) (bytes_of n new) Insert command is
+stores n key new false command is = stores_of (bytes_of n key) (bytes_of n new) Replace command is
 
 pub gives_database : (n : Notation Global) (before : Database) (command : Command Global) (report : Report) → RenamesBy n before command report → is_some report.database ≡ true
 gives_database n before (Fetch key) report comes = absurd comes

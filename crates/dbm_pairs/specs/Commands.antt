@@ -1,10 +1,13 @@
 -- A command on the database of the files, by words as those of a line.
-use Rattle.std.specs.Prelude.{◌≡◌, ℕ, Bool, true, false, cond, List, [], ◌∷◌, codes, Some, None, ◌≢◌}
-use Rattle.std.specs.Borrow.{Bor}
+use Rattle.std.specs.Prelude.{◌≡◌, ℕ, Bool, true, false, cond, List, [], ◌∷◌, codes, Option, Some, None, ◌≢◌}
 use Rattle.std.specs.declared.alloc.Global.{Global}
 use Rattle.sdbm_addr.specs.Database.{Database}
 use Rattle.store_cmd.specs.declared.Command.{Command}
 use Rattle.dbm_script.specs.declared.notations.Notation.{Notation}
+use Rattle.store_cmd.specs.declared.Reply.{Reply}
+use Rattle.store_cmd.specs.declared.Reply.TheVariants.{Found}
+use Rattle.dbm_script.specs.declared.answers.Answer.{Answer}
+use Rattle.dbm_script.specs.declared.answers.Answer.TheVariants.{Replied, Refused}
 use Rattle.dbm_script.specs.Commands.{command_of}
 use Rattle.dbm_words.specs.declared.options.Form.{Form}
 use Rattle.dbm_reports.specs.declared.databases.Given.{Given}
@@ -21,17 +24,17 @@ pub record OnCommand (notation : Notation Global) (form : Form) (given : Given) 
   pub holds : P before command
 
 -- the words that the subcommands ask, as those of a line
-abbrev pub fetch_words : Bor (List ℕ) → List (List ℕ)
-fetch_words key = codes "fetch" ∷ (key.now ∷ [])
+abbrev pub fetch_words : List ℕ → List (List ℕ)
+fetch_words key = codes "fetch" ∷ (key ∷ [])
 
 abbrev pub store_name : Bool → List ℕ
 store_name insert = cond insert (codes "insert") (codes "replace")
 
-abbrev pub store_words : Bor (List ℕ) → Bor (List ℕ) → Bool → List (List ℕ)
-store_words key value insert = store_name insert ∷ (key.now ∷ (value.now ∷ []))
+abbrev pub store_words : List ℕ → List ℕ → Bool → List (List ℕ)
+store_words key value insert = store_name insert ∷ (key ∷ (value ∷ []))
 
-abbrev pub delete_words : Bor (List ℕ) → List (List ℕ)
-delete_words key = codes "delete" ∷ (key.now ∷ [])
+abbrev pub delete_words : List ℕ → List (List ℕ)
+delete_words key = codes "delete" ∷ (key ∷ [])
 
 -- a command: its words come before the files
 abbrev pub command_causes : Notation Global → Form → Given → List (List ℕ) → Causes
@@ -40,3 +43,12 @@ command_causes notation form given words = record no_causes {
   texts = (reads_hex notation ≡ false) × (command_of notation words ≡ None);
   opening = λ reason. (command_of notation words ≢ None) × IsShut form given reason;
 }
+
+-- the value that a reply tells, and that an answer does
+abbrev pub found_in : {A : Type 0} → Reply A → Option (List ℕ)
+found_in (Found value) = Some value
+found_in _ = None
+
+abbrev pub value_in : {A : Type 0} → Answer A → Option (List ℕ)
+value_in (Replied entry) = found_in entry.reply
+value_in (Refused fault) = None

@@ -1,25 +1,26 @@
 -- What `delete` takes and asks, what comes of it, and why nothing does.
-use Rattle.std.specs.Prelude.{List, ◌∷◌, codes, None}
+use Rattle.std.specs.Prelude.{◌≡◌, List, ◌∷◌, codes, None}
 use Rattle.clap.specs.Words.{Shape, Row}
-use Rattle.dbm_words.specs.Given.{IsForm, IsNotation, IsWord}
+use Rattle.dbm_words.specs.Given.{IsForm, IsNotation, IsWord, is_given}
 use Rattle.dbm_pairs.specs.declared.delete.Delete.{Delete}
 use Rattle.std.specs.declared.alloc.Global.{Global}
 use Rattle.dbm_script.specs.declared.notations.Notation.{Notation}
 use Rattle.dbm_reports.specs.declared.databases.Given.{Given}
 use Rattle.dbm_pairs.specs.Commands.{command_causes, OnCommand, delete_words}
 use Rattle.dbm_reports.specs.Known.{Known}
+use Rattle.dbm_reports.specs.Words.{word_asked}
 use Rattle.dbm_reports.specs.Reports.{Changes}
-use Rattle.dbm_words.specs.CommandLine.{required_word, subcommand, with_alias, writing_in}
+use Rattle.dbm_words.specs.CommandLine.{flag, required_word, subcommand, with_alias, writing_in}
 
 abbrev pub delete : Shape
-delete = with_alias (codes "del") (subcommand (codes "delete") (required_word (codes "BASE") ∷ required_word (codes "KEY") ∷ writing_in))
+delete = with_alias (codes "del") (subcommand (codes "delete") (required_word (codes "BASE") ∷ required_word (codes "KEY") ∷ flag (codes "raw-key") ∷ writing_in))
 
 abbrev pub DeleteAsks : List Row → Delete → Type 0
 DeleteAsks rows delete =
-    IsWord (codes "BASE") rows delete.base × (IsForm rows delete.form × (IsNotation rows delete.notation × IsWord (codes "KEY") rows delete.key))
+    IsWord (codes "BASE") rows delete.base × (IsForm rows delete.form × (IsNotation rows delete.notation × (IsWord (codes "KEY") rows delete.key × (delete.raw_key ≡ is_given (codes "raw-key") rows))))
 
 abbrev pub delete_in : Notation Global → Delete → Given → Known
 delete_in n delete given = record {
-  reports = λ report. OnCommand n delete.form given (delete_words delete.key) (λ db command. Changes n db command None report);
-  causes = command_causes n delete.form given (delete_words delete.key);
+  reports = λ report. OnCommand n delete.form given (delete_words (word_asked delete.raw_key n delete.key.now)) (λ db command. Changes n db command None report);
+  causes = command_causes n delete.form given (delete_words (word_asked delete.raw_key n delete.key.now));
 }

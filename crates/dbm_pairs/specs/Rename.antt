@@ -16,26 +16,18 @@ use Rattle.dbm_script.specs.declared.answers.Answer.TheVariants.{Replied, Refuse
 use Rattle.dbm_script.specs.declared.notations.Notation.{Notation}
 use Rattle.dbm_reports.specs.declared.databases.Given.{Given}
 use Rattle.dbm_reports.specs.declared.report.Report.{Report}
-use Rattle.dbm_pairs.specs.Commands.{command_causes, OnCommand, store_words}
+use Rattle.dbm_pairs.specs.Commands.{value_in, command_causes, OnCommand, store_words}
 use Rattle.dbm_reports.specs.Known.{Known}
+use Rattle.dbm_reports.specs.Words.{word_asked}
 use Rattle.dbm_reports.specs.Reports.{answer_status}
 use Rattle.dbm_words.specs.CommandLine.{required_word, flag, subcommand, writing_options}
 
 abbrev pub rename : Shape
-rename = subcommand (codes "rename") (required_word (codes "BASE") ∷ required_word (codes "KEY") ∷ required_word (codes "NEWKEY") ∷ flag (codes "replace") ∷ flag (codes "text") ∷ writing_options)
+rename = subcommand (codes "rename") (required_word (codes "BASE") ∷ required_word (codes "KEY") ∷ required_word (codes "NEWKEY") ∷ flag (codes "replace") ∷ flag (codes "raw-key") ∷ flag (codes "text") ∷ writing_options)
 
 abbrev pub RenameAsks : List Row → Rename → Type 0
 RenameAsks rows rename =
-    IsWord (codes "BASE") rows rename.base × (IsForm rows rename.form × (IsNotation rows rename.notation × (IsWord (codes "KEY") rows rename.key × (IsWord (codes "NEWKEY") rows rename.new_key × (rename.replace ≡ is_given (codes "replace") rows)))))
-
--- the value that a reply tells, and that an answer does
-abbrev pub found_in : {A : Type 0} → Reply A → Option (List ℕ)
-found_in (Found value) = Some value
-found_in _ = None
-
-abbrev pub value_in : {A : Type 0} → Answer A → Option (List ℕ)
-value_in (Replied entry) = found_in entry.reply
-value_in (Refused fault) = None
+    IsWord (codes "BASE") rows rename.base × (IsForm rows rename.form × (IsNotation rows rename.notation × (IsWord (codes "KEY") rows rename.key × (IsWord (codes "NEWKEY") rows rename.new_key × ((rename.replace ≡ is_given (codes "replace") rows) × (rename.raw_key ≡ is_given (codes "raw-key") rows))))))
 
 -- a pair is stored
 abbrev pub stored_in : {A : Type 0} → Reply A → Bool
@@ -85,6 +77,6 @@ RenamesBy n before _ report = ⊥
 
 abbrev pub rename_in : Notation Global → Rename → Given → Known
 rename_in n rename given = record {
-  reports = λ report. OnCommand n rename.form given (store_words rename.key rename.new_key (not rename.replace)) (λ db command. RenamesBy n db command report);
-  causes = command_causes n rename.form given (store_words rename.key rename.new_key (not rename.replace));
+  reports = λ report. OnCommand n rename.form given (store_words (word_asked rename.raw_key n rename.key.now) (word_asked rename.raw_key n rename.new_key.now) (not rename.replace)) (λ db command. RenamesBy n db command report);
+  causes = command_causes n rename.form given (store_words (word_asked rename.raw_key n rename.key.now) (word_asked rename.raw_key n rename.new_key.now) (not rename.replace));
 }

@@ -1,5 +1,10 @@
 -- What `store` takes and asks, what comes of it, and why nothing does.
-use Rattle.std.specs.Prelude.{◌≡◌, List, ◌∷◌, codes, None}
+use Rattle.std.specs.Prelude.{◌≡◌, ◌&&◌, ℕ, Bool, true, false, List, ◌∷◌, None, codes, Option, IfSome}
+use Rattle.std.specs.Str.{bytes_eq}
+use Rattle.store_cmd.specs.declared.Command.{Command}
+use Rattle.store_cmd.specs.declared.Command.TheVariants as asked
+use Rattle.dbm_reports.specs.Causes.{Causes, IsLongScript}
+use Rattle.dbm_reports.specs.Databases.{Opens}
 use Rattle.clap.specs.Words.{Shape, Row}
 use Rattle.dbm_words.specs.Given.{IsForm, IsNotation, IsWord, is_given}
 use Rattle.dbm_pairs.specs.declared.store.Store.{Store}
@@ -8,18 +13,47 @@ use Rattle.dbm_script.specs.declared.notations.Notation.{Notation}
 use Rattle.dbm_reports.specs.declared.databases.Given.{Given}
 use Rattle.dbm_pairs.specs.Commands.{command_causes, OnCommand, store_words}
 use Rattle.dbm_reports.specs.Known.{Known}
+use Rattle.dbm_reports.specs.Words.{word_asked}
 use Rattle.dbm_reports.specs.Reports.{Changes}
 use Rattle.dbm_words.specs.CommandLine.{required_word, flag, subcommand, with_alias, writing_in}
 
 abbrev pub store : Shape
-store = with_alias (codes "put") (subcommand (codes "store") (required_word (codes "BASE") ∷ required_word (codes "KEY") ∷ required_word (codes "VALUE") ∷ flag (codes "insert") ∷ writing_in))
+store = with_alias (codes "put") (subcommand (codes "store") (required_word (codes "BASE") ∷ required_word (codes "KEY") ∷ required_word (codes "VALUE") ∷ flag (codes "insert") ∷ flag (codes "raw-key") ∷ flag (codes "raw-value") ∷ writing_in))
 
 abbrev pub StoreAsks : List Row → Store → Type 0
 StoreAsks rows store =
-    IsWord (codes "BASE") rows store.base × (IsForm rows store.form × (IsNotation rows store.notation × (IsWord (codes "KEY") rows store.key × (IsWord (codes "VALUE") rows store.value × (store.insert ≡ is_given (codes "insert") rows)))))
+    IsWord (codes "BASE") rows store.base × (IsForm rows store.form × (IsNotation rows store.notation × (IsWord (codes "KEY") rows store.key × (IsWord (codes "VALUE") rows store.value × ((store.insert ≡ is_given (codes "insert") rows) × ((store.raw_key ≡ is_given (codes "raw-key") rows) × (store.raw_value ≡ is_given (codes "raw-value") rows)))))))
 
-abbrev pub store_in : Notation Global → Store → Given → Known
-store_in n store given = record {
-  reports = λ report. OnCommand n store.form given (store_words store.key store.value store.insert) (λ db command. Changes n db command None report);
-  causes = command_causes n store.form given (store_words store.key store.value store.insert);
+-- the value is all of standard input
+abbrev pub takes_input : Store → Bool
+takes_input store = store.raw_value && bytes_eq store.value.now (codes "-")
+
+-- a store of another value
+abbrev pub with_value : List ℕ → Command Global → Command Global
+with_value value (asked.Store key old mode) = asked.Store key value mode
+with_value value command = command
+
+-- the words of a store, by that of its value
+abbrev pub words_by : Notation Global → Store → List ℕ → List (List ℕ)
+words_by n store value = store_words (word_asked store.raw_key n store.key.now) value store.insert
+
+-- standard input is read behind the words and the files
+abbrev pub input_store_causes : Notation Global → Store → Given → Option (List ℕ) → Causes
+input_store_causes n store given input = record (command_causes n store.form given (words_by n store (codes "."))) {
+  reading = Opens store.form given;
+  long = Opens store.form given × IsLongScript input;
 }
+
+-- what is known of a store, by whether it takes its value from standard input
+abbrev pub store_by : Bool → Notation Global → Store → Given → Option (List ℕ) → Known
+store_by false n store given input = record {
+  reports = λ report. OnCommand n store.form given (words_by n store (word_asked store.raw_value n store.value.now)) (λ db command. Changes n db command None report);
+  causes = command_causes n store.form given (words_by n store (word_asked store.raw_value n store.value.now));
+}
+store_by true n store given input = record {
+  reports = λ report. OnCommand n store.form given (words_by n store (codes ".")) (λ db command. IfSome input (λ value. Changes n db (with_value value command) None report));
+  causes = input_store_causes n store given input;
+}
+
+abbrev pub store_in : Notation Global → Store → Given → Option (List ℕ) → Known
+store_in n store given input = store_by (takes_input store) n store given input

@@ -1,18 +1,19 @@
 //! One command on the database of the files.
-ghost use Rattle.std.specs.Prelude.{◌≡◌, ◌∷◌, map, IfOk, IfErr, Some};
+ghost use Rattle.std.specs.Prelude.{◌≡◌, ◌∷◌, map, IfOk, IfErr, None, Some};
 ghost use Rattle.dbm_script.specs.Commands.{command_of};
 ghost use Rattle.dbm_words.specs.declared.options.Form.{Form};
 ghost use Rattle.dbm_reports.specs.Causes.{IsCaused};
 ghost use Rattle.dbm_reports.specs.Databases.{IsOpened};
 ghost use Rattle.dbm_reports.specs.declared.databases.Given.{Given};
-ghost use Rattle.dbm_pairs.specs.Commands.{command_causes};
+ghost use Rattle.dbm_pairs.specs.Commands.{command_causes, value_in};
 
 use dbm_reports::{Given, ReportFault, bad_words, open};
-use dbm_script::{Notation, read_command};
-use dbm_words::Form;
+use dbm_script::{Answer, Notation, read_command};
+use dbm_words::{Form, Named};
+use sdbm_addr::Bytes;
 use sdbm_files::Image;
 use std::alloc::Global;
-use store_cmd::Command;
+use store_cmd::{Command, Entry, Reply};
 
 /// The command that words ask, and the database of the files. The words are read first.
 ///
@@ -48,4 +49,36 @@ fn command_in(
         return Err(bad_words(notation));
     };
     Ok(command)
+}
+
+/// The value that an answer tells, or else the answer.
+pub fn value_of(answer: Answer<Global>) -> Result<Bytes<Global>, Answer<Global>>
+    ensures ok { IfOk result (λ value. value_in answer ≡ Some value) }
+    ensures err { IfErr result (λ other. (other ≡ answer) × (value_in answer ≡ None)) }
+{
+    let Answer::Replied(entry) = answer else {
+        return Err(answer);
+    };
+    let Entry {
+        session,
+        command,
+        reply,
+    } = entry;
+    match reply {
+        Reply::Found(value) => Ok(value),
+        reply => Err(Answer::Replied(Entry {
+            session,
+            command,
+            reply,
+        })),
+    }
+}
+
+/// The word for a key, as sentences show it; a raw one is always bytes.
+pub fn named_key<'a>(word: &'a str, raw: bool) -> Option<Named<'a>> {
+    if raw {
+        return None;
+    }
+    let name = "KEY";
+    Some(Named { name, word })
 }

@@ -6,12 +6,14 @@ ghost use Rattle.dbm_words.specs.Given.{has_words};
 ghost use Rattle.dbm_pairs.specs.Delete as spec;
 ghost use Rattle.dbm_pairs.specs.Delete.{DeleteAsks};
 
-use crate::command::command_on;
+use crate::command::{command_on, named_key};
 use clap::{ArgMatches, Command};
-use dbm_reports::{Given, Report, ReportFault, Subcommand, change};
+use dbm_reports::{Given, Report, ReportFault, Subcommand, change, word_asked};
 use dbm_script::Notation;
-use dbm_words::arguments::{base, key, layout, must_exist, text, timeout, unsigned, verbose, wide};
-use dbm_words::{Form, Named, NotationOptions, Words, aliased_subcommand, form, notation, word};
+use dbm_words::arguments::{
+    base, key, layout, must_exist, raw_key, text, timeout, unsigned, verbose, wide,
+};
+use dbm_words::{Form, NotationOptions, Words, aliased_subcommand, form, has_flag, notation, word};
 use std::alloc::{AllocError, Global};
 use std::io::Read;
 
@@ -22,6 +24,8 @@ pub struct Delete<'a> {
     pub form: Form,
     pub notation: NotationOptions<'a>,
     pub key: &'a str,
+    /// The bytes of the key are those of its word.
+    pub raw_key: bool,
 }
 
 impl<'a> Delete<'a> {
@@ -35,16 +39,14 @@ impl<'a> Delete<'a> {
             form: form(matches),
             notation: notation(matches),
             key: word(matches, "KEY")?,
+            raw_key: has_flag(matches, "raw-key"),
         })
     }
 
     /// Its words, as sentences show them.
     pub fn words(&self) -> Words<'a> {
         Words {
-            first: Some(Named {
-                name: "KEY",
-                word: self.key,
-            }),
+            first: named_key(self.key, self.raw_key),
             layout: self.notation.layout,
             ..Words::on(Some(self.base), self.form)
         }
@@ -61,6 +63,7 @@ pub fn delete_command<'a>(alloc: Global) -> Result<Command<'a>, AllocError>
     let args = vec![in alloc;
         base(alloc),
         key(alloc),
+        raw_key(alloc),
         text(alloc),
         layout(alloc),
         unsigned(alloc),
@@ -96,7 +99,8 @@ impl Subcommand for Delete<'_> {
         given: &Given,
         _reader: &mut R,
     ) -> Result<Report, ReportFault> {
-        let args = [self.key.as_bytes()];
+        let key = word_asked(alloc, notation, self.key, self.raw_key)?;
+        let args = [key.as_slice()];
         let (image, command) = command_on(alloc, notation, given, self.form, b"delete", &args)?;
         Ok(change(alloc, notation, image, command, None)?)
     }

@@ -4,16 +4,21 @@ ghost use Rattle.clap.specs.Words.{found_of, rows_of};
 ghost use Rattle.dbm_words.specs.CommandLine.{IsSubcommand};
 ghost use Rattle.dbm_words.specs.Given.{has_words};
 ghost use Rattle.dbm_pairs.specs.Fetch as spec;
-ghost use Rattle.dbm_pairs.specs.Fetch.{FetchAsks};
+ghost use Rattle.dbm_pairs.specs.Fetch.{FetchAsks, FetchShows, ShowsValue, bytes_or_none};
+ghost use Rattle.dbm_pairs.specs.Commands.{value_in};
 
-use crate::command::command_on;
+use crate::command::{command_on, named_key, value_of};
 use clap::{ArgMatches, Command};
-use dbm_reports::{Given, Report, ReportFault, Subcommand, look};
-use dbm_script::Notation;
-use dbm_words::arguments::{base, key, layout, text, timeout, unsigned, verbose, wide};
-use dbm_words::{Form, Named, NotationOptions, Words, aliased_subcommand, form, notation, word};
+use dbm_reports::{Given, Report, ReportFault, Subcommand, answer_status, look, word_asked};
+use dbm_script::{Answer, Notation, answer_command};
+use dbm_words::arguments::{
+    base, flag, key, layout, raw_key, text, timeout, unsigned, verbose, wide,
+};
+use dbm_words::{Form, NotationOptions, Words, aliased_subcommand, form, has_flag, notation, word};
+use sdbm_files::Image;
 use std::alloc::{AllocError, Global};
 use std::io::Read;
+use store_cmd::Command as Asked;
 
 /// The value of a key.
 #[derive(Clone, Copy, Debug)]
@@ -22,6 +27,10 @@ pub struct Fetch<'a> {
     pub form: Form,
     pub notation: NotationOptions<'a>,
     pub key: &'a str,
+    /// The bytes of the value alone are printed.
+    pub raw: bool,
+    /// The bytes of the key are those of its word.
+    pub raw_key: bool,
 }
 
 impl<'a> Fetch<'a> {
@@ -35,16 +44,15 @@ impl<'a> Fetch<'a> {
             form: form(matches),
             notation: notation(matches),
             key: word(matches, "KEY")?,
+            raw: has_flag(matches, "raw"),
+            raw_key: has_flag(matches, "raw-key"),
         })
     }
 
     /// Its words, as sentences show them.
     pub fn words(&self) -> Words<'a> {
         Words {
-            first: Some(Named {
-                name: "KEY",
-                word: self.key,
-            }),
+            first: named_key(self.key, self.raw_key),
             layout: self.notation.layout,
             ..Words::on(Some(self.base), self.form)
         }
@@ -58,9 +66,16 @@ impl<'a> Fetch<'a> {
 pub fn fetch_command<'a>(alloc: Global) -> Result<Command<'a>, AllocError>
     ensures { IfOk result (IsSubcommand spec.fetch) }
 {
+    let raw = flag(
+        alloc,
+        "raw",
+        "Print the bytes of the value and nothing else; where the key is missing, nothing",
+    );
     let args = vec![in alloc;
         base(alloc),
         key(alloc),
+        raw,
+        raw_key(alloc),
         text(alloc),
         layout(alloc),
         unsigned(alloc),
@@ -70,7 +85,8 @@ pub fn fetch_command<'a>(alloc: Global) -> Result<Command<'a>, AllocError>
     ]?;
     let about = "Print the value of a key";
     let notes =
-        "Prints found VALUE, or missing with status 1.\n\nExample: dbm fetch users ab --text";
+        "Prints found VALUE, or missing with status 1; with --raw the bytes of the value alone.\n\n\
+         Example: dbm fetch users ab --text";
     aliased_subcommand(alloc, "fetch", "get", about, notes, args)
 }
 
@@ -96,8 +112,53 @@ impl Subcommand for Fetch<'_> {
         given: &Given,
         _reader: &mut R,
     ) -> Result<Report, ReportFault> {
-        let args = [self.key.as_bytes()];
+        let key = word_asked(alloc, notation, self.key, self.raw_key)?;
+        let args = [key.as_slice()];
         let (image, command) = command_on(alloc, notation, given, self.form, b"fetch", &args)?;
-        Ok(look(alloc, notation, image, command)?)
+        Ok(look_as(alloc, notation, image, command, self.raw)?)
+    }
+}
+
+// The answer to a fetch: in a line, or of a raw one the bytes of the value alone.
+fn look_as(
+    alloc: Global,
+    notation: &Notation<Global>,
+    image: Image<Global>,
+    command: Asked<Global>,
+    raw: bool,
+) -> Result<Report, AllocError>
+    ensures { IfOk result (FetchShows raw notation.now image command) }
+{
+    if raw {
+        return look_raw(alloc, image, command);
+    }
+    look(alloc, notation, image, command)
+}
+
+// The bytes of the value that a command finds.
+fn look_raw(
+    alloc: Global,
+    image: Image<Global>,
+    command: Asked<Global>,
+) -> Result<Report, AllocError>
+    ensures { IfOk result (ShowsValue image command) }
+{
+    let mut image = image;
+    let answer = answer_command(alloc, &mut image, command)?;
+    let status = answer_status(&answer);
+    Ok(Report {
+        text: value_bytes(alloc, answer)?,
+        status,
+        database: None,
+    })
+}
+
+// The bytes of the value that an answer tells, none where it tells none.
+fn value_bytes(alloc: Global, answer: Answer<Global>) -> Result<Vec<u8>, AllocError>
+    ensures { IfOk result (λ text. text.items ≡ bytes_or_none (value_in answer)) }
+{
+    match value_of(answer) {
+        Ok(value) => value.as_slice().to_vec(alloc),
+        Err(_) => Ok(Vec::new(alloc)),
     }
 }

@@ -6,11 +6,11 @@ ghost use Rattle.dbm_words.specs.Given.{has_words};
 ghost use Rattle.dbm_pairs.specs.Rename as spec;
 ghost use Rattle.dbm_pairs.specs.Rename.{RenameAsks};
 
-use crate::command::command_on;
+use crate::command::{command_on, named_key};
 use crate::renaming::rename;
 use crate::store::store_name;
 use clap::{ArgMatches, Command};
-use dbm_reports::{Given, Report, ReportFault, Subcommand};
+use dbm_reports::{Given, Report, ReportFault, Subcommand, word_asked};
 use dbm_script::Notation;
 use dbm_words::arguments::{
     base, flag, key, must_exist, required_word, text, timeout, unsigned, verbose, wide,
@@ -28,6 +28,8 @@ pub struct Rename<'a> {
     pub key: &'a str,
     pub new_key: &'a str,
     pub replace: bool,
+    /// The bytes of both keys are those of their words.
+    pub raw_key: bool,
 }
 
 impl<'a> Rename<'a> {
@@ -43,23 +45,29 @@ impl<'a> Rename<'a> {
             key: word(matches, "KEY")?,
             new_key: word(matches, "NEWKEY")?,
             replace: has_flag(matches, "replace"),
+            raw_key: has_flag(matches, "raw-key"),
         })
     }
 
     /// Its words, as sentences show them.
     pub fn words(&self) -> Words<'a> {
         Words {
-            first: Some(Named {
-                name: "KEY",
-                word: self.key,
-            }),
-            second: Some(Named {
-                name: "NEWKEY",
-                word: self.new_key,
-            }),
+            first: named_key(self.key, self.raw_key),
+            second: self.named_new_key(),
             layout: self.notation.layout,
             ..Words::on(Some(self.base), self.form)
         }
+    }
+
+    // The word for its new key, as sentences show it.
+    fn named_new_key(&self) -> Option<Named<'a>> {
+        if self.raw_key {
+            return None;
+        }
+        Some(Named {
+            name: "NEWKEY",
+            word: self.new_key,
+        })
     }
 }
 
@@ -80,11 +88,17 @@ pub fn rename_command<'a>(alloc: Global) -> Result<Command<'a>, AllocError>
         "replace",
         "Take the place of a pair that has the new key",
     );
+    let raw_keys = flag(
+        alloc,
+        "raw-key",
+        "The bytes of KEY and NEWKEY are those of the words themselves, without escapes or numbers",
+    );
     let args = vec![in alloc;
         base(alloc),
         key(alloc),
         new_key,
         replace,
+        raw_keys,
         text(alloc),
         unsigned(alloc),
         wide(alloc),
@@ -123,7 +137,9 @@ impl Subcommand for Rename<'_> {
         _reader: &mut R,
     ) -> Result<Report, ReportFault> {
         let name = store_name(!self.replace);
-        let args = [self.key.as_bytes(), self.new_key.as_bytes()];
+        let key = word_asked(alloc, notation, self.key, self.raw_key)?;
+        let new = word_asked(alloc, notation, self.new_key, self.raw_key)?;
+        let args = [key.as_slice(), new.as_slice()];
         let (image, command) = command_on(alloc, notation, given, self.form, name, &args)?;
         Ok(rename(alloc, notation, image, command)?)
     }

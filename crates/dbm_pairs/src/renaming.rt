@@ -1,13 +1,14 @@
 //! A pair that gets another key.
 ghost use Rattle.std.specs.Prelude.{◌≡◌, IfOk, IfErr, None, Some, true};
-ghost use Rattle.dbm_pairs.specs.Rename.{RenamesBy, Renames, StoresAnew, is_stored, is_store, value_in};
+ghost use Rattle.dbm_pairs.specs.Rename.{RenamesBy, Renames, StoresAnew, is_stored, is_store};
 
+use crate::command::value_of;
 use dbm_reports::{Report, answer_status, shown};
 use dbm_script::{Answer, Notation, answer_command};
 use sdbm_addr::{Bytes, Mode};
 use sdbm_files::Image;
 use std::alloc::{AllocError, Global};
-use store_cmd::{Command, Entry, Reply};
+use store_cmd::{Command, Reply};
 
 /// Gives a pair another key: the one that the command of a store has in the place of its value.
 ///
@@ -81,29 +82,6 @@ fn store_anew(
     }
     let _gone = answer_command(alloc, image, Command::Delete { key })?;
     Ok((text, 0))
-}
-
-// The value that an answer tells, or else the answer.
-fn value_of(answer: Answer<Global>) -> Result<Bytes<Global>, Answer<Global>>
-    ensures ok { IfOk result (λ value. value_in answer ≡ Some value) }
-    ensures err { IfErr result (λ other. (other ≡ answer) × (value_in answer ≡ None)) }
-{
-    let Answer::Replied(entry) = answer else {
-        return Err(answer);
-    };
-    let Entry {
-        session,
-        command,
-        reply,
-    } = entry;
-    match reply {
-        Reply::Found(value) => Ok(value),
-        reply => Err(Answer::Replied(Entry {
-            session,
-            command,
-            reply,
-        })),
-    }
 }
 
 // Whether an answer is that a pair was stored.

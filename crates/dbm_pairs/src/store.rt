@@ -1,24 +1,28 @@
 //! `store`: a pair in place of the old one, or with `--insert` only where its key is not there.
-ghost use Rattle.std.specs.Prelude.{◌≡◌, IfOk, IfSome, IsNone, false};
+ghost use Rattle.std.specs.Prelude.{◌≡◌, IfErr, IfOk, IfSome, IsNone, None, false, is_some, true};
 ghost use Rattle.clap.specs.Words.{found_of, rows_of};
 ghost use Rattle.dbm_words.specs.CommandLine.{IsSubcommand};
 ghost use Rattle.dbm_words.specs.Given.{has_words};
 ghost use Rattle.dbm_pairs.specs.Store as spec;
-ghost use Rattle.dbm_pairs.specs.Store.{StoreAsks};
+ghost use Rattle.dbm_pairs.specs.Store.{StoreAsks, store_by, takes_input, with_value};
+ghost use Rattle.dbm_reports.specs.Causes.{IsCaused};
 ghost use Rattle.dbm_pairs.specs.Commands.{store_name};
 
-use crate::command::command_on;
+use crate::command::{command_on, named_key};
 use clap::{ArgMatches, Command};
-use dbm_reports::{Given, Report, ReportFault, Subcommand, change};
+use dbm_reports::{Given, Report, ReportFault, Subcommand, change, read_input, word_asked};
 use dbm_script::Notation;
 use dbm_words::arguments::{
-    base, flag, key, layout, must_exist, required_word, text, timeout, unsigned, verbose, wide,
+    base, flag, key, layout, must_exist, raw_key, required_word, text, timeout, unsigned, verbose,
+    wide,
 };
 use dbm_words::{
     Form, Named, NotationOptions, Words, aliased_subcommand, form, has_flag, notation, word,
 };
+use sdbm_addr::Bytes;
 use std::alloc::{AllocError, Global};
 use std::io::Read;
+use store_cmd::Command as Asked;
 
 /// A pair is to be stored, with `insert` only where its key is not there.
 #[derive(Clone, Copy, Debug)]
@@ -29,6 +33,10 @@ pub struct Store<'a> {
     pub key: &'a str,
     pub value: &'a str,
     pub insert: bool,
+    /// The bytes of the key are those of its word.
+    pub raw_key: bool,
+    /// The bytes of the value are those of its word.
+    pub raw_value: bool,
 }
 
 impl<'a> Store<'a> {
@@ -44,23 +52,30 @@ impl<'a> Store<'a> {
             key: word(matches, "KEY")?,
             value: word(matches, "VALUE")?,
             insert: has_flag(matches, "insert"),
+            raw_key: has_flag(matches, "raw-key"),
+            raw_value: has_flag(matches, "raw-value"),
         })
     }
 
     /// Its words, as sentences show them.
     pub fn words(&self) -> Words<'a> {
         Words {
-            first: Some(Named {
-                name: "KEY",
-                word: self.key,
-            }),
-            second: Some(Named {
-                name: "VALUE",
-                word: self.value,
-            }),
+            first: named_key(self.key, self.raw_key),
+            second: self.named_value(),
             layout: self.notation.layout,
             ..Words::on(Some(self.base), self.form)
         }
+    }
+
+    // The word for its value, as sentences show it.
+    fn named_value(&self) -> Option<Named<'a>> {
+        if self.raw_value {
+            return None;
+        }
+        Some(Named {
+            name: "VALUE",
+            word: self.value,
+        })
     }
 }
 
@@ -81,11 +96,18 @@ pub fn store_command<'a>(alloc: Global) -> Result<Command<'a>, AllocError>
         "insert",
         "Change nothing where the key is there, and print exists",
     );
+    let raw_value = flag(
+        alloc,
+        "raw-value",
+        "The bytes of VALUE are those of the word itself, without escapes or numbers; - for standard input",
+    );
     let args = vec![in alloc;
         base(alloc),
         key(alloc),
         value,
         insert,
+        raw_key(alloc),
+        raw_value,
         text(alloc),
         layout(alloc),
         unsigned(alloc),
@@ -104,30 +126,30 @@ pub fn store_command<'a>(alloc: Global) -> Result<Command<'a>, AllocError>
 
 impl Subcommand for Store<'_> {
     ghost use Rattle.std.specs.Prelude.{false, true};
-    ghost use Rattle.dbm_pairs.specs.Store.{store_in};
+    ghost use Rattle.dbm_pairs.specs.Store.{store_in, takes_input};
     ghost use Rattle.dbm_reports.specs.Causes.{IsCaused};
 
     type Fault = ReportFault;
 
-    ghost reports = { λ store n given input report. (store_in n store given).reports report };
+    ghost reports = { λ store n given input report. (store_in n store given input).reports report };
 
-    ghost causes = { λ store n given input fault. IsCaused (store_in n store given).causes fault };
+    ghost causes = { λ store n given input fault. IsCaused (store_in n store given input).causes fault };
 
     ghost writes = { λ store. true };
 
-    ghost reads = { λ store. false };
+    ghost reads = { λ store. takes_input store };
 
     fn report<R: Read>(
         &self,
         alloc: Global,
         notation: &Notation<Global>,
         given: &Given,
-        _reader: &mut R,
+        reader: &mut R,
     ) -> Result<Report, ReportFault> {
-        let name = store_name(self.insert);
-        let args = [self.key.as_bytes(), self.value.as_bytes()];
-        let (image, command) = command_on(alloc, notation, given, self.form, name, &args)?;
-        Ok(change(alloc, notation, image, command, None)?)
+        if takes_input(self) {
+            return store_input(alloc, notation, given, self, reader);
+        }
+        store_word(alloc, notation, given, self)
     }
 }
 
@@ -136,4 +158,59 @@ pub fn store_name(insert: bool) -> &'static [u8]
     ensures { result.now ≡ store_name insert }
 {
     if insert { b"insert" } else { b"replace" }
+}
+
+// A store of the word for its value.
+fn store_word(
+    alloc: Global,
+    notation: &Notation<Global>,
+    given: &Given,
+    store: &Store<'_>,
+) -> Result<Report, ReportFault>
+    ensures ok { IfOk result (λ report. (store_by false notation.now store.now given.now None).reports report) }
+    ensures fault { IfErr result (IsCaused (store_by false notation.now store.now given.now None).causes) }
+    ensures database { IfOk result (λ report. is_some report.database ≡ true) }
+{
+    let key = word_asked(alloc, notation, store.key, store.raw_key)?;
+    let value = word_asked(alloc, notation, store.value, store.raw_value)?;
+    let (name, args) = (store_name(store.insert), [key.as_slice(), value.as_slice()]);
+    let (image, command) = command_on(alloc, notation, given, store.form, name, &args)?;
+    Ok(change(alloc, notation, image, command, None)?)
+}
+
+// A store of all of standard input, which is read behind the words and the files.
+fn store_input<R: Read>(
+    alloc: Global,
+    notation: &Notation<Global>,
+    given: &Given,
+    store: &Store<'_>,
+    reader: &mut R,
+) -> Result<Report, ReportFault>
+    ensures ok { IfOk result (λ report. (store_by true notation.now store.now given.now (R.remaining reader.old)).reports report) }
+    ensures fault { IfErr result (IsCaused (store_by true notation.now store.now given.now (R.remaining reader.old)).causes) }
+    ensures database { IfOk result (λ report. is_some report.database ≡ true) }
+{
+    let key = word_asked(alloc, notation, store.key, store.raw_key)?;
+    let (name, args) = (store_name(store.insert), [key.as_slice(), b".".as_slice()]);
+    let (image, command) = command_on(alloc, notation, given, store.form, name, &args)?;
+    let value = Bytes::new(read_input(alloc, reader)?);
+    let command = with_value(command, value);
+    Ok(change(alloc, notation, image, command, None)?)
+}
+
+// Whether the value is all of standard input.
+fn takes_input(store: &Store<'_>) -> bool
+    ensures { result ≡ takes_input store.now }
+{
+    store.raw_value && store.value == "-"
+}
+
+// A store of another value.
+fn with_value(command: Asked<Global>, value: Bytes<Global>) -> Asked<Global>
+    ensures { result ≡ with_value value command }
+{
+    match command {
+        Asked::Store { key, mode, .. } => Asked::Store { key, value, mode },
+        other => other,
+    }
 }

@@ -1,5 +1,6 @@
 pub mod Databases
 pub mod Notations
+pub mod Words
 pub mod Causes
 pub mod Reports
 pub mod Known

@@ -10,6 +10,7 @@ mod program_file;
 mod report;
 mod serving;
 mod subcommand;
+mod words;
 
 pub use databases::{Given, PAG_LIMIT, is_too_long, key_bytes_of, open, page_size_of};
 pub use fault::{ReportFault, bad_words};
@@ -19,3 +20,4 @@ pub use program_file::{file_image, refused, text_image};
 pub use report::{NOT_RUN, Report, answer_status, change, look, printed, show_ok, shown};
 pub use serving::{Served, Unserved, serve, write_report};
 pub use subcommand::Subcommand;
+pub use words::word_asked;

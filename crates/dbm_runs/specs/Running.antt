@@ -12,7 +12,6 @@ use Rattle.dbm_script.specs.Images.{Denies}
 use Rattle.dbm_words.specs.declared.options.Form.{Form}
 use Rattle.dbm_reports.specs.declared.report.Report.{Report}
 use Rattle.dbm_reports.specs.declared.databases.Given.{Given}
-use Rattle.dbm_runs.specs.declared.run.RunTexts.{RunTexts}
 use Rattle.dbm_script.specs.declared.run_words.RunWords.{RunWords}
 use Rattle.dbm_reports.specs.Databases.{IsOpened, IsShut, Opens}
 use Rattle.dbm_script.specs.Notation.{reads_hex}
@@ -21,6 +20,14 @@ use Rattle.dbm_script.specs.Numbers.{number_of}
 use Rattle.dbm_reports.specs.Reports.{Changes, IsFileImage, Refuses}
 use Rattle.dbm_reports.specs.Causes.{Causes, no_causes, file_causes}
 
+-- the words of a run, and the code with which it is to end, as they were given
+pub record RunTexts : Type 0 where
+  pub key : List ℕ
+  pub arg : List ℕ
+  pub blank : List ℕ
+  pub now : List ℕ
+  pub expect : Option (Bor (List ℕ))
+
 -- the code with which a run is to end, where there is one
 abbrev pub expected_code : Option (Bor (List ℕ)) → Option (Option ℕ)
 expected_code None = Some None
@@ -28,7 +35,7 @@ expected_code (Some text) = option_map Some (number_of 18446744073709551615 text
 
 -- what the words of a run mean
 abbrev pub run_asked : Notation Global → RunTexts → Option (RunWords Global)
-run_asked notation texts = run_words_of notation texts.key.now texts.arg.now texts.blank.now texts.now.now
+run_asked notation texts = run_words_of notation texts.key texts.arg texts.blank texts.now
 
 -- what they mean, and the code with which it is to end
 abbrev pub AreRunWords : Notation Global → RunTexts → RunWords Global → Option ℕ → Type 0
@@ -43,9 +50,9 @@ HasBadCode notation texts = IsSome (run_asked notation texts) × (expected_code 
 
 abbrev pub word_causes : Notation Global → RunTexts → Causes
 word_causes notation texts = record no_causes {
-  words = (reads_hex notation ≡ true) × HasBadBytes notation texts.key.now texts.arg.now;
-  texts = (reads_hex notation ≡ false) × HasBadBytes notation texts.key.now texts.arg.now;
-  numbers = HasBadNumber notation texts.key.now texts.arg.now texts.blank.now texts.now.now ⊎ HasBadCode notation texts;
+  words = (reads_hex notation ≡ true) × HasBadBytes notation texts.key texts.arg;
+  texts = (reads_hex notation ≡ false) × HasBadBytes notation texts.key texts.arg;
+  numbers = HasBadNumber notation texts.key texts.arg texts.blank texts.now ⊎ HasBadCode notation texts;
 }
 
 -- the files of a database, and then a program's file

@@ -6,15 +6,15 @@ ghost use Rattle.dbm_words.specs.Given.{has_words};
 ghost use Rattle.dbm_runs.specs.Run as spec;
 ghost use Rattle.dbm_runs.specs.Run.{RunAsks};
 ghost use Rattle.dbm_reports.specs.Causes.{IsCaused};
-ghost use Rattle.dbm_runs.specs.Run.{texts_of};
+ghost use Rattle.dbm_runs.specs.Run.{texts_by};
 ghost use Rattle.dbm_runs.specs.Running.{AreRunWords, expected_code, word_causes};
 
 use crate::running::{database_and_image, run_image};
 use clap::{ArgMatches, Command};
-use dbm_reports::{Given, Report, ReportFault, Subcommand};
+use dbm_reports::{Given, Report, ReportFault, Subcommand, word_asked};
 use dbm_script::{Notation, RunWords, read_number, read_run_words};
 use dbm_words::arguments::{
-    base, file, image, key, layout, must_exist, required_word, text, timeout, unsigned,
+    base, file, image, key, layout, must_exist, raw_key, required_word, text, timeout, unsigned,
     valued_option, verbose, wide,
 };
 use dbm_words::{
@@ -37,6 +37,8 @@ pub struct Run<'a> {
     pub now: &'a str,
     pub expect: Option<&'a str>,
     pub image: bool,
+    /// The bytes of the key are those of its word.
+    pub raw_key: bool,
 }
 
 impl<'a> Run<'a> {
@@ -56,6 +58,7 @@ impl<'a> Run<'a> {
             now: word(matches, "NOW")?,
             expect: word(matches, "expect"),
             image: has_flag(matches, "image"),
+            raw_key: has_flag(matches, "raw-key"),
         })
     }
 
@@ -64,10 +67,7 @@ impl<'a> Run<'a> {
         Words {
             file: Some(self.file),
             image: self.image,
-            first: Some(Named {
-                name: "KEY",
-                word: self.key,
-            }),
+            first: self.named_key(),
             second: Some(Named {
                 name: "ARG",
                 word: self.arg,
@@ -81,6 +81,17 @@ impl<'a> Run<'a> {
             },
             ..Words::on(Some(self.base), self.form)
         }
+    }
+
+    // The word for its key, as sentences show it; a raw one is always bytes.
+    fn named_key(&self) -> Option<Named<'a>> {
+        if self.raw_key {
+            return None;
+        }
+        Some(Named {
+            name: "KEY",
+            word: self.key,
+        })
     }
 }
 
@@ -117,6 +128,7 @@ pub fn run_command<'a>(alloc: Global) -> Result<Command<'a>, AllocError>
             "Let the status be 0 where the program ended with this code, 1 where with another, 3 where it did not run"
         ),
         image(alloc),
+        raw_key(alloc),
         text(alloc),
         layout(alloc),
         unsigned(alloc),
@@ -132,29 +144,6 @@ pub fn run_command<'a>(alloc: Global) -> Result<Command<'a>, AllocError>
          record, 2 deleted the pair, and any other changed nothing; WORD is what the program replied.\n\n\
          Example: dbm run users hits counter.s . 8 now --text";
     subcommand(alloc, "run", about, notes, args)
-}
-
-/// The words of a run, and the code with which it is to end, as they were given.
-#[derive(Clone, Copy)]
-pub struct RunTexts<'a> {
-    pub key: &'a str,
-    pub arg: &'a str,
-    pub blank: &'a str,
-    pub now: &'a str,
-    pub expect: Option<&'a str>,
-}
-
-// The words of a run.
-fn texts_of<'a>(run: Run<'a>) -> RunTexts<'a>
-    ensures { result ≡ texts_of run.entry }
-{
-    RunTexts {
-        key: run.key,
-        arg: run.arg,
-        blank: run.blank,
-        now: run.now,
-        expect: run.expect,
-    }
 }
 
 // The database is written after the run. Where the program gets no number, the report says why, as a line of a script would that
@@ -181,7 +170,8 @@ impl Subcommand for Run<'_> {
         given: &Given,
         _reader: &mut R,
     ) -> Result<Report, ReportFault> {
-        let (words, expect) = run_words(alloc, notation, texts_of(*self))?;
+        let key = word_asked(alloc, notation, self.key, self.raw_key)?;
+        let (words, expect) = run_words(alloc, notation, key.as_slice(), *self)?;
         let (database, image) = database_and_image(alloc, given, self.form, self.image)?;
         Ok(run_image(alloc, notation, database, image.as_slice(), words, expect)?)
     }
@@ -191,15 +181,16 @@ impl Subcommand for Run<'_> {
 fn run_words(
     alloc: Global,
     notation: &Notation<Global>,
-    texts: RunTexts<'_>,
+    key: &[u8],
+    run: Run<'_>,
 ) -> Result<(RunWords<Global>, Option<u64>), ReportFault>
-    ensures ok { IfOk result (λ r. AreRunWords notation.now texts.entry r.0 r.1) }
-    ensures fault { IfErr result (IsCaused (word_causes notation.now texts.entry)) }
+    ensures ok { IfOk result (λ r. AreRunWords notation.now (texts_by key.now run.entry) r.0 r.1) }
+    ensures fault { IfErr result (IsCaused (word_causes notation.now (texts_by key.now run.entry))) }
 {
-    let (key, arg) = (texts.key.as_bytes(), texts.arg.as_bytes());
-    let (blank, now) = (texts.blank.as_bytes(), texts.now.as_bytes());
+    let arg = run.arg.as_bytes();
+    let (blank, now) = (run.blank.as_bytes(), run.now.as_bytes());
     let words = read_run_words(alloc, notation, key, arg, blank, now)?;
-    match expected_code(texts.expect) {
+    match expected_code(run.expect) {
         Some(expect) => Ok((words, expect)),
         None => Err(ReportFault::BadNumber),
     }

@@ -1,5 +1,8 @@
 -- Scripts on a database: their answers, and why there are none.
-use Rattle.std.specs.Prelude.{◌≡◌, ℕ, ◌≤◌, List, length, Option, Some, None, IfSome, ⊤}
+use Rattle.std.specs.Prelude.{◌≡◌, ◌⊎◌, ℕ, ◌≤◌, Bool, true, false, List, [], ◌∷◌, length, Option, Some, None, IfSome, is_none, ⊤}
+use Rattle.std.specs.List.{list_any}
+use Rattle.dbm_script.specs.Lines.{ask_of}
+use Rattle.dbm_script.specs.Pieces.{pieces_of}
 use Rattle.std.specs.Borrow.{Bor}
 use Rattle.std.specs.declared.alloc.Global.{Global}
 use Rattle.sdbm_addr.specs.Database.{Database, empty_database}
@@ -20,14 +23,35 @@ pub record Plays (notation : Notation Global) (before : Database) (input : Optio
   pub size : after.size ≡ before.size
   pub status_is : report.status ≡ 0
 
+-- a line that is neither empty nor asks anything, and a script that has one
+abbrev pub is_bad_line : Notation Global → List ℕ → Bool
+is_bad_line notation [] = false
+is_bad_line notation (c ∷ cs) = is_none (ask_of notation (pieces_of 32 (c ∷ cs)))
+
+abbrev pub has_bad_line : Notation Global → List ℕ → Bool
+has_bad_line notation input = list_any (is_bad_line notation) (pieces_of 10 input)
+
+-- nothing is printed, the database is as it was, and the status is 1
+pub record IsBarred (before after : Database) (report : Report) : Type 0 where
+  pub text_is : report.text.items ≡ []
+  pub same : after ≡ before
+  pub status_is : report.status ≡ 1
+
+-- a script as it is asked: a strict one is not run where it has a bad line
+abbrev pub PlaysAs : Bool → Notation Global → Database → Option (List ℕ) → ℕ → Database → Report → Type 0
+PlaysAs false notation before input most after report = Plays notation before input most after report
+PlaysAs true notation before input most after report =
+    (IfSome input (λ bytes. has_bad_line notation bytes ≡ false) × Plays notation before input most after report)
+    ⊎ (IfSome input (λ bytes. has_bad_line notation bytes ≡ true) × IsBarred before after report)
+
 -- on an empty database, which is not kept
-abbrev pub PlaysAlone : Notation Global → Form → Option (List ℕ) → ℕ → Report → Type 0
-PlaysAlone notation form input most report =
-    (after : Database) × (Plays notation (empty_database (key_bytes_of form.unsigned) (page_size_of form.wide)) input most after report × (report.database ≡ None))
+abbrev pub PlaysAlone : Bool → Notation Global → Form → Option (List ℕ) → ℕ → Report → Type 0
+PlaysAlone strict notation form input most report =
+    (after : Database) × (PlaysAs strict notation (empty_database (key_bytes_of form.unsigned) (page_size_of form.wide)) input most after report × (report.database ≡ None))
 
 -- on a database, which is written after it
-abbrev pub PlaysOn : Notation Global → Option (List ℕ) → ℕ → Report → Database → Type 0
-PlaysOn notation input most report before = (after : Database) × (Plays notation before input most after report × (report.database ≡ Some after))
+abbrev pub PlaysOn : Bool → Notation Global → Option (List ℕ) → ℕ → Report → Database → Type 0
+PlaysOn strict notation input most report before = (after : Database) × (PlaysAs strict notation before input most after report × (report.database ≡ Some after))
 
 -- how many bytes the answers to a script have at most: without the option as many as can be counted
 abbrev pub output_limit : Option (Bor (List ℕ)) → Option ℕ

@@ -3,6 +3,7 @@
 
 mod playing;
 mod script;
+mod strict;
 mod widen;
 
 pub use script::{Script, script_command};

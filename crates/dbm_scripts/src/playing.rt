@@ -1,18 +1,20 @@
 //! A script on a database.
-ghost use Rattle.std.specs.Prelude.{◌≡◌, Some, IfOk, IfErr};
+ghost use Rattle.std.specs.Prelude.{◌≡◌, Some, IfOk, IfErr, true};
 ghost use Rattle.sdbm_addr.specs.Database.{Database};
 ghost use Rattle.dbm_reports.specs.Causes.{IsCaused};
 ghost use Rattle.dbm_reports.specs.Reports.{OnDatabase};
-ghost use Rattle.dbm_scripts.specs.Playing.{Plays, PlaysAlone, PlaysOn, alone_causes, output_limit, play_causes, script_causes};
+ghost use Rattle.dbm_scripts.specs.Playing.{Plays, PlaysAs, PlaysAlone, PlaysOn, alone_causes, output_limit, play_causes, script_causes};
 
-use dbm_reports::{
-    Given, Report, ReportFault, key_bytes_of, open, page_size_of, printed, read_input,
-};
+use crate::strict::has_bad_line;
+use dbm_reports::{Given, Report, ReportFault, key_bytes_of, open, page_size_of, read_input};
 use dbm_script::{Notation, read_number, run_lines};
 use dbm_words::Form;
 use sdbm_files::Image;
 use std::alloc::Global;
 use std::io::Read;
+
+/// The status of a strict script that is not run.
+const BARRED: u8 = 1;
 
 /// How many bytes the answers to a script have at most, by the option: as many as can be counted where it is not given, and none where
 /// it is no number.
@@ -34,15 +36,27 @@ pub fn report_alone<R: Read>(
     notation: &Notation<Global>,
     form: Form,
     most: u64,
+    strict: bool,
     reader: &mut R,
 ) -> Result<Report, ReportFault>
-    ensures ok { IfOk result (PlaysAlone notation.now form (R.remaining reader.old) most) }
+    ensures ok { IfOk result (PlaysAlone strict notation.now form (R.remaining reader.old) most) }
     ensures fault { IfErr result (IsCaused (alone_causes notation.now form (R.remaining reader.old) most)) }
 {
     let image = Image::empty(alloc, key_bytes_of(form), page_size_of(form));
     let script = read_input(alloc, reader)?;
-    let Report { text, .. } = play(alloc, notation, image, script.as_slice(), most)?;
-    Ok(printed(text))
+    let Report { text, status, .. } = play_as(
+        alloc,
+        notation,
+        image,
+        script.as_slice(),
+        most,
+        strict,
+    )?;
+    Ok(Report {
+        text,
+        status,
+        database: None,
+    })
 }
 
 /// A script on the database of the files.
@@ -55,14 +69,55 @@ pub fn report_played<R: Read>(
     given: &Given,
     form: Form,
     most: u64,
+    strict: bool,
     reader: &mut R,
 ) -> Result<Report, ReportFault>
-    ensures ok { IfOk result (λ report. OnDatabase form given.now (PlaysOn notation.now (R.remaining reader.old) most report)) }
+    ensures ok { IfOk result (λ report. OnDatabase form given.now (PlaysOn strict notation.now (R.remaining reader.old) most report)) }
     ensures fault { IfErr result (IsCaused (script_causes notation.now form given.now (R.remaining reader.old) most)) }
 {
     let image = open(alloc, given, form)?;
     let script = read_input(alloc, reader)?;
-    play(alloc, notation, image, script.as_slice(), most)
+    play_as(alloc, notation, image, script.as_slice(), most, strict)
+}
+
+// What comes of a script: a strict one is not run where a line of it asks nothing.
+fn play_as(
+    alloc: Global,
+    notation: &Notation<Global>,
+    image: Image<Global>,
+    script: &[u8],
+    most: u64,
+    strict: bool,
+) -> Result<Report, ReportFault>
+    ensures ok { IfOk result (λ report. (after : Database) × (PlaysAs strict notation.now image (Some script.now) most after report × (report.database ≡ Some after))) }
+    ensures fault { IfErr result (IsCaused (play_causes notation.now image (Some script.now) most)) }
+{
+    if strict {
+        return play_strictly(alloc, notation, image, script, most);
+    }
+    play(alloc, notation, image, script, most)
+}
+
+// What comes of a strict script.
+fn play_strictly(
+    alloc: Global,
+    notation: &Notation<Global>,
+    image: Image<Global>,
+    script: &[u8],
+    most: u64,
+) -> Result<Report, ReportFault>
+    ensures ok { IfOk result (λ report. (after : Database) × (PlaysAs true notation.now image (Some script.now) most after report × (report.database ≡ Some after))) }
+    ensures fault { IfErr result (IsCaused (play_causes notation.now image (Some script.now) most)) }
+{
+    let bad = has_bad_line(alloc, notation, script)?;
+    if bad {
+        return Ok(Report {
+            text: Vec::new(alloc),
+            status: BARRED,
+            database: Some(image),
+        });
+    }
+    play(alloc, notation, image, script, most)
 }
 
 // The answers to a script, which are to have at most so many bytes, and the database after it, which is to be written.

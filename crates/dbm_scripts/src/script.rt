@@ -11,9 +11,11 @@ use clap::{ArgMatches, Command};
 use dbm_reports::{Given, Report, ReportFault, Subcommand};
 use dbm_script::Notation;
 use dbm_words::arguments::{
-    layout, must_exist, text, timeout, unsigned, valued_option, verbose, wide,
+    flag, layout, must_exist, text, timeout, unsigned, valued_option, verbose, wide,
 };
-use dbm_words::{Form, NotationOptions, Numbers, Words, form, notation, subcommand, word};
+use dbm_words::{
+    Form, NotationOptions, Numbers, Words, form, has_flag, notation, subcommand, word,
+};
 use std::alloc::{AllocError, Global};
 use std::io::Read;
 
@@ -25,6 +27,8 @@ pub struct Script<'a> {
     pub form: Form,
     pub notation: NotationOptions<'a>,
     pub max_output: Option<&'a str>,
+    /// It is not run where a line of it asks nothing.
+    pub strict: bool,
 }
 
 impl<'a> Script<'a> {
@@ -38,6 +42,7 @@ impl<'a> Script<'a> {
             max_output: word(matches, "max-output"),
             form: form(matches),
             notation: notation(matches),
+            strict: has_flag(matches, "strict"),
         })
     }
 
@@ -63,9 +68,12 @@ pub fn script_command<'a>(alloc: Global) -> Result<Command<'a>, AllocError>
 {
     let help = "The database in BASE.dir and BASE.pag; without it, an empty one that is not kept";
     let limit = "Be refused, with nothing printed or kept, where the answers have more bytes";
+    let strict =
+        "Run nothing where a line asks nothing: the status is then 1, and standard error has the line";
     let args = vec![in alloc;
         valued_option(alloc, "base", "BASE", help),
         valued_option(alloc, "max-output", "BYTES", limit),
+        flag(alloc, "strict", strict),
         text(alloc),
         layout(alloc),
         unsigned(alloc),
@@ -111,8 +119,8 @@ impl Subcommand for Script<'_> {
             return Err(ReportFault::BadNumber);
         };
         match self.base {
-            None => report_alone(alloc, notation, self.form, most, reader),
-            Some(_) => report_played(alloc, notation, given, self.form, most, reader),
+            None => report_alone(alloc, notation, self.form, most, self.strict, reader),
+            Some(_) => report_played(alloc, notation, given, self.form, most, self.strict, reader),
         }
     }
 }

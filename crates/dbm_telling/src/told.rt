@@ -12,4 +12,6 @@ pub struct Told<'a> {
     pub words: Words<'a>,
     /// How its bytes are written.
     pub notation: NotationOptions<'a>,
+    /// It is a script that is not run where a line of it asks nothing.
+    pub strict: bool,
 }

@@ -11,7 +11,7 @@ use Rattle.dbm_reports.specs.declared.report.Report.{Report}
 use Rattle.dbm_reports.specs.Known.{Known, layout_causes}
 use Rattle.dbm_reports.specs.Notations.{notation_by}
 use Rattle.dbm_pairs.specs.Fetch.{fetch_in}
-use Rattle.dbm_pairs.specs.Store.{store_in}
+use Rattle.dbm_pairs.specs.Store.{store_in, takes_input}
 use Rattle.dbm_pairs.specs.Delete.{delete_in}
 use Rattle.dbm_pairs.specs.Rename.{rename_in}
 use Rattle.dbm_runs.specs.Run.{run_in}
@@ -50,7 +50,7 @@ batch_in n batch given input = record {
 -- What is known of a wish by its notation, the bytes of its files and of what is read.
 abbrev pub service_in : Notation Global → Wish → Given → Option (List ℕ) → Service
 service_in n (wish.Fetch fetch) given input = reporting (fetch_in n fetch given)
-service_in n (wish.Store store) given input = reporting (store_in n store given)
+service_in n (wish.Store store) given input = reporting (store_in n store given input)
 service_in n (wish.Delete delete) given input = reporting (delete_in n delete given)
 service_in n (wish.Rename rename) given input = reporting (rename_in n rename given)
 service_in n (wish.Run run) given input = reporting (run_in n run given)
@@ -81,8 +81,9 @@ noted (Some n) known = known n
 abbrev pub service_for : Wish → Given → Option (List ℕ) → Service
 service_for wish given input = noted (notation_for wish) (λ n. service_in n wish given input)
 
--- a script and a batch alone read
+-- a script and a batch read, and a store whose value is standard input
 abbrev pub reads_input : Wish → Bool
 reads_input (wish.Batch batch) = true
 reads_input (wish.Script script) = true
+reads_input (wish.Store store) = takes_input store
 reads_input _ = false

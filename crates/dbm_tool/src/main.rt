@@ -110,7 +110,8 @@ fn note<R: Runtime<File = File> + AllocGlobal, I: Read>(
     if let Some(refusal) = &input.refusal {
         note_refusal(rt, told, refusal.as_str());
     }
-    if input.has_bad_line
+    // A strict script that is not run answers nothing.
+    if (input.has_bad_line || told.strict)
         && let Some(note) = note_of_bad_lines(rt.alloc(), told.notation, input.text())
     {
         note_that(rt, note);

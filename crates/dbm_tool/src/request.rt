@@ -52,5 +52,6 @@ pub fn told_of<'a>(request: &Request<'a>) -> Told<'a> {
             ..words
         },
         notation: wish.notation(),
+        strict: matches!(wish, Wish::Script(script) if script.strict),
     }
 }

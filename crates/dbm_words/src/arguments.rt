@@ -61,6 +61,18 @@ pub fn key<'a>(alloc: Global) -> Arg<'a>
     )
 }
 
+/// The option for a key that is taken as it is.
+pub fn raw_key<'a>(alloc: Global) -> Arg<'a>
+    ensures rule { rule_of result ≡ spec.flag (codes "raw-key") }
+    ensures local { result.global ≡ false }
+{
+    flag(
+        alloc,
+        "raw-key",
+        "The bytes of KEY are those of the word itself, without escapes or numbers",
+    )
+}
+
 /// The word that names a program's file.
 pub fn file<'a>(alloc: Global, help: &'a str) -> Arg<'a>
     ensures rule { rule_of result ≡ spec.required_word (codes "FILE") }

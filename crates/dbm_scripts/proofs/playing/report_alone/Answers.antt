@@ -1,12 +1,11 @@
-use Rattle.std.proofs.Common.{Some, ap, subst, ◌∙◌}
+use Rattle.std.proofs.Common.{None, Some, ap, refl, subst, ◌∙◌}
 use Rattle.sdbm_addr.specs.declared.KeyBytes.{KeyBytes}
 use Rattle.sdbm_addr.specs.Database.{Database, empty_database}
 use Rattle.dbm_reports.specs.Causes.{IsCaused}
-use Rattle.dbm_scripts.specs.Playing.{IsOverlong, alone_causes}
-use Rattle.dbm_scripts.specs.Playing.{Plays}
+use Rattle.dbm_scripts.specs.Playing.{IsOverlong, PlaysAs, alone_causes}
 use Rattle.dbm_scripts.proofs.Faults.{alone_fault, played_fault}
 use Rattle.dbm_reports.proofs.Faults.{as_err}
-use Rattle.dbm_scripts.proofs.Played.{overlong_known, plays_known, plays_text}
+use Rattle.dbm_scripts.proofs.Played.{asked_known, asked_text, overlong_known}
 use Rattle.dbm_scripts.proofs.playing.report_alone.Goals as goal
 
 pub returns-in_err-script-clause-fault : goal.returns-in_err-script-clause-fault
@@ -31,12 +30,11 @@ returns-clause-ok g c =
     let known = g.R.Read.remaining c.args.reader.now in
     let empty = c.empty-image.ensures ∙ ap (λ (kind : KeyBytes). empty_database kind c.page_size_of.result) c.key_bytes_of.ensures
     ∙ ap (empty_database _) c.page_size_of.ensures in
-    let here = plays_known c.args.notation.now c.empty-image.result known c.as_slice.result.now c.args.most played.0 c.in_ok-text.field-0 (rw c.as_slice.ensures.value c.in_ok-script.ensures.ok) played.1.0 in
-    let text = ap (λ v. v.items) c.printed.ensures.text in (
+    let here = asked_known c.args.strict c.args.notation.now c.empty-image.result known c.as_slice.result.now c.args.most played.0 c.in_ok-text.field-0 (rw c.as_slice.ensures.value c.in_ok-script.ensures.ok) played.1.0 in (
       played.0,
       (
-        subst (λ (db : Database). Plays c.args.notation.now db known c.args.most played.0 c.printed.result) empty
-            (plays_text c.args.notation.now c.empty-image.result known c.args.most played.0 c.in_ok-text.field-0 c.printed.result text c.printed.ensures.status here),
-        c.printed.ensures.database,
+        subst (λ (db : Database). PlaysAs c.args.strict c.args.notation.now db known c.args.most played.0 (record { text = c.in_ok-text.field-0.text; status = c.in_ok-text.field-0.status; database = None })) empty
+            (asked_text c.args.strict c.args.notation.now c.empty-image.result known c.args.most played.0 c.in_ok-text.field-0 (record { text = c.in_ok-text.field-0.text; status = c.in_ok-text.field-0.status; database = None }) refl refl here),
+        refl,
       ),
     )

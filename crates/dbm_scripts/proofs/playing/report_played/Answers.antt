@@ -4,7 +4,7 @@ use Rattle.dbm_reports.specs.Causes.{IsCaused}
 use Rattle.dbm_scripts.specs.Playing.{script_causes}
 use Rattle.dbm_reports.proofs.Faults.{as_err}
 use Rattle.dbm_scripts.proofs.Faults.{input_fault, played_fault}
-use Rattle.dbm_scripts.proofs.Played.{overlong_known, plays_known}
+use Rattle.dbm_scripts.proofs.Played.{asked_known, overlong_known}
 use Rattle.dbm_scripts.proofs.playing.report_played.Goals as goal
 
 pub returns-in_err-script-clause-fault : goal.returns-in_err-script-clause-fault
@@ -14,21 +14,21 @@ returns-in_err-script-clause-fault g c =
 
 pub returns-clause-ok : goal.returns-clause-ok
 returns-clause-ok g c =
-    IfOk-weaker c.play.result _ _
+    IfOk-weaker c.play_as.result _ _
     (λ report played. (
       c.in_ok-image.image,
       (
         c.in_ok-image.ensures.ok,
-        (played.0, (plays_known c.args.notation.now c.in_ok-image.image _ c.as_slice.result.now c.args.most played.0 report (rw c.as_slice.ensures.value c.in_ok-script.ensures.ok) played.1.0, played.1.1)),
+        (played.0, (asked_known c.args.strict c.args.notation.now c.in_ok-image.image _ c.as_slice.result.now c.args.most played.0 report (rw c.as_slice.ensures.value c.in_ok-script.ensures.ok) played.1.0, played.1.1)),
       ),
     ))
-    c.play.ensures.ok
+    c.play_as.ensures.ok
 
 pub returns-clause-fault : goal.returns-clause-fault
 returns-clause-fault g c =
-    IfErr-weaker c.play.result _ _
+    IfErr-weaker c.play_as.result _ _
     (λ fault h.
     played_fault (script_causes c.args.notation.now c.args.form c.args.given.now (g.R.Read.remaining c.args.reader.now) c.args.most) c.args.notation.now c.in_ok-image.image (Some c.as_slice.result.now) c.args.most fault
     (λ long. (c.in_ok-image.image, (c.in_ok-image.ensures.ok, overlong_known c.args.notation.now c.in_ok-image.image _ c.as_slice.result.now c.args.most (rw c.as_slice.ensures.value c.in_ok-script.ensures.ok) long)))
     h)
-    c.play.ensures.fault
+    c.play_as.ensures.fault

@@ -20,7 +20,7 @@ pub returns-in-Fetch : goal.returns-in-Fetch
 returns-in-Fetch g c = rw (c.in-Fetch.is) (reported (fetch_in c.args.n.now c.in-Fetch.fetch c.args.given.now) _ _ _ _ _ _ c.serve.result c.outcome_of.result c.outcome_of.ensures c.serve.ensures.ok c.serve.ensures.fault c.serve.ensures.database c.serve.ensures.unread)
 
 pub returns-in-Store : goal.returns-in-Store
-returns-in-Store g c = rw (c.in-Store.is) (reported (store_in c.args.n.now c.in-Store.store c.args.given.now) _ _ _ _ _ _ c.serve-in-Store.result c.outcome_of-in-Store.result c.outcome_of-in-Store.ensures c.serve-in-Store.ensures.ok c.serve-in-Store.ensures.fault c.serve-in-Store.ensures.database c.serve-in-Store.ensures.unread)
+returns-in-Store g c = rw (c.in-Store.is) (reported (store_in c.args.n.now c.in-Store.store c.args.given.now (g.R.Read.remaining c.args.reader.now)) _ _ _ _ _ _ c.serve-in-Store.result c.outcome_of-in-Store.result c.outcome_of-in-Store.ensures c.serve-in-Store.ensures.ok c.serve-in-Store.ensures.fault c.serve-in-Store.ensures.database c.serve-in-Store.ensures.unread)
 
 pub returns-in-Delete : goal.returns-in-Delete
 returns-in-Delete g c = rw (c.in-Delete.is) (reported (delete_in c.args.n.now c.in-Delete.delete c.args.given.now) _ _ _ _ _ _ c.serve-in-Delete.result c.outcome_of-in-Delete.result c.outcome_of-in-Delete.ensures c.serve-in-Delete.ensures.ok c.serve-in-Delete.ensures.fault c.serve-in-Delete.ensures.database c.serve-in-Delete.ensures.unread)

@@ -1,19 +1,25 @@
-use Rattle.std.proofs.Common.{Option, ap, is_some, sym, ◌∙◌, ◌∷◌, [], List, ℕ}
-use Rattle.sdbm_addr.specs.Database.{Database}
-use Rattle.dbm_script.specs.Commands.{command_of}
+use Rattle.std.proofs.Common.{◌≡◌, IfErr, IfOk, false, rules, true}
+use Rattle.dbm_reports.specs.Causes.{IsCaused}
+use Rattle.dbm_pairs.specs.Store.{takes_input}
+use Rattle.dbm_pairs.proofs.Values.{known_by}
 use Rattle.dbm_pairs.proofs.store.StoreSubcommand.report.Goals as goal
 
-pub returns-clause-ok : goal.returns-clause-ok
-returns-clause-ok g c = record {
-  before = c.in_ok-image.image;
-  opened = c.in_ok-image.ensures.ok.0;
-  command = c.in_ok-image.command;
-  is = ap (λ (name : List ℕ). command_of c.args.notation.now (name ∷ (c.args.self.now.key.now ∷ (c.args.self.now.value.now ∷ [])))) (sym c.store_name-name.ensures)
-      ∙ ap (λ (key : List ℕ). command_of c.args.notation.now (c.store_name-name.result.now ∷ (key ∷ (c.args.self.now.value.now ∷ [])))) (sym c.as_bytes.ensures.value)
-      ∙ ap (λ (value : List ℕ). command_of c.args.notation.now (c.store_name-name.result.now ∷ (c.as_bytes.result.now ∷ (value ∷ [])))) (sym c.as_bytes-2.ensures.value)
-      ∙ c.in_ok-image.ensures.ok.1;
-  holds = c.in_ok-change.ensures;
-}
+pub returns-then-takes_input-clause-ok : goal.returns-then-takes_input-clause-ok
+returns-then-takes_input-clause-ok g c =
+    let is : takes_input c.args.self.now ≡ true = search rules in
+    known_by true c.args.notation.now c.args.self.now c.args.given.now (g.R.Read.remaining c.args.reader.now) (λ known. IfOk c.store_input.result known.reports) is c.store_input.ensures.ok
 
-pub returns-clause-database : goal.returns-clause-database
-returns-clause-database g c = ap (λ (db : Option Database). is_some db) c.in_ok-change.ensures.1.1
+pub returns-then-takes_input-clause-fault : goal.returns-then-takes_input-clause-fault
+returns-then-takes_input-clause-fault g c =
+    let is : takes_input c.args.self.now ≡ true = search rules in
+    known_by true c.args.notation.now c.args.self.now c.args.given.now (g.R.Read.remaining c.args.reader.now) (λ known. IfErr c.store_input.result (IsCaused known.causes)) is c.store_input.ensures.fault
+
+pub returns-clause-ok : goal.returns-clause-ok
+returns-clause-ok g c =
+    let is : takes_input c.args.self.now ≡ false = search rules in
+    known_by false c.args.notation.now c.args.self.now c.args.given.now (g.R.Read.remaining c.args.reader.now) (λ known. IfOk c.store_word.result known.reports) is c.store_word.ensures.ok
+
+pub returns-clause-fault : goal.returns-clause-fault
+returns-clause-fault g c =
+    let is : takes_input c.args.self.now ≡ false = search rules in
+    known_by false c.args.notation.now c.args.self.now c.args.given.now (g.R.Read.remaining c.args.reader.now) (λ known. IfErr c.store_word.result (IsCaused known.causes)) is c.store_word.ensures.fault

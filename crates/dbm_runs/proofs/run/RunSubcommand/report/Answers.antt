@@ -1,6 +1,6 @@
-use Rattle.std.proofs.Common.{subst}
+use Rattle.std.proofs.Common.{List, subst, ℕ, ◌∙◌}
+use Rattle.dbm_runs.specs.Run.{texts_by}
 use Rattle.dbm_runs.specs.Running.{AreRunWords}
-use Rattle.dbm_runs.specs.declared.run.RunTexts.{RunTexts}
 use Rattle.dbm_runs.proofs.RunFaults.{ran_on}
 use Rattle.dbm_runs.proofs.run.RunSubcommand.report.Goals as goal
 
@@ -10,11 +10,11 @@ returns-clause-ok g c = record {
   opened = c.in_ok-database.ensures.ok.0;
   words = c.in_ok-words.words;
   expect = c.in_ok-words.expect;
-  are = subst (λ (texts : RunTexts). AreRunWords c.args.notation.now texts c.in_ok-words.words c.in_ok-words.expect) c.texts_of.ensures c.in_ok-words.ensures.ok;
-  image = c.as_slice.result.now;
-  image_is = rw c.as_slice.ensures.value c.in_ok-database.ensures.ok.1;
+  are = subst (λ (key : List ℕ). AreRunWords c.args.notation.now (texts_by key c.args.self.now) c.in_ok-words.words c.in_ok-words.expect) (c.as_slice.ensures.value ∙ c.in_ok-key.ensures) c.in_ok-words.ensures.ok;
+  image = c.as_slice-2.result.now;
+  image_is = rw c.as_slice-2.ensures.value c.in_ok-database.ensures.ok.1;
   runs = c.in_ok-run_image.ensures;
 }
 
 pub returns-clause-database : goal.returns-clause-database
-returns-clause-database g c = ran_on c.args.notation.now c.in_ok-database.database c.in_ok-words.words c.in_ok-words.expect c.as_slice.result.now _ c.in_ok-run_image.ensures
+returns-clause-database g c = ran_on c.args.notation.now c.in_ok-database.database c.in_ok-words.words c.in_ok-words.expect c.as_slice-2.result.now _ c.in_ok-run_image.ensures

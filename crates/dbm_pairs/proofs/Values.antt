@@ -1,0 +1,69 @@
+-- Values that are shown as they are, and those that come from standard input.
+use Rattle.std.proofs.Common.{◌≡◌, ℕ, List, Option, Some, None, Bool, true, false, subst, sym, [], ◌∷◌}
+use Rattle.std.specs.declared.alloc.Global.{Global}
+use Rattle.sdbm_addr.specs.Database.{Database}
+use Rattle.store_cmd.specs.declared.Command.{Command}
+use Rattle.dbm_script.specs.Commands.{command_of}
+use Rattle.dbm_script.specs.declared.notations.Notation.{Notation}
+use Rattle.dbm_reports.specs.Causes.{IsCaused, input_causes}
+use Rattle.dbm_reports.specs.Databases.{Opens}
+use Rattle.dbm_reports.specs.Known.{Known}
+use Rattle.dbm_reports.specs.declared.databases.Given.{Given}
+use Rattle.dbm_reports.specs.declared.fault.ReportFault.{ReportFault}
+use Rattle.dbm_reports.specs.declared.fault.ReportFault.TheVariants.{BadHex, BadText, BadLayout, BadNumber, Open, NotText, Assemble, Decode, Read, TooLong, OutputTooLong, NoMemory}
+use Rattle.dbm_reports.specs.declared.report.Report.{Report}
+use Rattle.dbm_pairs.specs.Commands.{command_causes}
+use Rattle.dbm_pairs.specs.Fetch.{FetchShows}
+use Rattle.dbm_pairs.specs.Store.{input_store_causes, store_by, store_in, takes_input, words_by}
+use Rattle.dbm_pairs.specs.declared.store.Store.{Store}
+
+-- a fetch changes no file
+pub shows_none : (raw : Bool) (n : Notation Global) (before : Database) (command : Command Global) (report : Report) → FetchShows raw n before command report → report.database ≡ None
+shows_none false n before command report shows = shows.1.1
+shows_none true n before command report shows = shows.written
+
+-- standard input is read behind the opening
+pub input_fault : (n : Notation Global) (store : Store) (given : Given) (input : Option (List ℕ)) (fault : ReportFault) → Opens store.form given → IsCaused (input_causes input) fault → IsCaused (input_store_causes n store given input) fault
+input_fault n store given input BadHex opens h = absurd h
+input_fault n store given input BadText opens h = absurd h
+input_fault n store given input BadLayout opens h = h
+input_fault n store given input BadNumber opens h = h
+input_fault n store given input (Open reason) opens h = absurd h
+input_fault n store given input NotText opens h = h
+input_fault n store given input (Assemble fault) opens h = h
+input_fault n store given input (Decode fault) opens h = h
+input_fault n store given input Read opens h = opens
+input_fault n store given input TooLong opens h = (opens, h)
+input_fault n store given input OutputTooLong opens h = h
+input_fault n store given input NoMemory opens h = tt
+
+-- and behind the words and the files
+pub command_fault : (n : Notation Global) (store : Store) (given : Given) (input : Option (List ℕ)) (words : List (List ℕ)) (fault : ReportFault) → words ≡ words_by n store (46 ∷ [])
+    → IsCaused (command_causes n store.form given words) fault → IsCaused (input_store_causes n store given input) fault
+command_fault n store given input words fault is h = by_fault fault (subst (λ (w : List (List ℕ)). IsCaused (command_causes n store.form given w) fault) is h)
+  where
+    by_fault : (fault : ReportFault) → IsCaused (command_causes n store.form given (words_by n store (46 ∷ []))) fault → IsCaused (input_store_causes n store given input) fault
+    by_fault BadHex h = h
+    by_fault BadText h = h
+    by_fault BadLayout h = h
+    by_fault BadNumber h = h
+    by_fault (Open reason) h = h
+    by_fault NotText h = h
+    by_fault (Assemble fault) h = h
+    by_fault (Decode fault) h = h
+    by_fault Read h = absurd h
+    by_fault TooLong h = absurd h
+    by_fault OutputTooLong h = h
+    by_fault NoMemory h = tt
+
+-- the command that three words ask, by what these are
+pub asked_by : (n : Notation Global) (name named key keyed value valued : List ℕ) (command : Command Global) → named ≡ name → keyed ≡ key → valued ≡ value
+    → command_of n (named ∷ (keyed ∷ (valued ∷ []))) ≡ Some command → command_of n (name ∷ (key ∷ (value ∷ []))) ≡ Some command
+asked_by n name named key keyed value valued command names keys values is =
+    subst (λ (word : List ℕ). command_of n (name ∷ (key ∷ (word ∷ []))) ≡ Some command) values
+    (subst (λ (word : List ℕ). command_of n (name ∷ (word ∷ (valued ∷ []))) ≡ Some command) keys
+    (subst (λ (word : List ℕ). command_of n (word ∷ (keyed ∷ (valued ∷ []))) ≡ Some command) names is))
+
+-- what is known of a store, by whether it takes its value from standard input
+pub known_by : (takes : Bool) (n : Notation Global) (store : Store) (given : Given) (input : Option (List ℕ)) (P : Known → Type 0) → takes_input store ≡ takes → P (store_by takes n store given input) → P (store_in n store given input)
+known_by takes n store given input P is holds = subst (λ (t : Bool). P (store_by t n store given input)) (sym is) holds

@@ -1,0 +1,26 @@
+//! Words that are taken as they are.
+ghost use Rattle.std.specs.Prelude.{◌≡◌, IfOk};
+ghost use Rattle.dbm_reports.specs.Words.{word_asked};
+
+use dbm_script::{Notation, show_bytes};
+use std::alloc::{AllocError, Global};
+
+/// A word as it was given; of a raw one, whose bytes are those of the word itself, the word that spells them in a notation.
+///
+/// # Errors
+/// `AllocError` where no memory is left.
+pub fn word_asked(
+    alloc: Global,
+    notation: &Notation<Global>,
+    word: &str,
+    raw: bool,
+) -> Result<Vec<u8>, AllocError>
+    ensures { IfOk result (λ text. text.items ≡ word_asked raw notation.now word.now) }
+{
+    if !raw {
+        return word.as_bytes().to_vec(alloc);
+    }
+    let mut text = Vec::new(alloc);
+    show_bytes(alloc, notation, word.as_bytes(), &mut text)?;
+    Ok(text)
+}

@@ -122,7 +122,9 @@ fn report_sentence<'a>(
             Some(plain("Standard input is closed or cannot be read, as where it is a folder."))
         }
         ReportFault::TooLong => {
-            Some(plain("Standard input has more than 16 MiB: give it in parts, a run for each."))
+            Some(plain(
+                "Standard input has more than 16 MiB: give a script or a batch in parts, a run for each.",
+            ))
         }
         ReportFault::OutputTooLong => {
             Some(plain(

@@ -1,12 +1,12 @@
 -- Values that are shown as they are, and those that come from standard input.
-use Rattle.std.proofs.Common.{◌≡◌, ℕ, List, Option, Some, None, Bool, true, false, subst, sym, [], ◌∷◌}
+use Rattle.std.proofs.Common.{◌≡◌, ◌≢◌, ◌∙◌, ℕ, List, Option, Some, None, Bool, true, false, subst, sym, [], ◌∷◌}
+use Rattle.std.proofs.lemmas.Option.{none-some}
 use Rattle.std.specs.declared.alloc.Global.{Global}
 use Rattle.sdbm_addr.specs.Database.{Database}
 use Rattle.store_cmd.specs.declared.Command.{Command}
 use Rattle.dbm_script.specs.Commands.{command_of}
 use Rattle.dbm_script.specs.declared.notations.Notation.{Notation}
 use Rattle.dbm_reports.specs.Causes.{IsCaused, input_causes}
-use Rattle.dbm_reports.specs.Databases.{Opens}
 use Rattle.dbm_reports.specs.Known.{Known}
 use Rattle.dbm_reports.specs.declared.databases.Given.{Given}
 use Rattle.dbm_reports.specs.declared.fault.ReportFault.{ReportFault}
@@ -14,7 +14,7 @@ use Rattle.dbm_reports.specs.declared.fault.ReportFault.TheVariants.{BadHex, Bad
 use Rattle.dbm_reports.specs.declared.report.Report.{Report}
 use Rattle.dbm_pairs.specs.Commands.{command_causes}
 use Rattle.dbm_pairs.specs.Fetch.{FetchShows}
-use Rattle.dbm_pairs.specs.Store.{input_store_causes, store_by, store_in, takes_input, words_by}
+use Rattle.dbm_pairs.specs.Store.{MayRead, input_store_causes, store_by, store_in, takes_input, words_by}
 use Rattle.dbm_pairs.specs.declared.store.Store.{Store}
 
 -- a fetch changes no file
@@ -23,7 +23,7 @@ shows_none false n before command report shows = shows.1.1
 shows_none true n before command report shows = shows.written
 
 -- standard input is read behind the opening
-pub input_fault : (n : Notation Global) (store : Store) (given : Given) (input : Option (List ℕ)) (fault : ReportFault) → Opens store.form given → IsCaused (input_causes input) fault → IsCaused (input_store_causes n store given input) fault
+pub input_fault : (n : Notation Global) (store : Store) (given : Given) (input : Option (List ℕ)) (fault : ReportFault) → MayRead n store given → IsCaused (input_causes input) fault → IsCaused (input_store_causes n store given input) fault
 input_fault n store given input BadHex opens h = absurd h
 input_fault n store given input BadText opens h = absurd h
 input_fault n store given input BadLayout opens h = h
@@ -67,3 +67,7 @@ asked_by n name named key keyed value valued command names keys values is =
 -- what is known of a store, by whether it takes its value from standard input
 pub known_by : (takes : Bool) (n : Notation Global) (store : Store) (given : Given) (input : Option (List ℕ)) (P : Known → Type 0) → takes_input store ≡ takes → P (store_by takes n store given input) → P (store_in n store given input)
 known_by takes n store given input P is holds = subst (λ (t : Bool). P (store_by t n store given input)) (sym is) holds
+
+-- words that ask a command ask one
+pub means : (n : Notation Global) (words : List (List ℕ)) (command : Command Global) → command_of n words ≡ Some command → command_of n words ≢ None
+means n words command is none = none-some command (sym none ∙ is)

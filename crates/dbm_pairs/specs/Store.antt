@@ -1,5 +1,5 @@
 -- What `store` takes and asks, what comes of it, and why nothing does.
-use Rattle.std.specs.Prelude.{◌≡◌, ◌&&◌, ℕ, Bool, true, false, List, ◌∷◌, None, codes, Option, IfSome}
+use Rattle.std.specs.Prelude.{◌≡◌, ◌≢◌, ◌&&◌, ℕ, Bool, true, false, List, ◌∷◌, None, codes, Option, IfSome}
 use Rattle.std.specs.Str.{bytes_eq}
 use Rattle.store_cmd.specs.declared.Command.{Command}
 use Rattle.store_cmd.specs.declared.Command.TheVariants as asked
@@ -9,6 +9,7 @@ use Rattle.clap.specs.Words.{Shape, Row}
 use Rattle.dbm_words.specs.Given.{IsForm, IsNotation, IsWord, is_given}
 use Rattle.dbm_pairs.specs.declared.store.Store.{Store}
 use Rattle.std.specs.declared.alloc.Global.{Global}
+use Rattle.dbm_script.specs.Commands.{command_of}
 use Rattle.dbm_script.specs.declared.notations.Notation.{Notation}
 use Rattle.dbm_reports.specs.declared.databases.Given.{Given}
 use Rattle.dbm_pairs.specs.Commands.{command_causes, OnCommand, store_words}
@@ -37,11 +38,15 @@ with_value value command = command
 abbrev pub words_by : Notation Global → Store → List ℕ → List (List ℕ)
 words_by n store value = store_words (word_asked store.raw_key n store.key.now) value store.insert
 
+-- the words ask a store, and the files open
+abbrev pub MayRead : Notation Global → Store → Given → Type 0
+MayRead n store given = (command_of n (words_by n store (codes ".")) ≢ None) × Opens store.form given
+
 -- standard input is read behind the words and the files
 abbrev pub input_store_causes : Notation Global → Store → Given → Option (List ℕ) → Causes
 input_store_causes n store given input = record (command_causes n store.form given (words_by n store (codes "."))) {
-  reading = Opens store.form given;
-  long = Opens store.form given × IsLongScript input;
+  reading = MayRead n store given;
+  long = MayRead n store given × IsLongScript input;
 }
 
 -- what is known of a store, by whether it takes its value from standard input

@@ -87,8 +87,9 @@ pub fn script_command<'a>(alloc: Global) -> Result<Command<'a>, AllocError>
         "The lines are fetch KEY, insert KEY VALUE, replace KEY VALUE, delete KEY, count, program IMAGE and\n\
          run KEY PROG ARG BLANK NOW. insert answers exists where the key is there, and replace replaces.\n\
          IMAGE is what asm prints, and PROG the number that program answered, from 0. Prints a line of\n\
-         answer to each, bad line to any other that is not empty. All lines together have at most 16 MiB,\n\
-         and their answers up to 2,003 times as much. Where that is more than BYTES, the fault is OutputTooLong.\n\n\
+         answer to each, bad line to any other that is not empty; with --strict nothing is run then. All\n\
+         lines together have at most 16 MiB, and their answers up to 2,003 times as much. Where that is more\n\
+         than BYTES, the fault is OutputTooLong.\n\n\
          Example: dbm script --base users < first.script";
     subcommand(alloc, "script", about, notes, args)
 }

@@ -111,7 +111,7 @@ fn note<R: Runtime<File = File> + AllocGlobal, I: Read>(
         note_refusal(rt, told, refusal.as_str());
     }
     // A strict script that is not run answers nothing.
-    if (input.has_bad_line || told.strict)
+    if (input.has_bad_line || (told.strict && matches!(ending, Ending::Served(1))))
         && let Some(note) = note_of_bad_lines(rt.alloc(), told.notation, input.text())
     {
         note_that(rt, note);

@@ -12,9 +12,8 @@ use Rattle.dbm_reports.specs.declared.databases.Given.{Given}
 use Rattle.dbm_reports.specs.declared.fault.ReportFault.{ReportFault}
 use Rattle.dbm_reports.specs.declared.fault.ReportFault.TheVariants.{BadHex, BadText, BadLayout, BadNumber, Open, NotText, Assemble, Decode, Read, TooLong, OutputTooLong, NoMemory}
 use Rattle.dbm_reports.specs.declared.report.Report.{Report}
-use Rattle.dbm_pairs.specs.Commands.{command_causes}
 use Rattle.dbm_pairs.specs.Fetch.{FetchShows}
-use Rattle.dbm_pairs.specs.Store.{MayRead, input_store_causes, store_by, store_in, takes_input, words_by}
+use Rattle.dbm_pairs.specs.Store.{MayRead, input_store_causes, store_by, store_in, takes_input}
 use Rattle.dbm_pairs.specs.declared.store.Store.{Store}
 
 -- a fetch changes no file
@@ -36,25 +35,6 @@ input_fault n store given input Read opens h = opens
 input_fault n store given input TooLong opens h = (opens, h)
 input_fault n store given input OutputTooLong opens h = h
 input_fault n store given input NoMemory opens h = tt
-
--- and behind the words and the files
-pub command_fault : (n : Notation Global) (store : Store) (given : Given) (input : Option (List ℕ)) (words : List (List ℕ)) (fault : ReportFault) → words ≡ words_by n store (46 ∷ [])
-    → IsCaused (command_causes n store.form given words) fault → IsCaused (input_store_causes n store given input) fault
-command_fault n store given input words fault is h = by_fault fault (subst (λ (w : List (List ℕ)). IsCaused (command_causes n store.form given w) fault) is h)
-  where
-    by_fault : (fault : ReportFault) → IsCaused (command_causes n store.form given (words_by n store (46 ∷ []))) fault → IsCaused (input_store_causes n store given input) fault
-    by_fault BadHex h = h
-    by_fault BadText h = h
-    by_fault BadLayout h = h
-    by_fault BadNumber h = h
-    by_fault (Open reason) h = h
-    by_fault NotText h = h
-    by_fault (Assemble fault) h = h
-    by_fault (Decode fault) h = h
-    by_fault Read h = absurd h
-    by_fault TooLong h = absurd h
-    by_fault OutputTooLong h = h
-    by_fault NoMemory h = tt
 
 -- the command that three words ask, by what these are
 pub asked_by : (n : Notation Global) (name named key keyed value valued : List ℕ) (command : Command Global) → named ≡ name → keyed ≡ key → valued ≡ value

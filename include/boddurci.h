@@ -94,7 +94,7 @@ enum boddurci_status {
     BODDURCI_ARG_TOO_LONG = 19,  /* the argument has more than BODDURCI_ARG_MOST bytes */
     BODDURCI_NO_PROGRAM = 20,    /* no program has the number */
     BODDURCI_NO_MEMORY = 21,     /* memory ran out */
-    BODDURCI_FILE_TOO_LONG = 22, /* a file would have 4 GiB or more */
+    BODDURCI_FILE_TOO_LONG = 22, /* .pag would have more than 1 GiB, so nothing changed; of a plan: a file has 4 GiB or more */
     BODDURCI_NO_TICKET = 23      /* under the ticket nothing is asked, or what is asked is not worked */
 };
 
@@ -144,8 +144,8 @@ void boddurci_close(boddurci *db);
 /* The value of a key, of any length. MISSING, SHORT_ROOM, IS_CLOSED. It takes no memory. */
 uint32_t boddurci_fetch(boddurci *db, const uint8_t *key, size_t key_length, uint8_t *value, size_t value_room, size_t *value_length);
 
-/* Gives a key a value; where it has one, that is replaced, or kept (EXISTS) where replace is 0. CROWDED, PAIR_TOO_LARGE, IS_CLOSED,
- * NO_MEMORY. */
+/* Gives a key a value; where it has one, that is replaced, or kept (EXISTS) where replace is 0. CROWDED, FILE_TOO_LONG,
+ * PAIR_TOO_LARGE, IS_CLOSED, NO_MEMORY. */
 uint32_t boddurci_store(boddurci *db, const uint8_t *key, size_t key_length, const uint8_t *value, size_t value_length,
                         uint32_t replace);
 
@@ -171,7 +171,8 @@ uint32_t boddurci_submit(boddurci *db, const uint8_t *image, size_t image_length
  * not 0. The program is told the time `now`, and is lent the argument. *end is the number with which it ended: 1 saves the record, 2
  * deletes the pair, any other changes nothing. *word is its reply word. After MISSING and CROWDED both are 0, and after any
  * other refusal they are what they were.
- * MISSING where there is neither key nor blank; CROWDED; NO_PROGRAM, then PAIR_TOO_LARGE, then ARG_TOO_LONG; IS_CLOSED, NO_MEMORY. */
+ * MISSING where there is neither key nor blank; CROWDED, FILE_TOO_LONG; NO_PROGRAM, then PAIR_TOO_LARGE, then ARG_TOO_LONG; IS_CLOSED,
+ * NO_MEMORY. */
 uint32_t boddurci_run(boddurci *db, uint32_t number, const uint8_t *key, size_t key_length, const uint8_t *arg, size_t arg_length,
                       uint32_t has_blank, size_t blank, uint64_t now, uint64_t *end, uint64_t *word);
 
@@ -199,7 +200,7 @@ uint32_t boddurci_run(boddurci *db, uint32_t number, const uint8_t *key, size_t 
  *
  * boddurci_finish does what boddurci_run would do, and tells the same, where the page is still as it was asked. The ticket is free then.
  * CHANGED where any of its pairs is another, or it was split: of pairs of 24 bytes a page of 1,024 has some 25. IS_CLOSED, NO_TICKET;
- * NO_MEMORY, after which it may be called again.
+ * FILE_TOO_LONG and NO_MEMORY, after which it may be called again.
  *
  * boddurci_abandon lets go what is under a ticket, which may be free. */
 uint32_t boddurci_ask(boddurci *db, boddurci_ticket *ticket, uint32_t number, const uint8_t *key, size_t key_length, const uint8_t *arg,

@@ -72,7 +72,8 @@ enum boddurci_files_status {
     BODDURCI_OPEN_HERE = 42    /* this thread has opened it already, and nobody has closed that: it would wait for itself */
 };
 
-/* Why a call failed: its status, errno where a call of the system did, and words, ended by a zero. */
+/* Why a call failed: its status, errno where a call of the system did, and words, ended by a zero. A save that is DONE may tell of a call
+ * that failed too. */
 typedef struct boddurci_fault {
     uint32_t status;
     int system;
@@ -104,7 +105,12 @@ void boddurci_give(boddurci_base *base);
  * the one before; but where BASE.redo itself failed it may be either once the machine stops. Then save again: a fault leaves the base open
  * and as it was. The mutex is held while the database is compared with the files, and not while they are read and written: what other
  * threads do meanwhile is in the next save. IS_CLOSED of a base that is NULL; FORKED, NO_SAVE, MOVED, UNSAFE, BAD_REDO, TOO_LONG,
- * FILE_FAILED, and FILE_TOO_LONG and NO_MEMORY of boddurci.h. */
+ * FILE_FAILED, and FILE_TOO_LONG and NO_MEMORY of boddurci.h.
+ *
+ * Both files get the blocks that they want before the save counts, where the file system can give them, so that a full disk is FILE_FAILED
+ * with nothing changed. Where a file cannot be written all the same, it is DONE, fault->system is not 0, and the text says which file: the
+ * save is kept in BASE.redo, and the next who saves or opens to write ends it. Until then whoever knows nothing of BASE.redo, as Perl's
+ * SDBM_File, may see half of it. */
 uint32_t boddurci_save(boddurci_base *base, boddurci_fault *fault) BODDURCI_IS_LOOKED_AT;
 
 /* Lets the lock go, and the memory. Nothing is saved. base may be NULL. No thread may use the base meanwhile, or later. In a child it frees

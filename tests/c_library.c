@@ -241,6 +241,46 @@ static void test_crowded(void)
     boddurci_close(&db);
 }
 
+/* Four keys that hash alike in their 9, 19 and 20 lowest bits: the last of them would split a page behind the longest .pag. */
+static void test_too_long(void)
+{
+#define KEY(i) (const uint8_t *)keys[i], strlen(keys[i])
+    static const char *const keys[] = {"far180463", "far413", "far192442", "far4056234"};
+    boddurci db = BODDURCI_CLOSED;
+    boddurci_ticket ticket = BODDURCI_FREE;
+    uint8_t room[100], value[900] = {0};
+    size_t length, count, dir_length, pag_length;
+    uint64_t end = 7, word = 8;
+    uint32_t number;
+    open_empty(&db, 0, 0);
+    EXPECT(boddurci_submit(&db, counter, counter_length, &number, &count, room, sizeof room, &length) == BODDURCI_DONE);
+    for (int i = 0; i < 3; i++)
+        EXPECT(boddurci_store(&db, KEY(i), value, sizeof value, 1) == BODDURCI_DONE);
+    EXPECT(boddurci_store(&db, KEY(3), value, sizeof value, 1) == BODDURCI_FILE_TOO_LONG);
+    EXPECT(boddurci_store(&db, KEY(3), value, sizeof value, 0) == BODDURCI_FILE_TOO_LONG);
+    EXPECT(boddurci_run(&db, number, KEY(3), BODDURCI_NO_BYTES, 1, 900, 0, &end, &word) == BODDURCI_FILE_TOO_LONG && end == 7 && word == 8);
+    EXPECT(boddurci_ask(&db, &ticket, number, KEY(3), BODDURCI_NO_BYTES, 1, 900, 0) == BODDURCI_DONE);
+    EXPECT(boddurci_work(&ticket) == BODDURCI_DONE);
+    EXPECT(boddurci_finish(&db, &ticket, &end, &word) == BODDURCI_FILE_TOO_LONG && end == 7 && word == 8);
+    EXPECT(boddurci_finish(&db, &ticket, &end, &word) == BODDURCI_FILE_TOO_LONG);
+    EXPECT(boddurci_count(&db, &count) == BODDURCI_DONE && count == 3);
+    EXPECT(boddurci_fetch(&db, KEY(3), room, sizeof room, &length) == BODDURCI_MISSING);
+    /* What is there already may change, also under a ticket, and a small pair goes beside it. */
+    EXPECT(boddurci_store(&db, KEY(0), value, 899, 1) == BODDURCI_DONE);
+    EXPECT(boddurci_store(&db, KEY(3), value, 90, 1) == BODDURCI_DONE);
+    EXPECT(boddurci_delete(&db, KEY(3)) == BODDURCI_DONE);
+    /* A page that nobody has pairs on takes no place. */
+    EXPECT(boddurci_delete(&db, KEY(0)) == BODDURCI_DONE);
+    EXPECT(boddurci_finish(&db, &ticket, &end, &word) == BODDURCI_CHANGED);
+    EXPECT(boddurci_store(&db, KEY(3), value, sizeof value, 1) == BODDURCI_DONE);
+    EXPECT(boddurci_delete(&db, KEY(3)) == BODDURCI_DONE);
+    EXPECT(boddurci_delete(&db, KEY(2)) == BODDURCI_DONE);
+    EXPECT(boddurci_files(&db, NULL, 0, &dir_length, NULL, 0, &pag_length) == BODDURCI_SHORT_ROOM);
+    EXPECT(pag_length == 512 * 1024);
+    boddurci_abandon(&ticket);
+    boddurci_close(&db);
+}
+
 static void test_programs(void)
 {
     boddurci db = BODDURCI_CLOSED;
@@ -800,6 +840,7 @@ int main(int argc, char **argv)
             for (uint32_t unsigned_keys = 0; unsigned_keys < 2; unsigned_keys++)
                 test_pairs(wide, unsigned_keys);
         test_crowded();
+        test_too_long();
         test_programs();
         test_arguments();
         test_tickets();

@@ -1,7 +1,8 @@
 /* Saves from C, as tests/c_crashes cuts them off.
  *
  *     c_saves list BASE      prints all pairs, in hex, of a base that is read only
- *     c_saves change BASE    does the lines of standard input, `replace KEY VALUE` and `delete KEY` in hex, saves, and prints `saved`
+ *     c_saves change BASE    does the lines of standard input, `replace KEY VALUE` and `delete KEY` in hex, saves, and prints `saved`;
+ *                            where the save is kept in the redo file alone, it says so on standard error
  *     c_saves insist BASE    the same, but where the save fails it saves once more
  *     c_saves each BASE      saves behind each line, and goes on where that fails */
 #include "boddurci_files.h"
@@ -77,6 +78,8 @@ static int change_all(const char *name, int saves_each, int insists)
     }
     if (status == 0 && boddurci_save(base, &fault) != BODDURCI_DONE)
         status = insists && boddurci_save(base, &fault) == BODDURCI_DONE ? 0 : fail();
+    if (status == 0 && fault.system != 0)
+        fprintf(stderr, "c_saves: %s\n", fault.text);
     if (status == 0)
         puts("saved");
     fflush(stdout);

@@ -1,8 +1,8 @@
-/* A library in front of the C library's: it cuts a run off at its Nth call that writes, syncs, cuts, removes or renames a file, or notes
- * these calls. CUT_CALL is N; with none no call is cut off. CUT_FAULT is the errno with which the call fails; 0 is a kill. CUT_TOLD is a
- * file that is made once a call has failed. With CUT_LINES what is printed, to a descriptor 1 that is no file, counts too, but for writes
- * of no bytes. CUT_LOG is one in which calls are noted, once they are done: pwrite, ftruncate, unlink, syncs and those that failed, in a
- * line each, with bytes in hex. */
+/* A library in front of the C library's: it cuts a run off at its Nth call that writes, syncs, cuts, removes or renames a file, or gives it
+ * blocks, or notes these calls. CUT_CALL is N; with none no call is cut off. CUT_FAULT is the errno with which the call fails; 0 is a kill.
+ * CUT_TOLD is a file that is made once a call has failed. With CUT_LINES what is printed, to a descriptor 1 that is no file, counts too, but
+ * for writes of no bytes. CUT_LOG is one in which calls are noted, once they are done: pwrite, ftruncate, unlink, syncs and those that
+ * failed, in a line each, with bytes in hex. */
 #define _GNU_SOURCE
 #include <dlfcn.h>
 #include <errno.h>
@@ -149,6 +149,11 @@ int ftruncate(int fd, off_t length)
 int ftruncate64(int fd, off64_t length)
 {
     return ftruncate(fd, length);
+}
+
+int fallocate(int fd, int mode, off_t at, off_t length)
+{
+    return is_cut() ? -1 : REAL(fallocate)(fd, mode, at, length);
 }
 
 int unlink(const char *name)

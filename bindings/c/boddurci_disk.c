@@ -1,9 +1,10 @@
-/* The three files of a save, and the order in which it writes them: the plan behind a mark that is not set, the mark, the plan done in both
- * data files, no mark. crates/sdbm_saves/src/redo.rt is the same, and is proved. */
-#define _XOPEN_SOURCE 700
+/* The three files of a save, and the order in which it writes them: the plan behind a mark that is not set, the room for it in both data
+ * files, the mark, the plan done in both, no mark. crates/sdbm_saves/src/redo.rt is the same but for the room, and is proved. */
+#define _GNU_SOURCE
 #include "boddurci_saves.h"
 #include <errno.h>
 #include <fcntl.h>
+#include <sys/resource.h>
 #include <sys/stat.h>
 #include <unistd.h>
 
@@ -31,10 +32,19 @@ void boddurci_disk_close(struct boddurci_disk *disk)
 
 /* ---- one file */
 
-/* Makes a file. A redo file has records in it, so that nobody else may read it before it is like the pages. */
+/* The permissions with which a file is made, less those that the umask takes. A redo file has records in it, so that nobody else may read
+ * it before it is like the pages; where there are none yet, all may read it who will read those. */
+static mode_t mode_of(const struct boddurci_disk *disk, enum boddurci_file file)
+{
+    if (file == BODDURCI_REDO)
+        return disk->files[BODDURCI_PAGES] < 0 ? 0644 : 0600;
+    return file == BODDURCI_PAGES ? 0666 : boddurci_mode_of_pages(disk->place, 0666);
+}
+
+/* Makes a file. */
 static int make(struct boddurci_disk *disk, enum boddurci_file file)
 {
-    mode_t mode = file == BODDURCI_REDO ? 0600 : file == BODDURCI_PAGES ? 0666 : boddurci_mode_of_pages(disk->place, 0666);
+    mode_t mode = mode_of(disk, file);
     disk->is_folder_kept = 0;
     disk->files[file] = boddurci_make(disk->place, file, mode);
     if (disk->files[file] < 0 || (file != BODDURCI_REDO && boddurci_see(disk->place, file, disk->files[file]) != 0))
@@ -110,6 +120,136 @@ static int clear(struct boddurci_disk *disk)
     return unlinkat(disk->place->folder, disk->place->names[BODDURCI_REDO], 0) == 0 || errno == ENOENT ? 0 : -1;
 }
 
+/* ---- room */
+
+enum { BLOCK = 4096 };
+
+/* Gives a range of an opened file its blocks: what stands there stays, and the file is no longer than before. It is 1 where the file system
+ * cannot do that. */
+static int reserve(struct boddurci_disk *disk, enum boddurci_file file, size_t at, size_t size)
+{
+    int status = 1;
+    disk->last = file;
+#ifdef FALLOC_FL_KEEP_SIZE
+    do
+        status = fallocate(disk->files[file], FALLOC_FL_KEEP_SIZE, (off_t)at, (off_t)size);
+    while (status != 0 && errno == EINTR);
+    if (status != 0)
+        status = errno == ENOSPC || errno == EDQUOT || errno == EFBIG || errno == EIO ? -1 : 1;
+#else
+    (void)at, (void)size;
+#endif
+    return status;
+}
+
+/* Takes back what the data files were given behind their ends. */
+static void release(struct boddurci_disk *disk)
+{
+    struct stat is;
+    int why = errno;
+    for (enum boddurci_file file = BODDURCI_PAGES; file <= BODDURCI_DIRECTORY; file++)
+        if (disk->files[file] >= 0 && fstat(disk->files[file], &is) == 0)
+            (void)!ftruncate(disk->files[file], is.st_size);
+    errno = why;
+}
+
+static int is_zero(const uint8_t *bytes, size_t size)
+{
+    for (size_t i = 0; i < size; i++)
+        if (bytes[i] != 0)
+            return 0;
+    return 1;
+}
+
+/* Whether a change may want blocks that its file has not: past the end, or in a hole. */
+static int wants_room(struct boddurci_bytes redo, const struct boddurci_change *change)
+{
+    return change->at + change->size > boddurci_old_length(redo, change->file) || is_zero(change->old, change->size);
+}
+
+/* The same of changes side by side, as one. Those are counted, in whole blocks, whose file is not there yet or cannot be given any. */
+static int reserve_run(struct boddurci_disk *disk, const struct boddurci_change *run, size_t *absent)
+{
+    if (run->size == 0)
+        return 0;
+    int status = disk->files[run->file] < 0 ? 1 : reserve(disk, run->file, run->at, run->size);
+    if (status > 0)
+        *absent += run->at % BLOCK + run->size + BLOCK - 1 - (run->at + run->size - 1) % BLOCK;
+    return status < 0 ? -1 : 0;
+}
+
+/* The most bytes that this process may write into a file. */
+static uint64_t most_bytes(void)
+{
+    struct rlimit most;
+    return getrlimit(RLIMIT_FSIZE, &most) == 0 && most.rlim_cur != RLIM_INFINITY ? most.rlim_cur : UINT64_MAX;
+}
+
+static int is_too_far(struct boddurci_disk *disk, enum boddurci_file file)
+{
+    disk->last = file;
+    errno = EFBIG;
+    return -1;
+}
+
+/* Lets go what a redo file has behind its end. */
+static int trim(struct boddurci_disk *disk, size_t length)
+{
+    int status;
+    do
+        status = ftruncate(disk->files[BODDURCI_REDO], (off_t)length);
+    while (status != 0 && errno == EINTR);
+    return status;
+}
+
+/* Tries whether the redo file, which is written, could have so many blocks more behind its end, and lets them go. */
+static int try_behind(struct boddurci_disk *disk, size_t length, size_t size)
+{
+    static const uint8_t zeros[BLOCK];
+    int status = reserve(disk, BODDURCI_REDO, length, size);
+    for (size_t done = 0; status > 0 && done < size; done += BLOCK)
+        if (write_at(disk, BODDURCI_REDO, length + done, zeros, BLOCK) != 0)
+            status = -1;
+    return status < 0 ? -1 : trim(disk, length);
+}
+
+/* Gives the data files the blocks that the changes may want. */
+static int reserve_all(struct boddurci_disk *disk, struct boddurci_bytes redo, uint64_t most, size_t *absent)
+{
+    struct boddurci_change change = boddurci_before_changes(redo), run = change;
+    while (boddurci_next_change(redo, &change)) {
+        if (change.at + change.size > most)
+            return is_too_far(disk, change.file);
+        if (!wants_room(redo, &change))
+            continue;
+        if (run.size != 0 && change.file == run.file && change.at == run.at + run.size) {
+            run.size += change.size;
+            continue;
+        }
+        if (reserve_run(disk, &run, absent) != 0)
+            return -1;
+        run = change;
+    }
+    return reserve_run(disk, &run, absent);
+}
+
+/* Sees that there is room for what is to be done behind the mark: the data files get their blocks now, and the redo file tries as many as
+ * they cannot be given. */
+static int take_room(struct boddurci_disk *disk, struct boddurci_bytes redo)
+{
+    size_t absent = 0;
+    uint64_t most = most_bytes();
+    for (enum boddurci_file file = BODDURCI_PAGES; file <= BODDURCI_DIRECTORY; file++)
+        if (boddurci_new_length(redo, file) > most)
+            return is_too_far(disk, file);
+    int status = reserve_all(disk, redo, most, &absent);
+    if (status == 0 && absent != 0 && redo.length + absent <= most)
+        status = try_behind(disk, redo.length, absent);
+    if (status != 0)
+        release(disk);
+    return status;
+}
+
 /* ---- a save */
 
 static int mark(struct boddurci_disk *disk, uint8_t value)
@@ -159,14 +299,14 @@ int boddurci_stage(struct boddurci_disk *disk, struct boddurci_bytes redo)
 {
     if (clear(disk) != 0 || make(disk, BODDURCI_REDO) != 0)
         return give_up(disk);
-    int is_staged = write_at(disk, BODDURCI_REDO, 1, redo.at + 1, redo.length - 1) == 0 && keep(disk, BODDURCI_REDO) == 0;
-    return is_staged ? 0 : give_up(disk);
+    if (write_at(disk, BODDURCI_REDO, 1, redo.at + 1, redo.length - 1) != 0 || take_room(disk, redo) != 0 || keep(disk, BODDURCI_REDO) != 0)
+        return give_up(disk);
+    return 0;
 }
 
 int boddurci_commit(struct boddurci_disk *disk, struct boddurci_bytes redo)
 {
     if (mark(disk, 1) != 0)
         return give_up(disk);
-    finish(disk, redo);
-    return 0;
+    return finish(disk, redo) == 0 ? 0 : 1;
 }

@@ -34,6 +34,15 @@ static uint32_t cannot_be_written(boddurci_fault *fault, enum boddurci_file file
     return boddurci_fail_by_system(fault, what[file]);
 }
 
+/* Tells of a save that stands in its redo file alone. */
+static uint32_t is_pending(boddurci_fault *fault, enum boddurci_file file)
+{
+    static const char *const what[3] = {"the save is kept in BASE.redo, and BASE.pag could not be written",
+                                        "the save is kept in BASE.redo, and BASE.dir could not be written",
+                                        "the save is done, and BASE.redo could not be taken away"};
+    return boddurci_fail(fault, BODDURCI_DONE, errno, what[file]);
+}
+
 /* ---- reading */
 
 static uint32_t too_long(boddurci_fault *fault)
@@ -419,10 +428,12 @@ static uint32_t save(boddurci_base *base, boddurci_fault *fault)
     if (!boddurci_is_held(&base->place))
         return boddurci_fail(fault, BODDURCI_MOVED, 0, "BASE.lock is another file than is held, and nothing was written");
     boddurci_disk_of(&disk, &base->place);
+    int is_left = 0;
     uint32_t status = plan_save(base, &disk, &redo, fault);
-    if (status == BODDURCI_DONE && redo.length != 0 &&
-        (boddurci_recover(&disk, none) != 0 || boddurci_stage(&disk, redo) != 0 || boddurci_commit(&disk, redo) != 0))
-        status = cannot_be_written(fault, disk.last);
+    if (status == BODDURCI_DONE && redo.length != 0)
+        is_left = boddurci_recover(&disk, none) != 0 || boddurci_stage(&disk, redo) != 0 ? -1 : boddurci_commit(&disk, redo);
+    if (is_left != 0)
+        status = is_left < 0 ? cannot_be_written(fault, disk.last) : is_pending(fault, disk.last);
     if (status == BODDURCI_DONE)
         settle_lock(&base->place);
     free(redo.at);

@@ -142,12 +142,13 @@ void boddurci_disk_close(struct boddurci_disk *disk);
  * whole, and known. */
 int boddurci_recover(struct boddurci_disk *disk, struct boddurci_bytes redo);
 
-/* Writes a redo file that is not marked, a new one, and keeps it, so that nothing is committed yet. Where it cannot, it takes it away. It
- * wants boddurci_recover before it. */
+/* Writes a redo file that is not marked, a new one, and keeps it, so that nothing is committed yet; and gives the data files the blocks that
+ * its save wants, where the file system can. Where there is no room, or it cannot write it, it takes it away. It wants boddurci_recover
+ * before it. */
 int boddurci_stage(struct boddurci_disk *disk, struct boddurci_bytes redo);
 
 /* Marks the redo file that was staged, which commits its save, and ends it. Where the mark cannot be kept it takes the redo file away.
- * What fails behind the mark is no fault: whoever opens or saves next ends the save. */
+ * What fails behind the mark is no fault, and then it is 1 and errno says why: whoever opens or saves next ends the save. */
 int boddurci_commit(struct boddurci_disk *disk, struct boddurci_bytes redo);
 
 #pragma GCC visibility pop

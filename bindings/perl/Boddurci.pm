@@ -16,7 +16,7 @@
 package Boddurci;
 use strict;
 use warnings;
-use Carp qw(croak);
+use Carp qw(carp croak);
 use Cwd qw(abs_path);
 use File::Basename qw(dirname);
 use FFI::Platypus 1.00;
@@ -32,6 +32,7 @@ my %WORDS = (
     18 => "key and value have too many bytes together",
     19 => "the argument has more than 1,024 bytes",
     20 => "no program of this database has the number",
+    22 => "too long: the pages would take more than 1 GiB; what is there can be saved",
     39 => "the database was opened by another process",
 );
 
@@ -248,13 +249,16 @@ sub run {
     return ($end, $word);
 }
 
-# Writes both files, and keeps them on the disk.
+# Writes both files, and keeps them on the disk. Where the save is kept in BASE.redo alone, since a file could not be written, it warns: the
+# next who opens or saves ends it, and until then others may see half of it.
 sub sync {
     my ($self) = @_;
     $self->_db;
     my ($fault, $at) = _room(208);
-    return if $self->{reads} || _save($self->{base}, $at) == $DONE;
-    _die_of($fault);
+    return if $self->{reads};
+    _die_of($fault) if _save($self->{base}, $at) != $DONE;
+    my ($status, $system, $text) = unpack $FAULT, $$fault;
+    carp $text if $system;
 }
 
 # Writes both files, unless the database is only read, and lets the lock go. A fault of the files leaves it open. In a child of the process

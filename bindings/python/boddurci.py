@@ -37,6 +37,7 @@ _WORDS = {
     18: "key and value have too many bytes together",
     19: "the argument has more than 1,024 bytes",
     20: "no program has the number",
+    22: "too long: the pages would take more than 1 GiB; what is there can be saved",
     39: "the database was opened by another process",
 }
 
@@ -401,7 +402,8 @@ class Database(MutableMapping):
         raise _error(status)
 
     def sync(self):
-        """Writes both files, and keeps them on the disk. Meanwhile other threads go on."""
+        """Writes both files, and keeps them on the disk. Meanwhile other threads go on. Where the save is kept in FILE.redo alone, since a
+        file could not be written, it warns: the next who opens or saves ends it, and until then others may see half of it."""
         fault = _Fault()
         with self._saving:
             with self._lock:
@@ -416,6 +418,8 @@ class Database(MutableMapping):
                     self._beside = self._alone
             if status != _DONE:
                 raise _of_fault(fault, self._name)
+            if fault.system:
+                warnings.warn(str(_of_fault(fault, self._name)), RuntimeWarning, stacklevel=2)
 
     def close(self):
         """Writes both files, unless the database is only read, and lets the lock go. A fault of the files leaves it open. In a child of the
@@ -427,8 +431,12 @@ class Database(MutableMapping):
             self._let_go()
             return
         with self._saving, self._lock:
-            if self._base is not None and self._keeps:
-                self.sync()
+            try:
+                if self._base is not None and self._keeps:
+                    self.sync()
+            except RuntimeWarning:
+                self._let_go()
+                raise
             self._let_go()
 
     def _let_go(self):
@@ -444,6 +452,8 @@ class Database(MutableMapping):
     def __del__(self):
         try:
             self.close()
+        except RuntimeWarning:
+            raise
         except Exception as fault:
             warnings.warn(f"what was not saved is lost: {fault}", ResourceWarning, source=self)
             self._let_go()

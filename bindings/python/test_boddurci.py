@@ -233,6 +233,62 @@ class Saves(InFolder):
         with boddurci.open(self.base) as reader:
             self.assertEqual(len(reader), 101)
 
+    def test_too_long(self):
+        """The last of these keys would split a page behind the longest .pag: it is refused, and the others are saved."""
+        keys = [b"far180463", b"far413", b"far192442", b"far4056234"]
+        db = boddurci.open(self.base, "c")
+        for key in keys[:3]:
+            db[key] = b"x" * 900
+        with self.assertRaisesRegex(boddurci.error, "too long: the pages would take more than 1 GiB"):
+            db[keys[3]] = b"x" * 900
+        self.assertEqual(sorted(db.keys()), sorted(keys[:3]))
+        db.sync()
+        self.assertEqual(os.path.getsize(self.base + ".pag"), 1 << 30)
+        del db[keys[0]]
+        db[keys[3]] = b"x" * 900
+        del db[keys[2]], db[keys[3]]
+        db.close()
+        with boddurci.open(self.base) as reader:
+            self.assertEqual(reader.keys(), [keys[1]])
+
+    def test_no_room_for_a_page(self):
+        db = boddurci.open(self.base, "c")
+        db.update({b"%d" % i: b"x" * 900 for i in range(100)})
+        db.sync()
+        before = [pathlib.Path(self.base + ending).read_bytes() for ending in (".pag", ".dir")]
+        db.update({b"%d" % i: b"y" for i in range(0, 100, 20)})
+        limits = resource.getrlimit(resource.RLIMIT_FSIZE)
+        resource.setrlimit(resource.RLIMIT_FSIZE, (20000, limits[1]))
+        try:
+            with self.assertRaisesRegex(boddurci.error, "BASE.pag cannot be written") as caught:
+                db.sync()
+        finally:
+            resource.setrlimit(resource.RLIMIT_FSIZE, limits)
+        self.assertEqual(caught.exception.errno, errno.EFBIG)
+        self.assertFalse(os.path.exists(self.base + ".redo"))
+        self.assertEqual([pathlib.Path(self.base + ending).read_bytes() for ending in (".pag", ".dir")], before)
+        db.close()
+        with boddurci.open(self.base) as reader:
+            self.assertEqual(reader[b"20"], b"y")
+
+    def test_a_save_that_is_kept_in_the_redo_file_is_warned_of(self):
+        save = boddurci._call.save
+        self.addCleanup(setattr, boddurci._call, "save", staticmethod(save))
+
+        def pending(base, fault):
+            status = save(base, fault)
+            fault._obj.system, fault._obj.text = errno.ENOSPC, b"the save is kept in BASE.redo"
+            return status
+
+        with boddurci.open(self.base, "c") as db:
+            db[b"a"] = b"1"
+            boddurci._call.save = staticmethod(pending)
+            with self.assertWarnsRegex(RuntimeWarning, "the save is kept in BASE.redo"):
+                db.sync()
+            boddurci._call.save = staticmethod(save)
+        with boddurci.open(self.base) as db:
+            self.assertEqual(db[b"a"], b"1")
+
     def test_cut_off(self):
         with boddurci.open(self.base, "c") as db:
             db[b"a"] = b"1"

@@ -1,5 +1,5 @@
 -- What was worked on a page that stands as it was asked is one command of the database.
-use Rattle.std.proofs.Common.{◌≡◌, ℕ, List, sym, ap, ◌∙◌, subst}
+use Rattle.std.proofs.Common.{◌≡◌, ℕ, List, true, false, sym, ap, ◌∙◌, subst}
 use Rattle.std.specs.Option.{option_map}
 use Rattle.std.specs.declared.alloc.Global.{Global}
 use Rattle.sdbm_addr.specs.declared.KeyBytes.{KeyBytes}
@@ -15,16 +15,33 @@ use Rattle.store_moves.specs.Works.{PageResult, works, change_of, HasEnd, IsWork
 use Rattle.store_moves.proofs.Lifting.{works_lead}
 use Rattle.store_moves.proofs.Acting.{Acts-on_page}
 use Rattle.boddurci_c.specs.Asked.{Asked, result_of, IsWorkedOut}
+use Rattle.sdbm_files.specs.Limits.{FitsFiles}
+use Rattle.boddurci_c.specs.Growth.{has_pairs, may_grow, Outgrows}
 use Rattle.boddurci_c.specs.Tickets.{IsCurrent}
+use Rattle.boddurci_c.proofs.Fitting.{fits_changed}
+
+-- what was asked of a database as it stands
+module _ (db : Database) (a : Asked) (now : IsCurrent db a) where
+  result_now : result_of a ≡ works a.place db.kind db.size (pairs_at db a.place.page) 0 a.command
+  result_now = ap (λ (k : KeyBytes). works a.place k a.page.size a.page.pairs 0 a.command) now.kind
+      ∙ ap (λ (s : PageSize). works a.place db.kind s a.page.pairs 0 a.command) now.size
+      ∙ ap (λ (ps : List Pair). works a.place db.kind db.size ps 0 a.command) now.pairs
+
+  pub outgrows : may_grow a.page.size (has_pairs a.page.pairs) a.place.page (result_of a).change ≡ false → Outgrows db a.command
+  outgrows out = record {
+    place = a.place;
+    leads = now.place;
+    out = ap (λ (s : PageSize). may_grow s (has_pairs (pairs_at db a.place.page)) a.place.page (works a.place db.kind db.size (pairs_at db a.place.page) 0 a.command).change) (sym now.size)
+        ∙ ap (λ (ps : List Pair). may_grow a.page.size (has_pairs ps) a.place.page (works a.place db.kind db.size (pairs_at db a.place.page) 0 a.command).change) (sym now.pairs)
+        ∙ ap (λ (r : PageResult Global). may_grow a.page.size (has_pairs a.page.pairs) a.place.page r.change) (sym result_now) ∙ out;
+  }
 
 module _ (db : Database) (ok : IsDatabase db) (a : Asked) (w : Worked Global) (now : IsCurrent db a) (may : IsWorkable a.place a.kind a.page.size a.page.pairs a.command) (out : IsWorkedOut a w) where
   abbrev here : PageResult Global
   here = works a.place db.kind db.size (pairs_at db a.place.page) 0 a.command
 
   same : result_of a ≡ here
-  same = ap (λ (k : KeyBytes). works a.place k a.page.size a.page.pairs 0 a.command) now.kind
-      ∙ ap (λ (s : PageSize). works a.place db.kind s a.page.pairs 0 a.command) now.size
-      ∙ ap (λ (ps : List Pair). works a.place db.kind db.size ps 0 a.command) now.pairs
+  same = result_now db a now
 
   small : IsSmall db.size a.command
   small = subst (λ (s : PageSize). IsSmall s a.command) now.size may.small
@@ -42,3 +59,12 @@ module _ (db : Database) (ok : IsDatabase db) (a : Asked) (w : Worked Global) (n
   put_acts db' installed =
       Acts-on_page db db' ok a.place 0 a.command w.reply may.keyed small now.place (subst (λ (ps : List Pair). HasEnd ps 0 a.command) now.pairs out.ends)
       (out.is.reply ∙ ap (λ (r : PageResult Global). r.reply) same) (installed ∙ ap (λ x. changed_by db a.place.page x) change)
+
+  grows : may_grow a.page.size (has_pairs a.page.pairs) a.place.page (result_of a).change ≡ true → may_grow db.size (has_pairs (pairs_at db a.place.page)) a.place.page (option_map change_of w.change) ≡ true
+  grows may =
+      ap (may_grow db.size (has_pairs (pairs_at db a.place.page)) a.place.page) out.is.change
+      ∙ ap (λ (s : PageSize). may_grow s (has_pairs (pairs_at db a.place.page)) a.place.page (result_of a).change) (sym now.size)
+      ∙ ap (λ (ps : List Pair). may_grow a.page.size (has_pairs ps) a.place.page (result_of a).change) (sym now.pairs) ∙ may
+
+  pub put_fits : may_grow a.page.size (has_pairs a.page.pairs) a.place.page (result_of a).change ≡ true → (db' : Database) → db' ≡ changed_by db a.place.page (option_map change_of w.change) → FitsFiles db → FitsFiles db'
+  put_fits may db' installed fits = subst FitsFiles (sym installed) (fits_changed db a.place.page (option_map change_of w.change) (grows may) fits)

@@ -12,6 +12,7 @@ use Rattle.sdbm_addr.specs.Database.{Database, map_of}
 use Rattle.sdbm_addr.specs.Files.{SpellsDatabase, AreFiles}
 use Rattle.sdbm_files.specs.Opened.{IsOpenFault, SpellsNoDatabase}
 use Rattle.sdbm_files.specs.FaultText.{fault_text as open_text}
+use Rattle.sdbm_files.specs.Limits.{pag_limit, FitsFiles}
 use Rattle.sdbm_files.specs.declared.opening.OpenFault.{OpenFault}
 use Rattle.sdbm_files.specs.declared.opening.OpenFault.TheVariants as open_faults
 use Rattle.store_cmd.specs.declared.Command.{Command}
@@ -33,6 +34,7 @@ use Rattle.boddurci_c.specs.declared.status.Status.{Status}
 use Rattle.boddurci_c.specs.declared.status.Status.TheVariants.{Done, Missing, Exists, Crowded, ShortRoom, Refused, BadText, BadFiles, Changed, Closed, Open, PairTooLarge, ArgTooLong, NoProgram, NoMemory, TooLong, NoTicket}
 use Rattle.boddurci_c.specs.Statuses.{code_of, status_of}
 use Rattle.boddurci_c.specs.Units.{unit_in, nowhere}
+use Rattle.boddurci_c.specs.Growth.{Outgrows}
 
 -- ---- a handle before a call and after it
 
@@ -69,12 +71,13 @@ Never d status = ⊥
 
 -- ---- commands
 
--- a command is done as session 0, and the programs stay
+-- A command is done as session 0, and the programs stay. A database for which the longest `.pag` has room stays one.
 pub record Does (d : Db) (command : Command Global) (reply : Reply Global) (d' : Db) : Type 0 where
   pub acts : Acts d.image (record { session = 0; command = command; reply = reply }) d'.image
+  pub fits : FitsFiles d.image → FitsFiles d'.image
   pub registry : d'.registry ≡ d.registry
 
--- a command is not taken for its size, or memory ran out for one that is
+-- a command is not taken for its size; or memory ran out for one that is, or `.pag` would be too long
 abbrev pub DeniesBy : Db → Command Global → Status → Type 0
 DeniesBy d command Done = ⊥
 DeniesBy d command Missing = ⊥
@@ -91,7 +94,7 @@ DeniesBy d command PairTooLarge = IsSizeFault d.image.size command sizes.PairToo
 DeniesBy d command ArgTooLong = IsSizeFault d.image.size command sizes.ArgTooLong
 DeniesBy d command NoProgram = ⊥
 DeniesBy d command NoMemory = IsSmall d.image.size command
-DeniesBy d command TooLong = ⊥
+DeniesBy d command TooLong = IsSmall d.image.size command × Outgrows d.image command
 DeniesBy d command NoTicket = ⊥
 
 -- a command is done, and the status is that of its reply
@@ -199,25 +202,27 @@ pub record RunsBy (number : ℕ) (key arg : List ℕ) (blank : Option ℕ) (now 
   pub there : slice_get d.registry.programs number ≡ Some program
   pub does : Does d (commands.Run key program.code arg blank now) reply d'
 
--- a run is denied: there is no such program, or else it is not taken for its sizes, or memory ran out for one that is
-abbrev pub DeniesRun : ℕ → List ℕ → List ℕ → Option ℕ → Db → Status → Type 0
-DeniesRun number key arg blank d Done = ⊥
-DeniesRun number key arg blank d Missing = ⊥
-DeniesRun number key arg blank d Exists = ⊥
-DeniesRun number key arg blank d Crowded = ⊥
-DeniesRun number key arg blank d ShortRoom = ⊥
-DeniesRun number key arg blank d Refused = ⊥
-DeniesRun number key arg blank d BadText = ⊥
-DeniesRun number key arg blank d BadFiles = ⊥
-DeniesRun number key arg blank d Changed = ⊥
-DeniesRun number key arg blank d Closed = ⊥
-DeniesRun number key arg blank d Open = ⊥
-DeniesRun number key arg blank d PairTooLarge = IsSome (slice_get d.registry.programs number) × IsRunFault d.image.size key arg blank sizes.PairTooLarge
-DeniesRun number key arg blank d ArgTooLong = IsSome (slice_get d.registry.programs number) × IsRunFault d.image.size key arg blank sizes.ArgTooLong
-DeniesRun number key arg blank d NoProgram = slice_get d.registry.programs number ≡ None
-DeniesRun number key arg blank d NoMemory = IsSome (slice_get d.registry.programs number) × (FitsBlank d.image.size key blank × (length arg ≤ argument_limit))
-DeniesRun number key arg blank d TooLong = ⊥
-DeniesRun number key arg blank d NoTicket = ⊥
+-- A run is denied: there is no such program, or else it is not taken for its sizes; or memory ran out for one that is, or `.pag` would
+-- be too long.
+abbrev pub DeniesRun : ℕ → List ℕ → List ℕ → Option ℕ → ℕ → Db → Status → Type 0
+DeniesRun number key arg blank now d Done = ⊥
+DeniesRun number key arg blank now d Missing = ⊥
+DeniesRun number key arg blank now d Exists = ⊥
+DeniesRun number key arg blank now d Crowded = ⊥
+DeniesRun number key arg blank now d ShortRoom = ⊥
+DeniesRun number key arg blank now d Refused = ⊥
+DeniesRun number key arg blank now d BadText = ⊥
+DeniesRun number key arg blank now d BadFiles = ⊥
+DeniesRun number key arg blank now d Changed = ⊥
+DeniesRun number key arg blank now d Closed = ⊥
+DeniesRun number key arg blank now d Open = ⊥
+DeniesRun number key arg blank now d PairTooLarge = IsSome (slice_get d.registry.programs number) × IsRunFault d.image.size key arg blank sizes.PairTooLarge
+DeniesRun number key arg blank now d ArgTooLong = IsSome (slice_get d.registry.programs number) × IsRunFault d.image.size key arg blank sizes.ArgTooLong
+DeniesRun number key arg blank now d NoProgram = slice_get d.registry.programs number ≡ None
+DeniesRun number key arg blank now d NoMemory = IsSome (slice_get d.registry.programs number) × (FitsBlank d.image.size key blank × (length arg ≤ argument_limit))
+DeniesRun number key arg blank now d TooLong =
+    (program : Accepted) × ((slice_get d.registry.programs number ≡ Some program) × Outgrows d.image (commands.Run key program.code arg blank now))
+DeniesRun number key arg blank now d NoTicket = ⊥
 
 -- the number with which a run ended, and its word, are told; where it did not run they are zeros
 abbrev pub IsEnd : Reply Global → ℕ → ℕ → Type 0
@@ -258,9 +263,10 @@ AreCopied dir pag dir_old dir_new pag_old pag_new NoMemory = ⊥
 AreCopied dir pag dir_old dir_new pag_old pag_new TooLong = ⊥
 AreCopied dir pag dir_old dir_new pag_old pag_new NoTicket = ⊥
 
--- the bytes of both files of a database
+-- The bytes of both files of a database. Its `.pag` is no longer than the longest where that has room for it.
 pub record HasFiles (dir pag : List ℕ) (d : Db) : Type 0 where
   pub files : AreFiles d.image dir pag
+  pub short : FitsFiles d.image → length pag ≤ pag_limit
   pub spells : SpellsDatabase d.image dir pag
 
 pub record Writes (old : Option Db) (code : ℕ) (new : Option Db) (dir_old dir_new pag_old pag_new : List ℕ) (dir_len pag_len : ℕ) : Type 0 where
@@ -297,6 +303,7 @@ pub record IsOpened (kind : KeyBytes) (size : PageSize) (dir pag : List ℕ) (d 
   pub size_is : d.image.size ≡ size
   pub only : (db : Database) → db.kind ≡ kind → db.size ≡ size → SpellsDatabase db dir pag → db ≡ d.image
   pub programs : d.registry ≡ empty_registry
+  pub fits : length pag ≤ pag_limit → FitsFiles d.image
 
 -- a closed handle is open
 pub record Opens (kind : KeyBytes) (size : PageSize) (dir pag : List ℕ) (old : Option Db) (code : ℕ) (new : Option Db) : Type 0 where

@@ -1,6 +1,7 @@
 pub mod Held
 pub mod Statuses
 pub mod Units
+pub mod Growth
 pub mod Calls
 pub mod Texts
 pub mod Turns

@@ -10,9 +10,10 @@ use Rattle.store_moves.specs.Leads.{IsPlaceOf}
 use Rattle.bpf_verify.specs.Verified.{Accepted}
 use Rattle.boddurci_c.specs.declared.db.Db.{Db}
 use Rattle.boddurci_c.specs.declared.status.Status.{Status}
-use Rattle.boddurci_c.specs.declared.status.Status.TheVariants.{Done, Changed, NoMemory, NoTicket}
+use Rattle.boddurci_c.specs.declared.status.Status.TheVariants.{Done, Changed, NoMemory, NoTicket, TooLong}
 use Rattle.boddurci_c.specs.Statuses.{code_of, status_of}
 use Rattle.boddurci_c.specs.Calls.{At, Shows, Denies, DeniesRun, Does, IsEnd}
+use Rattle.boddurci_c.specs.Growth.{Outgrows}
 use Rattle.boddurci_c.specs.Asked.{Asked}
 
 -- a page as it was asked is the page of its key in a database, which has the same pages and hashes keys so
@@ -32,11 +33,13 @@ pub record IsAskedOf (db : Database) (command : Command Global) (a : Asked) : Ty
 abbrev pub worked_out : Asked → Asked
 worked_out a = record { command = a.command; place = a.place; kind = a.kind; page = a.page; is_worked = true }
 
--- why what was asked is not finished on a database: it was not worked; or its page is another; or else memory ran out
+-- why what was asked is not finished on a database: it was not worked; or its page is another; or else `.pag` would be too long, or memory
+-- ran out
 abbrev pub DeniesFinish : Database → Asked → Status → Type 0
 DeniesFinish db a status =
     ((status ≡ NoTicket) × (a.is_worked ≡ false))
-    ⊎ (((status ≡ Changed) × ((a.is_worked ≡ true) × (¬ IsCurrent db a))) ⊎ ((status ≡ NoMemory) × ((a.is_worked ≡ true) × IsCurrent db a)))
+    ⊎ (((status ≡ Changed) × ((a.is_worked ≡ true) × (¬ IsCurrent db a)))
+    ⊎ (((status ≡ TooLong) × ((a.is_worked ≡ true) × (IsCurrent db a × Outgrows db a.command))) ⊎ ((status ≡ NoMemory) × ((a.is_worked ≡ true) × IsCurrent db a))))
 
 -- ---- calls
 
@@ -56,7 +59,7 @@ pub record Asks (number : ℕ) (key arg : List ℕ) (blank : Option ℕ) (now : 
 -- it is not asked, and the ticket is as it was
 pub record AsksNot (number : ℕ) (key arg : List ℕ) (blank : Option ℕ) (now : ℕ) (old : Option Db) (code : ℕ) (new : Option Db) (ticket_old ticket_new : Option Asked) : Type 0 where
   pub same : ticket_new ≡ ticket_old
-  pub denied : Denies (DeniesRun number key arg blank) old code new
+  pub denied : Denies (DeniesRun number key arg blank now) old code new
 
 -- what stands under a ticket is worked; or nothing is asked under it, or memory ran out, and it is as it was
 pub record Works (old : Option Asked) (code : ℕ) (new : Option Asked) : Type 0 where

@@ -1,5 +1,5 @@
 //! An open database with its programs, and what is done with it.
-ghost use Rattle.std.specs.Prelude.{◌≡◌, ◌≢◌, IfOk, IfErr, IfSome, IfNone, OnErr};
+ghost use Rattle.std.specs.Prelude.{◌≡◌, ◌≢◌, ◌⊎◌, IfOk, IfErr, IfSome, IfNone, OnErr};
 ghost use Rattle.std.specs.Option.{option_map};
 ghost use Rattle.std.specs.Arc.{arc_value};
 ghost use Rattle.std.specs.declared.alloc.Global.{Global};
@@ -9,9 +9,13 @@ ghost use Rattle.sdbm_files.specs.Opened.{IsOpenFault, SpellsNoDatabase};
 ghost use Rattle.store_cmd.specs.Command.{IsSmall};
 ghost use Rattle.store_cmd.specs.declared.Command.TheVariants.{Store, Delete, Run};
 ghost use Rattle.store_moves.specs.Acts.{Acts};
+ghost use Rattle.store_moves.specs.Leads.{FillsNone};
+ghost use Rattle.store_moves.specs.Works.{HasKey};
+ghost use Rattle.boddurci_c.specs.Growth.{Outgrows};
 ghost use Rattle.boddurci_c.specs.Calls.{Does, DeniesBy, RunsBy, DeniesRun, Submits, IsEnd, FetchesIn, HasFiles, IsOpened, empty_registry};
 ghost use Rattle.boddurci_c.specs.Tickets.{IsRunAsked};
 
+use crate::growth::{has_pairs, may_grow};
 use crate::job::Job;
 use crate::rooms::copy_out;
 use crate::status::Status;
@@ -21,8 +25,8 @@ use sdbm_addr::{Bytes, KeyBytes, Mode, PageSize};
 use sdbm_files::{Image, MemSink, OpenFault};
 use std::alloc::{AllocError, Global};
 use std::sync::Arc;
-use store_cmd::{Command, Entry, Program, Reply, check_pair, check_run};
-use store_moves::{RunInput, act, act_run, act_store, ran};
+use store_cmd::{Command, Program, Reply, check_pair, check_run};
+use store_moves::{RunInput, act_run, act_store, key_in, put_in, ran, work_at};
 
 /// An open database with its programs.
 #[derive(Drop)]
@@ -31,22 +35,25 @@ pub struct Db {
     pub registry: Registry<Global>,
 }
 
-/// Does a command whose size is taken.
-fn perform(
-    alloc: Global,
-    db: &mut Db,
-    command: Command<Global>,
-) -> Result<Reply<Global>, AllocError>
-    requires { IsSmall db.old.image.size command }
+// Does a command about a key whose size is taken, where the longest `.pag` has room for what it comes to.
+fn perform(alloc: Global, db: &mut Db, command: Command<Global>) -> Result<Reply<Global>, Status>
+    requires keyed { HasKey command }
+    requires small { IsSmall db.old.image.size command }
     ensures ok { IfOk result (λ reply. Does db.old command reply db.new) }
     ensures err { OnErr result (db.new ≡ db.old) }
+    ensures why { IfErr result (λ status. (status ≡ Status.NoMemory) ⊎ ((status ≡ Status.TooLong) × Outgrows db.old.image command)) }
 {
-    match act(alloc, &mut db.image, 0, command) {
-        Ok(entry) => {
-            let Entry { reply, .. } = entry;
-            Ok(reply)
-        }
-        Err(_) => Err(AllocError),
+    let place = db.image.place(key_in(&command));
+    let Ok(worked) = work_at(alloc, &db.image, place, 0, &command) else {
+        return Err(Status::NoMemory);
+    };
+    let there = has_pairs(&db.image, place.page);
+    if !may_grow(db.image.page_size(), there, place.page, &worked.change) {
+        return Err(Status::TooLong);
+    }
+    match put_in(&mut db.image, place, worked.change) {
+        Ok(()) => Ok(worked.reply),
+        Err(_) => Err(Status::NoMemory),
     }
 }
 
@@ -71,10 +78,7 @@ pub fn store(
     let Ok(command) = store_command(alloc, key, value, mode) else {
         return Err(Status::NoMemory);
     };
-    match perform(alloc, db, command) {
-        Ok(reply) => Ok(reply),
-        Err(_) => Err(Status::NoMemory),
-    }
+    perform(alloc, db, command)
 }
 
 // The command of a store.
@@ -102,10 +106,7 @@ pub fn delete(alloc: Global, db: &mut Db, key: &[u8]) -> Result<Reply<Global>, S
     let Ok(key) = Bytes::from_slice(alloc, key) else {
         return Err(Status::NoMemory);
     };
-    match perform(alloc, db, Command::Delete { key }) {
-        Ok(reply) => Ok(reply),
-        Err(_) => Err(Status::NoMemory),
-    }
+    perform(alloc, db, Command::Delete { key })
 }
 
 /// The value of a key.
@@ -164,6 +165,7 @@ fn run_there(
 ) -> Option<Reply<Global>>
     requires small { IsSmall {A = Global} image.old.size (Run key.now (arc_value program.now).code arg.now blank now) }
     ensures done { IfSome result (λ reply. Acts image.old (record { session = 0; command = Run key.now (arc_value program.now).code arg.now blank now; reply = reply }) image.new) }
+    ensures fills { IfSome result (λ _. FillsNone image.old image.new) }
     ensures none { IfNone result (image.new ≡ image.old) }
 {
     let input = RunInput {
@@ -192,7 +194,7 @@ pub fn run(
 ) -> Result<Reply<Global>, Status>
     ensures ok { IfOk result (λ reply. RunsBy number key.now arg.now blank now reply db.old db.new) }
     ensures err { OnErr result (db.new ≡ db.old) }
-    ensures why { IfErr result (DeniesRun number key.now arg.now blank db.old) }
+    ensures why { IfErr result (DeniesRun number key.now arg.now blank now db.old) }
 {
     let Some(program) = db.registry.get(ProgId(number)) else {
         return Err(Status::NoProgram);
@@ -206,10 +208,7 @@ pub fn run(
     let Ok(command) = run_command(alloc, program, key, arg, blank, now) else {
         return Err(Status::NoMemory);
     };
-    match perform(alloc, db, command) {
-        Ok(reply) => Ok(reply),
-        Err(_) => Err(Status::NoMemory),
-    }
+    perform(alloc, db, command)
 }
 
 /// Asks the run of the program with a number, and works nothing yet.
@@ -223,7 +222,7 @@ pub fn ask(
     now: u64,
 ) -> Result<Box<Job>, Status>
     ensures ok { IfOk result (λ job. IsRunAsked number key.now arg.now blank now db.now job.value) }
-    ensures why { IfErr result (DeniesRun number key.now arg.now blank db.now) }
+    ensures why { IfErr result (DeniesRun number key.now arg.now blank now db.now) }
 {
     let Some(program) = db.registry.get(ProgId(number)) else {
         return Err(Status::NoProgram);

@@ -5,8 +5,12 @@ ghost use Rattle.sdbm_addr.specs.Database.{IsDatabase};
 ghost use Rattle.store_cmd.specs.Command.{IsSmall};
 ghost use Rattle.store_moves.specs.Acts.{Acts};
 ghost use Rattle.store_moves.specs.Works.{HasKey};
+ghost use Rattle.sdbm_files.specs.Limits.{FitsFiles};
+ghost use Rattle.boddurci_c.specs.Asked.{result_of};
+ghost use Rattle.boddurci_c.specs.Growth.{has_pairs, may_grow};
 ghost use Rattle.boddurci_c.specs.Tickets.{IsAskedOf, IsCurrent, DeniesFinish, worked_out};
 
+use crate::growth::may_grow;
 use crate::snapshot::Snapshot;
 use crate::status::Status;
 use sdbm_addr::KeyBytes;
@@ -107,10 +111,11 @@ impl Job {
     /// Does the command as one step of a database in which the page of its key is as it was asked.
     ///
     /// # Errors
-    /// `NoTicket` where it was not worked, `Changed` where the page is another, and else `NoMemory`. The database and the job are then
-    /// as they were.
+    /// `NoTicket` where it was not worked, `Changed` where the page is another, `TooLong` where `.pag` would be longer than it may be, and
+    /// else `NoMemory`. The database and the job are then as they were.
     pub fn finish(&mut self, image: &mut Image<Global>) -> Result<Reply<Global>, Status>
         ensures ok { IfOk result (λ reply. Acts image.old (record { session = 0; command = self.old.command; reply = reply }) image.new) }
+        ensures fits { OnOk result (FitsFiles image.old → FitsFiles image.new) }
         ensures worked { OnOk result (self.old.is_worked ≡ true) }
         ensures why { IfErr result (DeniesFinish image.old self.old) }
         ensures err { OnErr result (image.new ≡ image.old) }
@@ -122,9 +127,30 @@ impl Job {
         if !self.is_current(image) {
             return Err(Status::Changed);
         }
+        if !self.may_grow() {
+            return Err(Status::TooLong);
+        }
         match self.put(image) {
             Ok(reply) => Ok(reply),
             Err(_) => Err(Status::NoMemory),
+        }
+    }
+
+    // Whether the longest `.pag` has room for what it came to.
+    fn may_grow(&self) -> bool
+        ensures { self.now.is_worked ≡ true → result ≡ may_grow self.now.page.size (has_pairs self.now.page.pairs) self.now.place.page (result_of self.now).change }
+    {
+        match &self.worked {
+            None => true,
+            Some(worked) => {
+                let there = self.page.has_pairs();
+                may_grow(
+                    self.page.page_size(),
+                    there,
+                    self.place.page,
+                    &worked.change,
+                )
+            }
         }
     }
 
@@ -133,7 +159,9 @@ impl Job {
         requires worked { self.old.is_worked ≡ true }
         requires current { IsCurrent image.old self.old }
         requires database { IsDatabase image.old }
+        requires grows { may_grow self.old.page.size (has_pairs self.old.page.pairs) self.old.place.page (result_of self.old).change ≡ true }
         ensures ok { IfOk result (λ reply. Acts image.old (record { session = 0; command = self.old.command; reply = reply }) image.new) }
+        ensures fits { OnOk result (FitsFiles image.old → FitsFiles image.new) }
         ensures err { OnErr result (image.new ≡ image.old) }
         ensures kept { OnErr result (self.new ≡ self.old) }
     {

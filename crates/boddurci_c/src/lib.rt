@@ -13,6 +13,7 @@ ghost use Rattle.boddurci_c.specs.Tickets.{Asks, AsksNot, IsRunAsked, Works, Wor
 ghost use Rattle.sdbm_files.specs.Opened.{IsOpenFault, SpellsNoDatabase};
 
 mod db;
+mod growth;
 mod handle;
 mod job;
 mod loose;
@@ -236,7 +237,7 @@ fn run_at(
 ) -> Result<Reply<Global>, Status>
     ensures ok { IfOk result (λ reply. At slot.old.held slot.new.held (RunsBy number key.now arg.now blank now reply)) }
     ensures same { OnErr result (slot.new.held ≡ slot.old.held) }
-    ensures why { IfErr result (Why (DeniesRun number key.now arg.now blank) slot.old.held) }
+    ensures why { IfErr result (Why (DeniesRun number key.now arg.now blank now) slot.old.held) }
 {
     let Some(mut db) = slot.take(alloc) else {
         return Err(Status::Closed);
@@ -270,7 +271,7 @@ pub extern "C" fn boddurci_run(
     word: &mut u64,
 ) -> u32
     ensures { Runs number key.now arg.now (blank_for has_blank blank) now slot.old.held result slot.new.held end.new word.new
-        ⊎ (Denies (DeniesRun number key.now arg.now (blank_for has_blank blank)) slot.old.held result slot.new.held × ((end.new ≡ end.old) × (word.new ≡ word.old))) }
+        ⊎ (Denies (DeniesRun number key.now arg.now (blank_for has_blank blank) now) slot.old.held result slot.new.held × ((end.new ≡ end.old) × (word.new ≡ word.old))) }
 {
     match run_at(
         alloc,
@@ -301,7 +302,7 @@ fn ask_at(
 ) -> Result<Box<Job>, Status>
     ensures ok { IfOk result (λ job. Shows slot.old.held slot.new.held (λ d. IsRunAsked number key.now arg.now blank now d job.value)) }
     ensures same { slot.new.held ≡ slot.old.held }
-    ensures why { IfErr result (Why (DeniesRun number key.now arg.now blank) slot.old.held) }
+    ensures why { IfErr result (Why (DeniesRun number key.now arg.now blank now) slot.old.held) }
 {
     let Some(db) = slot.take(alloc) else {
         return Err(Status::Closed);

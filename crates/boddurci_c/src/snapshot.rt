@@ -2,6 +2,7 @@
 ghost use Rattle.std.specs.Prelude.{◌≡◌, ◌↔◌, IsTrue, IfOk, IfSome};
 ghost use Rattle.sdbm_addr.specs.Database.{pairs_at};
 ghost use Rattle.store_moves.specs.Works.{pairs_lent};
+ghost use Rattle.boddurci_c.specs.Growth.{has_pairs};
 
 use sdbm_addr::PageSize;
 use sdbm_files::Image;
@@ -65,6 +66,16 @@ impl Snapshot {
         match &self.page {
             None => None,
             Some(page) => Some(page.page()),
+        }
+    }
+
+    /// Whether it has pairs.
+    pub fn has_pairs(&self) -> bool
+        ensures { result ≡ has_pairs self.now.pairs }
+    {
+        match &self.page {
+            None => false,
+            Some(page) => page.page().len() > 0,
         }
     }
 

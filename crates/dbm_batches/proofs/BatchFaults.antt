@@ -21,6 +21,7 @@ use Rattle.dbm_faults.specs.declared.fault.ServeFault.{ServeFault}
 use Rattle.dbm_faults.specs.declared.fault.ServeFault.TheVariants.{NotText, ReadFile, FileTooLong, WriteFile, BadRedo, Unsafe, ReadClock, BadBase, Absent, Locked, Report, Submit, BadLine, Pool, Close, Write, Saved, NoMemory}
 use Rattle.dbm_script.specs.declared.notations.Notation.{Notation}
 use Rattle.dbm_script.specs.declared.run_words.RunWords.{RunWords}
+use Rattle.dbm_script.specs.declared.shorthand.TimeOfDay.{TimeOfDay}
 use Rattle.dbm_script.proofs.Runs.{known_read}
 use Rattle.dbm_words.specs.declared.options.Form.{Form}
 use Rattle.dbm_reports.specs.declared.databases.Given.{Given}
@@ -123,44 +124,44 @@ submitted_fault form given workers is_image image Saved number opens is h = h
 submitted_fault form given workers is_image image NoMemory number opens is h = h
 
 -- a batch that may not begin
-pub unready_fault : (n : Notation Global) (form : Form) (given : Given) (workers : Bor (List ℕ)) (is_image : Bool) (input : Option (List ℕ)) (fault : ServeFault)
-    → HasCause (ready_causes form given workers is_image) fault → HasCause (batch_causes n form given workers is_image input) fault
-unready_fault n form given workers is_image input NotText h = h
-unready_fault n form given workers is_image input ReadFile h = h
-unready_fault n form given workers is_image input FileTooLong h = h
-unready_fault n form given workers is_image input WriteFile h = h
-unready_fault n form given workers is_image input BadRedo h = h
-unready_fault n form given workers is_image input Unsafe h = h
-unready_fault n form given workers is_image input ReadClock h = h
-unready_fault n form given workers is_image input BadBase h = h
-unready_fault n form given workers is_image input Absent h = h
-unready_fault n form given workers is_image input Locked h = h
-unready_fault n form given workers is_image input (Report reports.BadHex) h = h
-unready_fault n form given workers is_image input (Report reports.BadText) h = h
-unready_fault n form given workers is_image input (Report reports.BadLayout) h = h
-unready_fault n form given workers is_image input (Report reports.BadNumber) h = h
-unready_fault n form given workers is_image input (Report (reports.Open reason)) h = h
-unready_fault n form given workers is_image input (Report reports.NotText) h = h
-unready_fault n form given workers is_image input (Report (reports.Assemble fault)) h = h
-unready_fault n form given workers is_image input (Report (reports.Decode fault)) h = h
-unready_fault n form given workers is_image input (Report reports.Read) h = absurd h
-unready_fault n form given workers is_image input (Report reports.TooLong) h = absurd h
-unready_fault n form given workers is_image input (Report reports.OutputTooLong) h = absurd h
-unready_fault n form given workers is_image input (Report reports.NoMemory) h = absurd h
-unready_fault n form given workers is_image input (Submit fault) h = h
-unready_fault n form given workers is_image input (BadLine number) h = absurd h
-unready_fault n form given workers is_image input (Pool fault) h = absurd h
-unready_fault n form given workers is_image input (Close fault) h = absurd h
-unready_fault n form given workers is_image input Write h = h
-unready_fault n form given workers is_image input Saved h = h
-unready_fault n form given workers is_image input NoMemory h = h
+pub unready_fault : (n : Notation Global) (form : Form) (given : Given) (workers : Bor (List ℕ)) (is_image : Bool) (time : Option TimeOfDay) (input : Option (List ℕ)) (fault : ServeFault)
+    → HasCause (ready_causes form given workers is_image) fault → HasCause (batch_causes n form given workers is_image time input) fault
+unready_fault n form given workers is_image time input NotText h = h
+unready_fault n form given workers is_image time input ReadFile h = h
+unready_fault n form given workers is_image time input FileTooLong h = h
+unready_fault n form given workers is_image time input WriteFile h = h
+unready_fault n form given workers is_image time input BadRedo h = h
+unready_fault n form given workers is_image time input Unsafe h = h
+unready_fault n form given workers is_image time input ReadClock h = h
+unready_fault n form given workers is_image time input BadBase h = h
+unready_fault n form given workers is_image time input Absent h = h
+unready_fault n form given workers is_image time input Locked h = h
+unready_fault n form given workers is_image time input (Report reports.BadHex) h = h
+unready_fault n form given workers is_image time input (Report reports.BadText) h = h
+unready_fault n form given workers is_image time input (Report reports.BadLayout) h = h
+unready_fault n form given workers is_image time input (Report reports.BadNumber) h = h
+unready_fault n form given workers is_image time input (Report (reports.Open reason)) h = h
+unready_fault n form given workers is_image time input (Report reports.NotText) h = h
+unready_fault n form given workers is_image time input (Report (reports.Assemble fault)) h = h
+unready_fault n form given workers is_image time input (Report (reports.Decode fault)) h = h
+unready_fault n form given workers is_image time input (Report reports.Read) h = absurd h
+unready_fault n form given workers is_image time input (Report reports.TooLong) h = absurd h
+unready_fault n form given workers is_image time input (Report reports.OutputTooLong) h = absurd h
+unready_fault n form given workers is_image time input (Report reports.NoMemory) h = absurd h
+unready_fault n form given workers is_image time input (Submit fault) h = h
+unready_fault n form given workers is_image time input (BadLine number) h = absurd h
+unready_fault n form given workers is_image time input (Pool fault) h = absurd h
+unready_fault n form given workers is_image time input (Close fault) h = absurd h
+unready_fault n form given workers is_image time input Write h = h
+unready_fault n form given workers is_image time input Saved h = h
+unready_fault n form given workers is_image time input NoMemory h = h
 
 -- tasks that are not all done, behind the lines
-pub doing_fault : (n : Notation Global) (batch : Batch) (input : List ℕ) (words : List (RunWords Global)) (tasks : List (Task Global)) (fault : ServeFault)
-    → AreShortTasks n input words → tasks ≡ map (task_for batch.program) words → HasCause (doing_causes batch tasks) fault → HasCause (task_causes n batch (Some input)) fault
-doing_fault n batch input words tasks fault are is h = go fault (subst (λ (ts : List (Task Global)). HasCause (doing_causes batch ts) fault) is h)
+pub doing_fault : (n : Notation Global) (time : Option TimeOfDay) (batch : Batch) (input : List ℕ) (words : List (RunWords Global)) (tasks : List (Task Global)) (fault : ServeFault)
+    → AreShortTasks n time input words → tasks ≡ map (task_for batch.program) words → HasCause (doing_causes batch tasks) fault → HasCause (task_causes n time batch (Some input)) fault
+doing_fault n time batch input words tasks fault are is h = go fault (subst (λ (ts : List (Task Global)). HasCause (doing_causes batch ts) fault) is h)
   where
-    go : (fault : ServeFault) → HasCause (doing_causes batch (map (task_for batch.program) words)) fault → HasCause (task_causes n batch (Some input)) fault
+    go : (fault : ServeFault) → HasCause (doing_causes batch (map (task_for batch.program) words)) fault → HasCause (task_causes n time batch (Some input)) fault
     go NotText h = absurd h
     go ReadFile h = absurd h
     go FileTooLong h = absurd h
@@ -171,7 +172,7 @@ doing_fault n batch input words tasks fault are is h = go fault (subst (λ (ts :
     go BadBase h = absurd h
     go Absent h = absurd h
     go Locked h = absurd h
-    go (Report fault) h = no_report (task_causes n batch (Some input)).report fault h
+    go (Report fault) h = no_report (task_causes n time batch (Some input)).report fault h
     go (Submit fault) h = absurd h
     go (BadLine number) h = absurd h
     go (Pool fault) h = (words, (are, h))
@@ -181,45 +182,45 @@ doing_fault n batch input words tasks fault are is h = go fault (subst (λ (ts :
     go NoMemory h = tt
 
 -- standard input is read once a batch may begin
-pub unread_fault : (n : Notation Global) (form : Form) (given : Given) (workers : Bor (List ℕ)) (is_image : Bool) (input : Option (List ℕ)) (batch : Batch) (fault : ReportFault)
-    → IsReady form given workers is_image batch → IsCaused (input_causes input) fault → HasCause (batch_causes n form given workers is_image input) (report_fault fault)
-unread_fault n form given workers is_image input batch reports.BadHex ready h = absurd h
-unread_fault n form given workers is_image input batch reports.BadText ready h = absurd h
-unread_fault n form given workers is_image input batch reports.BadLayout ready h = absurd h
-unread_fault n form given workers is_image input batch reports.BadNumber ready h = absurd h
-unread_fault n form given workers is_image input batch (reports.Open reason) ready h = absurd h
-unread_fault n form given workers is_image input batch reports.NotText ready h = absurd h
-unread_fault n form given workers is_image input batch (reports.Assemble fault) ready h = absurd h
-unread_fault n form given workers is_image input batch (reports.Decode fault) ready h = absurd h
-unread_fault n form given workers is_image input batch reports.Read ready h = (batch, (ready, tt))
-unread_fault n form given workers is_image input batch reports.TooLong ready h = (batch, (ready, h))
-unread_fault n form given workers is_image input batch reports.OutputTooLong ready h = absurd h
-unread_fault n form given workers is_image input batch reports.NoMemory ready h = tt
+pub unread_fault : (n : Notation Global) (form : Form) (given : Given) (workers : Bor (List ℕ)) (is_image : Bool) (time : Option TimeOfDay) (input : Option (List ℕ)) (batch : Batch) (fault : ReportFault)
+    → IsReady form given workers is_image batch → IsCaused (input_causes input) fault → HasCause (batch_causes n form given workers is_image time input) (report_fault fault)
+unread_fault n form given workers is_image time input batch reports.BadHex ready h = absurd h
+unread_fault n form given workers is_image time input batch reports.BadText ready h = absurd h
+unread_fault n form given workers is_image time input batch reports.BadLayout ready h = absurd h
+unread_fault n form given workers is_image time input batch reports.BadNumber ready h = absurd h
+unread_fault n form given workers is_image time input batch (reports.Open reason) ready h = absurd h
+unread_fault n form given workers is_image time input batch reports.NotText ready h = absurd h
+unread_fault n form given workers is_image time input batch (reports.Assemble fault) ready h = absurd h
+unread_fault n form given workers is_image time input batch (reports.Decode fault) ready h = absurd h
+unread_fault n form given workers is_image time input batch reports.Read ready h = (batch, (ready, tt))
+unread_fault n form given workers is_image time input batch reports.TooLong ready h = (batch, (ready, h))
+unread_fault n form given workers is_image time input batch reports.OutputTooLong ready h = absurd h
+unread_fault n form given workers is_image time input batch reports.NoMemory ready h = tt
 
 -- what was read is what is known
-pub known_tasks : (n : Notation Global) (batch : Batch) (known : Option (List ℕ)) (read : List ℕ) (P : List (Task Global) → Type 0)
-    → IfSome known (λ input. read ≡ input) → OnTasks n batch (Some read) P → OnTasks n batch known P
-known_tasks n batch known read P is on = (on.0, (known_read known read (λ bytes. AreShortTasks n bytes on.0) is on.1.0, on.1.1))
+pub known_tasks : (n : Notation Global) (time : Option TimeOfDay) (batch : Batch) (known : Option (List ℕ)) (read : List ℕ) (P : List (Task Global) → Type 0)
+    → IfSome known (λ input. read ≡ input) → OnTasks n time batch (Some read) P → OnTasks n time batch known P
+known_tasks n time batch known read P is on = (on.0, (known_read known read (λ bytes. AreShortTasks n time bytes on.0) is on.1.0, on.1.1))
 
 -- the lines and the tasks, once a batch may begin
-pub ran_fault : (n : Notation Global) (form : Form) (given : Given) (workers : Bor (List ℕ)) (is_image : Bool) (known : Option (List ℕ)) (read : List ℕ) (batch : Batch) (fault : ServeFault)
-    → IfSome known (λ input. read ≡ input) → IsReady form given workers is_image batch → HasCause (task_causes n batch (Some read)) fault
-    → HasCause (batch_causes n form given workers is_image known) fault
-ran_fault n form given workers is_image known read batch NotText is ready h = absurd h
-ran_fault n form given workers is_image known read batch ReadFile is ready h = absurd h
-ran_fault n form given workers is_image known read batch FileTooLong is ready h = absurd h
-ran_fault n form given workers is_image known read batch WriteFile is ready h = absurd h
-ran_fault n form given workers is_image known read batch BadRedo is ready h = absurd h
-ran_fault n form given workers is_image known read batch Unsafe is ready h = absurd h
-ran_fault n form given workers is_image known read batch ReadClock is ready h = absurd h
-ran_fault n form given workers is_image known read batch BadBase is ready h = absurd h
-ran_fault n form given workers is_image known read batch Absent is ready h = absurd h
-ran_fault n form given workers is_image known read batch Locked is ready h = absurd h
-ran_fault n form given workers is_image known read batch (Report fault) is ready h = no_report (batch_causes n form given workers is_image known).report fault h
-ran_fault n form given workers is_image known read batch (Submit fault) is ready h = absurd h
-ran_fault n form given workers is_image known read batch (BadLine number) is ready h = (batch, (ready, known_read known read (λ bytes. HasBadLine n bytes number) is h))
-ran_fault n form given workers is_image known read batch (Pool fault) is ready h = (batch, (ready, known_tasks n batch known read (λ tasks. (doing_causes batch tasks).pool fault) is h))
-ran_fault n form given workers is_image known read batch (Close fault) is ready h = (batch, (ready, known_tasks n batch known read (λ tasks. (doing_causes batch tasks).closing fault) is h))
-ran_fault n form given workers is_image known read batch Write is ready h = absurd h
-ran_fault n form given workers is_image known read batch Saved is ready h = absurd h
-ran_fault n form given workers is_image known read batch NoMemory is ready h = tt
+pub ran_fault : (n : Notation Global) (form : Form) (given : Given) (workers : Bor (List ℕ)) (is_image : Bool) (time : Option TimeOfDay) (known : Option (List ℕ)) (read : List ℕ) (batch : Batch) (fault : ServeFault)
+    → IfSome known (λ input. read ≡ input) → IsReady form given workers is_image batch → HasCause (task_causes n time batch (Some read)) fault
+    → HasCause (batch_causes n form given workers is_image time known) fault
+ran_fault n form given workers is_image time known read batch NotText is ready h = absurd h
+ran_fault n form given workers is_image time known read batch ReadFile is ready h = absurd h
+ran_fault n form given workers is_image time known read batch FileTooLong is ready h = absurd h
+ran_fault n form given workers is_image time known read batch WriteFile is ready h = absurd h
+ran_fault n form given workers is_image time known read batch BadRedo is ready h = absurd h
+ran_fault n form given workers is_image time known read batch Unsafe is ready h = absurd h
+ran_fault n form given workers is_image time known read batch ReadClock is ready h = absurd h
+ran_fault n form given workers is_image time known read batch BadBase is ready h = absurd h
+ran_fault n form given workers is_image time known read batch Absent is ready h = absurd h
+ran_fault n form given workers is_image time known read batch Locked is ready h = absurd h
+ran_fault n form given workers is_image time known read batch (Report fault) is ready h = no_report (batch_causes n form given workers is_image time known).report fault h
+ran_fault n form given workers is_image time known read batch (Submit fault) is ready h = absurd h
+ran_fault n form given workers is_image time known read batch (BadLine number) is ready h = (batch, (ready, known_read known read (λ bytes. HasBadLine n time bytes number) is h))
+ran_fault n form given workers is_image time known read batch (Pool fault) is ready h = (batch, (ready, known_tasks n time batch known read (λ tasks. (doing_causes batch tasks).pool fault) is h))
+ran_fault n form given workers is_image time known read batch (Close fault) is ready h = (batch, (ready, known_tasks n time batch known read (λ tasks. (doing_causes batch tasks).closing fault) is h))
+ran_fault n form given workers is_image time known read batch Write is ready h = absurd h
+ran_fault n form given workers is_image time known read batch Saved is ready h = absurd h
+ran_fault n form given workers is_image time known read batch NoMemory is ready h = tt

@@ -19,7 +19,10 @@ use Rattle.worker_pool.specs.declared.task.Task.{Task}
 use Rattle.dbm_script.specs.Answers.{reply_text}
 use Rattle.dbm_script.specs.Images.{Denies}
 use Rattle.dbm_script.specs.Numbers.{number_of}
+use Rattle.dbm_script.specs.Shorthand.{spelled}
 use Rattle.dbm_script.specs.Tasks.{AreTasksOf, IsFirstBad}
+use Rattle.dbm_script.specs.declared.shorthand.Lines.TheVariants.{OfBatch}
+use Rattle.dbm_script.specs.declared.shorthand.TimeOfDay.{TimeOfDay}
 use Rattle.dbm_script.specs.declared.notations.Notation.{Notation}
 use Rattle.dbm_script.specs.declared.run_words.RunWords.{RunWords}
 use Rattle.dbm_words.specs.declared.options.Form.{Form}
@@ -59,20 +62,20 @@ pub record IsReady (form : Form) (given : Given) (workers : Bor (List ℕ)) (is_
 abbrev pub task_for : ProgId → RunWords Global → Task Global
 task_for program words = record { key = words.key; prog = program; arg = words.arg; blank = words.blank; now = words.now }
 
--- the lines of at most 16,777,216 bytes ask just these runs
-pub record AreShortTasks (notation : Notation Global) (bytes : List ℕ) (words : List (RunWords Global)) : Type 0 where
+-- the lines of at most 16,777,216 bytes ask just these runs, with their shorthand spelled out
+pub record AreShortTasks (notation : Notation Global) (time : Option TimeOfDay) (bytes : List ℕ) (words : List (RunWords Global)) : Type 0 where
   pub short : length bytes ≤ 16777216
-  pub are : AreTasksOf Global notation bytes words
+  pub are : AreTasksOf Global notation (spelled OfBatch time bytes) words
 
 -- the first line of at most 16,777,216 bytes that asks no task
-pub record HasBadLine (notation : Notation Global) (bytes : List ℕ) (number : ℕ) : Type 0 where
+pub record HasBadLine (notation : Notation Global) (time : Option TimeOfDay) (bytes : List ℕ) (number : ℕ) : Type 0 where
   pub short : length bytes ≤ 16777216
-  pub is : IsFirstBad Global notation bytes number
+  pub is : IsFirstBad Global notation (spelled OfBatch time bytes) number
 
 -- P holds of the tasks that standard input asks, where it is known
-abbrev pub OnTasks : Notation Global → Batch → Option (List ℕ) → (List (Task Global) → Type 0) → Type 0
-OnTasks notation batch input P =
-    (words : List (RunWords Global)) × (IfSome input (λ bytes. AreShortTasks notation bytes words) × P (map (task_for batch.program) words))
+abbrev pub OnTasks : Notation Global → Option TimeOfDay → Batch → Option (List ℕ) → (List (Task Global) → Type 0) → Type 0
+OnTasks notation time batch input P =
+    (words : List (RunWords Global)) × (IfSome input (λ bytes. AreShortTasks notation time bytes words) × P (map (task_for batch.program) words))
 
 -- The calls of sessions lead from a database to another: they are in a legal history from the one to the other, each session's in their
 -- order, and no others are.
@@ -109,9 +112,9 @@ abbrev pub OnReady : Form → Given → Bor (List ℕ) → Bool → (Batch → T
 OnReady form given workers is_image P = (batch : Batch) × (IsReady form given workers is_image batch × P batch)
 
 -- what comes of a batch by its words, its files and standard input
-abbrev pub OnBatch : Notation Global → Form → Given → Bor (List ℕ) → Bool → Option (List ℕ) → Report → Type 0
-OnBatch notation form given workers is_image input report =
-    OnReady form given workers is_image (λ batch. OnTasks notation batch input (λ tasks. DoesTasks notation batch tasks report))
+abbrev pub OnBatch : Notation Global → Form → Given → Bor (List ℕ) → Bool → Option TimeOfDay → Option (List ℕ) → Report → Type 0
+OnBatch notation form given workers is_image time input report =
+    OnReady form given workers is_image (λ batch. OnTasks notation time batch input (λ tasks. DoesTasks notation batch tasks report))
 
 -- ---- faults
 
@@ -149,21 +152,21 @@ doing_causes batch tasks = record no_wish_causes {
 }
 
 -- the lines, and then the tasks
-abbrev pub task_causes : Notation Global → Batch → Option (List ℕ) → WishCauses
-task_causes notation batch input = record no_wish_causes {
-  bad_line = λ number. IfSome input (λ bytes. HasBadLine notation bytes number);
-  pool = λ fault. OnTasks notation batch input (λ tasks. (doing_causes batch tasks).pool fault);
-  closing = λ fault. OnTasks notation batch input (λ tasks. (doing_causes batch tasks).closing fault);
+abbrev pub task_causes : Notation Global → Option TimeOfDay → Batch → Option (List ℕ) → WishCauses
+task_causes notation time batch input = record no_wish_causes {
+  bad_line = λ number. IfSome input (λ bytes. HasBadLine notation time bytes number);
+  pool = λ fault. OnTasks notation time batch input (λ tasks. (doing_causes batch tasks).pool fault);
+  closing = λ fault. OnTasks notation time batch input (λ tasks. (doing_causes batch tasks).closing fault);
 }
 
 -- a batch: standard input is read once it may begin
-abbrev pub batch_causes : Notation Global → Form → Given → Bor (List ℕ) → Bool → Option (List ℕ) → WishCauses
-batch_causes notation form given workers is_image input = record (ready_causes form given workers is_image) {
+abbrev pub batch_causes : Notation Global → Form → Given → Bor (List ℕ) → Bool → Option TimeOfDay → Option (List ℕ) → WishCauses
+batch_causes notation form given workers is_image time input = record (ready_causes form given workers is_image) {
   report = record (ready_causes form given workers is_image).report {
     reading = OnReady form given workers is_image (λ batch. ⊤);
     long = OnReady form given workers is_image (λ batch. IsLongScript input);
   };
-  bad_line = λ number. OnReady form given workers is_image (λ batch. (task_causes notation batch input).bad_line number);
-  pool = λ fault. OnReady form given workers is_image (λ batch. (task_causes notation batch input).pool fault);
-  closing = λ fault. OnReady form given workers is_image (λ batch. (task_causes notation batch input).closing fault);
+  bad_line = λ number. OnReady form given workers is_image (λ batch. (task_causes notation time batch input).bad_line number);
+  pool = λ fault. OnReady form given workers is_image (λ batch. (task_causes notation time batch input).pool fault);
+  closing = λ fault. OnReady form given workers is_image (λ batch. (task_causes notation time batch input).closing fault);
 }

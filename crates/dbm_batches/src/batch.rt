@@ -2,8 +2,12 @@
 ghost use Rattle.std.specs.Prelude.{◌≡◌, ◌⊎◌, ◌≤◌, ◌++◌, true, length, is_some, IfOk, IfErr, OnOk, Some, map};
 ghost use Rattle.std.specs.List.{flat_map};
 ghost use Rattle.sdbm_addr.specs.Database.{Database};
+ghost use Rattle.std.specs.declared.alloc.Global.{Global};
 ghost use Rattle.store_shared.specs.Closed.{IsRefusedClose};
 ghost use Rattle.store_shared.specs.Shared.{opened_by};
+ghost use Rattle.dbm_script.specs.Shorthand.{spelled};
+ghost use Rattle.dbm_script.specs.Tasks.{AreTasksOf, IsTasksFault};
+ghost use Rattle.dbm_script.specs.declared.shorthand.Lines.TheVariants.{OfBatch};
 ghost use Rattle.dbm_batches.specs.Batches.{DoesTasks, IsClosedAfter, IsReady, IsSubmitted, LeadTo, OnBatch, OnTasks, batch_causes, doing_causes, ready_causes, reply_line, submit_causes, task_causes, task_for};
 ghost use Rattle.dbm_faults.specs.declared.fault.ServeFault.TheVariants.{Close};
 ghost use Rattle.dbm_faults.specs.Faults.{pool_fault};
@@ -13,7 +17,10 @@ ghost use Rattle.dbm_reports.specs.Served.{IsPrinted, IsUnserved};
 use dbm_faults::ServeFault;
 use dbm_reports::{Given, Report, ReportFault, Served, Unserved, read_input, write_report};
 use dbm_runs::{Batch as Asked, database_and_image};
-use dbm_script::{Notation, RunWords, read_number, read_tasks, show_reply};
+use dbm_script::{
+    Lines, Notation, RunWords, TasksFault, TimeOfDay, read_number, read_tasks, show_reply,
+    spell_out,
+};
 use dbm_words::Form;
 use prog_registry::{ProgId, Registry};
 use sdbm_files::Image;
@@ -57,8 +64,8 @@ pub fn serve_batch<T: Threads + Wait + Sync, R: Read, W: Write>(
     reader: &mut R,
     writer: &mut W,
 ) -> Result<Served, Unserved<ServeFault>>
-    ensures ok { IfOk result (λ served. IsPrinted (OnBatch notation.now asked.entry.form given.now asked.entry.workers asked.entry.image (R.remaining reader.old)) (W.contents writer.old) (W.contents writer.new) served.status served.database) }
-    ensures fault { IfErr result (IsUnserved (OnBatch notation.now asked.entry.form given.now asked.entry.workers asked.entry.image (R.remaining reader.old)) (HasCause (batch_causes notation.now asked.entry.form given.now asked.entry.workers asked.entry.image (R.remaining reader.old))) (W.contents writer.old) (W.contents writer.new)) }
+    ensures ok { IfOk result (λ served. IsPrinted (OnBatch notation.now asked.entry.form given.now asked.entry.workers asked.entry.image asked.entry.time (R.remaining reader.old)) (W.contents writer.old) (W.contents writer.new) served.status served.database) }
+    ensures fault { IfErr result (IsUnserved (OnBatch notation.now asked.entry.form given.now asked.entry.workers asked.entry.image asked.entry.time (R.remaining reader.old)) (HasCause (batch_causes notation.now asked.entry.form given.now asked.entry.workers asked.entry.image asked.entry.time (R.remaining reader.old))) (W.contents writer.old) (W.contents writer.new)) }
     ensures database { IfOk result (λ served. is_some served.database ≡ true) }
 {
     match report_batch(rt, alloc, notation, asked, given, reader) {
@@ -82,12 +89,12 @@ pub fn report_batch<T: Threads + Wait + Sync, R: Read>(
     given: &Given,
     reader: &mut R,
 ) -> Result<Report, ServeFault>
-    ensures ok { IfOk result (OnBatch notation.now asked.entry.form given.now asked.entry.workers asked.entry.image (R.remaining reader.old)) }
-    ensures fault { IfErr result (HasCause (batch_causes notation.now asked.entry.form given.now asked.entry.workers asked.entry.image (R.remaining reader.old))) }
+    ensures ok { IfOk result (OnBatch notation.now asked.entry.form given.now asked.entry.workers asked.entry.image asked.entry.time (R.remaining reader.old)) }
+    ensures fault { IfErr result (HasCause (batch_causes notation.now asked.entry.form given.now asked.entry.workers asked.entry.image asked.entry.time (R.remaining reader.old))) }
 {
     let batch = ready_batch(alloc, given, asked.form, asked.workers, asked.image)?;
     let input = read_input(alloc, reader)?;
-    run_batch(rt, alloc, notation, batch, input.as_slice())
+    run_batch(rt, alloc, notation, batch, asked.time, input.as_slice())
 }
 
 // What the batch begins with, before standard input is read.
@@ -130,13 +137,14 @@ fn run_batch<T: Threads + Wait + Sync>(
     alloc: Global,
     notation: &Notation<Global>,
     batch: Batch,
+    time: Option<TimeOfDay>,
     input: &[u8],
 ) -> Result<Report, ServeFault>
     requires { length input.now ≤ 16777216 }
-    ensures ok { IfOk result (λ report. OnTasks notation.now batch (Some input.now) (λ tasks. DoesTasks notation.now batch tasks report)) }
-    ensures fault { IfErr result (HasCause (task_causes notation.now batch (Some input.now))) }
+    ensures ok { IfOk result (λ report. OnTasks notation.now time batch (Some input.now) (λ tasks. DoesTasks notation.now batch tasks report)) }
+    ensures fault { IfErr result (HasCause (task_causes notation.now time batch (Some input.now))) }
 {
-    let words = read_tasks(alloc, notation, input)?;
+    let words = words_of_lines(alloc, notation, time, input)?;
     let tasks = tasks_for(alloc, batch.program, words)?;
     let done = do_tasks(rt, alloc, batch, tasks.as_slice())?;
     Ok(Report {
@@ -144,6 +152,20 @@ fn run_batch<T: Threads + Wait + Sync>(
         status: 0,
         database: Some(done.database),
     })
+}
+
+// The words of the tasks of a text, whose shorthand is spelled out first.
+fn words_of_lines(
+    alloc: Global,
+    notation: &Notation<Global>,
+    time: Option<TimeOfDay>,
+    input: &[u8],
+) -> Result<Vec<RunWords<Global>>, TasksFault>
+    ensures ok { IfOk result (λ words. AreTasksOf Global notation.now (spelled OfBatch time input.now) words.items) }
+    ensures fault { IfErr result (IsTasksFault Global notation.now (spelled OfBatch time input.now)) }
+{
+    let lines = spell_out(alloc, Lines::OfBatch, time, input)?;
+    read_tasks(alloc, notation, lines.as_slice())
 }
 
 // The runs of a program that words ask.

@@ -23,6 +23,7 @@ use Rattle.dbm_runs.specs.Batch.{BatchAsks}
 use Rattle.dbm_runs.specs.Run.{RunAsks}
 use Rattle.dbm_scripts.specs.Script.{ScriptAsks}
 use Rattle.dbm_scripts.specs.Widen.{WidenAsks}
+use Rattle.dbm_script.specs.declared.shorthand.TimeOfDay.{TimeOfDay}
 use Rattle.dbm_command_line.specs.declared.fault.ToolFault.{ToolFault}
 use Rattle.dbm_command_line.specs.declared.fault.ToolFault.TheVariants.{Refused, NoMemory, NoWord}
 use Rattle.dbm_words.specs.declared.options.Access.{Access}
@@ -111,6 +112,18 @@ time_asked _ = None
 abbrev pub with_time : Bor Text → Wish → Wish
 with_time time (wish.Run run) = wish.Run (record run { now = time })
 with_time time other = other
+
+-- the lines of standard input may ask the time of day
+abbrev pub asks_clock : Wish → Bool
+asks_clock (wish.Script script) = script.clock
+asks_clock (wish.Batch batch) = batch.clock
+asks_clock _ = false
+
+-- the wish whose lines are told this time
+abbrev pub with_clock : TimeOfDay → Wish → Wish
+with_clock time (wish.Script script) = wish.Script (record script { time = Some time })
+with_clock time (wish.Batch batch) = wish.Batch (record batch { time = Some time })
+with_clock time other = other
 
 -- The wish is what the subcommand of this name asks, by the words and options that were given to it.
 abbrev pub SubcommandAsks : Text → List Row → Wish → Type 0

@@ -1,11 +1,12 @@
 //! What a command line can ask.
 ghost use Rattle.std.specs.Prelude.{◌≡◌, option_map};
-ghost use Rattle.dbm_command_line.specs.Wishes.{base_of, file_of, notation_of, time_asked, with_time, writes_files};
+ghost use Rattle.dbm_command_line.specs.Wishes.{asks_clock, base_of, file_of, notation_of, time_asked, with_clock, with_time, writes_files};
 
 use dbm_listings::{Check, Keys, List, Stats};
 use dbm_pairs::{Delete, Fetch, Rename, Store};
 use dbm_programs::{Asm, Disasm, Verify};
 use dbm_runs::{Batch, Run};
+use dbm_script::TimeOfDay;
 use dbm_scripts::{Script, Widen};
 use dbm_words::{Access, NotationOptions, TimeUnit, Words};
 
@@ -117,6 +118,34 @@ impl<'a> Wish<'a> {
     {
         match self {
             Wish::Run(run) => Wish::Run(Run { now: time, ..run }),
+            other => other,
+        }
+    }
+
+    /// Whether its lines may ask the time of day: those of a `script` or a `batch` with `--clock`.
+    pub fn asks_clock(&self) -> bool
+        ensures { result ≡ asks_clock self.now }
+    {
+        match *self {
+            Wish::Script(script) => script.clock,
+            Wish::Batch(batch) => batch.clock,
+            _ => false,
+        }
+    }
+
+    /// The same wish, but the lines of a script or a batch are told this time.
+    pub fn with_clock(self, time: TimeOfDay) -> Wish<'a>
+        ensures { result ≡ with_clock time self.entry }
+    {
+        match self {
+            Wish::Script(script) => Wish::Script(Script {
+                time: Some(time),
+                ..script
+            }),
+            Wish::Batch(batch) => Wish::Batch(Batch {
+                time: Some(time),
+                ..batch
+            }),
             other => other,
         }
     }

@@ -86,7 +86,7 @@ fn rest_sentence<'a>(words: &Words<'a>, fault: ServeFault) -> Sentence<'a> {
             plain("The system does not tell the time of day: give NOW as a number.")
         }
         ServeFault::BadLine(number) => with_one(
-            "Line {} of standard input is no task. Write KEY ARG BLANK NOW, with one space between two of them.",
+            "Line {} of standard input is no task. Write KEY ARG BLANK NOW, with one space between two of them; with --clock NOW may be now or now-ms.",
             Part::Number(number as u64),
         ),
         ServeFault::Close(_) => plain(

@@ -15,5 +15,7 @@ pub use advice::{Look, look_for, memory_sentence, sentence_of};
 pub use fault::ServeFault;
 pub use files::finding_sentence;
 pub use finding::{Finding, Matter, Reason};
-pub use notes::{absent_note, bad_lines_note, object_note, refusal_note, wait_note};
+pub use notes::{
+    absent_note, bad_lines_note, line_end_note, object_note, pending_note, refusal_note, wait_note,
+};
 pub use sentence::{Part, Sentence};

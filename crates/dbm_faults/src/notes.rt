@@ -12,6 +12,17 @@ pub fn absent_note<'a>(base: &'a str) -> Sentence<'a> {
     )
 }
 
+/// A save is kept in the redo file of a base, and not done in its files.
+pub fn pending_note<'a>(base: &'a str) -> Sentence<'a> {
+    let base = Part::Name(base);
+    with_three(
+        "the change is saved in {}.redo, but could not be brought into {}.pag and {}.dir to the end, as where a disk is full: the next command that writes does it, and until then programs other than dbm may see half of it",
+        base,
+        base,
+        base,
+    )
+}
+
 /// A program's image that was refused is an object.
 pub fn object_note<'a>(file: &'a str) -> Sentence<'a> {
     with_one(
@@ -62,5 +73,13 @@ pub fn bad_lines_note(first: u64, more: u64) -> Sentence<'static> {
         "line {} of the script is a bad line, and so are {} more",
         first,
         Part::Number(more),
+    )
+}
+
+/// The line of a script or a batch that is the first that ends in CR, counted from 1.
+pub fn line_end_note(line: u64) -> Sentence<'static> {
+    with_one(
+        "line {} ends in CR: lines end in LF alone. A CR that belongs to a value is written \\x0d or hex:0d, with --text",
+        Part::Number(line),
     )
 }

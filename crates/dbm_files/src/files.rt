@@ -8,7 +8,7 @@ use crate::host::{RealFiles, folder_of, forget_redo};
 use crate::links::resolve;
 use crate::lock::{lock_to_read, lock_to_write};
 use crate::names::{DIR_LIMIT, FileBytes, Names, Place, names_of, put, sources};
-use crate::saving::{Change, save_change};
+use crate::saving::{Change, Saved, save_change};
 use crate::side::{Side, SideFault, open_beside, side_fault};
 use sdbm_files::Image;
 use sdbm_saves::{
@@ -285,7 +285,7 @@ pub fn save_files<R: Files<File = File> + AllocGlobal, W: Write>(
     new: &Image<Global>,
     lines: &[u8],
     writer: &mut W,
-) -> Result<(), FilesFault> {
+) -> Result<Saved, FilesFault> {
     let change = Change {
         before: Contents {
             pages: old.pages.as_slice(),
@@ -301,7 +301,7 @@ pub fn save_files<R: Files<File = File> + AllocGlobal, W: Write>(
     let mut disk = Recorded::<RealFiles<'_, R>, Unknown>::new(files, old);
     let saved = save_change(rt.alloc(), &mut disk, change, lines, writer);
     match saved {
-        Ok(()) | Err(FilesFault::Write) => (),
+        Ok(_) | Err(FilesFault::Write) => (),
         Err(_) => forget_redo(rt, names),
     }
     saved

@@ -17,5 +17,5 @@ pub use files::{Held, Taken, save_files, take_files};
 pub use host::{RealFiles, folder_of};
 pub use links::resolve;
 pub use names::{FileBytes, Names, Part, Place, Source, names_of, put, sources};
-pub use saving::{Change, save_change};
+pub use saving::{Change, Saved, save_change};
 pub use side::{Side, Standing, doubt_of, takes_lock, takes_redo};

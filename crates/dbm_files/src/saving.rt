@@ -1,18 +1,30 @@
 //! A save and the lines that tell of it.
-ghost use Rattle.std.specs.Prelude.{◌≡◌, ◌≢◌, ◌⊎◌, get_or, OnOk, IfErr, IsErrOf};
+ghost use Rattle.std.specs.Prelude.{◌≡◌, ◌≢◌, ◌⊎◌, get_or, OnOk, IfOk, IfErr, IsErrOf};
 ghost use Rattle.std.specs.Io.KnownBytes.{Appends};
 ghost use Rattle.byte_text.specs.Writing.{WritesPart};
 ghost use Rattle.sdbm_saves.specs.Disk.{LeavesOnly};
-ghost use Rattle.sdbm_saves.specs.Redo.{files, CanEnd, IsCommitted};
+ghost use Rattle.sdbm_saves.specs.Redo.{files, CanEnd, IsCommitted, IsSettled};
 ghost use Rattle.sdbm_saves.specs.Saves.{IsOldOrSaved, IsSaved, IsSaving, LeavesDatabase};
 ghost use Rattle.dbm_files.specs.declared.fault.FilesFault.TheVariants as fault;
+ghost use Rattle.dbm_files.specs.declared.saving.Saved.TheVariants as saved;
 
 use crate::fault::FilesFault;
 use byte_text::write_all;
 use sdbm_files::Image;
-use sdbm_saves::{Contents, Disk, commit, finish, plan_save, recover, stage};
+use sdbm_saves::{Contents, Disk, commit, finish, plan_save, recover, stage, try_room};
 use std::alloc::Global;
 use std::io::Write;
+
+/// What has become of a save that is no fault.
+#[derive(Clone, Copy, Debug, PartialEq, Eq)]
+pub enum Saved {
+    /// The files were those of the database already, and nothing was written.
+    Unchanged,
+    /// It is done in both files.
+    Whole,
+    /// It is kept in the redo file, and not done in both files, one of which could not be written. The next run that writes ends it.
+    Pending,
+}
 
 /// What a save changes: both data files as they were read, the bytes of the redo file, and the database that is to be in them.
 #[derive(Clone, Copy)]
@@ -30,19 +42,23 @@ pub struct Change<'a> {
 /// # Errors
 /// `FileTooLong` where a file has 2^32 bytes or more or would have, `NoMemory`, and `WriteFile` where the disk has failed, with nothing
 /// printed; where it failed at the mark the save may be committed or not. `Write` where the lines could not be printed, or only their
-/// first bytes: the change stands then. What fails behind the mark is no fault: the next run ends the save.
+/// first bytes: the change stands then. What fails behind the mark is no fault, and the save is `Pending`: the next run ends it. So that a
+/// full disk is found before, the room is tried that the files may want.
 pub fn save_change<D: Disk, W: Write>(
     alloc: Global,
     disk: &mut D,
     change: Change<'_>,
     lines: &[u8],
     writer: &mut W,
-) -> Result<(), FilesFault>
+) -> Result<Saved, FilesFault>
     requires read { D.seen disk.old ≡ record { pages = change.before.pages.now; directory = change.before.directory.now; redo = change.redo.now } }
     requires unmarked { get_or change.redo.now 0 0 ≢ 1 }
 
     ensures saved { OnOk result (IsSaved change.entry.after.now (change.entry.before.pages.now, change.entry.before.directory.now) D.may_leave disk.old disk.new) }
     ensures printed { OnOk result (Appends (W.contents writer.old) (W.contents writer.new) lines.now) }
+
+    // Where the save is whole no mark is left, and both files are on the disk.
+    ensures whole { IfOk result (λ how. how ≡ saved.Whole → IsSettled D.seen D.may_leave disk.new) }
 
     // Lines are printed only where the change is saved.
     ensures stands { IsErrOf result fault.Write → IsSaved change.entry.after.now (change.entry.before.pages.now, change.entry.before.directory.now) D.may_leave disk.old disk.new }
@@ -56,7 +72,10 @@ pub fn save_change<D: Disk, W: Write>(
 {
     match plan_save(alloc, change.before, change.after)? {
         Some(plan) => save_plan(disk, change, plan.as_slice(), lines, writer),
-        None => print(writer, lines),
+        None => {
+            print(writer, lines)?;
+            Ok(Saved::Unchanged)
+        }
     }
 }
 
@@ -78,13 +97,14 @@ fn save_plan<D: Disk, W: Write>(
     plan: &[u8],
     lines: &[u8],
     writer: &mut W,
-) -> Result<(), FilesFault>
+) -> Result<Saved, FilesFault>
     requires read { D.seen disk.old ≡ record { pages = change.before.pages.now; directory = change.before.directory.now; redo = change.redo.now } }
     requires unmarked { get_or change.redo.now 0 0 ≢ 1 }
     requires plan { IsSaving change.after.now plan.now change.before.pages.now change.before.directory.now }
 
     ensures saved { OnOk result (LeavesDatabase change.entry.after.now D.may_leave disk.new) }
     ensures printed { OnOk result (Appends (W.contents writer.old) (W.contents writer.new) lines.now) }
+    ensures whole { IfOk result (λ how. how ≡ saved.Whole → IsSettled D.seen D.may_leave disk.new) }
     ensures stands { IsErrOf result fault.Write → LeavesDatabase change.entry.after.now D.may_leave disk.new }
     ensures part { IsErrOf result fault.Write → WritesPart (W.contents writer.old) (W.contents writer.new) lines.now }
     ensures unprinted { IfErr result (λ why. why ≢ fault.Write → W.contents writer.new ≡ W.contents writer.old) }
@@ -93,12 +113,16 @@ fn save_plan<D: Disk, W: Write>(
 {
     commit_plan(disk, change, plan)?;
     let printed = print(writer, lines);
-    let _ = finish(disk, plan);
-    printed
+    let ended = finish(disk, plan);
+    printed?;
+    match ended {
+        Ok(()) => Ok(Saved::Whole),
+        Err(_) => Ok(Saved::Pending),
+    }
 }
 
-// Commits a change by its plan: settles the redo file, writes the plan into a new one, and marks that. The fault is `NoMemory` or
-// `WriteFile`.
+// Commits a change by its plan: settles the redo file, tries whether the disk has room, writes the plan into a new redo file, and marks
+// that. The fault is `NoMemory` or `WriteFile`.
 fn commit_plan<D: Disk>(disk: &mut D, change: Change<'_>, plan: &[u8]) -> Result<(), FilesFault>
     requires read { D.seen disk.old ≡ record { pages = change.before.pages.now; directory = change.before.directory.now; redo = change.redo.now } }
     requires unmarked { get_or change.redo.now 0 0 ≢ 1 }
@@ -111,6 +135,7 @@ fn commit_plan<D: Disk>(disk: &mut D, change: Change<'_>, plan: &[u8]) -> Result
         (λ c. D.may_leave disk.old c ⊎ (IsOldOrSaved (change.entry.before.pages.now, change.entry.before.directory.now) change.entry.after.now c × CanEnd c)) }
 {
     recover(disk, change.redo)?;
+    try_room(disk, plan)?;
     stage(disk, plan)?;
     commit(disk, plan)?;
     Ok(())

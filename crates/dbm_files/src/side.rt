@@ -194,13 +194,17 @@ pub fn open_beside<R: Files<File = File>>(
 }
 
 /// Makes a redo file, which is not there. It has the records of the database in it, so nobody else may read it before its owner, its group
-/// and its permissions are those of the pages, as far as the system lets this user give it away.
+/// and its permissions are those of the pages, as far as the system lets this user give it away. Where there are no pages yet, all may read
+/// it who will read those.
 pub fn make_redo<R: Files<File = File>>(rt: &R, name: &str, pages: &str) -> io::Result<File> {
-    let file = make(rt, name, 0o600)?;
-    if let Some(like) = pages_standing(rt, pages)? {
-        be_like(&file, like)?;
+    match pages_standing(rt, pages)? {
+        Some(like) => {
+            let file = make(rt, name, 0o600)?;
+            be_like(&file, like)?;
+            Ok(file)
+        }
+        None => make(rt, name, 0o644),
     }
-    Ok(file)
 }
 
 /// Makes the directory of a database, which is not there. Beside pages it is made like them, as a redo file is; else as the umask says.

@@ -6,6 +6,7 @@ use Rattle.sdbm_addr.specs.declared.PageSize.{PageSize}
 use Rattle.sdbm_addr.specs.declared.PageSize.TheVariants.{Small, Wide}
 use Rattle.sdbm_addr.specs.Database.{Database}
 use Rattle.sdbm_addr.specs.Files.{ArePagBytes, SpellsDatabase}
+use Rattle.sdbm_files.specs.Limits.{pag_limit}
 use Rattle.sdbm_files.specs.Opened.{IsOpenFault}
 use Rattle.sdbm_files.specs.declared.opening.OpenFault.{OpenFault}
 use Rattle.sdbm_files.specs.declared.opening.OpenFault.TheVariants as opening
@@ -35,10 +36,6 @@ Opens form given = (db : Database) × IsOpened form given db
 abbrev pub IsShut : Form → Given → OpenFault → Type 0
 IsShut form given opening.NoMemory = ⊥
 IsShut form given reason = IsOpenFault (key_bytes_of form.unsigned) (page_size_of form.wide) given.dir.items given.pag.items reason
-
--- the program writes no `.pag` that is longer
-abbrev pub pag_limit : ℕ
-pag_limit = 1073741824
 
 -- the `.pag` of a database is longer than the program writes
 abbrev pub IsTooLong : Database → Type 0

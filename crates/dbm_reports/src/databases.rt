@@ -7,11 +7,8 @@ ghost use Rattle.dbm_reports.specs.Causes.{IsCaused, opening_causes};
 use crate::fault::ReportFault;
 use dbm_words::Form;
 use sdbm_addr::{KeyBytes, PageSize};
-use sdbm_files::Image;
+use sdbm_files::{Image, PAG_LIMIT};
 use std::alloc::Global;
-
-/// A `.pag` file of the program has at most this many bytes.
-pub const PAG_LIMIT: u64 = 1_073_741_824;
 
 /// The bytes of the files that a wish names; a file of a database that is not there has none.
 #[derive(Drop)]

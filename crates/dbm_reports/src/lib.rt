@@ -12,7 +12,7 @@ mod serving;
 mod subcommand;
 mod words;
 
-pub use databases::{Given, PAG_LIMIT, is_too_long, key_bytes_of, open, page_size_of};
+pub use databases::{Given, is_too_long, key_bytes_of, open, page_size_of};
 pub use fault::{ReportFault, bad_words};
 pub use input::read_input;
 pub use notations::notation_by;

@@ -7,8 +7,10 @@ ghost use Rattle.dbm_runs.specs.Batch as spec;
 ghost use Rattle.dbm_runs.specs.Batch.{BatchAsks};
 
 use clap::{ArgMatches, Command};
+use dbm_script::TimeOfDay;
 use dbm_words::arguments::{
-    base, file, image, layout, must_exist, required_word, text, timeout, unsigned, verbose, wide,
+    base, file, flag, image, layout, must_exist, required_word, text, timeout, unsigned, verbose,
+    wide,
 };
 use dbm_words::{
     Form, NotationOptions, Numbers, Words, form, has_flag, notation, subcommand, word,
@@ -25,6 +27,10 @@ pub struct Batch<'a> {
     pub file: &'a str,
     pub workers: &'a str,
     pub image: bool,
+    /// Its lines may ask the time of day.
+    pub clock: bool,
+    /// The time that its lines are told, once the clock was read.
+    pub time: Option<TimeOfDay>,
 }
 
 impl<'a> Batch<'a> {
@@ -40,6 +46,8 @@ impl<'a> Batch<'a> {
             file: word(matches, "FILE")?,
             workers: word(matches, "WORKERS")?,
             image: has_flag(matches, "image"),
+            clock: has_flag(matches, "clock"),
+            time: None,
         })
     }
 
@@ -64,6 +72,8 @@ impl<'a> Batch<'a> {
 pub fn batch_command<'a>(alloc: Global) -> Result<Command<'a>, AllocError>
     ensures { IfOk result (IsSubcommand spec.batch) }
 {
+    let clock =
+        "Take now and now-ms as NOW of a line: the time in seconds or in thousandths, the same in all lines";
     let args = vec![in alloc;
         base(alloc),
         file(alloc, "The program as text, one instruction a line"),
@@ -73,6 +83,7 @@ pub fn batch_command<'a>(alloc: Global) -> Result<Command<'a>, AllocError>
             "How many workers share the tasks, each in a thread of its own where one can be made"
         ),
         image(alloc),
+        flag(alloc, "clock", clock),
         text(alloc),
         layout(alloc),
         unsigned(alloc),
@@ -84,10 +95,10 @@ pub fn batch_command<'a>(alloc: Global) -> Result<Command<'a>, AllocError>
     let about = "Run a program on the records of many keys, by workers side by side";
     let notes =
         "Standard input has a task in each line: KEY ARG BLANK NOW, as the words of run. An empty line is skipped.\n\
-         Prints for each task, in their order, ran CODE WORD, missing, or crowded (there is no room for a new\n\
-         record). Nothing is printed or written where a line is no task, the program is not accepted, or a task\n\
-         is refused; the fault is then bad line N, Verify(FAULT), or Refused(N, FAULT) with the task's number from\n\
-         0 on.\n\n\
-         Example: printf '6162 . 8 0\\n6364 . 8 0\\n' | dbm batch users counter.s 2";
+         Lines end in LF: one that ends in CR LF is no task. Prints for each task, in their order, ran CODE WORD,\n\
+         missing, or crowded (there is no room for a new record). Nothing is printed or written where a line is no\n\
+         task, the program is not accepted, or a task is refused; the fault is then bad line N, Verify(FAULT), or\n\
+         Refused(N, FAULT) with the task's number from 0 on.\n\n\
+         Example: printf '6162 . 8 now\\n6364 . 8 now\\n' | dbm batch users counter.s 2 --clock";
     subcommand(alloc, "batch", about, notes, args)
 }

@@ -7,7 +7,6 @@ use Rattle.dbm_script.specs.Numbers.{blank_of, number_of}
 use Rattle.dbm_script.specs.Tasks.{HasBadBytes, HasBadNumber, all_words, run_words_of}
 use Rattle.dbm_script.specs.declared.notations.Notation.{Notation}
 use Rattle.dbm_script.specs.declared.run_words.RunWords.{RunWords}
-use Rattle.dbm_script.specs.declared.lines.Ask.{Ask}
 use Rattle.dbm_script.specs.declared.lines.Ask.TheVariants.{Run}
 
 bad_bytes_none : {A : Type 0} (k a : Option (List ℕ)) (b : Option (Option ℕ)) (t : Option ℕ) → (k ≡ None) ⊎ (a ≡ None) → None ≡ all_words {A = A} k a b t

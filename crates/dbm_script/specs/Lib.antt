@@ -1,4 +1,5 @@
 pub mod Pieces
+pub mod Shorthand
 pub mod Notation
 pub mod Commands
 pub mod Numbers

@@ -12,6 +12,7 @@ mod pieces;
 mod run_words;
 mod running;
 mod script;
+mod shorthand;
 mod streams;
 mod tasks;
 
@@ -27,5 +28,6 @@ pub use pieces::first_piece;
 pub use run_words::{RunWords, WordFault, read_run_words};
 pub use running::{RunAsk, answer_run, command_of_run};
 pub use script::{answer_command, run_lines, run_script};
+pub use shorthand::{Lines, TimeOfDay, spell_out};
 pub use streams::{SCRIPT_LIMIT, read_all};
 pub use tasks::{TasksFault, read_tasks};

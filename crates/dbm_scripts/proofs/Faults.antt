@@ -8,6 +8,7 @@ use Rattle.dbm_script.specs.declared.fault.LinesFault.{LinesFault}
 use Rattle.dbm_script.specs.declared.fault.LinesFault.TheVariants as lines
 use Rattle.dbm_words.specs.declared.options.Form.{Form}
 use Rattle.dbm_script.specs.declared.notations.Notation.{Notation}
+use Rattle.dbm_script.specs.declared.shorthand.TimeOfDay.{TimeOfDay}
 use Rattle.dbm_scripts.specs.declared.script.Script.{Script}
 use Rattle.dbm_reports.specs.declared.databases.Given.{Given}
 use Rattle.dbm_reports.specs.declared.fault.ReportFault.{ReportFault}
@@ -18,34 +19,34 @@ use Rattle.dbm_reports.specs.Causes.{Causes, IsCaused, input_causes, lines_fault
 use Rattle.dbm_scripts.specs.Script.{script_in}
 
 -- standard input is read behind the opening
-pub input_fault : (n : Notation Global) (form : Form) (given : Given) (input : Option (List ℕ)) (most : ℕ) (fault : ReportFault) → Opens form given → IsCaused (input_causes input) fault → IsCaused (script_causes n form given input most) fault
-input_fault n form given input most BadHex opens h = h
-input_fault n form given input most BadText opens h = h
-input_fault n form given input most BadLayout opens h = h
-input_fault n form given input most BadNumber opens h = h
-input_fault n form given input most (Open reason) opens h = absurd h
-input_fault n form given input most NotText opens h = h
-input_fault n form given input most (Assemble fault) opens h = h
-input_fault n form given input most (Decode fault) opens h = h
-input_fault n form given input most Read opens h = opens
-input_fault n form given input most TooLong opens h = (opens, h)
-input_fault n form given input most OutputTooLong opens h = absurd h
-input_fault n form given input most NoMemory opens h = tt
+pub input_fault : (n : Notation Global) (form : Form) (given : Given) (time : Option TimeOfDay) (input : Option (List ℕ)) (most : ℕ) (fault : ReportFault) → Opens form given → IsCaused (input_causes input) fault → IsCaused (script_causes n form given time input most) fault
+input_fault n form given time input most BadHex opens h = h
+input_fault n form given time input most BadText opens h = h
+input_fault n form given time input most BadLayout opens h = h
+input_fault n form given time input most BadNumber opens h = h
+input_fault n form given time input most (Open reason) opens h = absurd h
+input_fault n form given time input most NotText opens h = h
+input_fault n form given time input most (Assemble fault) opens h = h
+input_fault n form given time input most (Decode fault) opens h = h
+input_fault n form given time input most Read opens h = opens
+input_fault n form given time input most TooLong opens h = (opens, h)
+input_fault n form given time input most OutputTooLong opens h = absurd h
+input_fault n form given time input most NoMemory opens h = tt
 
 -- standard input is read for a script on an empty database
-pub alone_fault : (n : Notation Global) (form : Form) (input : Option (List ℕ)) (most : ℕ) (fault : ReportFault) → IsCaused (input_causes input) fault → IsCaused (alone_causes n form input most) fault
-alone_fault n form input most BadHex h = h
-alone_fault n form input most BadText h = h
-alone_fault n form input most BadLayout h = h
-alone_fault n form input most BadNumber h = h
-alone_fault n form input most (Open reason) h = h
-alone_fault n form input most NotText h = h
-alone_fault n form input most (Assemble fault) h = h
-alone_fault n form input most (Decode fault) h = h
-alone_fault n form input most Read h = h
-alone_fault n form input most TooLong h = h
-alone_fault n form input most OutputTooLong h = absurd h
-alone_fault n form input most NoMemory h = h
+pub alone_fault : (n : Notation Global) (form : Form) (time : Option TimeOfDay) (input : Option (List ℕ)) (most : ℕ) (fault : ReportFault) → IsCaused (input_causes input) fault → IsCaused (alone_causes n form time input most) fault
+alone_fault n form time input most BadHex h = h
+alone_fault n form time input most BadText h = h
+alone_fault n form time input most BadLayout h = h
+alone_fault n form time input most BadNumber h = h
+alone_fault n form time input most (Open reason) h = h
+alone_fault n form time input most NotText h = h
+alone_fault n form time input most (Assemble fault) h = h
+alone_fault n form time input most (Decode fault) h = h
+alone_fault n form time input most Read h = h
+alone_fault n form time input most TooLong h = h
+alone_fault n form time input most OutputTooLong h = absurd h
+alone_fault n form time input most NoMemory h = h
 
 -- a script that was read is played behind other steps
 pub played_fault : (causes : Causes) (n : Notation Global) (db : Database) (input : Option (List ℕ)) (most : ℕ) (fault : ReportFault) → (IsOverlong n db input most → causes.overlong) → IsCaused (play_causes n db input most) fault → IsCaused causes fault
@@ -79,18 +80,18 @@ numbered n m causes fault is h = subst (λ (o : Option ℕ). IsCaused (numbered_
 -- a script whose limit is no number
 pub unlimited : (n : Notation Global) (base : Option (Bor (List ℕ))) (script : Script) (given : Given) (input : Option (List ℕ)) → output_limit script.max_output ≡ None
     → IsCaused (script_in n base script given input).causes BadNumber
-unlimited n None script given input is = unnumbered (output_limit script.max_output) (alone_causes n script.form input) is
-unlimited n (Some base) script given input is = unnumbered (output_limit script.max_output) (script_causes n script.form given input) is
+unlimited n None script given input is = unnumbered (output_limit script.max_output) (alone_causes n script.form script.time input) is
+unlimited n (Some base) script given input is = unnumbered (output_limit script.max_output) (script_causes n script.form given script.time input) is
 
 -- what comes behind the limit of a script on an empty database, and on one of files
 pub caused_alone : (n : Notation Global) (script : Script) (given : Given) (input : Option (List ℕ)) (most : ℕ) (fault : ReportFault) → script.base ≡ None → output_limit script.max_output ≡ Some most
-    → IsCaused (alone_causes n script.form input most) fault → IsCaused (script_in n script.base script given input).causes fault
+    → IsCaused (alone_causes n script.form script.time input most) fault → IsCaused (script_in n script.base script given input).causes fault
 caused_alone n script given input most fault none is h =
     subst (λ (base : Option (Bor (List ℕ))). IsCaused (script_in n base script given input).causes fault) (sym none)
-    (numbered (output_limit script.max_output) most (alone_causes n script.form input) fault is h)
+    (numbered (output_limit script.max_output) most (alone_causes n script.form script.time input) fault is h)
 
 pub caused_on : (n : Notation Global) (base : Bor (List ℕ)) (script : Script) (given : Given) (input : Option (List ℕ)) (most : ℕ) (fault : ReportFault) → script.base ≡ Some base → output_limit script.max_output ≡ Some most
-    → IsCaused (script_causes n script.form given input most) fault → IsCaused (script_in n script.base script given input).causes fault
+    → IsCaused (script_causes n script.form given script.time input most) fault → IsCaused (script_in n script.base script given input).causes fault
 caused_on n base script given input most fault some is h =
     subst (λ (o : Option (Bor (List ℕ))). IsCaused (script_in n o script given input).causes fault) (sym some)
-    (numbered (output_limit script.max_output) most (script_causes n script.form given input) fault is h)
+    (numbered (output_limit script.max_output) most (script_causes n script.form given script.time input) fault is h)

@@ -1,14 +1,17 @@
 -- Scripts whose bytes were read.
-use Rattle.std.proofs.Common.{◌≡◌, ◌≤◌, ℕ, List, Option, Some, None, Bor, IfSome, length, subst, sym, Bool, true, false, inl, inr, ◌∙◌}
+use Rattle.std.proofs.Common.{◌≡◌, ◌≤◌, ℕ, List, Option, Some, None, Bor, IfSome, length, subst, sym, Bool, true, false, inl, inr, ap, ◌∙◌}
 use Rattle.std.specs.declared.alloc.Global.{Global}
 use Rattle.sdbm_addr.specs.Database.{Database}
 use Rattle.dbm_script.specs.Script.{AnswersExceed, IsScriptRun}
 use Rattle.dbm_script.proofs.Runs.{known_read}
+use Rattle.dbm_script.specs.Shorthand.{spelled}
 use Rattle.dbm_script.specs.declared.notations.Notation.{Notation}
+use Rattle.dbm_script.specs.declared.shorthand.Lines.TheVariants.{OfScript}
+use Rattle.dbm_script.specs.declared.shorthand.TimeOfDay.{TimeOfDay}
 use Rattle.dbm_reports.specs.declared.report.Report.{Report}
 use Rattle.dbm_scripts.specs.declared.script.Script.{Script}
 use Rattle.dbm_reports.specs.declared.databases.Given.{Given}
-use Rattle.dbm_scripts.specs.Playing.{output_limit, IsOverlong, Plays, PlaysAlone, PlaysOn, PlaysAs, has_bad_line}
+use Rattle.dbm_scripts.specs.Playing.{output_limit, IsOverlong, Plays, PlaysAlone, PlaysOn, PlaysAs, has_bad_line, spelled_input}
 use Rattle.dbm_reports.specs.Reports.{OnDatabase}
 use Rattle.dbm_scripts.specs.Script.{script_in}
 use Rattle.dbm_reports.proofs.Asked.{within}
@@ -23,6 +26,12 @@ plays_known n before known read most after report is plays = record {
   size = plays.size;
   status_is = plays.status_is;
 }
+
+-- so is what it stands for
+pub spelled_read : (time : Option TimeOfDay) (known : Option (List ℕ)) (read script : List ℕ) → IfSome known (λ input. read ≡ input) → script ≡ spelled OfScript time read
+    → IfSome (spelled_input time known) (λ input. script ≡ input)
+spelled_read time None read script is spells = tt
+spelled_read time (Some input) read script is spells = spells ∙ ap (spelled OfScript time) is
 
 -- the text alone
 pub plays_text : (n : Notation Global) (before : Database) (known : Option (List ℕ)) (most : ℕ) (after : Database) (report other : Report)
@@ -62,13 +71,13 @@ overlong_known n before known read most is long = known_read known read (λ byte
 
 -- a limit of a script on an empty database, and on one of files
 pub limited_alone : (n : Notation Global) (script : Script) (given : Given) (input : Option (List ℕ)) (most : ℕ) (report : Report) → script.base ≡ None → output_limit script.max_output ≡ Some most
-    → PlaysAlone script.strict n script.form input most report → (script_in n script.base script given input).reports report
+    → PlaysAlone script.strict n script.form (spelled_input script.time input) most report → (script_in n script.base script given input).reports report
 limited_alone n script given input most report none is plays =
     subst (λ (base : Option (Bor (List ℕ))). (script_in n base script given input).reports report) (sym none)
-    (within (output_limit script.max_output) most (λ m. PlaysAlone script.strict n script.form input m report) is plays)
+    (within (output_limit script.max_output) most (λ m. PlaysAlone script.strict n script.form (spelled_input script.time input) m report) is plays)
 
 pub limited_on : (n : Notation Global) (base : Bor (List ℕ)) (script : Script) (given : Given) (input : Option (List ℕ)) (most : ℕ) (report : Report) → script.base ≡ Some base → output_limit script.max_output ≡ Some most
-    → OnDatabase script.form given (PlaysOn script.strict n input most report) → (script_in n script.base script given input).reports report
+    → OnDatabase script.form given (PlaysOn script.strict n (spelled_input script.time input) most report) → (script_in n script.base script given input).reports report
 limited_on n base script given input most report some is plays =
     subst (λ (o : Option (Bor (List ℕ))). (script_in n o script given input).reports report) (sym some)
-    (within (output_limit script.max_output) most (λ m. OnDatabase script.form given (PlaysOn script.strict n input m report)) is plays)
+    (within (output_limit script.max_output) most (λ m. OnDatabase script.form given (PlaysOn script.strict n (spelled_input script.time input) m report)) is plays)

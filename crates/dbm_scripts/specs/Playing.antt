@@ -1,5 +1,5 @@
 -- Scripts on a database: their answers, and why there are none.
-use Rattle.std.specs.Prelude.{◌≡◌, ◌⊎◌, ℕ, ◌≤◌, Bool, true, false, List, [], ◌∷◌, length, Option, Some, None, IfSome, is_none, ⊤}
+use Rattle.std.specs.Prelude.{◌≡◌, ◌⊎◌, ℕ, ◌≤◌, Bool, true, false, List, [], ◌∷◌, length, Option, Some, None, IfSome, is_none, option_map, ⊤}
 use Rattle.std.specs.List.{list_any}
 use Rattle.dbm_script.specs.Lines.{ask_of}
 use Rattle.dbm_script.specs.Pieces.{pieces_of}
@@ -8,12 +8,19 @@ use Rattle.std.specs.declared.alloc.Global.{Global}
 use Rattle.sdbm_addr.specs.Database.{Database, empty_database}
 use Rattle.dbm_script.specs.declared.notations.Notation.{Notation}
 use Rattle.dbm_script.specs.Script.{IsScriptRun, AnswersExceed}
+use Rattle.dbm_script.specs.Shorthand.{spelled}
+use Rattle.dbm_script.specs.declared.shorthand.Lines.TheVariants.{OfScript}
+use Rattle.dbm_script.specs.declared.shorthand.TimeOfDay.{TimeOfDay}
 use Rattle.dbm_words.specs.declared.options.Form.{Form}
 use Rattle.dbm_reports.specs.declared.report.Report.{Report}
 use Rattle.dbm_reports.specs.declared.databases.Given.{Given}
 use Rattle.dbm_reports.specs.Databases.{IsOpened, key_bytes_of, page_size_of, IsShut, Opens}
 use Rattle.dbm_script.specs.Numbers.{number_of}
 use Rattle.dbm_reports.specs.Causes.{Causes, no_causes, IsLongScript, input_causes}
+
+-- what a script that is read stands for, with its shorthand spelled out; its bytes may not be known
+abbrev pub spelled_input : Option TimeOfDay → Option (List ℕ) → Option (List ℕ)
+spelled_input time input = option_map (spelled OfScript time) input
 
 -- the answers to a script, whose bytes may not be known, and the database after it; the answers have at most so many bytes
 pub record Plays (notation : Notation Global) (before : Database) (input : Option (List ℕ)) (most : ℕ) (after : Database) (report : Report) : Type 0 where
@@ -67,18 +74,18 @@ abbrev pub play_causes : Notation Global → Database → Option (List ℕ) → 
 play_causes notation db input most = record no_causes { overlong = IsOverlong notation db input most }
 
 -- a script on an empty database
-abbrev pub alone_causes : Notation Global → Form → Option (List ℕ) → ℕ → Causes
-alone_causes notation form input most = record (input_causes input) {
-  overlong = IsOverlong notation (empty_database (key_bytes_of form.unsigned) (page_size_of form.wide)) input most;
+abbrev pub alone_causes : Notation Global → Form → Option TimeOfDay → Option (List ℕ) → ℕ → Causes
+alone_causes notation form time input most = record (input_causes input) {
+  overlong = IsOverlong notation (empty_database (key_bytes_of form.unsigned) (page_size_of form.wide)) (spelled_input time input) most;
 }
 
 -- a script on the database of the files, which are opened before it is read
-abbrev pub script_causes : Notation Global → Form → Given → Option (List ℕ) → ℕ → Causes
-script_causes notation form given input most = record no_causes {
+abbrev pub script_causes : Notation Global → Form → Given → Option TimeOfDay → Option (List ℕ) → ℕ → Causes
+script_causes notation form given time input most = record no_causes {
   opening = IsShut form given;
   reading = Opens form given;
   long = Opens form given × IsLongScript input;
-  overlong = (db : Database) × (IsOpened form given db × IsOverlong notation db input most);
+  overlong = (db : Database) × (IsOpened form given db × IsOverlong notation db (spelled_input time input) most);
 }
 
 -- a number that comes before all else

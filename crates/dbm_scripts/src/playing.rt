@@ -1,13 +1,13 @@
 //! A script on a database.
-ghost use Rattle.std.specs.Prelude.{◌≡◌, Some, IfOk, IfErr, true};
+ghost use Rattle.std.specs.Prelude.{◌≡◌, Some, IfOk, IfErr, IfSome, true};
 ghost use Rattle.sdbm_addr.specs.Database.{Database};
-ghost use Rattle.dbm_reports.specs.Causes.{IsCaused};
+ghost use Rattle.dbm_reports.specs.Causes.{IsCaused, input_causes};
 ghost use Rattle.dbm_reports.specs.Reports.{OnDatabase};
-ghost use Rattle.dbm_scripts.specs.Playing.{Plays, PlaysAs, PlaysAlone, PlaysOn, alone_causes, output_limit, play_causes, script_causes};
+ghost use Rattle.dbm_scripts.specs.Playing.{Plays, PlaysAs, PlaysAlone, PlaysOn, alone_causes, output_limit, play_causes, script_causes, spelled_input};
 
 use crate::strict::has_bad_line;
 use dbm_reports::{Given, Report, ReportFault, key_bytes_of, open, page_size_of, read_input};
-use dbm_script::{Notation, read_number, run_lines};
+use dbm_script::{Lines, Notation, TimeOfDay, read_number, run_lines, spell_out};
 use dbm_words::Form;
 use sdbm_files::Image;
 use std::alloc::Global;
@@ -30,20 +30,21 @@ pub fn output_limit(max_output: Option<&str>) -> Option<u64>
 /// A script on an empty database, which is not kept.
 ///
 /// # Errors
-/// Those of `read_input` and of `play`.
+/// Those of `read_input` and of `play_as`.
 pub fn report_alone<R: Read>(
     alloc: Global,
     notation: &Notation<Global>,
     form: Form,
     most: u64,
     strict: bool,
+    time: Option<TimeOfDay>,
     reader: &mut R,
 ) -> Result<Report, ReportFault>
-    ensures ok { IfOk result (PlaysAlone strict notation.now form (R.remaining reader.old) most) }
-    ensures fault { IfErr result (IsCaused (alone_causes notation.now form (R.remaining reader.old) most)) }
+    ensures ok { IfOk result (PlaysAlone strict notation.now form (spelled_input time (R.remaining reader.old)) most) }
+    ensures fault { IfErr result (IsCaused (alone_causes notation.now form time (R.remaining reader.old) most)) }
 {
     let image = Image::empty(alloc, key_bytes_of(form), page_size_of(form));
-    let script = read_input(alloc, reader)?;
+    let script = read_script(alloc, time, reader)?;
     let Report { text, status, .. } = play_as(
         alloc,
         notation,
@@ -62,7 +63,7 @@ pub fn report_alone<R: Read>(
 /// A script on the database of the files.
 ///
 /// # Errors
-/// Those of `open`, of `read_input` and of `play`.
+/// Those of `open`, of `read_input` and of `play_as`.
 pub fn report_played<R: Read>(
     alloc: Global,
     notation: &Notation<Global>,
@@ -70,14 +71,28 @@ pub fn report_played<R: Read>(
     form: Form,
     most: u64,
     strict: bool,
+    time: Option<TimeOfDay>,
     reader: &mut R,
 ) -> Result<Report, ReportFault>
-    ensures ok { IfOk result (λ report. OnDatabase form given.now (PlaysOn strict notation.now (R.remaining reader.old) most report)) }
-    ensures fault { IfErr result (IsCaused (script_causes notation.now form given.now (R.remaining reader.old) most)) }
+    ensures ok { IfOk result (λ report. OnDatabase form given.now (PlaysOn strict notation.now (spelled_input time (R.remaining reader.old)) most report)) }
+    ensures fault { IfErr result (IsCaused (script_causes notation.now form given.now time (R.remaining reader.old) most)) }
 {
     let image = open(alloc, given, form)?;
-    let script = read_input(alloc, reader)?;
+    let script = read_script(alloc, time, reader)?;
     play_as(alloc, notation, image, script.as_slice(), most, strict)
+}
+
+// The script on standard input, with its shorthand spelled out.
+fn read_script<R: Read>(
+    alloc: Global,
+    time: Option<TimeOfDay>,
+    reader: &mut R,
+) -> Result<Vec<u8>, ReportFault>
+    ensures ok { IfOk result (λ script. IfSome (spelled_input time (R.remaining reader.old)) (λ input. script.items ≡ input)) }
+    ensures fault { IfErr result (IsCaused (input_causes (R.remaining reader.old))) }
+{
+    let input = read_input(alloc, reader)?;
+    Ok(spell_out(alloc, Lines::OfScript, time, input.as_slice())?)
 }
 
 // What comes of a script: a strict one is not run where a line of it asks nothing.

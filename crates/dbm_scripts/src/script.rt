@@ -9,7 +9,7 @@ ghost use Rattle.dbm_scripts.specs.Script.{ScriptAsks};
 use crate::playing::{output_limit, report_alone, report_played};
 use clap::{ArgMatches, Command};
 use dbm_reports::{Given, Report, ReportFault, Subcommand};
-use dbm_script::Notation;
+use dbm_script::{Notation, TimeOfDay};
 use dbm_words::arguments::{
     flag, layout, must_exist, text, timeout, unsigned, valued_option, verbose, wide,
 };
@@ -29,6 +29,10 @@ pub struct Script<'a> {
     pub max_output: Option<&'a str>,
     /// It is not run where a line of it asks nothing.
     pub strict: bool,
+    /// Its lines may ask the time of day.
+    pub clock: bool,
+    /// The time that its lines are told, once the clock was read.
+    pub time: Option<TimeOfDay>,
 }
 
 impl<'a> Script<'a> {
@@ -43,6 +47,8 @@ impl<'a> Script<'a> {
             form: form(matches),
             notation: notation(matches),
             strict: has_flag(matches, "strict"),
+            clock: has_flag(matches, "clock"),
+            time: None,
         })
     }
 
@@ -70,10 +76,13 @@ pub fn script_command<'a>(alloc: Global) -> Result<Command<'a>, AllocError>
     let limit = "Be refused, with nothing printed or kept, where the answers have more bytes";
     let strict =
         "Run nothing where a line asks nothing: the status is then 1, and standard error has the line";
+    let clock =
+        "Take now and now-ms as NOW of a line: the time in seconds or in thousandths, the same in all lines";
     let args = vec![in alloc;
         valued_option(alloc, "base", "BASE", help),
         valued_option(alloc, "max-output", "BYTES", limit),
         flag(alloc, "strict", strict),
+        flag(alloc, "clock", clock),
         text(alloc),
         layout(alloc),
         unsigned(alloc),
@@ -85,12 +94,14 @@ pub fn script_command<'a>(alloc: Global) -> Result<Command<'a>, AllocError>
     let about = "Run the commands on standard input, a line each";
     let notes =
         "The lines are fetch KEY, insert KEY VALUE, replace KEY VALUE, delete KEY, count, program IMAGE and\n\
-         run KEY PROG ARG BLANK NOW. insert answers exists where the key is there, and replace replaces.\n\
-         IMAGE is what asm prints, and PROG the number that program answered, from 0. Prints a line of\n\
-         answer to each, bad line to any other that is not empty; with --strict nothing is run then. All\n\
-         lines together have at most 16 MiB, and their answers up to 2,003 times as much. Where that is more\n\
-         than BYTES, the fault is OutputTooLong.\n\n\
-         Example: dbm script --base users < first.script";
+         run KEY PROG ARG BLANK NOW; get, put and del are short for fetch, replace and delete. insert answers\n\
+         exists where the key is there, and replace replaces. IMAGE is what asm prints, and PROG the number\n\
+         that program answered, from 0. An empty line is skipped, and so is one that begins with #. Prints\n\
+         for each of the others a line of answer, bad line where it asks nothing; with --strict nothing is run\n\
+         then. Lines end in LF: one that ends in CR LF is a bad line. All lines together have at most 16 MiB, and\n\
+         their answers up to 5,340 times as much. Where that is more than BYTES, the fault is OutputTooLong.\n\n\
+         Example: dbm script --base users < first.script\n\
+         or: printf 'program %s\\nrun hits 0 . 8 now\\n' \"$(dbm asm counter.s)\" | dbm script --base users --text --clock";
     subcommand(alloc, "script", about, notes, args)
 }
 
@@ -120,8 +131,25 @@ impl Subcommand for Script<'_> {
             return Err(ReportFault::BadNumber);
         };
         match self.base {
-            None => report_alone(alloc, notation, self.form, most, self.strict, reader),
-            Some(_) => report_played(alloc, notation, given, self.form, most, self.strict, reader),
+            None => report_alone(
+                alloc,
+                notation,
+                self.form,
+                most,
+                self.strict,
+                self.time,
+                reader,
+            ),
+            Some(_) => report_played(
+                alloc,
+                notation,
+                given,
+                self.form,
+                most,
+                self.strict,
+                self.time,
+                reader,
+            ),
         }
     }
 }

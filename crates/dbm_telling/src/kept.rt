@@ -1,8 +1,8 @@
 //! Lines of a script that ask nothing, found once it was answered.
 
-use dbm_faults::{Sentence, bad_lines_note};
+use dbm_faults::{Sentence, bad_lines_note, line_end_note};
 use dbm_reports::notation_by;
-use dbm_script::{Notation, read_line};
+use dbm_script::{Lines, Notation, TimeOfDay, read_line, spell_out};
 use dbm_words::NotationOptions;
 use memchr::memmem;
 use std::alloc::Global;
@@ -20,6 +20,8 @@ pub struct Kept<R: Read> {
     pub refusal: Option<String>,
     /// Whether the reader of a pipe was gone to which answers were written.
     pub has_no_reader: bool,
+    /// Whether the change is kept in the redo file, and not done in the files of the database.
+    pub is_pending: bool,
 }
 
 impl<R: Read> Kept<R> {
@@ -32,6 +34,7 @@ impl<R: Read> Kept<R> {
             has_bad_line: false,
             refusal: None,
             has_no_reader: false,
+            is_pending: false,
         }
     }
 
@@ -111,20 +114,40 @@ pub fn is_refused(answer: &[u8]) -> bool {
 }
 
 /// The note on the lines of a script that ask nothing in the notation of its options: which is the first, and how many more there
-/// are. `None` where there are none.
+/// are. With a clock they may ask the time of day. `None` where there are none.
 pub fn note_of_bad_lines(
     alloc: Global,
     options: NotationOptions<'_>,
+    clock: bool,
     script: &[u8],
 ) -> Option<Sentence<'static>> {
     let Ok(notation) = notation_by(alloc, options) else {
         return None;
     };
-    let (first, count) = count_bad_lines(alloc, &notation, script);
+    // Whether a line asks anything is the same at each time.
+    let time = clock.then_some(TimeOfDay {
+        seconds: 0,
+        millis: 0,
+    });
+    let Ok(lines) = spell_out(alloc, Lines::OfScript, time, script) else {
+        return None;
+    };
+    let (first, count) = count_bad_lines(alloc, &notation, lines.as_slice());
     if count == 0 {
         return None;
     }
     Some(bad_lines_note(first.saturating_add(1), count - 1))
+}
+
+/// The note on the first line of a text that ends in CR. `None` where none does. A comment of a script may.
+pub fn note_of_line_end(lines: Lines, text: &[u8]) -> Option<Sentence<'static>> {
+    for (at, line) in text.split(|byte| *byte == b'\n').enumerate() {
+        let is_comment = lines == Lines::OfScript && line.starts_with(b"#");
+        if line.ends_with(b"\r") && !is_comment {
+            return Some(line_end_note((at as u64).saturating_add(1)));
+        }
+    }
+    None
 }
 
 // The first of the lines that ask nothing, counted from 0, and how many there are.

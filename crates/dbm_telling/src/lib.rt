@@ -7,7 +7,7 @@ mod telling;
 mod told;
 mod waiting;
 
-pub use kept::{Kept, Watched, has_bad_line, is_refused, note_of_bad_lines};
-pub use telling::{advise, note_absent, note_object, note_refusal, note_that};
+pub use kept::{Kept, Watched, has_bad_line, is_refused, note_of_bad_lines, note_of_line_end};
+pub use telling::{advise, note_absent, note_object, note_pending, note_refusal, note_that};
 pub use told::Told;
 pub use waiting::take_and_tell;

@@ -4,7 +4,7 @@ use crate::findings::{find_object, find_too_long, find_unread, find_unsafe, find
 use crate::told::Told;
 use dbm_faults::{
     Finding, Look, Sentence, ServeFault, absent_note, finding_sentence, look_for, memory_sentence,
-    object_note, refusal_note, sentence_of,
+    object_note, pending_note, refusal_note, sentence_of,
 };
 use dbm_files::{has_no_files, names_of, resolve, sources};
 use dbm_words::Words;
@@ -155,6 +155,11 @@ pub fn note_absent<R: Runtime<File = File> + AllocGlobal>(rt: &R, told: &Told<'_
     {
         note_that(rt, absent_note(base));
     }
+}
+
+/// Says that a save is kept in the redo file, and not done in the files of the database.
+pub fn note_pending<R: Runtime>(rt: &R, told: &Told<'_>) {
+    note_that(rt, pending_note(told.place.base.unwrap_or("BASE")));
 }
 
 /// Says of a program's image that was refused that it is an object, where it is one.

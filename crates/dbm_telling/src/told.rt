@@ -14,4 +14,6 @@ pub struct Told<'a> {
     pub notation: NotationOptions<'a>,
     /// It is a script that is not run where a line of it asks nothing.
     pub strict: bool,
+    /// Its lines may ask the time of day.
+    pub clock: bool,
 }

@@ -43,8 +43,8 @@ reporting known = record {
 -- a batch
 abbrev pub batch_in : Notation Global → Batch → Given → Option (List ℕ) → Service
 batch_in n batch given input = record {
-  reports = OnBatch n batch.form given batch.workers batch.image input;
-  causes = batch_causes n batch.form given batch.workers batch.image input;
+  reports = OnBatch n batch.form given batch.workers batch.image batch.time input;
+  causes = batch_causes n batch.form given batch.workers batch.image batch.time input;
 }
 
 -- What is known of a wish by its notation, the bytes of its files and of what is read.

@@ -1,9 +1,11 @@
-//! The time of day, for a run that asks it.
-ghost use Rattle.std.specs.Prelude.{◌≡◌, ◌/◌, IfOk, decimal, string_bytes};
+//! The time of day, for a run that asks it and for lines that do.
+ghost use Rattle.std.specs.Prelude.{◌≡◌, ◌/◌, IfOk, IfSome, decimal, string_bytes};
 ghost use Rattle.std.specs.Duration.{as_nanos};
 ghost use Rattle.dbm_tool.specs.Clocks.{nanos_in};
+ghost use Rattle.dbm_words.specs.declared.options.TimeUnit.TheVariants.{Seconds, Milliseconds};
 
 use dbm_faults::ServeFault;
+use dbm_script::TimeOfDay;
 use dbm_words::TimeUnit;
 use std::alloc::{AllocError, Global};
 use std::time::{Clock, Duration, SystemTime, UNIX_EPOCH};
@@ -17,13 +19,44 @@ pub fn read_clock<C: Clock>(
     alloc: Global,
     unit: TimeUnit,
 ) -> Result<String, ServeFault> {
+    let since = since_beginning(clock)?;
+    Ok(time_text(alloc, since, unit)?)
+}
+
+/// The time of day in both units.
+///
+/// # Errors
+/// `ReadClock` where the system does not tell it.
+pub fn read_time<C: Clock>(clock: &C) -> Result<TimeOfDay, ServeFault> {
+    let since = since_beginning(clock)?;
+    match time_of_day(since) {
+        Some(time) => Ok(time),
+        None => Err(ServeFault::ReadClock),
+    }
+}
+
+// The time since the beginning of 1970 in UTC.
+fn since_beginning<C: Clock>(clock: &C) -> Result<Duration, ServeFault> {
     let Ok(now) = SystemTime::now(clock) else {
         return Err(ServeFault::ReadClock);
     };
-    let Ok(since) = now.duration_since(UNIX_EPOCH) else {
-        return Err(ServeFault::ReadClock);
+    match now.duration_since(UNIX_EPOCH) {
+        Ok(since) => Ok(since),
+        Err(_) => Err(ServeFault::ReadClock),
+    }
+}
+
+// A time in both units, those of it that are whole. There is none where the milliseconds are too many for 64 bits.
+fn time_of_day(since: Duration) -> Option<TimeOfDay>
+    ensures { IfSome result (λ time. (time.seconds ≡ as_nanos since / nanos_in Seconds) × (time.millis ≡ as_nanos since / nanos_in Milliseconds)) }
+{
+    let Ok(millis) = u64::try_from(since.as_millis()) else {
+        return None;
     };
-    Ok(time_text(alloc, since, unit)?)
+    Some(TimeOfDay {
+        seconds: since.as_secs(),
+        millis,
+    })
 }
 
 // A time in decimal, the units of it that are whole.

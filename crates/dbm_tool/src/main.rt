@@ -10,16 +10,16 @@ mod outcome;
 mod request;
 mod serve;
 
-use clock::read_clock;
+use clock::{read_clock, read_time};
 use dbm_command_line::{Request, ToolFault, Wish, read_words};
 use dbm_faults::ServeFault;
-use dbm_files::{Held, Taken, has_no_files, save_files};
+use dbm_files::{Held, Saved, Taken, has_no_files, save_files};
 use dbm_programs::refusal_of;
 use dbm_reports::{Given, NOT_RUN, ReportFault};
-use dbm_script::read_number;
+use dbm_script::{Lines, read_number};
 use dbm_telling::{
     Kept, Told, Watched, advise, has_bad_line, is_refused, note_absent, note_object,
-    note_of_bad_lines, note_refusal, note_that, take_and_tell,
+    note_of_bad_lines, note_of_line_end, note_pending, note_refusal, note_that, take_and_tell,
 };
 use ending::{Ending, ending_of, exit_status};
 use request::{given_of, place_of, told_of};
@@ -83,7 +83,12 @@ fn run<R: Runtime<File = File> + AllocGlobal + Threads + Wait + Sync>(
                 return Ending::Served(0);
             }
             note(rt, &told, &ending, &reader);
-            tell(rt, Some(&told), ending)
+            let is_bad_line = matches!(ending, Ending::Failed(ServeFault::BadLine(_)));
+            let ending = tell(rt, Some(&told), ending);
+            if is_bad_line {
+                note_line_end(rt, Lines::OfBatch, &reader);
+            }
+            ending
         }
         Err(ToolFault::NoMemory) => tell(rt, None, Ending::Failed(ServeFault::NoMemory)),
         Err(fault) => tell(rt, None, Ending::Refused(fault)),
@@ -91,7 +96,8 @@ fn run<R: Runtime<File = File> + AllocGlobal + Threads + Wait + Sync>(
 }
 
 // Says what stands behind an answer that may not be what was meant: files that are not there, an object in place of an image, a program
-// that is refused, and the lines of a script that ask nothing.
+// that is refused, the lines of a script that ask nothing, and a save that is not done in its files. Behind a bad line it says too where
+// lines end in CR.
 fn note<R: Runtime<File = File> + AllocGlobal, I: Read>(
     rt: &R,
     told: &Told<'_>,
@@ -104,6 +110,9 @@ fn note<R: Runtime<File = File> + AllocGlobal, I: Read>(
     if !told.place.writes {
         note_absent(rt, told);
     }
+    if input.is_pending {
+        note_pending(rt, told);
+    }
     if matches!(ending, Ending::Served(1 | NOT_RUN)) {
         note_object(rt, told);
     }
@@ -112,8 +121,16 @@ fn note<R: Runtime<File = File> + AllocGlobal, I: Read>(
     }
     // A strict script that is not run answers nothing.
     if (input.has_bad_line || (told.strict && matches!(ending, Ending::Served(1))))
-        && let Some(note) = note_of_bad_lines(rt.alloc(), told.notation, input.text())
+        && let Some(note) = note_of_bad_lines(rt.alloc(), told.notation, told.clock, input.text())
     {
+        note_that(rt, note);
+        note_line_end(rt, Lines::OfScript, input);
+    }
+}
+
+// Says which line of a script or a batch ends in CR, where one does.
+fn note_line_end<R: Runtime, I: Read>(rt: &R, lines: Lines, input: &Kept<I>) {
+    if let Some(note) = note_of_line_end(lines, input.text()) {
         note_that(rt, note);
     }
 }
@@ -172,6 +189,10 @@ fn serve_files<R: Runtime<File = File> + AllocGlobal + Threads + Wait + Sync, I:
         return Err(ServeFault::Write);
     }
     let taken = take_and_tell(rt, place, patience, verbose)?;
+    if wish.asks_clock() {
+        let time = read_time(rt)?;
+        return serve_taken(rt, wish.with_clock(time), taken, reader);
+    }
     match wish.time_asked() {
         Some(unit) => {
             let time = read_clock(rt, rt.alloc(), unit)?;
@@ -232,7 +253,8 @@ fn serve_change<R: Runtime<File = File> + AllocGlobal + Threads + Wait + Sync, I
     };
     if let Some(new) = &outcome.database {
         let writer = &mut io::writer(rt);
-        save_files(rt, &names, &old, new, lines.as_slice(), writer)?;
+        let saved = save_files(rt, &names, &old, new, lines.as_slice(), writer)?;
+        reader.is_pending = saved == Saved::Pending;
     }
     match outcome.err {
         // Lines that are gathered fail only where memory runs out.

@@ -1,13 +1,14 @@
 //! A request as the files and the sentences take it: plain records of its words.
 ghost use Rattle.std.specs.Prelude.{◌≡◌, option_map};
 ghost use Rattle.dbm_command_line.specs.Wishes.{base_of, file_of, writes_files};
-ghost use Rattle.dbm_reports.specs.Databases.{pag_limit};
+ghost use Rattle.sdbm_files.specs.Limits.{pag_limit};
 
 use dbm_command_line::{Request, Wish};
 use dbm_files::{FileBytes, Place};
-use dbm_reports::{Given, PAG_LIMIT};
+use dbm_reports::Given;
 use dbm_telling::Told;
 use dbm_words::{Numbers, Words};
+use sdbm_files::PAG_LIMIT;
 
 /// What a wish says of its files.
 pub fn place_of<'a>(wish: &Wish<'a>) -> Place<'a>
@@ -53,5 +54,6 @@ pub fn told_of<'a>(request: &Request<'a>) -> Told<'a> {
         },
         notation: wish.notation(),
         strict: matches!(wish, Wish::Script(script) if script.strict),
+        clock: wish.asks_clock(),
     }
 }

@@ -16,6 +16,7 @@ ghost use Rattle.sdbm_files.specs.Installed.{installed, content_at, IsInstallabl
 ghost use Rattle.sdbm_files.specs.Opened.{IsOpenFault, SpellsNoDatabase};
 
 mod fault_text;
+mod limits;
 mod opening;
 mod pages;
 mod parsed;
@@ -25,6 +26,7 @@ mod told;
 mod widening;
 mod writing;
 
+pub use limits::{PAG_LIMIT, has_place};
 pub use opening::OpenFault;
 use opening::{copy_pages, misplaced, read_dir};
 use pages::{
@@ -253,6 +255,7 @@ impl<A: Allocator + Copy> Image<A> {
         requires installable { MayStore mode (content_at self.old number) key.now value.now
             → IsInstallable self.old number (with_stored (content_at self.old number) key.now value.now) [] [] }
         ensures may { result ≡ true → MayStore mode (content_at self.old number) key.now value.now }
+        ensures there { result ≡ true → pairs_at self.old number ≢ [] }
         ensures stored { result ≡ true → self.new ≡ installed self.old number (with_stored (content_at self.old number) key.now value.now) [] [] }
         ensures kept { result ≡ false → self.new ≡ self.old }
     {

@@ -107,7 +107,7 @@ fn data_of(change: &[u8]) -> &[u8]
 }
 
 // The bytes that stood there.
-fn was_of(change: &[u8]) -> &[u8]
+pub(crate) fn was_of(change: &[u8]) -> &[u8]
     requires { span_of change.now ≤ length change.now }
     ensures is { result.now ≡ was_of change.now }
     ensures long { length result.now ≡ size_of change.now }

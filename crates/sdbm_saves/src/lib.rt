@@ -11,6 +11,7 @@ mod plan;
 mod planning;
 mod recorded;
 mod redo;
+mod room;
 
 pub use call_log::CallLog;
 pub use disk::{Disk, DiskError, File};
@@ -20,3 +21,4 @@ pub use plan::{is_plan, lengths_after, plan_in};
 pub use planning::{Contents, PlanFault, plan_save};
 pub use recorded::{Found, Host, Past, Recorded, Unknown};
 pub use redo::{commit, finish, recover, stage};
+pub use room::try_room;

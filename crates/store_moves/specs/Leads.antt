@@ -1,5 +1,5 @@
 -- What a page's result makes of the whole database.
-use Rattle.std.specs.Prelude.{◌≡◌, ◌≢◌, ℕ, ◌%◌, ◌^◌, ◌≤◌, ◌||◌, ◌&&◌, Bool, true, false, is_some, List, Option, None, Some}
+use Rattle.std.specs.Prelude.{◌≡◌, ◌≢◌, ℕ, ◌%◌, ◌^◌, ◌≤◌, ◌||◌, ◌&&◌, Bool, true, false, is_some, List, [], Option, None, Some}
 use Rattle.std.specs.FinMap as map
 use Rattle.sdbm_addr.specs.Hash.{hash_of}
 use Rattle.sdbm_addr.specs.Directory.{IsDepth, hash_prefix, word_number}
@@ -53,6 +53,10 @@ pub record IsPlaceOf (db : Database) (key : List ℕ) (place : Place) : Type 0 w
 -- all places but that of a page stay, with their pages
 abbrev pub IsSameBeside : Database → ℕ → Database → Type 0
 IsSameBeside old number new = (key : List ℕ) (place : Place) → IsPlaceOf old key place → place.page ≢ number → IsPlaceOf new key place × (pairs_at new place.page ≡ pairs_at old place.page)
+
+-- no page gets pairs that had none
+abbrev pub FillsNone : Database → Database → Type 0
+FillsNone old new = (n : ℕ) → pairs_at old n ≡ [] → pairs_at new n ≡ []
 
 -- A page's result may be installed and leaves the other places, and a change is there exactly where the reply says so. Installed, it is
 -- one move, of a run where that ends.

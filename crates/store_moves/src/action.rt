@@ -7,7 +7,7 @@ ghost use Rattle.store_cmd.specs.Command.{IsSmall};
 ghost use Rattle.store_cmd.specs.declared.Command.TheVariants.{Store};
 ghost use Rattle.store_cmd.specs.declared.Reply.TheVariants.{Ran, Stored};
 ghost use Rattle.store_moves.specs.Acts.{Acts, IsPutIn};
-ghost use Rattle.store_moves.specs.Leads.{IsPlaceOf, MayChange, changed_by};
+ghost use Rattle.store_moves.specs.Leads.{IsPlaceOf, FillsNone, MayChange, changed_by};
 ghost use Rattle.store_moves.specs.Rewrites.{command_of};
 ghost use Rattle.store_moves.specs.Wants.{WantsMemory};
 ghost use Rattle.store_moves.specs.Worked.{IsWorked, takes_memory};
@@ -56,8 +56,8 @@ pub fn act<A: Allocator + Copy>(
 }
 
 /// Stores a pair as `act` does a store, where that takes no memory, and says whether it did: on a page that has room for the pair and
-/// that nobody else shares, where the store is no insert of a key that is there. Else the database is as it was. The pair is one that
-/// `check_pair` takes for the page size of the database.
+/// that nobody else shares, where the store is no insert of a key that is there. Else the database is as it was. No page gets pairs that
+/// had none, so its files grow no longer. The pair is one that `check_pair` takes for the page size of the database.
 pub fn act_store<A: Allocator + Copy>(
     image: &mut Image<A>,
     key: &[u8],
@@ -66,6 +66,7 @@ pub fn act_store<A: Allocator + Copy>(
 ) -> bool
     requires small { length key.now + length value.now ≤ pair_limit image.old.size }
     ensures done { result ≡ true → (session : ℕ) → Acts {A = A} image.old (record { session = session; command = Store key.now value.now mode; reply = Stored }) image.new }
+    ensures fills { result ≡ true → FillsNone image.old image.new }
     ensures none { result ≡ false → image.new ≡ image.old }
 {
     let place = image.place(key);
@@ -74,10 +75,11 @@ pub fn act_store<A: Allocator + Copy>(
 
 /// Does a run as `act` does it, where that takes no memory, and tells how its program ended: where the key is there with a value of at
 /// most 256 bytes, and the program's number changes nothing, or saves the record on a page that nobody else shares. Else it is `None` and
-/// the database is as it was. The run is one that `check_run` takes for the page size of the database.
+/// the database is as it was. No page gets pairs that had none. The run is one that `check_run` takes for the page size of the database.
 pub fn act_run<A: Allocator + Copy>(image: &mut Image<A>, input: &RunInput<'_, A>) -> Option<Ended>
     requires small { IsSmall image.old.size (command_of input.now) }
     ensures done { IfSome result (λ ended. Acts image.old (record { session = input.now.session; command = command_of input.now; reply = Ran ended.code ended.word }) image.new) }
+    ensures fills { IfSome result (λ _. FillsNone image.old image.new) }
     ensures none { IfNone result (image.new ≡ image.old) }
 {
     let place = image.place(input.key);

@@ -7,7 +7,7 @@ ghost use Rattle.bpf_helpers.specs.Runs.{argument_limit};
 ghost use Rattle.store_cmd.specs.Command.{IsSmall};
 ghost use Rattle.store_cmd.specs.declared.Command.TheVariants.{Store};
 ghost use Rattle.store_cmd.specs.declared.Reply.TheVariants as Reply;
-ghost use Rattle.store_moves.specs.Leads.{IsPlaceOf};
+ghost use Rattle.store_moves.specs.Leads.{IsPlaceOf, FillsNone};
 ghost use Rattle.store_moves.specs.Works.{key_of, HasKey, IsRun};
 ghost use Rattle.store_moves.specs.Acts.{IsPutIn};
 ghost use Rattle.store_moves.specs.Rewrites.{IsRunCopied, command_of};
@@ -46,7 +46,7 @@ pub fn is_run<A: Allocator>(command: &Command<A>) -> bool
 
 /// Stores a pair without taking memory, and says whether it did: where its place has a page that nobody else shares, on which the pair
 /// goes beside those of other keys, and the store is no insert of a key that is there. Else the database is as it was; `work_at` and
-/// `put_in` do the store then. The pair is small enough for the page size of the database, and the place is that to which its key leads
+/// `put_in` do the store then. No page gets pairs that had none. The pair is small enough for the page size of the database, and the place is that to which its key leads
 /// (`Image::place`).
 pub fn store_in_place<A: Allocator + Copy>(
     image: &mut Image<A>,
@@ -59,6 +59,7 @@ pub fn store_in_place<A: Allocator + Copy>(
     requires place { IsPlaceOf image.old key.now place }
     requires database { IsDatabase image.old }
     ensures done { result ≡ true → (session : ℕ) → IsPutIn {A = A} image.old place session (Store key.now value.now mode) Reply.Stored image.new }
+    ensures fills { result ≡ true → FillsNone image.old image.new }
     ensures none { result ≡ false → image.new ≡ image.old }
 {
     image.store_pair(place.page, key, value, mode)
@@ -105,7 +106,7 @@ pub fn run_in_place<A: Allocator + Copy>(
 
 /// Does a run without taking memory, and tells how its program ended: where the key is there with a value of at most 256 bytes, and the
 /// program's number changes nothing, or saves the record on a page that nobody else shares. Else it is `None` and the database is as it
-/// was; `work_at` and `put_in` do the run then. The run is one that `check_run` takes for the page size of the database, and the place is
+/// was; `work_at` and `put_in` do the run then. No page gets pairs that had none. The run is one that `check_run` takes for the page size of the database, and the place is
 /// that to which its key leads (`Image::place`).
 pub fn run_input_in_place<A: Allocator + Copy>(
     image: &mut Image<A>,
@@ -116,6 +117,7 @@ pub fn run_input_in_place<A: Allocator + Copy>(
     requires place { IsPlaceOf image.old input.now.key.now place }
     requires database { IsDatabase image.old }
     ensures done { IfSome result (λ ended. IsPutIn image.old place input.now.session (command_of input.now) (Reply.Ran ended.code ended.word) image.new) }
+    ensures fills { IfSome result (λ _. FillsNone image.old image.new) }
     ensures none { IfNone result (image.new ≡ image.old) }
 {
     let mut bytes = [0; SHORT];

@@ -9,8 +9,8 @@ use Rattle.dbm_scripts.proofs.playing.report_played.Goals as goal
 
 pub returns-in_err-script-clause-fault : goal.returns-in_err-script-clause-fault
 returns-in_err-script-clause-fault g c =
-    as_err (IsCaused (script_causes c.args.notation.now c.args.form c.args.given.now (g.R.Read.remaining c.args.reader.now) c.args.most)) _ c.from_residual-in_err-script.ensures.1
-    (input_fault c.args.notation.now c.args.form c.args.given.now _ c.args.most _ (c.in_ok-image.image, c.in_ok-image.ensures.ok) c.in_err-script.ensures.fault)
+    as_err (IsCaused (script_causes c.args.notation.now c.args.form c.args.given.now c.args.time (g.R.Read.remaining c.args.reader.now) c.args.most)) _ c.from_residual-in_err-script.ensures.1
+    (input_fault c.args.notation.now c.args.form c.args.given.now c.args.time _ c.args.most _ (c.in_ok-image.image, c.in_ok-image.ensures.ok) c.in_err-script.ensures.fault)
 
 pub returns-clause-ok : goal.returns-clause-ok
 returns-clause-ok g c =
@@ -28,7 +28,7 @@ pub returns-clause-fault : goal.returns-clause-fault
 returns-clause-fault g c =
     IfErr-weaker c.play_as.result _ _
     (λ fault h.
-    played_fault (script_causes c.args.notation.now c.args.form c.args.given.now (g.R.Read.remaining c.args.reader.now) c.args.most) c.args.notation.now c.in_ok-image.image (Some c.as_slice.result.now) c.args.most fault
+    played_fault (script_causes c.args.notation.now c.args.form c.args.given.now c.args.time (g.R.Read.remaining c.args.reader.now) c.args.most) c.args.notation.now c.in_ok-image.image (Some c.as_slice.result.now) c.args.most fault
     (λ long. (c.in_ok-image.image, (c.in_ok-image.ensures.ok, overlong_known c.args.notation.now c.in_ok-image.image _ c.as_slice.result.now c.args.most (rw c.as_slice.ensures.value c.in_ok-script.ensures.ok) long)))
     h)
     c.play_as.ensures.fault

@@ -1,4 +1,4 @@
-use Rattle.std.proofs.Common.{◌≡◌, ◌∙◌, ◌∷◌, List, ap, false, rules, sym, true}
+use Rattle.std.proofs.Common.{◌≡◌, ◌∙◌, ◌∷◌, ap, false, rules, sym, true}
 use Rattle.std.specs.List.{list_any}
 use Rattle.dbm_script.specs.Pieces.{pieces_left}
 use Rattle.dbm_scripts.specs.Playing.{is_bad_line}

@@ -1,13 +1,13 @@
-use Rattle.std.proofs.Common.{◌≡◌, ◌+◌, ◌≤◌, [], length, Bool, true, false, refl, sym, ap, ◌∙◌, subst}
+use Rattle.std.proofs.Common.{◌≡◌, ◌≢◌, ◌+◌, ◌≤◌, [], length, Bool, true, false, refl, sym, ap, ◌∙◌, subst}
 use Rattle.sdbm_addr.specs.declared.PageSize.{PageSize}
 use Rattle.sdbm_addr.specs.Pairs.{pair_limit}
-use Rattle.sdbm_addr.specs.Database.{Database, IsDatabase}
+use Rattle.sdbm_addr.specs.Database.{Database, IsDatabase, pairs_at}
 use Rattle.sdbm_split.specs.InPlace.{MayStore, with_stored}
 use Rattle.sdbm_files.specs.Kept.{database_of}
 use Rattle.sdbm_files.specs.Installed.{installed, content_at}
 use Rattle.sdbm_files.proofs.InstallLemmas.{database_is}
 use Rattle.sdbm_files.proofs.PutLemmas.{IsPage-pairs_at}
-use Rattle.sdbm_files.proofs.Storing.{stored_may, stored_is}
+use Rattle.sdbm_files.proofs.Storing.{stored_may, stored_is, stored_there}
 use Rattle.sdbm_files.proofs.Image.store_pair.Goals as goal
 
 pub store_pair-requires-clause-small : goal.store_pair-requires-clause-small
@@ -22,6 +22,12 @@ pub returns-clause-may : goal.returns-clause-may
 returns-clause-may g c = λ t.
     subst (λ (db : Database). MayStore c.args.mode (content_at db c.args.number) c.args.key.now c.args.value.now) c.self.view_is
     (stored_may c.args.mode c.self.inside.kind c.self.inside.size c.self.inside.dir.splits c.self.inside.pages.entries c.store_pair.new.pages.entries c.args.number c.args.key.now c.args.value.now c.self.invariant.sizes (c.store_pair.ensures.stored t))
+
+pub returns-clause-there : goal.returns-clause-there
+returns-clause-there g c = λ t.
+    subst (λ (db : Database). pairs_at db c.args.number ≢ []) c.self.view_is
+    (stored_there c.args.mode c.self.inside.kind c.self.inside.size c.self.inside.dir.splits c.self.inside.pages.entries c.store_pair.new.pages.entries c.args.number c.args.key.now c.args.value.now c.self.invariant.sizes (c.store_pair.ensures.stored t)
+    c.self.invariant.database)
 
 pub returns-clause-stored : goal.returns-clause-stored
 returns-clause-stored g c = λ t.

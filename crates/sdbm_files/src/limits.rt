@@ -1,0 +1,27 @@
+//! How long a `.pag` may be, and which pages have a place in it.
+ghost use Rattle.std.specs.Prelude.{◌≡◌};
+ghost use Rattle.sdbm_files.specs.Limits.{pag_limit, most_pages, has_place};
+
+use sdbm_addr::PageSize;
+use sdbm_page::SharedPage;
+use std::alloc::Allocator;
+
+/// The most bytes of a `.pag` that is read or written: 1 GiB.
+pub const PAG_LIMIT: u64 = 1_073_741_824;
+
+// How many pages of a size have room in the longest `.pag`.
+fn most_pages(size: PageSize) -> u32
+    ensures { result ≡ most_pages size }
+{
+    match size {
+        PageSize::Small => 1_048_576,
+        PageSize::Wide => 131_072,
+    }
+}
+
+/// Whether the page under a number has a place in the longest `.pag`: it ends there, or it has no pairs and takes none.
+pub fn has_place<A: Allocator + Copy>(size: PageSize, number: u32, page: &SharedPage<A>) -> bool
+    ensures { result ≡ has_place size (number, page.now) }
+{
+    page.page().is_empty() || number < most_pages(size)
+}

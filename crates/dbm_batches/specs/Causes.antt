@@ -3,15 +3,18 @@ use Rattle.std.specs.Prelude.{ℕ, ⊤}
 use Rattle.prog_registry.specs.declared.fault.RegFault.{RegFault}
 use Rattle.store_shared.specs.declared.close.CloseFault.{CloseFault}
 use Rattle.worker_pool.specs.declared.task.PoolFault.{PoolFault}
+use Rattle.dbm_dump.specs.declared.fault.DumpFault.{DumpFault}
 use Rattle.dbm_reports.specs.Causes.{Causes, IsCaused, no_causes}
 use Rattle.dbm_reports.specs.declared.fault.ReportFault.{ReportFault}
 use Rattle.dbm_reports.specs.declared.fault.ReportFault.TheVariants as reports
 use Rattle.dbm_faults.specs.declared.fault.ServeFault.{ServeFault}
-use Rattle.dbm_faults.specs.declared.fault.ServeFault.TheVariants.{NotText, ReadFile, FileTooLong, WriteFile, BadRedo, Unsafe, ReadClock, BadBase, Absent, Locked, Report, Submit, BadLine, Pool, Close, Write, Saved, NoMemory}
+use Rattle.dbm_faults.specs.declared.fault.ServeFault.TheVariants.{NotText, ReadFile, FileTooLong, WriteFile, BadRedo, Unsafe, ReadClock, BadBase, Absent, Locked, Report, Dump, Submit, BadLine, Pool, Close, Write, Saved, NoMemory}
 
--- the causes for which nothing comes of a wish: those of its words, its files and standard input, and those of a batch
+-- the causes for which nothing comes of a wish: those of its words, its files and standard input, those of a dump, and those of a batch
 pub record WishCauses : Type 1 where
   pub report : Causes
+  -- a dump is not written or not loaded
+  pub dump : DumpFault → Type 0
   -- the image's program gets no number
   pub submitting : RegFault → Type 0
   -- a line asks no task
@@ -24,6 +27,7 @@ pub record WishCauses : Type 1 where
 abbrev pub only_report : Causes → WishCauses
 only_report causes = record {
   report = causes;
+  dump = λ fault. ⊥;
   submitting = λ fault. ⊥;
   bad_line = λ number. ⊥;
   pool = λ fault. ⊥;
@@ -51,6 +55,7 @@ HasCause causes BadBase = ⊥
 HasCause causes Absent = ⊥
 HasCause causes Locked = ⊥
 HasCause causes (Report fault) = IsReported causes.report fault
+HasCause causes (Dump fault) = causes.dump fault
 HasCause causes (Submit fault) = causes.submitting fault
 HasCause causes (BadLine number) = causes.bad_line number
 HasCause causes (Pool fault) = causes.pool fault

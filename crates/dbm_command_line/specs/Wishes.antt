@@ -8,6 +8,8 @@ use Rattle.clap.specs.declared.error.kind.ErrorKind.TheVariants.{DisplayHelp, Di
 use Rattle.clap.specs.declared.error.Error.{Error}
 use Rattle.dbm_command_line.specs.Tool.{tool}
 use Rattle.dbm_words.specs.Given.{IsAccess, has_words}
+use Rattle.dbm_dumps.specs.Dump.{DumpAsks}
+use Rattle.dbm_dumps.specs.Load.{LoadAsks}
 use Rattle.dbm_listings.specs.Check.{CheckAsks}
 use Rattle.dbm_listings.specs.Keys.{KeysAsks}
 use Rattle.dbm_listings.specs.List.{ListAsks}
@@ -47,6 +49,8 @@ base_of (wish.Check check) = Some check.base.now
 base_of (wish.Stats stats) = Some stats.base.now
 base_of (wish.Script script) = option_map (λ text. text.now) script.base
 base_of (wish.Widen widen) = Some widen.base.now
+base_of (wish.Dump dump) = Some dump.base.now
+base_of (wish.Load load) = Some load.base.now
 base_of (wish.Asm asm) = None
 base_of (wish.Disasm disasm) = None
 base_of (wish.Verify verify) = None
@@ -74,6 +78,8 @@ writes_files (wish.Check check) = false
 writes_files (wish.Stats stats) = false
 writes_files (wish.Script script) = is_some script.base
 writes_files (wish.Widen widen) = true
+writes_files (wish.Dump dump) = false
+writes_files (wish.Load load) = true
 writes_files (wish.Asm asm) = false
 writes_files (wish.Disasm disasm) = false
 writes_files (wish.Verify verify) = false
@@ -95,6 +101,8 @@ notation_of (wish.Script script) = script.notation
 notation_of (wish.Check check) = no_notation
 notation_of (wish.Stats stats) = no_notation
 notation_of (wish.Widen widen) = no_notation
+notation_of (wish.Dump dump) = no_notation
+notation_of (wish.Load load) = no_notation
 notation_of (wish.Asm asm) = no_notation
 notation_of (wish.Disasm disasm) = no_notation
 notation_of (wish.Verify verify) = no_notation
@@ -139,6 +147,8 @@ SubcommandAsks name rows (wish.Check check) = (name ≡ codes "check") × CheckA
 SubcommandAsks name rows (wish.Stats stats) = (name ≡ codes "stats") × StatsAsks rows stats
 SubcommandAsks name rows (wish.Script script) = (name ≡ codes "script") × ScriptAsks rows script
 SubcommandAsks name rows (wish.Widen widen) = (name ≡ codes "widen") × WidenAsks rows widen
+SubcommandAsks name rows (wish.Dump dump) = (name ≡ codes "dump") × DumpAsks rows dump
+SubcommandAsks name rows (wish.Load load) = (name ≡ codes "load") × LoadAsks rows load
 SubcommandAsks name rows (wish.Asm asm) = (name ≡ codes "asm") × AsmAsks rows asm
 SubcommandAsks name rows (wish.Disasm disasm) = (name ≡ codes "disasm") × DisasmAsks rows disasm
 SubcommandAsks name rows (wish.Verify verify) = (name ≡ codes "verify") × VerifyAsks rows verify

@@ -5,6 +5,7 @@ ghost use Rattle.dbm_command_line.specs.Wishes.{SubcommandAsks, lacks_word};
 
 use crate::wish::Wish;
 use clap::ArgMatches;
+use dbm_dumps::{Dump, Load};
 use dbm_listings::{Check, Keys, List, Stats};
 use dbm_pairs::{Delete, Fetch, Rename, Store};
 use dbm_programs::{Asm, Disasm, Verify};
@@ -28,6 +29,8 @@ pub fn asked<'a>(name: &str, matches: &ArgMatches<'a>) -> Option<Wish<'a>>
         "stats" => Some(Wish::Stats(Stats::matched(matches)?)),
         "script" => Some(Wish::Script(Script::matched(matches)?)),
         "widen" => Some(Wish::Widen(Widen::matched(matches)?)),
+        "dump" => Some(Wish::Dump(Dump::matched(matches)?)),
+        "load" => Some(Wish::Load(Load::matched(matches)?)),
         "asm" => Some(Wish::Asm(Asm::matched(matches)?)),
         "disasm" => Some(Wish::Disasm(Disasm::matched(matches)?)),
         "verify" => Some(Wish::Verify(Verify::matched(matches)?)),

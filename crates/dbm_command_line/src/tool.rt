@@ -7,6 +7,7 @@ ghost use Rattle.dbm_command_line.specs.Tool.{tool};
 ghost use Rattle.dbm_command_line.specs.Tool as spec;
 
 use clap::Command;
+use dbm_dumps::{dump_command, load_command};
 use dbm_listings::{check_command, keys_command, list_command, stats_command};
 use dbm_pairs::{delete_command, fetch_command, rename_command, store_command};
 use dbm_programs::{asm_command, disasm_command, verify_command};
@@ -29,6 +30,8 @@ pub fn tool_command<'a>(alloc: Global) -> Result<Command<'a>, AllocError>
     let command = with_subcommand(command, stats_command(alloc));
     let command = with_subcommand(command, script_command(alloc));
     let command = with_subcommand(command, widen_command(alloc));
+    let command = with_subcommand(command, dump_command(alloc));
+    let command = with_subcommand(command, load_command(alloc));
     let command = with_subcommand(command, asm_command(alloc));
     let command = with_subcommand(command, disasm_command(alloc));
     let command = with_subcommand(command, verify_command(alloc));

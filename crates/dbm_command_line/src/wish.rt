@@ -2,6 +2,7 @@
 ghost use Rattle.std.specs.Prelude.{◌≡◌, option_map};
 ghost use Rattle.dbm_command_line.specs.Wishes.{asks_clock, base_of, file_of, notation_of, time_asked, with_clock, with_time, writes_files};
 
+use dbm_dumps::{Dump, Load};
 use dbm_listings::{Check, Keys, List, Stats};
 use dbm_pairs::{Delete, Fetch, Rename, Store};
 use dbm_programs::{Asm, Disasm, Verify};
@@ -26,6 +27,8 @@ pub enum Wish<'a> {
     Stats(Stats<'a>),
     Script(Script<'a>),
     Widen(Widen<'a>),
+    Dump(Dump<'a>),
+    Load(Load<'a>),
     Asm(Asm<'a>),
     Disasm(Disasm<'a>),
     Verify(Verify<'a>),
@@ -56,6 +59,8 @@ impl<'a> Wish<'a> {
             Wish::Stats(stats) => Some(stats.base),
             Wish::Script(script) => script.base,
             Wish::Widen(widen) => Some(widen.base),
+            Wish::Dump(dump) => Some(dump.base),
+            Wish::Load(load) => Some(load.base),
             Wish::Asm(_) | Wish::Disasm(_) | Wish::Verify(_) => None,
         }
     }
@@ -74,7 +79,7 @@ impl<'a> Wish<'a> {
         }
     }
 
-    /// Whether the files of its database are written once it was served: by `store`, `delete`, `rename`, `run`, `batch`, `widen`, and `script`
+    /// Whether the files of its database are written once it was served: by `store`, `delete`, `rename`, `run`, `batch`, `widen`, `load`, and `script`
     /// with a base. A `store`, `delete`, `rename` or `run` that changed nothing writes them too.
     pub fn writes(&self) -> bool
         ensures { result ≡ writes_files self.now }
@@ -85,13 +90,15 @@ impl<'a> Wish<'a> {
             | Wish::Rename(_)
             | Wish::Run(_)
             | Wish::Batch(_)
-            | Wish::Widen(_) => true,
+            | Wish::Widen(_)
+            | Wish::Load(_) => true,
             Wish::Script(script) => script.base.is_some(),
             Wish::Fetch(_)
             | Wish::List(_)
             | Wish::Keys(_)
             | Wish::Check(_)
             | Wish::Stats(_)
+            | Wish::Dump(_)
             | Wish::Asm(_)
             | Wish::Disasm(_)
             | Wish::Verify(_) => false,
@@ -167,6 +174,8 @@ impl<'a> Wish<'a> {
             Wish::Check(_)
             | Wish::Stats(_)
             | Wish::Widen(_)
+            | Wish::Dump(_)
+            | Wish::Load(_)
             | Wish::Asm(_)
             | Wish::Disasm(_)
             | Wish::Verify(_) => NotationOptions {
@@ -191,6 +200,8 @@ impl<'a> Wish<'a> {
             Wish::Stats(stats) => stats.words(),
             Wish::Script(script) => script.words(),
             Wish::Widen(widen) => widen.words(),
+            Wish::Dump(dump) => dump.words(),
+            Wish::Load(load) => load.words(),
             Wish::Asm(asm) => asm.words(),
             Wish::Disasm(disasm) => disasm.words(),
             Wish::Verify(verify) => verify.words(),

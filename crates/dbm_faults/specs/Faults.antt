@@ -7,15 +7,22 @@ use Rattle.prog_registry.specs.declared.fault.RegFault.{RegFault}
 use Rattle.prog_registry.specs.declared.fault.RegFault.TheVariants as reg
 use Rattle.worker_pool.specs.declared.task.PoolFault.{PoolFault}
 use Rattle.worker_pool.specs.declared.task.PoolFault.TheVariants as jobs
+use Rattle.dbm_dumps.specs.declared.fault.DumpsFault.{DumpsFault}
+use Rattle.dbm_dumps.specs.declared.fault.DumpsFault.TheVariants as dumps
 use Rattle.dbm_reports.specs.declared.fault.ReportFault.{ReportFault}
 use Rattle.dbm_reports.specs.declared.fault.ReportFault.TheVariants as reports
 use Rattle.dbm_faults.specs.declared.fault.ServeFault.{ServeFault}
-use Rattle.dbm_faults.specs.declared.fault.ServeFault.TheVariants.{ReadFile, FileTooLong, WriteFile, BadRedo, Unsafe, Locked, Report, Submit, BadLine, Pool, Saved, NoMemory}
+use Rattle.dbm_faults.specs.declared.fault.ServeFault.TheVariants.{ReadFile, FileTooLong, WriteFile, BadRedo, Unsafe, Locked, Report, Dump, Submit, BadLine, Pool, Saved, NoMemory}
 
 -- the fault of what comes of a wish
 abbrev pub report_fault : ReportFault → ServeFault
 report_fault reports.NoMemory = NoMemory
 report_fault fault = Report fault
+
+-- the fault of a dump
+abbrev pub dumps_fault : DumpsFault → ServeFault
+dumps_fault (dumps.Report fault) = report_fault fault
+dumps_fault (dumps.Dump fault) = Dump fault
 
 -- the fault of lines that ask tasks
 abbrev pub tasks_fault : TasksFault → ServeFault

@@ -1,5 +1,6 @@
 //! What a fault is about, in plain words, and what to do.
 
+use crate::dumps::dump_sentence;
 use crate::fault::ServeFault;
 use crate::files::{
     absent_sentence, base_sentence, lock_sentence, open_sentence, redo_sentence, too_long_sentence,
@@ -54,6 +55,7 @@ pub fn sentence_of<'a>(
 ) -> Option<Sentence<'a>> {
     match fault {
         ServeFault::Report(fault) => report_sentence(alloc, words, fault),
+        ServeFault::Dump(fault) => Some(or_memory(dump_sentence(words, fault))),
         ServeFault::Submit(fault) => Some(or_memory(submit_sentence(words, fault))),
         ServeFault::Pool(fault) => Some(or_memory(pool_sentence(fault))),
         ServeFault::FileTooLong => Some(too_long_sentence(words.base?, words.wide)),

@@ -2,6 +2,8 @@
 ghost use Rattle.std.specs.Prelude.{◌≡◌};
 ghost use Rattle.dbm_faults.specs.declared.fault.ServeFault.TheVariants.{NoMemory};
 
+use dbm_dump::DumpFault;
+use dbm_dumps::DumpsFault;
 use dbm_files::FilesFault;
 use dbm_reports::ReportFault;
 use dbm_script::TasksFault;
@@ -37,6 +39,8 @@ pub enum ServeFault {
     Locked,
     /// Nothing comes of the words, the files and standard input. The fault within is never `NoMemory`.
     Report(ReportFault),
+    /// A dump was not written or not loaded. The fault within is never `Read` or `NoMemory`.
+    Dump(DumpFault),
     /// The program of a batch gets no number. The fault within is never `NoMemory`.
     Submit(RegFault),
     /// The line of a batch with this number, from 1 on, asks no task.
@@ -72,6 +76,7 @@ impl fmt::Display for ServeFault {
             ServeFault::Absent => f.write_str("Absent"),
             ServeFault::Locked => f.write_str("Locked"),
             ServeFault::Report(fault) => fmt::Display::fmt(fault, f),
+            ServeFault::Dump(fault) => fmt::Display::fmt(fault, f),
             ServeFault::Submit(fault) => fmt::Display::fmt(fault, f),
             ServeFault::BadLine(number) => write!(f, "bad line {number}"),
             ServeFault::Pool(fault) => fmt::Display::fmt(fault, f),
@@ -109,6 +114,19 @@ impl From<ReportFault> for ServeFault {
         match fault {
             ReportFault::NoMemory => ServeFault::NoMemory,
             fault => ServeFault::Report(fault),
+        }
+    }
+}
+
+impl From<DumpsFault> for ServeFault {
+    ghost use Rattle.dbm_faults.specs.Faults.{dumps_fault};
+
+    ghost from_gives = { λ reason fault. fault ≡ dumps_fault reason };
+
+    fn from(fault: DumpsFault) -> ServeFault {
+        match fault {
+            DumpsFault::Report(fault) => ServeFault::from(fault),
+            DumpsFault::Dump(fault) => ServeFault::Dump(fault),
         }
     }
 }

@@ -3,6 +3,7 @@
 #![tactic(auto)]
 
 mod advice;
+mod dumps;
 mod fault;
 mod files;
 mod finding;

@@ -2,6 +2,7 @@
 
 use crate::finding::Reason;
 use bpf_verify::VerifyFault;
+use dbm_dump::KeyHead;
 use std::fmt;
 
 /// What stands in a place of a sentence.
@@ -16,6 +17,8 @@ pub enum Part<'a> {
     /// A text as it is.
     Text(&'a str),
     Number(u64),
+    /// The first bytes of a key.
+    Key(KeyHead),
     /// Why the system refuses a file.
     Reason(Reason),
     /// Why a program is not accepted.
@@ -29,6 +32,7 @@ impl<'a> fmt::Display for Part<'a> {
             Part::Name(name) => show_name(name, f),
             Part::Quoted(word) => fmt::Debug::fmt(word, f),
             Part::Text(text) => f.write_str(text),
+            Part::Key(key) => fmt::Display::fmt(key, f),
             Part::Number(number) => fmt::Display::fmt(number, f),
             Part::Reason(reason) => fmt::Display::fmt(reason, f),
             Part::Verdict(fault) => fmt::Display::fmt(fault, f),

@@ -99,7 +99,7 @@ pub fn script_command<'a>(alloc: Global) -> Result<Command<'a>, AllocError>
          that program answered, from 0. An empty line is skipped, and so is one that begins with #. Prints\n\
          for each of the others a line of answer, bad line where it asks nothing; with --strict nothing is run\n\
          then. Lines end in LF: one that ends in CR LF is a bad line. All lines together have at most 16 MiB, and\n\
-         their answers up to 5,340 times as much. Where that is more than BYTES, the fault is OutputTooLong.\n\n\
+         their answers thousands of times as much. Where that is more than BYTES, the fault is OutputTooLong.\n\n\
          Example: dbm script --base users < first.script\n\
          or: printf 'program %s\\nrun hits 0 . 8 now\\n' \"$(dbm asm counter.s)\" | dbm script --base users --text --clock";
     subcommand(alloc, "script", about, notes, args)

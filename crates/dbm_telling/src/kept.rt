@@ -8,11 +8,12 @@ use memchr::memmem;
 use std::alloc::Global;
 use std::io::{self, ErrorKind, Read, Write};
 
-/// A reader that keeps what it gives. Where memory runs out it keeps nothing.
+/// A reader that keeps what it gives, where a note may show it. Where memory runs out it keeps nothing.
 #[derive(Drop)]
 pub struct Kept<R: Read> {
     reader: R,
     text: Vec<u8>,
+    keeps: bool,
     has_lost: bool,
     /// Whether `bad line` is among the answers to what was read.
     pub has_bad_line: bool,
@@ -25,11 +26,12 @@ pub struct Kept<R: Read> {
 }
 
 impl<R: Read> Kept<R> {
-    /// The reader, of which nothing was read.
-    pub fn new(alloc: Global, reader: R) -> Self {
+    /// The reader, of which nothing was read. What it gives is kept where it `keeps`.
+    pub fn new(alloc: Global, reader: R, keeps: bool) -> Self {
         Kept {
             reader,
             text: Vec::new(alloc),
+            keeps,
             has_lost: false,
             has_bad_line: false,
             refusal: None,
@@ -38,7 +40,7 @@ impl<R: Read> Kept<R> {
         }
     }
 
-    /// What was read, and nothing where memory ran out.
+    /// What was kept, and nothing where memory ran out.
     pub fn text(&self) -> &[u8] {
         if self.has_lost {
             return &[];
@@ -52,7 +54,9 @@ impl<R: Read> Read for Kept<R> {
 
     fn read(&mut self, buf: &mut [u8]) -> io::Result<usize> {
         let count = self.reader.read(buf)?;
-        self.has_lost = self.has_lost || self.text.extend_from_slice(&buf[..count]).is_err();
+        if self.keeps && !self.has_lost {
+            self.has_lost = self.text.extend_from_slice(&buf[..count]).is_err();
+        }
         Ok(count)
     }
 }

@@ -6,9 +6,12 @@ use Rattle.dbm_reports.specs.Causes.{IsCaused}
 use Rattle.dbm_reports.specs.Known.{layout_causes}
 use Rattle.dbm_reports.specs.declared.fault.ReportFault.{ReportFault}
 use Rattle.dbm_reports.specs.declared.fault.ReportFault.TheVariants as reports
-use Rattle.dbm_faults.specs.Faults.{report_fault}
+use Rattle.dbm_faults.specs.Faults.{dumps_fault, report_fault}
+use Rattle.dbm_dumps.specs.Causes.{DumpKnown, HasDumpCause}
+use Rattle.dbm_dumps.specs.declared.fault.DumpsFault.{DumpsFault}
+use Rattle.dbm_dumps.specs.declared.fault.DumpsFault.TheVariants as dumps
 use Rattle.dbm_batches.specs.Causes.{HasCause, WishCauses}
-use Rattle.dbm_tool.specs.Services.{Service, noted}
+use Rattle.dbm_tool.specs.Services.{Service, dumping, noted}
 
 -- a fault of what comes of a wish
 pub raised : (causes : WishCauses) (fault : ReportFault) → IsCaused causes.report fault → HasCause causes (report_fault fault)
@@ -24,6 +27,11 @@ raised causes reports.Read h = h
 raised causes reports.TooLong h = h
 raised causes reports.OutputTooLong h = h
 raised causes reports.NoMemory h = tt
+
+-- a fault of `dump` or `load`
+pub raised_dump : (known : DumpKnown) (fault : DumpsFault) → HasDumpCause known.causes fault → HasCause (dumping known).causes (dumps_fault fault)
+raised_dump known (dumps.Report fault) h = raised (dumping known).causes fault h
+raised_dump known (dumps.Dump fault) h = h
 
 -- a layout that is none comes before all else
 pub unlaid : (o : Option (Notation Global)) (known : Notation Global → Service) (fault : ReportFault) → IsCaused (layout_causes o) fault → HasCause (noted o known).causes (report_fault fault)

@@ -10,14 +10,16 @@ use Rattle.dbm_reports.specs.declared.fault.ReportFault.{ReportFault}
 use Rattle.dbm_reports.specs.declared.serving.Served.{Served}
 use Rattle.dbm_reports.specs.declared.serving.Unserved.{Unserved}
 use Rattle.dbm_reports.specs.declared.serving.Unserved.TheVariants as unserved
-use Rattle.dbm_faults.specs.Faults.{report_fault}
+use Rattle.dbm_dumps.specs.Causes.{DumpKnown, HasDumpCause}
+use Rattle.dbm_dumps.specs.declared.fault.DumpsFault.{DumpsFault}
+use Rattle.dbm_faults.specs.Faults.{dumps_fault, report_fault}
 use Rattle.dbm_faults.specs.declared.fault.ServeFault.{ServeFault}
 use Rattle.dbm_faults.specs.declared.fault.ServeFault.TheVariants.{FileTooLong, Write}
 use Rattle.dbm_batches.specs.Causes.{HasCause}
 use Rattle.dbm_tool.specs.Outcomes.{IsOutcome, IsUnservedBy, failed, outcome_by}
-use Rattle.dbm_tool.specs.Services.{Service, noted, reporting}
+use Rattle.dbm_tool.specs.Services.{Service, dumping, noted, reporting}
 use Rattle.dbm_tool.specs.declared.outcome.Outcome.{Outcome}
-use Rattle.dbm_tool.proofs.Faults.{raised}
+use Rattle.dbm_tool.proofs.Faults.{raised, raised_dump}
 
 pub keeps_all : (known : Option (List ℕ)) → Keeps known known
 keeps_all None = tt
@@ -69,6 +71,14 @@ pub reported : (known : Known) (writes reads : Bool) (input left old new : Optio
 reported known writes reads input left old new came outcome is ok err gives unread =
     subst (λ (o : Outcome). IsOutcome (reporting known) writes reads input left old new o) (sym is)
     (turned (reporting known) writes reads input left old new report_fault (IsCaused known.causes) came (λ fault caused. raised (reporting known).causes fault caused) ok err gives unread)
+
+-- `dump` or `load`
+pub dumped : (known : DumpKnown) (writes reads : Bool) (input left old new : Option (List ℕ)) (came : Result Served (Unserved DumpsFault)) (outcome : Outcome) → outcome ≡ outcome_by dumps_fault came
+    → IfOk came (λ (served : Served). IsPrinted known.reports old new served.status served.database) → IfErr came (IsUnserved known.reports (HasDumpCause known.causes) old new)
+    → IfOk came (λ (served : Served). is_some served.database ≡ writes) → (reads ≡ false → left ≡ input) → IsOutcome (dumping known) writes reads input left old new outcome
+dumped known writes reads input left old new came outcome is ok err gives unread =
+    subst (λ (o : Outcome). IsOutcome (dumping known) writes reads input left old new o) (sym is)
+    (turned (dumping known) writes reads input left old new dumps_fault (HasDumpCause known.causes) came (λ fault caused. raised_dump known fault caused) ok err gives unread)
 
 -- a batch, which reads standard input
 pub batched : (service : Service) (writes : Bool) (input left old new : Option (List ℕ)) (came : Result Served (Unserved ServeFault)) (outcome : Outcome) → outcome ≡ outcome_by (λ fault. fault) came

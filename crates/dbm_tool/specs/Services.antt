@@ -21,6 +21,9 @@ use Rattle.dbm_listings.specs.Check.{check_in}
 use Rattle.dbm_listings.specs.Stats.{stats_in}
 use Rattle.dbm_scripts.specs.Script.{script_in}
 use Rattle.dbm_scripts.specs.Widen.{widen_in}
+use Rattle.dbm_dumps.specs.Causes.{DumpKnown}
+use Rattle.dbm_dumps.specs.Dump.{dump_in}
+use Rattle.dbm_dumps.specs.Load.{load_in}
 use Rattle.dbm_programs.specs.Asm.{asm_in}
 use Rattle.dbm_programs.specs.Disasm.{disasm_in}
 use Rattle.dbm_programs.specs.Verify.{verify_in}
@@ -38,6 +41,13 @@ abbrev pub reporting : Known → Service
 reporting known = record {
   reports = known.reports;
   causes = only_report known.causes;
+}
+
+-- `dump` or `load`
+abbrev pub dumping : DumpKnown → Service
+dumping known = record {
+  reports = known.reports;
+  causes = record (only_report known.causes.report) { dump = known.causes.dump };
 }
 
 -- a batch
@@ -61,6 +71,8 @@ service_in n (wish.Check check) given input = reporting (check_in check given)
 service_in n (wish.Stats stats) given input = reporting (stats_in stats given)
 service_in n (wish.Script script) given input = reporting (script_in n script.base script given input)
 service_in n (wish.Widen widen) given input = reporting (widen_in widen given)
+service_in n (wish.Dump dump) given input = dumping (dump_in dump given)
+service_in n (wish.Load load) given input = dumping (load_in load given input)
 service_in n (wish.Asm asm) given input = reporting (asm_in given)
 service_in n (wish.Disasm disasm) given input = reporting (disasm_in given)
 service_in n (wish.Verify verify) given input = reporting (verify_in verify given)
@@ -81,9 +93,10 @@ noted (Some n) known = known n
 abbrev pub service_for : Wish → Given → Option (List ℕ) → Service
 service_for wish given input = noted (notation_for wish) (λ n. service_in n wish given input)
 
--- a script and a batch read, and a store whose value is standard input
+-- a script, a batch and a load read, and a store whose value is standard input
 abbrev pub reads_input : Wish → Bool
 reads_input (wish.Batch batch) = true
 reads_input (wish.Script script) = true
+reads_input (wish.Load load) = true
 reads_input (wish.Store store) = takes_input store
 reads_input _ = false

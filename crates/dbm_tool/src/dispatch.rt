@@ -1,13 +1,14 @@
 //! Which subcommand is served.
 ghost use Rattle.std.specs.Prelude.{◌≡◌, None};
 ghost use Rattle.dbm_command_line.specs.Wishes.{writes_files};
-ghost use Rattle.dbm_faults.specs.Faults.{report_fault};
+ghost use Rattle.dbm_faults.specs.Faults.{dumps_fault, report_fault};
 ghost use Rattle.dbm_tool.specs.Outcomes.{IsOutcome, failed, outcome_by};
 ghost use Rattle.dbm_tool.specs.Services.{reads_input, service_for, service_in};
 
 use crate::outcome::{FAULT, Outcome};
 use dbm_batches::serve_batch;
 use dbm_command_line::Wish;
+use dbm_dumps::DumpsFault;
 use dbm_faults::ServeFault;
 use dbm_reports::{Given, ReportFault, Served, Unserved, notation_by, serve};
 use dbm_script::Notation;
@@ -60,6 +61,8 @@ fn serve_in<T: Threads + Wait + Sync, R: Read, W: Write>(
         Wish::Stats(stats) => outcome_of(serve(alloc, n, &stats, given, reader, writer)),
         Wish::Script(script) => outcome_of(serve(alloc, n, &script, given, reader, writer)),
         Wish::Widen(widen) => outcome_of(serve(alloc, n, &widen, given, reader, writer)),
+        Wish::Dump(dump) => outcome_of_dump(serve(alloc, n, &dump, given, reader, writer)),
+        Wish::Load(load) => outcome_of_dump(serve(alloc, n, &load, given, reader, writer)),
         Wish::Asm(asm) => outcome_of(serve(alloc, n, &asm, given, reader, writer)),
         Wish::Disasm(disasm) => outcome_of(serve(alloc, n, &disasm, given, reader, writer)),
         Wish::Verify(verify) => outcome_of(serve(alloc, n, &verify, given, reader, writer)),
@@ -69,6 +72,18 @@ fn serve_in<T: Threads + Wait + Sync, R: Read, W: Write>(
 // What a subcommand comes to.
 fn outcome_of(came: Result<Served, Unserved<ReportFault>>) -> Outcome
     ensures { result ≡ outcome_by report_fault came }
+{
+    match came {
+        Ok(served) => served_outcome(served),
+        Err(Unserved::Unreported(fault)) => failed(ServeFault::from(fault)),
+        Err(Unserved::Write) => failed(ServeFault::Write),
+        Err(Unserved::TooLong) => failed(ServeFault::FileTooLong),
+    }
+}
+
+// What `dump` or `load` comes to.
+fn outcome_of_dump(came: Result<Served, Unserved<DumpsFault>>) -> Outcome
+    ensures { result ≡ outcome_by dumps_fault came }
 {
     match came {
         Ok(served) => served_outcome(served),

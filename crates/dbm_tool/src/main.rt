@@ -73,13 +73,15 @@ fn run<R: Runtime<File = File> + AllocGlobal + Threads + Wait + Sync>(
     match read_words(alloc, words.as_slice()) {
         Ok(request) => {
             let told = told_of(&request);
-            let mut reader = Kept::new(alloc, rt.reader());
+            let is_dump = matches!(request.wish, Wish::Dump(_));
+            let keeps = !matches!(request.wish, Wish::Load(_));
+            let mut reader = Kept::new(alloc, rt.reader(), keeps);
             let ending = match serve_request(rt, request, &mut reader) {
                 Ok(ending) => ending,
                 Err(fault) => Ending::Failed(fault),
             };
-            // A command such as `head` has what it wants and is gone: that is no fault.
-            if reader.has_no_reader {
+            // A command such as `head` has what it wants and is gone: that is no fault. But a dump that is cut off is none.
+            if reader.has_no_reader && !is_dump {
                 return Ending::Served(0);
             }
             note(rt, &told, &ending, &reader);
@@ -189,17 +191,31 @@ fn serve_files<R: Runtime<File = File> + AllocGlobal + Threads + Wait + Sync, I:
         return Err(ServeFault::Write);
     }
     let taken = take_and_tell(rt, place, patience, verbose)?;
-    if wish.asks_clock() {
-        let time = read_time(rt)?;
-        return serve_taken(rt, wish.with_clock(time), taken, reader);
+    serve_timed(rt, wish, taken, reader)
+}
+
+// Serves a wish on its files, which were taken, with the time of day where it asks that.
+fn serve_timed<R: Runtime<File = File> + AllocGlobal + Threads + Wait + Sync, I: Read>(
+    rt: &R,
+    wish: Wish<'_>,
+    taken: Taken,
+    reader: &mut Kept<I>,
+) -> Result<Ending, ServeFault> {
+    let Some(unit) = wish.time_asked() else {
+        let wish = with_lines_timed(rt, wish)?;
+        return serve_taken(rt, wish, taken, reader);
+    };
+    let time = read_clock(rt, rt.alloc(), unit)?;
+    serve_taken(rt, wish.with_time(time.as_str()), taken, reader)
+}
+
+// The same wish, with the time of day for its lines where they may ask that.
+fn with_lines_timed<'a, R: Runtime>(rt: &R, wish: Wish<'a>) -> Result<Wish<'a>, ServeFault> {
+    if !wish.asks_clock() {
+        return Ok(wish);
     }
-    match wish.time_asked() {
-        Some(unit) => {
-            let time = read_clock(rt, rt.alloc(), unit)?;
-            serve_taken(rt, wish.with_time(time.as_str()), taken, reader)
-        }
-        None => serve_taken(rt, wish, taken, reader),
-    }
+    let time = read_time(rt)?;
+    Ok(wish.with_clock(time))
 }
 
 // Serves a wish on its files, which were taken.

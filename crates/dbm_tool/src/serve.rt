@@ -13,7 +13,7 @@ use std::io::{Read, Write};
 use std::sync::Wait;
 use std::thread::Threads;
 
-/// Serves a wish: reads what its words mean, opens the database, reads standard input for a script or a batch, does what is asked,
+/// Serves a wish: reads what its words mean, opens the database, reads standard input for a script, a batch or a dump that is loaded, does what is asked,
 /// and writes the lines that it prints. The status is 1 where the answer is that nothing was found or changed, and `FAULT` where there
 /// is a fault. A database is given exactly for a wish that writes (`Wish::writes`), and none where there is a fault.
 ///
@@ -22,7 +22,7 @@ use std::thread::Threads;
 /// layout is none, `BadHex`, or as text `BadText`, where a word is no bytes,
 /// `BadNumber` where one is no number; `Open` where the files do not open; `NotText` and `Assemble` where a program's file is no text
 /// of one, `Decode` where it is no image, and of a batch `Submit` where its program gets no number; of a script or a batch, `Read`
-/// where it could not be read and `TooLong` above 16,777,216 bytes; of a batch, `BadLine` with the first line that asks no task,
+/// where it could not be read and `TooLong` above 16,777,216 bytes; of a dump, `BadFormat` before the files and the other faults of `Dump` with the first line at fault; of a batch, `BadLine` with the first line that asks no task,
 /// `Pool` where not all tasks were done, and `Close` where the store does not close; `Write` where lines could not be written;
 /// `FileTooLong` where `.pag` would be above `PAG_LIMIT`, after the lines were written. `NoMemory` may come at any step before
 /// the lines, and stands within no other fault but that of a task. Nothing is written at a fault before the lines, and their first bytes at `Write`.

@@ -1,3 +1,5 @@
+use Rattle.dbm_dumps.specs.Dump.{dump_in}
+use Rattle.dbm_dumps.specs.Load.{load_in}
 use Rattle.dbm_listings.specs.Check.{check_in}
 use Rattle.dbm_listings.specs.Keys.{keys_in}
 use Rattle.dbm_listings.specs.List.{list_in}
@@ -13,7 +15,7 @@ use Rattle.dbm_runs.specs.Run.{run_in}
 use Rattle.dbm_scripts.specs.Script.{script_in}
 use Rattle.dbm_scripts.specs.Widen.{widen_in}
 use Rattle.dbm_tool.specs.Services.{batch_in}
-use Rattle.dbm_tool.proofs.Turns.{batched, reported}
+use Rattle.dbm_tool.proofs.Turns.{batched, dumped, reported}
 use Rattle.dbm_tool.proofs.dispatch.serve_in.Goals as goal
 
 pub returns-in-Fetch : goal.returns-in-Fetch
@@ -48,6 +50,12 @@ returns-in-Script g c = rw (c.in-Script.is) (reported (script_in c.args.n.now c.
 
 pub returns-in-Widen : goal.returns-in-Widen
 returns-in-Widen g c = rw (c.in-Widen.is) (reported (widen_in c.in-Widen.widen c.args.given.now) _ _ _ _ _ _ c.serve-in-Widen.result c.outcome_of-in-Widen.result c.outcome_of-in-Widen.ensures c.serve-in-Widen.ensures.ok c.serve-in-Widen.ensures.fault c.serve-in-Widen.ensures.database c.serve-in-Widen.ensures.unread)
+
+pub returns-in-Dump : goal.returns-in-Dump
+returns-in-Dump g c = rw (c.in-Dump.is) (dumped (dump_in c.in-Dump.dump c.args.given.now) _ _ _ _ _ _ c.serve-in-Dump.result c.outcome_of_dump.result c.outcome_of_dump.ensures c.serve-in-Dump.ensures.ok c.serve-in-Dump.ensures.fault c.serve-in-Dump.ensures.database c.serve-in-Dump.ensures.unread)
+
+pub returns-in-Load : goal.returns-in-Load
+returns-in-Load g c = rw (c.in-Load.is) (dumped (load_in c.in-Load.load c.args.given.now (g.R.Read.remaining c.args.reader.now)) _ _ _ _ _ _ c.serve-in-Load.result c.outcome_of_dump-in-Load.result c.outcome_of_dump-in-Load.ensures c.serve-in-Load.ensures.ok c.serve-in-Load.ensures.fault c.serve-in-Load.ensures.database c.serve-in-Load.ensures.unread)
 
 pub returns-in-Asm : goal.returns-in-Asm
 returns-in-Asm g c = rw (c.in-Asm.is) (reported (asm_in c.args.given.now) _ _ _ _ _ _ c.serve-in-Asm.result c.outcome_of-in-Asm.result c.outcome_of-in-Asm.ensures c.serve-in-Asm.ensures.ok c.serve-in-Asm.ensures.fault c.serve-in-Asm.ensures.database c.serve-in-Asm.ensures.unread)

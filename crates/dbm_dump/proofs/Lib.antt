@@ -1,0 +1,8 @@
+pub mod MoreLines
+pub mod MorePairs
+pub mod CutTexts
+pub mod Progress
+pub mod Free
+pub mod PlainBack
+pub mod GdbmBack
+pub mod MoreTexts

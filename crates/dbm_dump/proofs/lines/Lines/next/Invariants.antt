@@ -1,0 +1,17 @@
+use Rattle.std.proofs.Common.{◌≡◌, ◌≤◌, ◌+◌, ◌-◌, ◌*◌, false, length}
+use Rattle.dbm_dump.specs.Loading.{IsPiece}
+use Rattle.dbm_dump.proofs.CutTexts.{SameText}
+use Rattle.dbm_dump.proofs.lines.Lines.next.Given as goal
+
+-- a piece of the line was read
+abbrev pub invariant-loop-found : goal.invariant-loop-found
+invariant-loop-found g l = record {
+  is_open : l.self.ended ≡ false;
+  was_open : l.fn.self.ended ≡ false;
+  piece : IsPiece l.line.items;
+  short : length l.line.items ≤ 16384;
+  same : SameText l.fn.self.rest (g.R.Read.remaining l.fn.reader) l.line.items l.self.rest (g.R.Read.remaining l.reader);
+}
+
+abbrev pub decreases-loop-found : goal.decreases-loop-found
+decreases-loop-found g l = 2 * (16384 - length l.line.items) + (1 - length l.self.rest)

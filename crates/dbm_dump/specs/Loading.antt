@@ -1,0 +1,198 @@
+-- Dumps that are loaded into a database.
+use Rattle.std.specs.Prelude.{◌≡◌, ◌⊎◌, ℕ, ◌+◌, ◌<◌, ◌==◌, ◌++◌, Bool, true, false, cond, List, [], ◌∷◌, length, map, Option, Some, None, IsSomeAnd, option_map, ⊤}
+use Rattle.std.specs.List.{All}
+use Rattle.std.specs.Io.KnownBytes.{IsAtEnd}
+use Rattle.std.specs.declared.alloc.Global.{Global}
+use Rattle.sdbm_addr.specs.declared.PageSize.{PageSize}
+use Rattle.sdbm_addr.specs.declared.Mode.{Mode}
+use Rattle.sdbm_addr.specs.Database.{Database}
+use Rattle.sdbm_addr.specs.Pairs.{Pair, pair_limit}
+use Rattle.store_cmd.specs.declared.Command.TheVariants.{Store}
+use Rattle.store_cmd.specs.declared.Entry.{Entry}
+use Rattle.store_cmd.specs.declared.Reply.{Reply}
+use Rattle.store_cmd.specs.declared.Reply.TheVariants as reply
+use Rattle.store_moves.specs.Acts.{Acts}
+use Rattle.dbm_script.specs.Pieces.{pieces_of}
+use Rattle.dbm_dump.specs.Steps.{is_end, step}
+use Rattle.dbm_dump.specs.Reading.{Read, pair_list, pairs_of, read}
+use Rattle.dbm_dump.specs.declared.fault.DumpFault.{DumpFault}
+use Rattle.dbm_dump.specs.declared.fault.DumpFault.TheVariants as fault
+use Rattle.dbm_dump.specs.declared.loading.Loading.{Loading}
+use Rattle.dbm_dump.specs.declared.stage.Stage.{Stage}
+use Rattle.dbm_dump.specs.declared.stage.Stage.TheVariants.{Within}
+use Rattle.dbm_dump.specs.declared.stage.Next.{Next}
+
+-- ---- lines from a reader
+
+-- what was read and not given yet, and whether that is all
+pub record Unread : Type 0 where
+  pub rest : List ℕ
+  pub ended : Bool
+
+-- the lines that are left, where the bytes of the reader are known
+abbrev pub lines_left : Unread → Option (List ℕ) → Option (List (List ℕ))
+lines_left unread known = cond unread.ended (Some []) (option_map (λ more. pieces_of 10 (unread.rest ++ more)) known)
+
+-- the next line is given, where one is left
+abbrev pub Gives : Option (List (List ℕ)) → Bool → List ℕ → Option (List (List ℕ)) → Type 0
+Gives None found line new = ⊤
+Gives (Some []) true line new = ⊥
+Gives (Some []) false line new = new ≡ Some []
+Gives (Some (l ∷ ls)) true line new = (line ≡ l) × (new ≡ Some ls)
+Gives (Some (l ∷ ls)) false line new = ⊥
+
+-- no end of a line
+abbrev pub IsPiece : List ℕ → Type 0
+IsPiece text = All (λ b. (b == 10) ≡ false) text
+
+-- what was read, as far as its first end of a line, or all of it where it has none, goes behind a text
+abbrev pub TakesPiece : Bool → List ℕ → List ℕ → List ℕ → List ℕ → Type 0
+TakesPiece true rest old new rest' = (piece : List ℕ) × (IsPiece piece × ((rest ≡ piece ++ 10 ∷ rest') × (new ≡ old ++ piece)))
+TakesPiece false rest old new rest' = IsPiece rest × ((rest' ≡ []) × (new ≡ old ++ rest))
+
+-- something was read, or nothing is left
+abbrev pub Refills : Bool → List ℕ → Option (List ℕ) → Type 0
+Refills true rest known = 0 < length rest
+Refills false rest known = (rest ≡ []) × IsAtEnd known
+
+-- a line has at most so many bytes
+abbrev pub line_limit : ℕ
+line_limit = 16384
+
+-- the next line is longer
+abbrev pub IsLongNext : Option (List (List ℕ)) → Type 0
+IsLongNext None = ⊤
+IsLongNext (Some []) = ⊥
+IsLongNext (Some (l ∷ ls)) = line_limit < length l
+
+-- ---- pairs that are stored
+
+-- the answer to a pair that is to be stored
+abbrev pub answered : Mode → Reply Global → Pair → Entry Global
+answered mode answer e = record { session = 0; command = Store e.0 e.1 mode; reply = answer }
+
+-- the pair is stored, or its key is there, where pairs that are there stay
+abbrev pub is_done : Reply Global → Bool
+is_done reply.Stored = true
+is_done reply.Exists = true
+is_done _ = false
+
+-- A pair is stored as by `replace` or by `insert`, with its answer.
+abbrev pub StoresOne : Mode → Database → Pair → Database → Type 0
+StoresOne mode before e after = (answer : Reply Global) × ((is_done answer ≡ true) × Acts before (answered mode answer e) after)
+
+-- Each pair is stored, in their order: the database after it.
+abbrev pub StoresAll : Mode → Database → List Pair → Database → Type 0
+StoresAll mode before [] after = after ≡ before
+StoresAll mode before (e ∷ es) after = (mid : Database) × (StoresOne mode before e mid × StoresAll mode mid es after)
+
+-- The text is a dump, and so many pairs of it were stored. That leads to no other database.
+pub record IsLoaded (start : Stage) (mode : Mode) (before : Database) (input : List ℕ) (count : ℕ) (after : Database) : Type 0 where
+  pub pairs : List Pair
+  pub reads : pairs_of start input ≡ Some pairs
+  pub stores : StoresAll mode before pairs after
+  pub count_is : count ≡ length pairs
+  pub only : (other : Database) → StoresAll mode before pairs other → other ≡ after
+
+-- ---- why not
+
+-- the bytes of the datum that is begun
+abbrev pub open_len : Stage → ℕ
+open_len (Within seen role len text) = len
+open_len _ = 0
+
+-- a line brings a pair, or the length of a key or a value, that is larger than pairs may be
+abbrev pub IsLarge : PageSize → Next → Type 0
+IsLarge size s = (pair_limit size < open_len s.stage) ⊎ IsSomeAnd s.pair (λ e. pair_limit size < length e.0 + length e.1)
+
+-- P holds of a line, by its number from 1 on, and of what the lines before it give
+pub record AtLine (start : Stage) (input : List ℕ) (number : ℕ) (P : Read → List ℕ → Type 0) : Type 0 where
+  pub before : List (List ℕ)
+  pub line : List ℕ
+  pub behind : List (List ℕ)
+  pub lines : pieces_of 10 input ≡ before ++ line ∷ behind
+  pub number_is : number ≡ length before + 1
+  pub so_far : Read
+  pub reads : read start before ≡ Some so_far
+  pub holds : P so_far line
+
+-- a line may not stand where it does
+abbrev pub IsBad : Read → List ℕ → Type 0
+IsBad so_far line = step so_far.stage line ≡ None
+
+abbrev pub IsOversized : PageSize → Read → List ℕ → Type 0
+IsOversized size so_far line = (line_limit < length line) ⊎ ((s : Next) × ((step so_far.stage line ≡ Some s) × IsLarge size s))
+
+-- the pair of a line finds no room
+pub record FindsNoRoom (mode : Mode) (db : Database) (next : Next) : Type 0 where
+  pub pair : Pair
+  pub pair_is : next.pair ≡ Some pair
+  pub after : Database
+  pub refused : Acts db (answered mode reply.Crowded pair) after
+
+-- the pair of a line finds no room behind those before it
+pub record IsCrowded (mode : Mode) (db : Database) (so_far : Read) (line : List ℕ) : Type 0 where
+  pub next : Next
+  pub steps : step so_far.stage line ≡ Some next
+  pub mid : Database
+  pub stores : StoresAll mode db so_far.pairs mid
+  pub full : FindsNoRoom mode mid next
+
+-- the lines end too early
+pub record IsCutOff (start : Stage) (input : List ℕ) : Type 0 where
+  pub all : Read
+  pub reads : read start (pieces_of 10 input) ≡ Some all
+  pub early : is_end all.stage ≡ false
+
+abbrev pub IsLoadFault : Stage → Mode → Database → List ℕ → DumpFault → Type 0
+IsLoadFault start mode db input fault.BadFormat = ⊥
+IsLoadFault start mode db input fault.Read = ⊤
+IsLoadFault start mode db input (fault.BadDump number) = AtLine start input number IsBad
+IsLoadFault start mode db input (fault.TooLarge number key) = AtLine start input number (IsOversized db.size)
+IsLoadFault start mode db input (fault.Crowded number) = AtLine start input number (IsCrowded mode db)
+IsLoadFault start mode db input fault.CutOff = IsCutOff start input
+IsLoadFault start mode db input fault.NoMemory = ⊤
+
+-- ---- one line
+
+-- the line is too long, or another fault, of which nothing is said
+abbrev pub IsLineFault : ℕ → Option (List (List ℕ)) → DumpFault → Type 0
+IsLineFault number left fault.BadFormat = ⊥
+IsLineFault number left fault.Read = ⊤
+IsLineFault number left (fault.BadDump n) = ⊥
+IsLineFault number left (fault.TooLarge n key) = (n ≡ number) × IsLongNext left
+IsLineFault number left (fault.Crowded n) = ⊥
+IsLineFault number left fault.CutOff = ⊥
+IsLineFault number left fault.NoMemory = ⊤
+
+-- a line is read, and its pair, where it has one, is stored
+pub record TakesLine (mode : Mode) (old : Loading) (line : List ℕ) (new : Loading) : Type 0 where
+  pub next : Next
+  pub steps : step old.stage line ≡ Some next
+  pub stage_is : new.stage ≡ next.stage
+  pub stores : StoresAll mode old.image (pair_list next.pair) new.image
+  pub count_is : new.count ≡ old.count + length (pair_list next.pair)
+  pub kind : new.image.kind ≡ old.image.kind
+  pub size : new.image.size ≡ old.image.size
+
+-- a pair is too large, or finds no room
+abbrev pub IsStoreFault : Mode → Database → Pair → ℕ → DumpFault → Type 0
+IsStoreFault mode db e number fault.BadFormat = ⊥
+IsStoreFault mode db e number fault.Read = ⊥
+IsStoreFault mode db e number (fault.BadDump n) = ⊥
+IsStoreFault mode db e number (fault.TooLarge n key) = (n ≡ number) × (pair_limit db.size < length e.0 + length e.1)
+IsStoreFault mode db e number (fault.Crowded n) = (n ≡ number) × ((after : Database) × Acts db (answered mode reply.Crowded e) after)
+IsStoreFault mode db e number fault.CutOff = ⊥
+IsStoreFault mode db e number fault.NoMemory = ⊤
+
+-- a line may not stand there, or what it brings is too large, or finds no room
+abbrev pub IsStepFault : Mode → Loading → List ℕ → ℕ → DumpFault → Type 0
+IsStepFault mode loading line number fault.BadFormat = ⊥
+IsStepFault mode loading line number fault.Read = ⊥
+IsStepFault mode loading line number (fault.BadDump n) = (n ≡ number) × (step loading.stage line ≡ None)
+IsStepFault mode loading line number (fault.TooLarge n key) =
+    (n ≡ number) × ((next : Next) × ((step loading.stage line ≡ Some next) × IsLarge loading.image.size next))
+IsStepFault mode loading line number (fault.Crowded n) =
+    (n ≡ number) × ((next : Next) × ((step loading.stage line ≡ Some next) × FindsNoRoom mode loading.image next))
+IsStepFault mode loading line number fault.CutOff = ⊥
+IsStepFault mode loading line number fault.NoMemory = ⊤

@@ -1,0 +1,131 @@
+-- What each line of a dump may say, by what was read before it.
+use Rattle.std.specs.Prelude.{ℕ, ◌==◌, ◌+◌, ◌-◌, ◌*◌, ◌/◌, nat_le, Bool, true, false, List, [], ◌∷◌, ◌++◌, cond, codes, length, Option, Some, None, Result, Ok, Err}
+use Rattle.std.specs.Str.{bytes_eq}
+use Rattle.base64.specs.Engines.{standard}
+use Rattle.base64.specs.GeneralPurpose.{decode_of}
+use Rattle.base64.specs.declared.decode.DecodeError.{DecodeError}
+use Rattle.sdbm_addr.specs.Pairs.{Pair}
+use Rattle.dbm_dump.specs.Texts.{plain_end, title}
+use Rattle.dbm_dump.specs.Marks.{mark_of, number_behind, pair_of}
+use Rattle.dbm_dump.specs.declared.marks.Mark.{Mark}
+use Rattle.dbm_dump.specs.declared.marks.Mark.TheVariants as mark
+use Rattle.dbm_dump.specs.declared.stage.Role.{Role}
+use Rattle.dbm_dump.specs.declared.stage.Role.TheVariants.{Key, Value}
+use Rattle.dbm_dump.specs.declared.stage.Stage.{Stage}
+use Rattle.dbm_dump.specs.declared.stage.Stage.TheVariants.{First, Title, Keys, Pages, Count, Gap, Pairs, Between, Within, Over}
+use Rattle.dbm_dump.specs.declared.stage.Next.{Next}
+
+-- the next line, without a pair
+abbrev pub goes : Stage → Next
+goes stage = record { stage = stage; pair = None }
+
+abbrev pub goes_if : Bool → Stage → Option Next
+goes_if true stage = Some (goes stage)
+goes_if false stage = None
+
+-- ---- our own format
+
+abbrev pub title_step : List ℕ → Option Next
+title_step line = goes_if (bytes_eq line title) Keys
+
+abbrev pub keys_step : List ℕ → Option Next
+keys_step line = cond (bytes_eq line (codes "keys signed")) (Some (goes Pages)) (goes_if (bytes_eq line (codes "keys unsigned")) Pages)
+
+abbrev pub pages_step : List ℕ → Option Next
+pages_step line = cond (bytes_eq line (codes "pages 1024")) (Some (goes Count)) (goes_if (bytes_eq line (codes "pages 8192")) Count)
+
+abbrev pub counted : Option ℕ → Option Next
+counted None = None
+counted (Some n) = Some (goes (Gap n))
+
+abbrev pub gap_step : ℕ → List ℕ → Option Next
+gap_step left [] = Some (goes (Pairs left))
+gap_step left (c ∷ cs) = None
+
+-- one of the pairs that are left
+abbrev pub listed : ℕ → Option Pair → Option Next
+listed left None = None
+listed left (Some e) = cond (left == 0) None (Some (record { stage = Pairs (left - 1); pair = Some e }))
+
+-- the last line, where so many pairs are left
+abbrev pub closes : ℕ → Option Next
+closes left = goes_if (left == 0) Over
+
+abbrev pub pairs_step : ℕ → List ℕ → Option Next
+pairs_step left [] = Some (goes (Pairs left))
+pairs_step left (c ∷ cs) = cond (bytes_eq (c ∷ cs) plain_end) (closes left) (listed left (pair_of (c ∷ cs)))
+
+-- ---- gdbm's
+
+-- the groups of four letters in a text hold so many bytes
+abbrev pub is_full : ℕ → List ℕ → Bool
+is_full len text = nat_le len (length text / 4 * 3)
+
+-- the bytes of a datum that is a key, or a value behind a key
+abbrev pub closed : ℕ → Role → List ℕ → Option Next
+closed seen Key bytes = Some (goes (Between seen (Value bytes)))
+closed seen (Value key) bytes =
+    cond (seen == 18446744073709551615) None (Some (record { stage = Between (seen + 1) Key; pair = Some (key, bytes) }))
+
+-- what a text decodes to is a datum, where it has just so many bytes
+abbrev pub decoded : ℕ → Role → ℕ → Result (List ℕ) DecodeError → Option Next
+decoded seen role len (Ok bytes) = cond (length bytes == len) (closed seen role bytes) None
+decoded seen role len (Err error) = None
+
+-- a datum of so many bytes, of which a text is there
+abbrev pub grown : ℕ → Role → ℕ → List ℕ → Option Next
+grown seen role len text = cond (is_full len text) (decoded seen role len (decode_of standard text)) (Some (goes (Within seen role len text)))
+
+-- so many pairs were read
+abbrev pub ended : ℕ → Role → ℕ → Option Next
+ended seen Key n = goes_if (n == seen) Over
+ended seen (Value key) n = None
+
+-- a line between two data
+abbrev pub between_step : ℕ → Role → Mark → Option Next
+between_step seen role (mark.Len n) = grown seen role n []
+between_step seen role (mark.Count n) = ended seen role n
+between_step seen role mark.Note = Some (goes (Between seen role))
+between_step seen role mark.Text = None
+between_step seen role mark.Bad = None
+
+-- a line within a datum
+abbrev pub within_step : ℕ → Role → ℕ → List ℕ → List ℕ → Mark → Option Next
+within_step seen role len text line (mark.Len n) = None
+within_step seen role len text line (mark.Count n) = None
+within_step seen role len text line mark.Note = Some (goes (Within seen role len text))
+within_step seen role len text line mark.Text = grown seen role len (text ++ line)
+within_step seen role len text line mark.Bad = None
+
+-- a line behind the end
+abbrev pub over_step : Mark → Option Next
+over_step (mark.Len n) = None
+over_step (mark.Count n) = None
+over_step mark.Note = Some (goes Over)
+over_step mark.Text = None
+over_step mark.Bad = None
+
+-- ---- either
+
+-- the first line of gdbm's begins with '#'
+abbrev pub first_step : List ℕ → Option Next
+first_step [] = title_step []
+first_step (c ∷ cs) = cond (c == 35) (between_step 0 Key (mark_of (c ∷ cs))) (title_step (c ∷ cs))
+
+-- what a line adds, where it may stand there
+abbrev pub step : Stage → List ℕ → Option Next
+step First line = first_step line
+step Title line = title_step line
+step Keys line = keys_step line
+step Pages line = pages_step line
+step Count line = counted (number_behind (codes "count ") line)
+step (Gap left) line = gap_step left line
+step (Pairs left) line = pairs_step left line
+step (Between seen role) line = between_step seen role (mark_of line)
+step (Within seen role len text) line = within_step seen role len text line (mark_of line)
+step Over line = over_step (mark_of line)
+
+-- a dump may end there
+abbrev pub is_end : Stage → Bool
+is_end Over = true
+is_end _ = false

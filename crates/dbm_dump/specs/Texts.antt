@@ -1,0 +1,96 @@
+-- The text of a dump, in each format.
+use Rattle.std.specs.Prelude.{ℕ, List, [], ◌∷◌, ◌++◌, codes, decimal, length}
+use Rattle.std.specs.List.{flat_map}
+use Rattle.base64.specs.Engines.{standard}
+use Rattle.base64.specs.GeneralPurpose.{encode_of}
+use Rattle.sdbm_addr.specs.declared.KeyBytes.{KeyBytes}
+use Rattle.sdbm_addr.specs.declared.KeyBytes.TheVariants.{Signed, Unsigned}
+use Rattle.sdbm_addr.specs.declared.PageSize.{PageSize}
+use Rattle.sdbm_addr.specs.declared.PageSize.TheVariants.{Small, Wide}
+use Rattle.sdbm_addr.specs.Pairs.{Pair}
+use Rattle.dbm_script.specs.Notation.{hex_shown}
+use Rattle.dbm_dump.specs.declared.format.Format.{Format}
+use Rattle.dbm_dump.specs.declared.format.Format.TheVariants.{Plain, Gdbm, Redis}
+
+-- a text and the end of a line, and then more
+infixr 10 ◌⏎◌
+abbrev pub ◌⏎◌ : List ℕ → List ℕ → List ℕ
+text ⏎ rest = text ++ (10 ∷ rest)
+
+-- ---- our own
+
+abbrev pub title : List ℕ
+title = codes "boddurci dump 1"
+
+abbrev pub keys_line : KeyBytes → List ℕ
+keys_line Signed = codes "keys signed"
+keys_line Unsigned = codes "keys unsigned"
+
+abbrev pub pages_line : PageSize → List ℕ
+pages_line Small = codes "pages 1024"
+pages_line Wide = codes "pages 8192"
+
+-- key and value in hex, a space between them
+abbrev pub pair_words : Pair → List ℕ
+pair_words e = hex_shown e.0 ++ (32 ∷ hex_shown e.1)
+
+-- a pair in a line
+abbrev pub pair_line : Pair → List ℕ
+pair_line e = pair_words e ⏎ []
+
+-- how keys hash, how large pages are and how many pairs there are
+abbrev pub plain_header : KeyBytes → PageSize → ℕ → List ℕ
+plain_header kind size count = title ⏎ keys_line kind ⏎ pages_line size ⏎ (codes "count " ++ decimal count) ⏎ [] ⏎ []
+
+-- the last line
+abbrev pub plain_end : List ℕ
+plain_end = codes "end"
+
+-- then the pairs, and the last line
+abbrev pub plain_text : KeyBytes → PageSize → List Pair → List ℕ
+plain_text kind size pairs = plain_header kind size (length pairs) ++ (flat_map pair_line pairs ++ (plain_end ⏎ []))
+
+-- ---- gdbm's
+
+-- some bytes in base64, in a line; none have no line
+abbrev pub text_lines : List ℕ → List ℕ
+text_lines [] = []
+text_lines (b ∷ bs) = encode_of standard (b ∷ bs) ⏎ []
+
+-- the length of some bytes, and then their text
+abbrev pub datum_lines : List ℕ → List ℕ
+datum_lines bytes = (codes "#:len=" ++ decimal (length bytes)) ⏎ text_lines bytes
+
+abbrev pub gdbm_pair : Pair → List ℕ
+gdbm_pair e = datum_lines e.0 ++ datum_lines e.1
+
+abbrev pub gdbm_header : List ℕ
+gdbm_header = codes "# GDBM dump file created by Boddurci" ⏎ codes "#:version=1.1" ⏎ codes "#:format=standard" ⏎ codes "# End of header" ⏎ []
+
+abbrev pub gdbm_end : ℕ → List ℕ
+gdbm_end count = (codes "#:count=" ++ decimal count) ⏎ codes "# End of data" ⏎ []
+
+-- a header, the pairs, and how many there are
+abbrev pub gdbm_text : List Pair → List ℕ
+gdbm_text pairs = gdbm_header ++ (flat_map gdbm_pair pairs ++ gdbm_end (length pairs))
+
+-- ---- the protocol of Redis
+
+-- the length of some bytes, and then the bytes; each line ends with CR LF
+abbrev pub bulk : List ℕ → List ℕ
+bulk bytes = 36 ∷ (decimal (length bytes) ++ (13 ∷ 10 ∷ (bytes ++ 13 ∷ 10 ∷ [])))
+
+-- three words follow, of which SET is the first
+abbrev pub set_front : List ℕ
+set_front = codes "*3" ++ (13 ∷ 10 ∷ (codes "$3" ++ (13 ∷ 10 ∷ (codes "SET" ++ 13 ∷ 10 ∷ []))))
+
+-- the command SET of a key and a value
+abbrev pub redis_pair : Pair → List ℕ
+redis_pair e = set_front ++ (bulk e.0 ++ bulk e.1)
+
+-- ---- each format
+
+abbrev pub dump_text : Format → KeyBytes → PageSize → List Pair → List ℕ
+dump_text Plain kind size pairs = plain_text kind size pairs
+dump_text Gdbm kind size pairs = gdbm_text pairs
+dump_text Redis kind size pairs = flat_map redis_pair pairs

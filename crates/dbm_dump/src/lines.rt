@@ -1,0 +1,130 @@
+//! The lines of a reader, of which no more is kept than a line and a buffer.
+ghost use Rattle.std.specs.Prelude.{◌≡◌, ◌≤◌, [], false, vec_len, IfOk, IsErrOf};
+ghost use Rattle.std.specs.Io.KnownBytes.{Consumes};
+ghost use Rattle.dbm_dump.specs.Loading.{Gives, IsLongNext, Refills, TakesPiece, lines_left};
+ghost use Rattle.dbm_dump.specs.declared.lines.LineFault.TheVariants.{NoMemory};
+
+use memchr::memchr;
+use std::alloc::{AllocError, Global};
+use std::io::Read;
+use std::marker::Model;
+
+/// A line has at most this many bytes: that of a pair of a database has at most 16,018.
+const LINE_LIMIT: usize = 16_384;
+
+/// Why a reader gave no line.
+#[derive(Clone, Copy, Debug, PartialEq, Eq)]
+pub enum LineFault {
+    /// The reader failed.
+    Read,
+    /// The line has more than 16,384 bytes.
+    TooLong,
+    /// No memory was left.
+    NoMemory,
+}
+
+impl From<AllocError> for LineFault {
+    ghost from_gives = { λ _ fault. fault ≡ NoMemory };
+
+    fn from(_error: AllocError) -> LineFault {
+        LineFault::NoMemory
+    }
+}
+
+/// What was read from a reader and is not given yet, and whether that is all.
+#[derive(Drop)]
+pub struct Lines {
+    buffer: Vec<u8>,
+    at: usize,
+    ended: bool,
+    ghost within: { at ≤ vec_len buffer },
+}
+
+impl Model for Lines {
+    ghost use Rattle.std.specs.Prelude.{drop};
+    ghost use Rattle.dbm_dump.specs.Loading.{Unread};
+
+    ghost Value = { Unread };
+
+    ghost view = { λ lines. record { rest = drop lines.at lines.buffer.items; ended = lines.ended } };
+}
+
+impl Lines {
+    /// The lines of a reader of which nothing was read.
+    pub fn new(alloc: Global) -> Self
+        ensures rest { result.rest ≡ [] }
+        ensures open { result.ended ≡ false }
+    {
+        Lines {
+            buffer: Vec::new(alloc),
+            at: 0,
+            ended: false,
+        }
+    }
+
+    /// Puts the next line of the reader, without its end, in place of `line`, and tells whether there is one. Behind the last LF
+    /// stands one more, which may be empty.
+    ///
+    /// # Errors
+    /// `Read` where the reader fails or is interrupted, `TooLong` where the line has more than 16,384 bytes, and `NoMemory`. What was
+    /// read is of no use then.
+    pub fn next<R: Read>(&mut self, reader: &mut R, line: &mut Vec<u8>) -> Result<bool, LineFault>
+        ensures given { IfOk result (λ found. Gives (lines_left self.old (R.remaining reader.old)) found line.new.items (lines_left self.new (R.remaining reader.new))) }
+        ensures long { IsErrOf result LineFault.TooLong → IsLongNext (lines_left self.old (R.remaining reader.old)) }
+    {
+        line.clear();
+        if self.ended {
+            return Ok(false);
+        }
+        loop {
+            let found = self.take_piece(line)?;
+            if line.len() > LINE_LIMIT {
+                return Err(LineFault::TooLong);
+            }
+            if found {
+                return Ok(true);
+            }
+            if !self.refill(reader)? {
+                self.ended = true;
+                return Ok(true);
+            }
+        }
+    }
+
+    // Puts what was read, up to the next LF, behind a text, and tells whether there is one.
+    fn take_piece(&mut self, line: &mut Vec<u8>) -> Result<bool, AllocError>
+        ensures taken { IfOk result (λ found. TakesPiece found self.old.rest line.old.items line.new.items self.new.rest) }
+        ensures same { self.new.ended ≡ self.old.ended }
+    {
+        let rest = &self.buffer[self.at..];
+        match memchr(b'\n', rest) {
+            Some(count) => {
+                line.extend_from_slice(&rest[..count])?;
+                self.at += count + 1;
+                Ok(true)
+            }
+            None => {
+                line.extend_from_slice(rest)?;
+                self.at = self.buffer.len();
+                Ok(false)
+            }
+        }
+    }
+
+    // Reads on, and tells whether there was more.
+    fn refill<R: Read>(&mut self, reader: &mut R) -> Result<bool, LineFault>
+        ensures read { IfOk result (λ _. Consumes (R.remaining reader.old) (R.remaining reader.new) self.new.rest) }
+        ensures more { IfOk result (λ more. Refills more self.new.rest (R.remaining reader.new)) }
+        ensures same { self.new.ended ≡ self.old.ended }
+        ensures fault { IsErrOf result LineFault.TooLong → ⊥ }
+    {
+        let mut piece = [0; 8192];
+        let Ok(count) = reader.read(&mut piece) else {
+            return Err(LineFault::Read);
+        };
+        self.at = 0;
+        self.buffer.clear();
+        self.buffer.extend_from_slice(&piece[..count])?;
+        Ok(count > 0)
+    }
+}

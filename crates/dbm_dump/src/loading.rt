@@ -1,0 +1,166 @@
+//! Dumps that are loaded into a database, line by line.
+ghost use Rattle.std.specs.Prelude.{◌≡◌, ◌<◌, true, false, IfOk, IfErr, IfSome};
+ghost use Rattle.dbm_dump.specs.Steps.{is_end};
+ghost use Rattle.dbm_dump.specs.Loading.{Gives, IsLineFault, IsLoadFault, IsLoaded, IsStepFault, IsStoreFault, StoresOne, TakesLine, lines_left};
+
+use crate::fault::DumpFault;
+use crate::key_head::KeyHead;
+use crate::lines::{LineFault, Lines};
+use crate::stage::{Next, Stage, step};
+use dbm_script::{Answer, answer_command};
+use sdbm_addr::{Bytes, Mode};
+use sdbm_files::Image;
+use std::alloc::Global;
+use std::io::Read;
+use store_cmd::{Command, Reply};
+
+/// A database into which a dump was loaded, and how many pairs the dump had.
+#[derive(Drop)]
+pub struct Loaded {
+    pub image: Image<Global>,
+    pub count: u64,
+}
+
+// A database into which the pairs of a dump are being loaded, how far it was read, and how many there were.
+#[derive(Drop)]
+struct Loading {
+    image: Image<Global>,
+    stage: Stage,
+    count: u64,
+}
+
+/// Stores the pairs of a dump in a database, in their order, each as by `replace`, or as by `insert`, which leaves a pair that is there.
+/// The dump is read line by line, so it may have any length.
+///
+/// # Errors
+/// The first that is met: `Read` where the reader fails, `BadDump` with the first line that may not stand where it does, `TooLarge`
+/// with one of more than 16,384 bytes or one that brings a pair, or the length of a key or a value, above what pairs may have,
+/// `Crowded` with one whose pair finds no room, `CutOff` where the text ends before the dump does, and `NoMemory`. The database is
+/// gone then.
+pub fn load<R: Read>(
+    alloc: Global,
+    reader: &mut R,
+    start: Stage,
+    mode: Mode,
+    image: Image<Global>,
+) -> Result<Loaded, DumpFault>
+    ensures ok { IfOk result (λ r. IfSome (R.remaining reader.old) (λ input. IsLoaded start mode image input r.count r.image)) }
+    ensures kept { IfOk result (λ r. (r.image.kind ≡ image.kind) × (r.image.size ≡ image.size)) }
+    ensures fault { IfErr result (λ fault. IfSome (R.remaining reader.old) (λ input. IsLoadFault start mode image input fault)) }
+{
+    let mut loading = Loading {
+        image,
+        stage: start,
+        count: 0,
+    };
+    let mut lines = Lines::new(alloc);
+    let mut line = Vec::new(alloc);
+    for number in 1..u64::MAX {
+        if !next_line(&mut lines, reader, &mut line, number)? {
+            return finish(loading);
+        }
+        loading = take_line(alloc, mode, loading, line.as_slice(), number)?;
+    }
+    Err(DumpFault::Read)
+}
+
+// The next line, whose number this is, and whether there is one.
+fn next_line<R: Read>(
+    lines: &mut Lines,
+    reader: &mut R,
+    line: &mut Vec<u8>,
+    number: u64,
+) -> Result<bool, DumpFault>
+    ensures given { IfOk result (λ found. Gives (lines_left lines.old (R.remaining reader.old)) found line.new.items (lines_left lines.new (R.remaining reader.new))) }
+    ensures fault { IfErr result (IsLineFault number (lines_left lines.old (R.remaining reader.old))) }
+{
+    match lines.next(reader, line) {
+        Ok(found) => Ok(found),
+        Err(LineFault::Read) => Err(DumpFault::Read),
+        Err(LineFault::TooLong) => Err(DumpFault::TooLarge(number, None)),
+        Err(LineFault::NoMemory) => Err(DumpFault::NoMemory),
+    }
+}
+
+// The database where the lines end, if the dump may end there.
+fn finish(loading: Loading) -> Result<Loaded, DumpFault>
+    ensures ok { IfOk result (λ r. (is_end loading.stage ≡ true) × ((r.image ≡ loading.image) × (r.count ≡ loading.count))) }
+    ensures fault { IfErr result (λ fault. (is_end loading.stage ≡ false) × (fault ≡ DumpFault.CutOff)) }
+{
+    let Loading {
+        image,
+        stage,
+        count,
+    } = loading;
+    if !stage.is_end() {
+        return Err(DumpFault::CutOff);
+    }
+    Ok(Loaded { image, count })
+}
+
+// Reads a line, whose number this is, and stores its pair, where it has one.
+fn take_line(
+    alloc: Global,
+    mode: Mode,
+    loading: Loading,
+    line: &[u8],
+    number: u64,
+) -> Result<Loading, DumpFault>
+    requires { loading.count < number }
+    ensures ok { IfOk result (λ after. TakesLine mode loading line.now after) }
+    ensures fault { IfErr result (IsStepFault mode loading line.now number) }
+{
+    let Loading {
+        image,
+        stage,
+        count,
+    } = loading;
+    let Some(Next { stage, pair }) = step(alloc, stage, line)? else {
+        return Err(DumpFault::BadDump(number));
+    };
+    if stage.open_len() > image.page_size().pair_limit() as u64 {
+        return Err(DumpFault::TooLarge(number, stage.open_key()));
+    }
+    match pair {
+        None => Ok(Loading {
+            image,
+            stage,
+            count,
+        }),
+        Some((key, value)) => {
+            let image = store_pair(alloc, mode, image, key, value, number)?;
+            Ok(Loading {
+                image,
+                stage,
+                count: count + 1,
+            })
+        }
+    }
+}
+
+// Stores a pair of the line with this number.
+fn store_pair(
+    alloc: Global,
+    mode: Mode,
+    image: Image<Global>,
+    key: Bytes<Global>,
+    value: Bytes<Global>,
+    number: u64,
+) -> Result<Image<Global>, DumpFault>
+    ensures ok { IfOk result (StoresOne mode image (key, value)) }
+    ensures kept { IfOk result (λ after. (after.kind ≡ image.kind) × (after.size ≡ image.size)) }
+    ensures fault { IfErr result (IsStoreFault mode image (key, value) number) }
+{
+    let head = KeyHead::of(key.as_slice());
+    let mut image = image;
+    let command = Command::Store { key, value, mode };
+    match answer_command(alloc, &mut image, command)? {
+        Answer::Replied(entry) => match entry.reply {
+            Reply::Stored => Ok(image),
+            Reply::Exists => Ok(image),
+            Reply::Crowded => Err(DumpFault::Crowded(number)),
+            _ => unreachable!(),
+        },
+        Answer::Refused(_) => Err(DumpFault::TooLarge(number, Some(head))),
+    }
+}

@@ -1,0 +1,125 @@
+//! What the lines of a dump say.
+ghost use Rattle.std.specs.Prelude.{◌≡◌, IfOk, Some, option_map};
+ghost use Rattle.dbm_script.specs.Notation.{hex_bytes};
+ghost use Rattle.dbm_dump.specs.Marks.{behind, both, count_mark, len_mark, mark_of, number_behind, number_in, pair_of, sign_of};
+
+use dbm_script::{Notation, first_piece, read_bytes, read_number};
+use sdbm_addr::Bytes;
+use std::alloc::{AllocError, Global};
+
+/// What a line of a dump in gdbm's format says.
+#[derive(Clone, Copy, Debug, PartialEq, Eq)]
+pub enum Mark {
+    /// Any other line that begins with '#', or an empty one.
+    Note,
+    /// A key or a value of so many bytes begins.
+    Len(u64),
+    /// There were so many pairs.
+    Count(u64),
+    /// Text in base64.
+    Text,
+    /// A length or a count that is no number.
+    Bad,
+}
+
+/// What a line of a dump in gdbm's format says.
+pub fn mark_of(line: &[u8]) -> Mark
+    ensures { result ≡ mark_of line.now }
+{
+    if line.is_empty() {
+        return Mark::Note;
+    }
+    if line[0] == b'#' {
+        return sign_of(line);
+    }
+    Mark::Text
+}
+
+// What a line says that begins with '#'.
+fn sign_of(line: &[u8]) -> Mark
+    ensures { result ≡ sign_of line.now }
+{
+    if let Some(digits) = behind(b"#:len=", line) {
+        return len_mark(number_in(digits));
+    }
+    match behind(b"#:count=", line) {
+        Some(digits) => count_mark(number_in(digits)),
+        None => Mark::Note,
+    }
+}
+
+fn len_mark(len: Option<u64>) -> Mark
+    ensures { result ≡ len_mark len }
+{
+    match len {
+        Some(len) => Mark::Len(len),
+        None => Mark::Bad,
+    }
+}
+
+fn count_mark(count: Option<u64>) -> Mark
+    ensures { result ≡ count_mark count }
+{
+    match count {
+        Some(count) => Mark::Count(count),
+        None => Mark::Bad,
+    }
+}
+
+fn number_in(digits: &[u8]) -> Option<u64>
+    ensures { result ≡ number_in (Some digits.now) }
+{
+    read_number(digits, u64::MAX)
+}
+
+/// The number behind a text with which a line begins, where it is so.
+pub fn number_behind(front: &[u8], line: &[u8]) -> Option<u64>
+    ensures { result ≡ number_behind front.now line.now }
+{
+    number_in(behind(front, line)?)
+}
+
+// What stands behind a text with which a line begins, where it does so.
+fn behind<'a>(front: &[u8], line: &'a [u8]) -> Option<&'a [u8]>
+    ensures { option_map (λ rest. rest.now) result ≡ behind front.now line.now }
+{
+    line.strip_prefix(front)
+}
+
+/// The pair of a line, key and value in hex, where it is one.
+///
+/// # Errors
+/// `AllocError` where there is no memory for the pair.
+pub fn pair_of(
+    alloc: Global,
+    line: &[u8],
+) -> Result<Option<(Bytes<Global>, Bytes<Global>)>, AllocError>
+    ensures { IfOk result (λ pair. pair ≡ pair_of line.now) }
+{
+    let (key, rest) = first_piece(b' ', line);
+    let Some(rest) = rest else {
+        return Ok(None);
+    };
+    let (value, rest) = first_piece(b' ', rest);
+    match rest {
+        None => both(alloc, key, value),
+        Some(_) => Ok(None),
+    }
+}
+
+// A key and a value in hex, where both are.
+fn both(
+    alloc: Global,
+    key: &[u8],
+    value: &[u8],
+) -> Result<Option<(Bytes<Global>, Bytes<Global>)>, AllocError>
+    ensures { IfOk result (λ pair. pair ≡ both (hex_bytes key.now) (hex_bytes value.now)) }
+{
+    let Some(key) = read_bytes(alloc, &Notation::Hex, key)? else {
+        return Ok(None);
+    };
+    let Some(value) = read_bytes(alloc, &Notation::Hex, value)? else {
+        return Ok(None);
+    };
+    Ok(Some((key, value)))
+}

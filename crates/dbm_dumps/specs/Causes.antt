@@ -1,0 +1,42 @@
+-- Why nothing comes of `dump` and `load`.
+use Rattle.std.specs.Prelude.{⊤, Option, Some, None}
+use Rattle.dbm_dump.specs.declared.fault.DumpFault.{DumpFault}
+use Rattle.dbm_dump.specs.declared.fault.DumpFault.TheVariants as dump
+use Rattle.dbm_reports.specs.Causes.{Causes, IsCaused, no_causes}
+use Rattle.dbm_reports.specs.declared.fault.ReportFault.TheVariants as reports
+use Rattle.dbm_reports.specs.declared.report.Report.{Report as Told}
+use Rattle.dbm_dumps.specs.declared.fault.DumpsFault.{DumpsFault}
+use Rattle.dbm_dumps.specs.declared.fault.DumpsFault.TheVariants.{Report, Dump}
+
+-- the causes of the faults that others have too, and of those of a dump
+pub record DumpCauses : Type 1 where
+  pub report : Causes
+  pub dump : DumpFault → Type 0
+
+-- a fault comes only for its cause
+abbrev pub HasDumpCause : DumpCauses → DumpsFault → Type 0
+HasDumpCause causes (Report fault) = IsCaused causes.report fault
+HasDumpCause causes (Dump fault) = causes.dump fault
+
+-- what is known of `dump` or `load`: what comes of it, and why nothing does
+pub record DumpKnown : Type 1 where
+  pub reports : Told → Type 0
+  pub causes : DumpCauses
+
+-- those that others have too, alone
+abbrev pub no_dump : Causes → DumpCauses
+no_dump causes = record { report = causes; dump = λ fault. ⊥ }
+
+-- a format that is none
+abbrev pub IsBadFormat : DumpFault → Type 0
+IsBadFormat dump.BadFormat = ⊤
+IsBadFormat _ = ⊥
+
+abbrev pub bad_format : DumpCauses
+bad_format = record { report = no_causes; dump = IsBadFormat }
+
+-- the fault of a dump
+abbrev pub dump_fault : DumpFault → DumpsFault
+dump_fault dump.Read = Report reports.Read
+dump_fault dump.NoMemory = Report reports.NoMemory
+dump_fault reason = Dump reason

@@ -1,0 +1,3 @@
+pub mod Causes
+pub mod Dump
+pub mod Load

@@ -12,6 +12,7 @@
 #include <string.h>
 #include <sys/file.h>
 #include <sys/stat.h>
+#include <sys/time.h>
 #include <sys/wait.h>
 #include <time.h>
 #include <unistd.h>
@@ -478,11 +479,12 @@ static void test_within(void)
     double start = seconds();
     EXPECT(boddurci_open_files_within("visits", 0, 100, &fault) == NULL && fault.status == BODDURCI_LOCKED);
     EXPECT(seconds() - start > 0.09 && boddurci_open_files_within("visits", 0, 0, &fault) == NULL && fault.status == BODDURCI_LOCKED);
-    EXPECT(sigaction(SIGALRM, &action, NULL) == 0);
-    for (int milliseconds = -1; milliseconds < 60000; milliseconds += 60000) {
-        alarm(1);
+    /* One that comes before the wait ends nothing, so there is one every second. */
+    const struct itimerval each = {{1, 0}, {1, 0}}, never = {{0, 0}, {0, 0}};
+    EXPECT(sigaction(SIGALRM, &action, NULL) == 0 && setitimer(ITIMER_REAL, &each, NULL) == 0);
+    for (int milliseconds = -1; milliseconds < 60000; milliseconds += 60000)
         EXPECT(boddurci_open_files_within("visits", 0, milliseconds, &fault) == NULL && fault.status == BODDURCI_INTERRUPTED);
-    }
+    EXPECT(setitimer(ITIMER_REAL, &never, NULL) == 0);
     close(lock);
     boddurci_base *base = boddurci_open_files_within("visits", 0, INT64_MAX, &fault);
     EXPECT(base != NULL && count_of(base) == PAIRS);

@@ -1,5 +1,5 @@
 -- Databases that the longest `.pag` has room for, before and after what calls do.
-use Rattle.std.proofs.Common.{◌≡◌, ◌≢◌, ℕ, ◌<◌, ◌||◌, nat_lt, List, [], ◌∷◌, Bool, true, false, Option, Some, None, refl, sym, ap, ◌∙◌, subst, arith}
+use Rattle.std.proofs.Common.{◌≡◌, ◌≢◌, ℕ, ◌<◌, ◌≤◌, ◌||◌, nat_lt, List, [], ◌∷◌, length, inl, inr, Bool, true, false, Option, Some, None, refl, sym, ap, ◌∙◌, subst, arith}
 use Rattle.std.specs.List.{list_all}
 use Rattle.std.specs.Option.{option_map}
 use Rattle.std.specs.declared.alloc.Global.{Global}
@@ -8,7 +8,10 @@ use Rattle.sdbm_addr.specs.Pairs.{Pair, Content}
 use Rattle.sdbm_addr.specs.Database.{Database, IsDatabase, pairs_at}
 use Rattle.sdbm_dir.specs.declared.Place.{Place}
 use Rattle.sdbm_split.specs.Planned.{PageChange}
-use Rattle.sdbm_files.specs.Limits.{most_pages, is_bare, has_place, FitsFiles}
+use Rattle.sdbm_saves.specs.declared.disk.File.TheVariants.{Pages}
+use Rattle.sdbm_saves.specs.Redo.{renewed}
+use Rattle.sdbm_saves.specs.Saves.{AreFilesFor, IsSaving}
+use Rattle.sdbm_files.specs.Limits.{pag_limit, most_pages, is_bare, has_place, FitsFiles}
 use Rattle.sdbm_addr.specs.Files.{AreFiles, SpellsDatabase}
 use Rattle.sdbm_files.proofs.Fitting.{both, FitsFiles-installed, short_fitting}
 use Rattle.store_cmd.specs.Command.{IsSmall}
@@ -23,6 +26,7 @@ use Rattle.store_moves.proofs.Acting.{Acts-on_page}
 use Rattle.store_moves.proofs.Lifting.{works_lead}
 use Rattle.boddurci_c.specs.declared.db.Db.{Db}
 use Rattle.boddurci_c.specs.Calls.{HasFiles}
+use Rattle.boddurci_c.specs.Plans.{IsPlanFor, pages_left}
 use Rattle.boddurci_c.specs.Growth.{has_pairs, may_grow}
 
 -- the page that was there has its place still
@@ -63,3 +67,17 @@ module _ (db : Database) (ok : IsDatabase db) (place : Place) (command : Command
 -- the bytes of both files that are written
 pub has_files : (d : Db) (dir pag : List ℕ) → AreFiles d.image dir pag → SpellsDatabase d.image dir pag → HasFiles dir pag d
 has_files d dir pag files spells = record { files = files; spells = spells; short = short_fitting d.image spells.database pag files.pages }
+
+-- a plan of a save, and none where the files are those of the database
+pub is_plan : (db : Database) (plan dir pag : List ℕ) → IsSaving db plan pag dir → IsPlanFor db plan dir pag
+is_plan db plan dir pag saving = record { makes = inl saving; short = at plan saving }
+  where
+    at : (p : List ℕ) → IsSaving db p pag dir → FitsFiles db → length (pages_left p pag) ≤ pag_limit
+    at [] s fits = let header : 28 ≤ 0 = s.whole.header in absurd (omega (arith, header))
+    at (b ∷ bs) s fits = short_fitting db s.files.spelled.database (renewed Pages (b ∷ bs) pag) s.files.written.pages fits
+
+pub no_plan : (db : Database) (plan dir pag : List ℕ) → plan ≡ [] → AreFilesFor db pag dir → IsPlanFor db plan dir pag
+no_plan db plan dir pag is are = record {
+  makes = inr (is, are);
+  short = λ fits. subst (λ (p : List ℕ). length (pages_left p pag) ≤ pag_limit) (sym is) (short_fitting db are.spelled.database pag are.written.pages fits);
+}

@@ -10,15 +10,14 @@ use Rattle.store_cmd.specs.declared.Reply.{Reply}
 use Rattle.store_cmd.specs.Command.{IsSmall}
 use Rattle.store_moves.specs.declared.work.Worked.{Worked}
 use Rattle.store_moves.specs.Acts.{Acts}
-use Rattle.store_moves.specs.Leads.{LeadsTo, MayChange, changed_by}
+use Rattle.store_moves.specs.Leads.{MayChange, changed_by}
+use Rattle.store_moves.specs.Worked.{IsWorked}
 use Rattle.store_moves.specs.Works.{PageResult, works, change_of, HasEnd, IsWorkable}
-use Rattle.store_moves.proofs.Lifting.{works_lead}
-use Rattle.store_moves.proofs.Acting.{Acts-on_page}
 use Rattle.boddurci_c.specs.Asked.{Asked, result_of, IsWorkedOut}
 use Rattle.sdbm_files.specs.Limits.{FitsFiles}
 use Rattle.boddurci_c.specs.Growth.{has_pairs, may_grow, Outgrows}
 use Rattle.boddurci_c.specs.Tickets.{IsCurrent}
-use Rattle.boddurci_c.proofs.Fitting.{fits_changed}
+use Rattle.boddurci_c.proofs.Fitting.{may_put_worked, put_worked, fits_worked}
 
 -- what was asked of a database as it stands
 module _ (db : Database) (a : Asked) (now : IsCurrent db a) where
@@ -37,28 +36,17 @@ module _ (db : Database) (a : Asked) (now : IsCurrent db a) where
   }
 
 module _ (db : Database) (ok : IsDatabase db) (a : Asked) (w : Worked Global) (now : IsCurrent db a) (may : IsWorkable a.place a.kind a.page.size a.page.pairs a.command) (out : IsWorkedOut a w) where
-  abbrev here : PageResult Global
-  here = works a.place db.kind db.size (pairs_at db a.place.page) 0 a.command
-
-  same : result_of a ≡ here
-  same = result_now db a now
-
   small : IsSmall db.size a.command
   small = subst (λ (s : PageSize). IsSmall s a.command) now.size may.small
 
-  change : option_map change_of w.change ≡ here.change
-  change = out.is.change ∙ ap (λ (r : PageResult Global). r.change) same
-
-  leads : LeadsTo db 0 a.command a.place.page here
-  leads = works_lead db ok a.place 0 a.command may.keyed small now.place
+  here : IsWorked (works a.place db.kind db.size (pairs_at db a.place.page) 0 a.command) w
+  here = subst (λ (r : PageResult Global). IsWorked r w) (result_now db a now) out.is
 
   pub may_put : MayChange db a.place.page (option_map change_of w.change)
-  may_put = subst (λ x. MayChange db a.place.page x) (sym change) leads.may
+  may_put = may_put_worked db ok a.place a.command may.keyed small now.place w here
 
   pub put_acts : (db' : Database) → db' ≡ changed_by db a.place.page (option_map change_of w.change) → Acts db (record { session = 0; command = a.command; reply = w.reply }) db'
-  put_acts db' installed =
-      Acts-on_page db db' ok a.place 0 a.command w.reply may.keyed small now.place (subst (λ (ps : List Pair). HasEnd ps 0 a.command) now.pairs out.ends)
-      (out.is.reply ∙ ap (λ (r : PageResult Global). r.reply) same) (installed ∙ ap (λ x. changed_by db a.place.page x) change)
+  put_acts = put_worked db ok a.place a.command may.keyed small now.place w here (subst (λ (ps : List Pair). HasEnd ps 0 a.command) now.pairs out.ends)
 
   grows : may_grow a.page.size (has_pairs a.page.pairs) a.place.page (result_of a).change ≡ true → may_grow db.size (has_pairs (pairs_at db a.place.page)) a.place.page (option_map change_of w.change) ≡ true
   grows may =
@@ -67,4 +55,4 @@ module _ (db : Database) (ok : IsDatabase db) (a : Asked) (w : Worked Global) (n
       ∙ ap (λ (ps : List Pair). may_grow a.page.size (has_pairs ps) a.place.page (result_of a).change) (sym now.pairs) ∙ may
 
   pub put_fits : may_grow a.page.size (has_pairs a.page.pairs) a.place.page (result_of a).change ≡ true → (db' : Database) → db' ≡ changed_by db a.place.page (option_map change_of w.change) → FitsFiles db → FitsFiles db'
-  put_fits may db' installed fits = subst FitsFiles (sym installed) (fits_changed db a.place.page (option_map change_of w.change) (grows may) fits)
+  put_fits place = fits_worked db ok a.place a.command may.keyed small now.place w here (grows place)

@@ -38,7 +38,7 @@ pub enum Status {
     NoProgram,
     /// Memory ran out.
     NoMemory,
-    /// A file would have 2^32 bytes or more.
+    /// `.pag` would be longer than the longest that is written; or, of a plan, a file has 2^32 bytes or more.
     TooLong,
     /// Under the ticket nothing is asked, or what is asked is not worked.
     NoTicket,

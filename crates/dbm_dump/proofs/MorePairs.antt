@@ -85,7 +85,7 @@ step_store_fault mode loading line number next e fault.Read steps pair h = absur
 step_store_fault mode loading line number next e (fault.BadDump n) steps pair h = absurd h
 step_store_fault mode loading line number next e (fault.TooLarge n key) steps pair h =
     (h.0, (next, (steps, inr (some_and next.pair e (λ x. pair_limit loading.image.size < length x.0 + length x.1) pair h.1))))
-step_store_fault mode loading line number next e (fault.Crowded n) steps pair h = (h.0, (next, (steps, record { pair = e; pair_is = pair; after = h.1.0; refused = h.1.1 })))
+step_store_fault mode loading line number next e (fault.Crowded n key) steps pair h = (h.0, (next, (steps, record { pair = e; pair_is = pair; after = h.1.0; refused = h.1.1 })))
 step_store_fault mode loading line number next e fault.CutOff steps pair h = absurd h
 step_store_fault mode loading line number next e fault.NoMemory steps pair h = tt
 

@@ -80,13 +80,19 @@ loaded start mode db input number left loading line left' image count p gives en
 }
 
 pub cut_off : (start : Stage) (mode : Mode) (db : Database) (input : List ℕ) (number : ℕ) (left : Option (List (List ℕ))) (loading : Loading) (line : List ℕ) (left' : Option (List (List ℕ)))
-    → Progress start mode db input number left loading → Gives left false line left' → is_end loading.stage ≡ false → IsCutOff start input
+    → Progress start mode db input number left loading → Gives left false line left' → is_end loading.stage ≡ false → IsCutOff start mode db input
 cut_off start mode db input number left loading line left' p gives end =
-    record { all = read_so p.pairs loading.stage; reads = all_read start mode db input number left loading line left' p gives; early = end }
+    record {
+      all = read_so p.pairs loading.stage;
+      reads = all_read start mode db input number left loading line left' p gives;
+      early = end;
+      mid = loading.image;
+      stores = p.stores;
+    }
 
 -- a fault of the next line
-at_line : (start : Stage) (mode : Mode) (db : Database) (input : List ℕ) (number n : ℕ) (left : Option (List (List ℕ))) (loading : Loading) (line : List ℕ) (behind : List (List ℕ)) (P : Read → List ℕ → Type 0)
-    → (p : Progress start mode db input number left loading) → p.others ≡ line ∷ behind → n ≡ number → P (read_so p.pairs loading.stage) line → AtLine start input n P
+at_line : (start : Stage) (mode : Mode) (db : Database) (input : List ℕ) (number n : ℕ) (left : Option (List (List ℕ))) (loading : Loading) (line : List ℕ) (behind : List (List ℕ)) (P : Stage → Database → List ℕ → Type 0)
+    → (p : Progress start mode db input number left loading) → p.others ≡ line ∷ behind → n ≡ number → P loading.stage loading.image line → AtLine start mode db input n P
 at_line start mode db input number n left loading line behind P p next same holds = record {
   before = p.done;
   line = line;
@@ -95,6 +101,8 @@ at_line start mode db input number n left loading line behind P p next same hold
   number_is = same ∙ p.number_is;
   so_far = read_so p.pairs loading.stage;
   reads = p.reads;
+  mid = loading.image;
+  stores = p.stores;
   holds = holds;
 }
 
@@ -107,17 +115,16 @@ step_fault start mode db input number left loading line left' (fault.BadDump n) 
     at_line start mode db input number n left loading line next.0 IsBad p next.1.0 is.0 is.1
 step_fault start mode db input number left loading line left' (fault.TooLarge n key) p gives size is =
     let next = given_next start mode db input number left loading line left' p gives in
-    subst (λ z. AtLine start input n (IsOversized z)) size
+    subst (λ z. AtLine start mode db input n (IsOversized z)) size
     (at_line start mode db input number n left loading line next.0 (IsOversized loading.image.size) p next.1.0 is.0 (inr is.1))
-step_fault start mode db input number left loading line left' (fault.Crowded n) p gives size is =
+step_fault start mode db input number left loading line left' (fault.Crowded n key) p gives size is =
     let next = given_next start mode db input number left loading line left' p gives in
-    at_line start mode db input number n left loading line next.0 (IsCrowded mode db) p next.1.0 is.0
-    (record { next = is.1.0; steps = is.1.1.0; mid = loading.image; stores = p.stores; full = is.1.1.1 })
+    at_line start mode db input number n left loading line next.0 (IsCrowded mode) p next.1.0 is.0 is.1
 step_fault start mode db input number left loading line left' fault.CutOff p gives size is = absurd is
 step_fault start mode db input number left loading line left' fault.NoMemory p gives size is = tt
 
 long_at : (start : Stage) (mode : Mode) (db : Database) (input : List ℕ) (number n : ℕ) (left : Option (List (List ℕ))) (loading : Loading) (others : List (List ℕ))
-    → (p : Progress start mode db input number left loading) → p.others ≡ others → n ≡ number → IsLongNext (Some others) → AtLine start input n (IsOversized db.size)
+    → (p : Progress start mode db input number left loading) → p.others ≡ others → n ≡ number → IsLongNext (Some others) → AtLine start mode db input n (IsOversized db.size)
 long_at start mode db input number n left loading [] p is same long = absurd long
 long_at start mode db input number n left loading (l ∷ ls) p is same long = at_line start mode db input number n left loading l ls (IsOversized db.size) p is same (inl long)
 
@@ -128,7 +135,7 @@ line_fault start mode db input number left loading fault.Read p is = tt
 line_fault start mode db input number left loading (fault.BadDump n) p is = absurd is
 line_fault start mode db input number left loading (fault.TooLarge n key) p is =
     long_at start mode db input number n left loading p.others p refl is.0 (subst (λ (l : Option (List (List ℕ))). IsLongNext l) p.left_is is.1)
-line_fault start mode db input number left loading (fault.Crowded n) p is = absurd is
+line_fault start mode db input number left loading (fault.Crowded n key) p is = absurd is
 line_fault start mode db input number left loading fault.CutOff p is = absurd is
 line_fault start mode db input number left loading fault.NoMemory p is = tt
 
@@ -175,9 +182,9 @@ all_loaded start mode db bytes number left loading line left' image count all gi
     (λ input p. loaded start mode db input number left loading line left' image count p gives end images counts) all
 
 pub all_cut_off : (start : Stage) (mode : Mode) (db : Database) (bytes : Option (List ℕ)) (number : ℕ) (left : Option (List (List ℕ))) (loading : Loading) (line : List ℕ) (left' : Option (List (List ℕ)))
-    → AllProgress start mode db bytes number left loading → Gives left false line left' → is_end loading.stage ≡ false → IfSome bytes (λ input. IsCutOff start input)
+    → AllProgress start mode db bytes number left loading → Gives left false line left' → is_end loading.stage ≡ false → IfSome bytes (λ input. IsCutOff start mode db input)
 all_cut_off start mode db bytes number left loading line left' all gives end =
-    known bytes (λ input. Progress start mode db input number left loading) (λ input. IsCutOff start input) (λ input p. cut_off start mode db input number left loading line left' p gives end) all
+    known bytes (λ input. Progress start mode db input number left loading) (λ input. IsCutOff start mode db input) (λ input p. cut_off start mode db input number left loading line left' p gives end) all
 
 pub all_step_fault : (start : Stage) (mode : Mode) (db : Database) (bytes : Option (List ℕ)) (number : ℕ) (left : Option (List (List ℕ))) (loading : Loading) (line : List ℕ) (left' : Option (List (List ℕ))) (f : DumpFault)
     → AllProgress start mode db bytes number left loading → Gives left true line left' → loading.image.size ≡ db.size → IsStepFault mode loading line number f → IfSome bytes (λ input. IsLoadFault start mode db input f)

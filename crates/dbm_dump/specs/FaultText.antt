@@ -8,6 +8,6 @@ fault_text BadFormat = codes "BadFormat"
 fault_text Read = codes "Read"
 fault_text (BadDump line) = codes "BadDump(" ++ (decimal line ++ codes ")")
 fault_text (TooLarge line key) = codes "TooLarge(" ++ (decimal line ++ codes ")")
-fault_text (Crowded line) = codes "Crowded(" ++ (decimal line ++ codes ")")
+fault_text (Crowded line key) = codes "Crowded(" ++ (decimal line ++ codes ")")
 fault_text CutOff = codes "CutOff"
 fault_text NoMemory = codes "NoMemory"

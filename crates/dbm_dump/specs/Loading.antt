@@ -105,8 +105,8 @@ open_len _ = 0
 abbrev pub IsLarge : PageSize → Next → Type 0
 IsLarge size s = (pair_limit size < open_len s.stage) ⊎ IsSomeAnd s.pair (λ e. pair_limit size < length e.0 + length e.1)
 
--- P holds of a line, by its number from 1 on, and of what the lines before it give
-pub record AtLine (start : Stage) (input : List ℕ) (number : ℕ) (P : Read → List ℕ → Type 0) : Type 0 where
+-- P holds of a line, by its number from 1 on: of how far the lines before it lead, and of the database in which their pairs were stored
+pub record AtLine (start : Stage) (mode : Mode) (db : Database) (input : List ℕ) (number : ℕ) (P : Stage → Database → List ℕ → Type 0) : Type 0 where
   pub before : List (List ℕ)
   pub line : List ℕ
   pub behind : List (List ℕ)
@@ -114,14 +114,16 @@ pub record AtLine (start : Stage) (input : List ℕ) (number : ℕ) (P : Read �
   pub number_is : number ≡ length before + 1
   pub so_far : Read
   pub reads : read start before ≡ Some so_far
-  pub holds : P so_far line
+  pub mid : Database
+  pub stores : StoresAll mode db so_far.pairs mid
+  pub holds : P so_far.stage mid line
 
 -- a line may not stand where it does
-abbrev pub IsBad : Read → List ℕ → Type 0
-IsBad so_far line = step so_far.stage line ≡ None
+abbrev pub IsBad : Stage → Database → List ℕ → Type 0
+IsBad stage mid line = step stage line ≡ None
 
-abbrev pub IsOversized : PageSize → Read → List ℕ → Type 0
-IsOversized size so_far line = (line_limit < length line) ⊎ ((s : Next) × ((step so_far.stage line ≡ Some s) × IsLarge size s))
+abbrev pub IsOversized : PageSize → Stage → Database → List ℕ → Type 0
+IsOversized size stage mid line = (line_limit < length line) ⊎ ((s : Next) × ((step stage line ≡ Some s) × IsLarge size s))
 
 -- the pair of a line finds no room
 pub record FindsNoRoom (mode : Mode) (db : Database) (next : Next) : Type 0 where
@@ -130,27 +132,25 @@ pub record FindsNoRoom (mode : Mode) (db : Database) (next : Next) : Type 0 wher
   pub after : Database
   pub refused : Acts db (answered mode reply.Crowded pair) after
 
--- the pair of a line finds no room behind those before it
-pub record IsCrowded (mode : Mode) (db : Database) (so_far : Read) (line : List ℕ) : Type 0 where
-  pub next : Next
-  pub steps : step so_far.stage line ≡ Some next
-  pub mid : Database
-  pub stores : StoresAll mode db so_far.pairs mid
-  pub full : FindsNoRoom mode mid next
+-- the pair of a line finds no room in the database
+abbrev pub IsCrowded : Mode → Stage → Database → List ℕ → Type 0
+IsCrowded mode stage mid line = (next : Next) × ((step stage line ≡ Some next) × FindsNoRoom mode mid next)
 
--- the lines end too early
-pub record IsCutOff (start : Stage) (input : List ℕ) : Type 0 where
+-- The lines end too early. The pairs of all of them were stored.
+pub record IsCutOff (start : Stage) (mode : Mode) (db : Database) (input : List ℕ) : Type 0 where
   pub all : Read
   pub reads : read start (pieces_of 10 input) ≡ Some all
   pub early : is_end all.stage ≡ false
+  pub mid : Database
+  pub stores : StoresAll mode db all.pairs mid
 
 abbrev pub IsLoadFault : Stage → Mode → Database → List ℕ → DumpFault → Type 0
 IsLoadFault start mode db input fault.BadFormat = ⊥
 IsLoadFault start mode db input fault.Read = ⊤
-IsLoadFault start mode db input (fault.BadDump number) = AtLine start input number IsBad
-IsLoadFault start mode db input (fault.TooLarge number key) = AtLine start input number (IsOversized db.size)
-IsLoadFault start mode db input (fault.Crowded number) = AtLine start input number (IsCrowded mode db)
-IsLoadFault start mode db input fault.CutOff = IsCutOff start input
+IsLoadFault start mode db input (fault.BadDump number) = AtLine start mode db input number IsBad
+IsLoadFault start mode db input (fault.TooLarge number key) = AtLine start mode db input number (IsOversized db.size)
+IsLoadFault start mode db input (fault.Crowded number key) = AtLine start mode db input number (IsCrowded mode)
+IsLoadFault start mode db input fault.CutOff = IsCutOff start mode db input
 IsLoadFault start mode db input fault.NoMemory = ⊤
 
 -- ---- one line
@@ -161,7 +161,7 @@ IsLineFault number left fault.BadFormat = ⊥
 IsLineFault number left fault.Read = ⊤
 IsLineFault number left (fault.BadDump n) = ⊥
 IsLineFault number left (fault.TooLarge n key) = (n ≡ number) × IsLongNext left
-IsLineFault number left (fault.Crowded n) = ⊥
+IsLineFault number left (fault.Crowded n key) = ⊥
 IsLineFault number left fault.CutOff = ⊥
 IsLineFault number left fault.NoMemory = ⊤
 
@@ -181,7 +181,7 @@ IsStoreFault mode db e number fault.BadFormat = ⊥
 IsStoreFault mode db e number fault.Read = ⊥
 IsStoreFault mode db e number (fault.BadDump n) = ⊥
 IsStoreFault mode db e number (fault.TooLarge n key) = (n ≡ number) × (pair_limit db.size < length e.0 + length e.1)
-IsStoreFault mode db e number (fault.Crowded n) = (n ≡ number) × ((after : Database) × Acts db (answered mode reply.Crowded e) after)
+IsStoreFault mode db e number (fault.Crowded n key) = (n ≡ number) × ((after : Database) × Acts db (answered mode reply.Crowded e) after)
 IsStoreFault mode db e number fault.CutOff = ⊥
 IsStoreFault mode db e number fault.NoMemory = ⊤
 
@@ -192,7 +192,6 @@ IsStepFault mode loading line number fault.Read = ⊥
 IsStepFault mode loading line number (fault.BadDump n) = (n ≡ number) × (step loading.stage line ≡ None)
 IsStepFault mode loading line number (fault.TooLarge n key) =
     (n ≡ number) × ((next : Next) × ((step loading.stage line ≡ Some next) × IsLarge loading.image.size next))
-IsStepFault mode loading line number (fault.Crowded n) =
-    (n ≡ number) × ((next : Next) × ((step loading.stage line ≡ Some next) × FindsNoRoom mode loading.image next))
+IsStepFault mode loading line number (fault.Crowded n key) = (n ≡ number) × IsCrowded mode loading.stage loading.image line
 IsStepFault mode loading line number fault.CutOff = ⊥
 IsStepFault mode loading line number fault.NoMemory = ⊤

@@ -19,8 +19,8 @@ pub enum DumpFault {
     /// The line with this number has more than 16,384 bytes, or brings a pair, a key or a value that is larger than pairs may be. The key
     /// of the pair is told, where it is known.
     TooLarge(u64, Option<KeyHead>),
-    /// The pair of the line with this number finds no room in the database: too many keys share their hash with its key.
-    Crowded(u64),
+    /// The pair of the line with this number finds no room in the database: too many keys share their hash with its key, which is told.
+    Crowded(u64, KeyHead),
     /// The text ends before the dump does.
     CutOff,
     /// No memory was left.
@@ -39,7 +39,7 @@ impl fmt::Display for DumpFault {
             DumpFault::Read => write!(f, "Read"),
             DumpFault::BadDump(line) => write!(f, "BadDump({line})"),
             DumpFault::TooLarge(line, _) => write!(f, "TooLarge({line})"),
-            DumpFault::Crowded(line) => write!(f, "Crowded({line})"),
+            DumpFault::Crowded(line, _) => write!(f, "Crowded({line})"),
             DumpFault::CutOff => write!(f, "CutOff"),
             DumpFault::NoMemory => write!(f, "NoMemory"),
         }

@@ -158,7 +158,7 @@ fn store_pair(
         Answer::Replied(entry) => match entry.reply {
             Reply::Stored => Ok(image),
             Reply::Exists => Ok(image),
-            Reply::Crowded => Err(DumpFault::Crowded(number)),
+            Reply::Crowded => Err(DumpFault::Crowded(number, head)),
             _ => unreachable!(),
         },
         Answer::Refused(_) => Err(DumpFault::TooLarge(number, Some(head))),

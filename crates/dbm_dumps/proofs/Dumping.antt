@@ -60,7 +60,7 @@ unloaded_start start mode form given input db dump.BadFormat opened h = (db, (op
 unloaded_start start mode form given input db dump.Read opened h = (db, opened)
 unloaded_start start mode form given input db (dump.BadDump line) opened h = (db, (opened, h))
 unloaded_start start mode form given input db (dump.TooLarge line key) opened h = (db, (opened, h))
-unloaded_start start mode form given input db (dump.Crowded line) opened h = (db, (opened, h))
+unloaded_start start mode form given input db (dump.Crowded line key) opened h = (db, (opened, h))
 unloaded_start start mode form given input db dump.CutOff opened h = (db, (opened, h))
 unloaded_start start mode form given input db dump.NoMemory opened h = tt
 

@@ -16,7 +16,7 @@ pub fn dump_sentence<'a>(words: &Words<'a>, fault: DumpFault) -> Option<Sentence
             Part::Number(line),
         )),
         DumpFault::TooLarge(line, key) => Some(large_sentence(words.wide, line, key)),
-        DumpFault::Crowded(line) => Some(crowded_sentence(words.wide, line)),
+        DumpFault::Crowded(line, key) => Some(crowded_sentence(words.wide, line, key)),
         DumpFault::CutOff => Some(plain(
             "The dump stops before its last line, as where it was cut off on its way. Nothing was changed.",
         )),
@@ -37,17 +37,19 @@ fn format_sentence<'a>(format: Option<Named<'a>>) -> Sentence<'a> {
 }
 
 // Of a line whose pair finds no room.
-fn crowded_sentence(wide: bool, line: u64) -> Sentence<'static> {
-    let line = Part::Number(line);
+fn crowded_sentence(wide: bool, line: u64, key: KeyHead) -> Sentence<'static> {
+    let (line, key) = (Part::Number(line), Part::Key(key));
     if wide {
-        return with_one(
-            "The pair of line {} finds no room: its hash is too much like those of others. Nothing was changed.",
+        return with_two(
+            "Line {} of the dump: the pair with the key {} finds no room, since its hash is too much like those of others. Nothing was changed.",
             line,
+            key,
         );
     }
-    with_one(
-        "The pair of line {} finds no room: its hash is too much like those of others. Nothing was changed. Wide pages (--wide) may have room for it.",
+    with_two(
+        "Line {} of the dump: the pair with the key {} finds no room, since its hash is too much like those of others. Nothing was changed. Wide pages (--wide) may have room for it.",
         line,
+        key,
     )
 }
 

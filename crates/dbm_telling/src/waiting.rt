@@ -1,5 +1,6 @@
 //! A run that waits for the lock of its database, and says so.
 
+use crate::progress::{Work, tell_reading, tell_work};
 use dbm_faults::wait_note;
 use dbm_files::{FilesFault, Place, Taken, names_of, resolve, take_files};
 use std::fs::{self, File};
@@ -11,11 +12,25 @@ use std::time::{Clock, Duration};
 const SILENT_WAIT: u64 = 500;
 
 /// What `take_files` does; but where the run is verbose, or standard error is a terminal, it says who has the lock once it has waited for
-/// half a second.
+/// half a second. At a terminal a command that takes its time on large files says so.
 ///
 /// # Errors
 /// Those of `take_files`.
 pub fn take_and_tell<R: Runtime<File = File> + Clock + AllocGlobal>(
+    rt: &R,
+    place: Place<'_>,
+    patience: Option<Duration>,
+    verbose: bool,
+    work: Option<Work>,
+) -> Result<Taken, FilesFault> {
+    tell_reading(rt, work, place.base);
+    let taken = take_patiently(rt, place, patience, verbose)?;
+    tell_work(rt, work, taken.bytes.pages.len() as u64);
+    Ok(taken)
+}
+
+// The same, but of its work nothing is said.
+fn take_patiently<R: Runtime<File = File> + Clock + AllocGlobal>(
     rt: &R,
     place: Place<'_>,
     patience: Option<Duration>,
@@ -39,8 +54,8 @@ pub fn take_and_tell<R: Runtime<File = File> + Clock + AllocGlobal>(
     }
 }
 
-// Whether standard error is a terminal, where the system tells that.
-fn is_at_terminal<R: Runtime<File = File> + AllocGlobal>(rt: &R) -> bool {
+/// Whether standard error is a terminal, where the system tells that.
+pub fn is_at_terminal<R: Runtime<File = File> + AllocGlobal>(rt: &R) -> bool {
     match fs::read_link(rt, "/proc/self/fd/2") {
         Ok(path) => path.as_str().starts_with("/dev/pts/") || path.as_str().starts_with("/dev/tty"),
         Err(_) => false,

@@ -18,11 +18,12 @@ use dbm_programs::refusal_of;
 use dbm_reports::{Given, NOT_RUN, ReportFault};
 use dbm_script::{Lines, read_number};
 use dbm_telling::{
-    Kept, Told, Watched, advise, has_bad_line, is_refused, note_absent, note_object,
+    Counted, Kept, Told, Watched, advise, has_bad_line, is_refused, note_absent, note_object,
     note_of_bad_lines, note_of_line_end, note_pending, note_refusal, note_that, take_and_tell,
+    tell_saving,
 };
 use ending::{Ending, ending_of, exit_status};
-use request::{given_of, place_of, told_of};
+use request::{given_of, place_of, told_of, work_of};
 use sdbm_saves::Found;
 use serve::serve;
 use std::fs::File;
@@ -75,7 +76,8 @@ fn run<R: Runtime<File = File> + AllocGlobal + Threads + Wait + Sync>(
             let told = told_of(&request);
             let is_dump = matches!(request.wish, Wish::Dump(_));
             let keeps = !matches!(request.wish, Wish::Load(_));
-            let mut reader = Kept::new(alloc, rt.reader(), keeps);
+            let input = Counted::new(rt, rt.reader(), work_of(&request.wish));
+            let mut reader = Kept::new(alloc, input, keeps);
             let ending = match serve_request(rt, request, &mut reader) {
                 Ok(ending) => ending,
                 Err(fault) => Ending::Failed(fault),
@@ -190,7 +192,7 @@ fn serve_files<R: Runtime<File = File> + AllocGlobal + Threads + Wait + Sync, I:
     if place.writes && io::writer(rt).write(&[]).is_err() {
         return Err(ServeFault::Write);
     }
-    let taken = take_and_tell(rt, place, patience, verbose)?;
+    let taken = take_and_tell(rt, place, patience, verbose, work_of(&wish))?;
     serve_timed(rt, wish, taken, reader)
 }
 
@@ -268,6 +270,7 @@ fn serve_change<R: Runtime<File = File> + AllocGlobal + Threads + Wait + Sync, I
         redo,
     };
     if let Some(new) = &outcome.database {
+        tell_saving(rt, work_of(&wish), new.pag_len());
         let writer = &mut io::writer(rt);
         let saved = save_files(rt, &names, &old, new, lines.as_slice(), writer)?;
         reader.is_pending = saved == Saved::Pending;

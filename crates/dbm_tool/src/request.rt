@@ -6,7 +6,7 @@ ghost use Rattle.sdbm_files.specs.Limits.{pag_limit};
 use dbm_command_line::{Request, Wish};
 use dbm_files::{FileBytes, Place};
 use dbm_reports::Given;
-use dbm_telling::Told;
+use dbm_telling::{Told, Work};
 use dbm_words::{Numbers, Words};
 use sdbm_files::PAG_LIMIT;
 
@@ -55,5 +55,16 @@ pub fn told_of<'a>(request: &Request<'a>) -> Told<'a> {
         notation: wish.notation(),
         strict: matches!(wish, Wish::Script(script) if script.strict),
         clock: wish.asks_clock(),
+    }
+}
+
+/// What a wish does that takes its time on a large database.
+pub fn work_of(wish: &Wish<'_>) -> Option<Work> {
+    match wish {
+        Wish::Check(_) => Some(Work::Check),
+        Wish::Dump(_) => Some(Work::Dump),
+        Wish::Load(_) => Some(Work::Load),
+        Wish::Widen(_) => Some(Work::Widen),
+        _ => None,
     }
 }

@@ -14,6 +14,7 @@ use Rattle.dbm_listings.specs.Check.{check}
 use Rattle.dbm_listings.specs.Stats.{stats}
 use Rattle.dbm_scripts.specs.Script.{script}
 use Rattle.dbm_scripts.specs.Widen.{widen}
+use Rattle.dbm_sessions.specs.Session.{session}
 use Rattle.dbm_dumps.specs.Dump.{dump}
 use Rattle.dbm_dumps.specs.Load.{load}
 use Rattle.dbm_programs.specs.Asm.{asm}
@@ -36,5 +37,5 @@ bare = record titled {
 abbrev pub tool : App
 tool = record {
   top = record bare { is_leaf = false };
-  subs = fetch ∷ store ∷ delete ∷ rename ∷ list ∷ keys ∷ check ∷ stats ∷ script ∷ widen ∷ dump ∷ load ∷ asm ∷ disasm ∷ verify ∷ run ∷ batch ∷ [];
+  subs = fetch ∷ store ∷ delete ∷ rename ∷ list ∷ keys ∷ check ∷ stats ∷ script ∷ session ∷ widen ∷ dump ∷ load ∷ asm ∷ disasm ∷ verify ∷ run ∷ batch ∷ [];
 }

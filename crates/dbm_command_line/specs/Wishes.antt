@@ -25,6 +25,7 @@ use Rattle.dbm_runs.specs.Batch.{BatchAsks}
 use Rattle.dbm_runs.specs.Run.{RunAsks}
 use Rattle.dbm_scripts.specs.Script.{ScriptAsks}
 use Rattle.dbm_scripts.specs.Widen.{WidenAsks}
+use Rattle.dbm_sessions.specs.Session.{SessionAsks}
 use Rattle.dbm_script.specs.declared.shorthand.TimeOfDay.{TimeOfDay}
 use Rattle.dbm_command_line.specs.declared.fault.ToolFault.{ToolFault}
 use Rattle.dbm_command_line.specs.declared.fault.ToolFault.TheVariants.{Refused, NoMemory, NoWord}
@@ -32,6 +33,8 @@ use Rattle.dbm_words.specs.declared.options.Access.{Access}
 use Rattle.dbm_words.specs.declared.options.NotationOptions.{NotationOptions}
 use Rattle.dbm_words.specs.declared.options.TimeUnit.{TimeUnit}
 use Rattle.dbm_words.specs.declared.options.TimeUnit.TheVariants.{Seconds, Milliseconds}
+use Rattle.dbm_command_line.specs.declared.wish.Ask.{Ask}
+use Rattle.dbm_command_line.specs.declared.wish.Ask.TheVariants as ask
 use Rattle.dbm_command_line.specs.declared.wish.Wish.{Wish}
 use Rattle.dbm_command_line.specs.declared.wish.Wish.TheVariants as wish
 
@@ -134,29 +137,34 @@ with_clock time (wish.Batch batch) = wish.Batch (record batch { time = Some time
 with_clock time other = other
 
 -- The wish is what the subcommand of this name asks, by the words and options that were given to it.
-abbrev pub SubcommandAsks : Text → List Row → Wish → Type 0
-SubcommandAsks name rows (wish.Fetch fetch) = (name ≡ codes "fetch") × FetchAsks rows fetch
-SubcommandAsks name rows (wish.Store store) = (name ≡ codes "store") × StoreAsks rows store
-SubcommandAsks name rows (wish.Delete delete) = (name ≡ codes "delete") × DeleteAsks rows delete
-SubcommandAsks name rows (wish.Rename rename) = (name ≡ codes "rename") × RenameAsks rows rename
-SubcommandAsks name rows (wish.Run run) = (name ≡ codes "run") × RunAsks rows run
-SubcommandAsks name rows (wish.Batch batch) = (name ≡ codes "batch") × BatchAsks rows batch
-SubcommandAsks name rows (wish.List list) = (name ≡ codes "list") × ListAsks rows list
-SubcommandAsks name rows (wish.Keys keys) = (name ≡ codes "keys") × KeysAsks rows keys
-SubcommandAsks name rows (wish.Check check) = (name ≡ codes "check") × CheckAsks rows check
-SubcommandAsks name rows (wish.Stats stats) = (name ≡ codes "stats") × StatsAsks rows stats
-SubcommandAsks name rows (wish.Script script) = (name ≡ codes "script") × ScriptAsks rows script
-SubcommandAsks name rows (wish.Widen widen) = (name ≡ codes "widen") × WidenAsks rows widen
-SubcommandAsks name rows (wish.Dump dump) = (name ≡ codes "dump") × DumpAsks rows dump
-SubcommandAsks name rows (wish.Load load) = (name ≡ codes "load") × LoadAsks rows load
-SubcommandAsks name rows (wish.Asm asm) = (name ≡ codes "asm") × AsmAsks rows asm
-SubcommandAsks name rows (wish.Disasm disasm) = (name ≡ codes "disasm") × DisasmAsks rows disasm
-SubcommandAsks name rows (wish.Verify verify) = (name ≡ codes "verify") × VerifyAsks rows verify
+abbrev pub WishAsks : Text → List Row → Wish → Type 0
+WishAsks name rows (wish.Fetch fetch) = (name ≡ codes "fetch") × FetchAsks rows fetch
+WishAsks name rows (wish.Store store) = (name ≡ codes "store") × StoreAsks rows store
+WishAsks name rows (wish.Delete delete) = (name ≡ codes "delete") × DeleteAsks rows delete
+WishAsks name rows (wish.Rename rename) = (name ≡ codes "rename") × RenameAsks rows rename
+WishAsks name rows (wish.Run run) = (name ≡ codes "run") × RunAsks rows run
+WishAsks name rows (wish.Batch batch) = (name ≡ codes "batch") × BatchAsks rows batch
+WishAsks name rows (wish.List list) = (name ≡ codes "list") × ListAsks rows list
+WishAsks name rows (wish.Keys keys) = (name ≡ codes "keys") × KeysAsks rows keys
+WishAsks name rows (wish.Check check) = (name ≡ codes "check") × CheckAsks rows check
+WishAsks name rows (wish.Stats stats) = (name ≡ codes "stats") × StatsAsks rows stats
+WishAsks name rows (wish.Script script) = (name ≡ codes "script") × ScriptAsks rows script
+WishAsks name rows (wish.Widen widen) = (name ≡ codes "widen") × WidenAsks rows widen
+WishAsks name rows (wish.Dump dump) = (name ≡ codes "dump") × DumpAsks rows dump
+WishAsks name rows (wish.Load load) = (name ≡ codes "load") × LoadAsks rows load
+WishAsks name rows (wish.Asm asm) = (name ≡ codes "asm") × AsmAsks rows asm
+WishAsks name rows (wish.Disasm disasm) = (name ≡ codes "disasm") × DisasmAsks rows disasm
+WishAsks name rows (wish.Verify verify) = (name ≡ codes "verify") × VerifyAsks rows verify
 
--- the matches name a subcommand, and the wish is what it asks
-abbrev pub IsAsked : Option (Text × List Row) → Wish → Type 0
-IsAsked None wish = ⊥
-IsAsked (Some matches) wish = SubcommandAsks matches.0 matches.1 wish
+-- what the subcommand of this name asks, by the words and options that were given to it
+abbrev pub SubcommandAsks : Text → List Row → Ask → Type 0
+SubcommandAsks name rows (ask.Wish wish) = WishAsks name rows wish
+SubcommandAsks name rows (ask.Session session) = (name ≡ codes "session") × SessionAsks rows session
+
+-- the matches name a subcommand, and this is what it asks
+abbrev pub IsAsked : Option (Text × List Row) → Ask → Type 0
+IsAsked None asked = ⊥
+IsAsked (Some matches) asked = SubcommandAsks matches.0 matches.1 asked
 
 -- the matches name a subcommand, and these are its options by which a database is come by
 abbrev pub IsAccessGiven : Option (Text × List Row) → Access → Type 0

@@ -14,7 +14,7 @@ mod wish;
 pub use crate::fault::ToolFault;
 use crate::matched::asked;
 use crate::tool::tool_command;
-pub use crate::wish::{Request, Wish};
+pub use crate::wish::{Ask, Request, Wish};
 use dbm_words::access;
 use std::alloc::Global;
 
@@ -24,7 +24,7 @@ use std::alloc::Global;
 /// `Refused` where they are no words of the command line, or ask for help or the version; the error in it has the text for the
 /// user. `NoWord` only where a word is missing that the subcommand has to have. `NoMemory` where no memory was left.
 pub fn read_words<'a>(alloc: Global, words: &'a [&'a str]) -> Result<Request<'a>, ToolFault>
-    ensures wish { IfOk result (λ request. IsAsked (subcommand_of tool (map (λ word. word.now) words.now)) request.wish) }
+    ensures wish { IfOk result (λ request. IsAsked (subcommand_of tool (map (λ word. word.now) words.now)) request.ask) }
     ensures access { IfOk result (λ request. IsAccessGiven (subcommand_of tool (map (λ word. word.now) words.now)) request.access) }
     ensures accepted { IfOk result (λ _. fault_of tool (map (λ word. word.now) words.now) ≡ []) }
     ensures refused { IfErr result (IsRefusedFor (fault_of tool (map (λ word. word.now) words.now))) }
@@ -36,8 +36,8 @@ pub fn read_words<'a>(alloc: Global, words: &'a [&'a str]) -> Result<Request<'a>
         return Err(ToolFault::NoWord);
     };
     match asked(name, inner) {
-        Some(wish) => Ok(Request {
-            wish,
+        Some(ask) => Ok(Request {
+            ask,
             access: access(inner),
         }),
         None => Err(ToolFault::NoWord),

@@ -1,9 +1,9 @@
 //! From what `clap` matched to what was asked. Each subcommand has its own words beside its struct.
-ghost use Rattle.std.specs.Prelude.{◌≡◌, IfSome, IsNone, Some, true};
+ghost use Rattle.std.specs.Prelude.{◌≡◌, ◌≢◌, IfSome, IsNone, Some, codes, true};
 ghost use Rattle.clap.specs.Words.{found_of, rows_of};
-ghost use Rattle.dbm_command_line.specs.Wishes.{SubcommandAsks, lacks_word};
+ghost use Rattle.dbm_command_line.specs.Wishes.{SubcommandAsks, WishAsks, lacks_word};
 
-use crate::wish::Wish;
+use crate::wish::{Ask, Wish};
 use clap::ArgMatches;
 use dbm_dumps::{Dump, Load};
 use dbm_listings::{Check, Keys, List, Stats};
@@ -11,11 +11,24 @@ use dbm_pairs::{Delete, Fetch, Rename, Store};
 use dbm_programs::{Asm, Disasm, Verify};
 use dbm_runs::{Batch, Run};
 use dbm_scripts::{Script, Widen};
+use dbm_sessions::Session;
 
 /// What the subcommand of this name asks by its matches. There is none where they lack a word that it has to have, or where no
 /// subcommand has this name.
-pub fn asked<'a>(name: &str, matches: &ArgMatches<'a>) -> Option<Wish<'a>>
+pub fn asked<'a>(name: &str, matches: &ArgMatches<'a>) -> Option<Ask<'a>>
     ensures some { IfSome result (SubcommandAsks name.now (rows_of (found_of matches.now))) }
+    ensures none { IsNone result → lacks_word (Some (name.now, rows_of (found_of matches.now))) ≡ true }
+{
+    match name {
+        "session" => Some(Ask::Session(Session::matched(matches)?)),
+        _ => Some(Ask::Wish(wished(name, matches)?)),
+    }
+}
+
+// What any other subcommand asks.
+fn wished<'a>(name: &str, matches: &ArgMatches<'a>) -> Option<Wish<'a>>
+    requires { name.now ≢ codes "session" }
+    ensures some { IfSome result (WishAsks name.now (rows_of (found_of matches.now))) }
     ensures none { IsNone result → lacks_word (Some (name.now, rows_of (found_of matches.now))) ≡ true }
 {
     match name {

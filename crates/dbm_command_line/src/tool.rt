@@ -13,6 +13,7 @@ use dbm_pairs::{delete_command, fetch_command, rename_command, store_command};
 use dbm_programs::{asm_command, disasm_command, verify_command};
 use dbm_runs::{batch_command, run_command};
 use dbm_scripts::{script_command, widen_command};
+use dbm_sessions::session_command;
 use std::alloc::{AllocError, Global};
 
 /// The program with all its subcommands. The error comes where no memory was left.
@@ -29,6 +30,7 @@ pub fn tool_command<'a>(alloc: Global) -> Result<Command<'a>, AllocError>
     let command = with_subcommand(command, check_command(alloc));
     let command = with_subcommand(command, stats_command(alloc));
     let command = with_subcommand(command, script_command(alloc));
+    let command = with_subcommand(command, session_command(alloc));
     let command = with_subcommand(command, widen_command(alloc));
     let command = with_subcommand(command, dump_command(alloc));
     let command = with_subcommand(command, load_command(alloc));

@@ -9,6 +9,7 @@ use dbm_programs::{Asm, Disasm, Verify};
 use dbm_runs::{Batch, Run};
 use dbm_script::TimeOfDay;
 use dbm_scripts::{Script, Widen};
+use dbm_sessions::Session;
 use dbm_words::{Access, NotationOptions, TimeUnit, Words};
 
 /// What a command line asks: one subcommand with its words and options, as they were given. No word is read as bytes or as a
@@ -34,10 +35,19 @@ pub enum Wish<'a> {
     Verify(Verify<'a>),
 }
 
+/// What a command line asks.
+#[derive(Clone, Copy)]
+pub enum Ask<'a> {
+    /// One subcommand, which is served once.
+    Wish(Wish<'a>),
+    /// Lines that are answered one by one.
+    Session(Session<'a>),
+}
+
 /// What a command line asks, and how its database is come by.
 #[derive(Clone, Copy)]
 pub struct Request<'a> {
-    pub wish: Wish<'a>,
+    pub ask: Ask<'a>,
     pub access: Access<'a>,
 }
 

@@ -1,6 +1,6 @@
 pub mod MoreLines
 pub mod MorePairs
-pub mod CutTexts
+pub mod MoreMarks
 pub mod Progress
 pub mod Free
 pub mod PlainBack

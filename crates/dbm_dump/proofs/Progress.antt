@@ -12,8 +12,9 @@ use Rattle.dbm_dump.specs.declared.loading.Loading.{Loading}
 use Rattle.dbm_dump.specs.declared.stage.Stage.{Stage}
 use Rattle.dbm_dump.specs.Steps.{is_end, step}
 use Rattle.dbm_dump.specs.Reading.{Read, pair_list, pairs_of, read, read_so, whole}
-use Rattle.dbm_dump.specs.Loading.{AtLine, Gives, IsBad, IsCrowded, IsCutOff, IsLineFault, IsLoadFault, IsLoaded, IsLongNext, IsOversized, IsStepFault, StoresAll, TakesLine, Unread, lines_left}
-use Rattle.dbm_dump.proofs.CutTexts.{unread}
+use Rattle.dbm_dump.specs.Loading.{AtLine, IsBad, IsCrowded, IsCutOff, IsLineFault, IsLoadFault, IsLoaded, IsOversized, IsStepFault, StoresAll, TakesLine, line_limit}
+use Rattle.dbm_lines.specs.Lines.{Gives, IsLongNext, Unread, lines_left}
+use Rattle.dbm_lines.proofs.CutTexts.{unread}
 use Rattle.dbm_dump.proofs.MoreLines.{read_more}
 use Rattle.dbm_dump.proofs.MorePairs.{StoresAll-append, StoresAll-unique}
 
@@ -124,7 +125,7 @@ step_fault start mode db input number left loading line left' fault.CutOff p giv
 step_fault start mode db input number left loading line left' fault.NoMemory p gives size is = tt
 
 long_at : (start : Stage) (mode : Mode) (db : Database) (input : List ℕ) (number n : ℕ) (left : Option (List (List ℕ))) (loading : Loading) (others : List (List ℕ))
-    → (p : Progress start mode db input number left loading) → p.others ≡ others → n ≡ number → IsLongNext (Some others) → AtLine start mode db input n (IsOversized db.size)
+    → (p : Progress start mode db input number left loading) → p.others ≡ others → n ≡ number → IsLongNext line_limit (Some others) → AtLine start mode db input n (IsOversized db.size)
 long_at start mode db input number n left loading [] p is same long = absurd long
 long_at start mode db input number n left loading (l ∷ ls) p is same long = at_line start mode db input number n left loading l ls (IsOversized db.size) p is same (inl long)
 
@@ -134,7 +135,7 @@ line_fault start mode db input number left loading fault.BadFormat p is = absurd
 line_fault start mode db input number left loading fault.Read p is = tt
 line_fault start mode db input number left loading (fault.BadDump n) p is = absurd is
 line_fault start mode db input number left loading (fault.TooLarge n key) p is =
-    long_at start mode db input number n left loading p.others p refl is.0 (subst (λ (l : Option (List (List ℕ))). IsLongNext l) p.left_is is.1)
+    long_at start mode db input number n left loading p.others p refl is.0 (subst (λ (l : Option (List (List ℕ))). IsLongNext line_limit l) p.left_is is.1)
 line_fault start mode db input number left loading (fault.Crowded n key) p is = absurd is
 line_fault start mode db input number left loading fault.CutOff p is = absurd is
 line_fault start mode db input number left loading fault.NoMemory p is = tt

@@ -1,7 +1,5 @@
 -- Dumps that are loaded into a database.
-use Rattle.std.specs.Prelude.{◌≡◌, ◌⊎◌, ℕ, ◌+◌, ◌<◌, ◌==◌, ◌++◌, Bool, true, false, cond, List, [], ◌∷◌, length, map, Option, Some, None, IsSomeAnd, option_map, ⊤}
-use Rattle.std.specs.List.{All}
-use Rattle.std.specs.Io.KnownBytes.{IsAtEnd}
+use Rattle.std.specs.Prelude.{◌≡◌, ◌⊎◌, ℕ, ◌+◌, ◌<◌, ◌++◌, Bool, true, false, List, [], ◌∷◌, length, Option, Some, None, IsSomeAnd, ⊤}
 use Rattle.std.specs.declared.alloc.Global.{Global}
 use Rattle.sdbm_addr.specs.declared.PageSize.{PageSize}
 use Rattle.sdbm_addr.specs.declared.Mode.{Mode}
@@ -13,6 +11,7 @@ use Rattle.store_cmd.specs.declared.Reply.{Reply}
 use Rattle.store_cmd.specs.declared.Reply.TheVariants as reply
 use Rattle.store_moves.specs.Acts.{Acts}
 use Rattle.dbm_script.specs.Pieces.{pieces_of}
+use Rattle.dbm_lines.specs.Lines.{IsLongNext}
 use Rattle.dbm_dump.specs.Steps.{is_end, step}
 use Rattle.dbm_dump.specs.Reading.{Read, pair_list, pairs_of, read}
 use Rattle.dbm_dump.specs.declared.fault.DumpFault.{DumpFault}
@@ -22,48 +21,9 @@ use Rattle.dbm_dump.specs.declared.stage.Stage.{Stage}
 use Rattle.dbm_dump.specs.declared.stage.Stage.TheVariants.{Within}
 use Rattle.dbm_dump.specs.declared.stage.Next.{Next}
 
--- ---- lines from a reader
-
--- what was read and not given yet, and whether that is all
-pub record Unread : Type 0 where
-  pub rest : List ℕ
-  pub ended : Bool
-
--- the lines that are left, where the bytes of the reader are known
-abbrev pub lines_left : Unread → Option (List ℕ) → Option (List (List ℕ))
-lines_left unread known = cond unread.ended (Some []) (option_map (λ more. pieces_of 10 (unread.rest ++ more)) known)
-
--- the next line is given, where one is left
-abbrev pub Gives : Option (List (List ℕ)) → Bool → List ℕ → Option (List (List ℕ)) → Type 0
-Gives None found line new = ⊤
-Gives (Some []) true line new = ⊥
-Gives (Some []) false line new = new ≡ Some []
-Gives (Some (l ∷ ls)) true line new = (line ≡ l) × (new ≡ Some ls)
-Gives (Some (l ∷ ls)) false line new = ⊥
-
--- no end of a line
-abbrev pub IsPiece : List ℕ → Type 0
-IsPiece text = All (λ b. (b == 10) ≡ false) text
-
--- what was read, as far as its first end of a line, or all of it where it has none, goes behind a text
-abbrev pub TakesPiece : Bool → List ℕ → List ℕ → List ℕ → List ℕ → Type 0
-TakesPiece true rest old new rest' = (piece : List ℕ) × (IsPiece piece × ((rest ≡ piece ++ 10 ∷ rest') × (new ≡ old ++ piece)))
-TakesPiece false rest old new rest' = IsPiece rest × ((rest' ≡ []) × (new ≡ old ++ rest))
-
--- something was read, or nothing is left
-abbrev pub Refills : Bool → List ℕ → Option (List ℕ) → Type 0
-Refills true rest known = 0 < length rest
-Refills false rest known = (rest ≡ []) × IsAtEnd known
-
 -- a line has at most so many bytes
 abbrev pub line_limit : ℕ
 line_limit = 16384
-
--- the next line is longer
-abbrev pub IsLongNext : Option (List (List ℕ)) → Type 0
-IsLongNext None = ⊤
-IsLongNext (Some []) = ⊥
-IsLongNext (Some (l ∷ ls)) = line_limit < length l
 
 -- ---- pairs that are stored
 
@@ -160,7 +120,7 @@ abbrev pub IsLineFault : ℕ → Option (List (List ℕ)) → DumpFault → Type
 IsLineFault number left fault.BadFormat = ⊥
 IsLineFault number left fault.Read = ⊤
 IsLineFault number left (fault.BadDump n) = ⊥
-IsLineFault number left (fault.TooLarge n key) = (n ≡ number) × IsLongNext left
+IsLineFault number left (fault.TooLarge n key) = (n ≡ number) × IsLongNext line_limit left
 IsLineFault number left (fault.Crowded n key) = ⊥
 IsLineFault number left fault.CutOff = ⊥
 IsLineFault number left fault.NoMemory = ⊤

@@ -5,7 +5,6 @@
 mod fault;
 mod format;
 mod key_head;
-mod lines;
 mod loading;
 mod marks;
 mod stage;

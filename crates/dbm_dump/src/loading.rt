@@ -1,18 +1,22 @@
 //! Dumps that are loaded into a database, line by line.
 ghost use Rattle.std.specs.Prelude.{◌≡◌, ◌<◌, true, false, IfOk, IfErr, IfSome};
+ghost use Rattle.dbm_lines.specs.Lines.{Gives, lines_left};
 ghost use Rattle.dbm_dump.specs.Steps.{is_end};
-ghost use Rattle.dbm_dump.specs.Loading.{Gives, IsLineFault, IsLoadFault, IsLoaded, IsStepFault, IsStoreFault, StoresOne, TakesLine, lines_left};
+ghost use Rattle.dbm_dump.specs.Loading.{IsLineFault, IsLoadFault, IsLoaded, IsStepFault, IsStoreFault, StoresOne, TakesLine};
 
 use crate::fault::DumpFault;
 use crate::key_head::KeyHead;
-use crate::lines::{LineFault, Lines};
 use crate::stage::{Next, Stage, step};
+use dbm_lines::{LineFault, Lines};
 use dbm_script::{Answer, answer_command};
 use sdbm_addr::{Bytes, Mode};
 use sdbm_files::Image;
 use std::alloc::Global;
 use std::io::Read;
 use store_cmd::{Command, Reply};
+
+/// A line has at most this many bytes: that of a pair of a database has at most 16,018.
+const LINE_LIMIT: usize = 16_384;
 
 /// A database into which a dump was loaded, and how many pairs the dump had.
 #[derive(Drop)]
@@ -74,7 +78,7 @@ fn next_line<R: Read>(
     ensures given { IfOk result (λ found. Gives (lines_left lines.old (R.remaining reader.old)) found line.new.items (lines_left lines.new (R.remaining reader.new))) }
     ensures fault { IfErr result (IsLineFault number (lines_left lines.old (R.remaining reader.old))) }
 {
-    match lines.next(reader, line) {
+    match lines.next(reader, line, LINE_LIMIT) {
         Ok(found) => Ok(found),
         Err(LineFault::Read) => Err(DumpFault::Read),
         Err(LineFault::TooLong) => Err(DumpFault::TooLarge(number, None)),

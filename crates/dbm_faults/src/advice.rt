@@ -10,9 +10,10 @@ use crate::programs::{
     assemble_sentence, decode_sentence, no_text_sentence, pool_sentence, submit_sentence,
 };
 use crate::sentence::{Part, Sentence, plain, with_one};
+use crate::sessions::session_sentence;
 use crate::words::{hex_sentence, layout_sentence, number_sentence, text_sentence};
 use dbm_reports::ReportFault;
-use dbm_words::Words;
+use dbm_words::{Subject, Words};
 use prog_registry::RegFault;
 use std::alloc::Global;
 
@@ -53,6 +54,11 @@ pub fn sentence_of<'a>(
     words: &Words<'a>,
     fault: ServeFault,
 ) -> Option<Sentence<'a>> {
+    if matches!(words.subject, Subject::Session)
+        && let Some(sentence) = session_sentence(fault)
+    {
+        return Some(sentence);
+    }
     match fault {
         ServeFault::Report(fault) => report_sentence(alloc, words, fault),
         ServeFault::Dump(fault) => Some(or_memory(dump_sentence(words, fault))),

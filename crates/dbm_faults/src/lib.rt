@@ -10,6 +10,7 @@ mod finding;
 mod notes;
 mod programs;
 mod sentence;
+mod sessions;
 mod words;
 
 pub use advice::{Look, look_for, memory_sentence, sentence_of};
@@ -17,6 +18,7 @@ pub use fault::ServeFault;
 pub use files::finding_sentence;
 pub use finding::{Finding, Matter, Reason};
 pub use notes::{
-    absent_note, bad_lines_note, line_end_note, object_note, pending_note, refusal_note, wait_note,
+    absent_note, bad_lines_note, line_end_note, object_note, pending_note, refusal_note,
+    unsaved_note, wait_note,
 };
 pub use sentence::{Part, Sentence};

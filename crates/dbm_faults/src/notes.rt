@@ -1,6 +1,6 @@
 //! Notes beside an answer that may not be what was meant.
 
-use crate::sentence::{Part, Sentence, with_one, with_three, with_two};
+use crate::sentence::{Part, Sentence, plain, with_one, with_three, with_two};
 
 /// Neither file of the database was there that was read.
 pub fn absent_note<'a>(base: &'a str) -> Sentence<'a> {
@@ -20,6 +20,17 @@ pub fn pending_note<'a>(base: &'a str) -> Sentence<'a> {
         base,
         base,
         base,
+    )
+}
+
+/// What so many lines of a session have asked is not saved.
+pub fn unsaved_note(lines: u64) -> Sentence<'static> {
+    if lines == 1 {
+        return plain("not saved: the change that 1 line asked");
+    }
+    with_one(
+        "not saved: the changes that {} lines asked",
+        Part::Number(lines),
     )
 }
 

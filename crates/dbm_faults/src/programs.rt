@@ -21,7 +21,7 @@ pub fn no_text_sentence<'a>(words: &Words<'a>) -> Sentence<'a> {
             "{} is not UTF-8, so it is no text. If it is an image, dbm disasm prints its text.",
             file,
         ),
-        Subject::Disasm | Subject::Other => with_one(
+        Subject::Disasm | Subject::Session | Subject::Other => with_one(
             "{} is not UTF-8, so it is no text. If it is an image, say so by --image.",
             file,
         ),
@@ -95,7 +95,7 @@ pub fn decode_sentence<'a>(words: &Words<'a>, fault: DecodeFault) -> Option<Sent
 fn if_text(subject: Subject) -> &'static str {
     match subject {
         Subject::Disasm => "If it is a text, dbm asm makes its image",
-        Subject::Asm | Subject::Other => "If it is a text, leave --image out",
+        Subject::Asm | Subject::Session | Subject::Other => "If it is a text, leave --image out",
     }
 }
 

@@ -20,6 +20,9 @@ const NO_BLANK: &str = "is neither . nor a number below 65536 without leading ze
 
 const NO_TIME: &str = "is neither now, now-ms nor a number below 18446744073709551616";
 
+const NO_EVERY: &str =
+    "is neither a number of lines, from 1 on, nor one of seconds with an s behind it, as 5s";
+
 const NO_COUNT: &str = "is no number below 4294967296";
 
 /// Of a layout that is none.
@@ -63,6 +66,11 @@ fn is_bytes(alloc: Global, notation: &Notation<Global>, word: &str) -> bool {
 pub fn number_sentence<'a>(numbers: Numbers<'a>) -> Option<Sentence<'a>> {
     if let Some(wrong) = wrong_number("--timeout", numbers.timeout) {
         return Some(word_sentence(wrong, NO_NUMBER));
+    }
+    // Of a session this is the last word that is to be a number.
+    if let Some(word) = numbers.save_every {
+        let name = "--save-every";
+        return Some(word_sentence(Named { name, word }, NO_EVERY));
     }
     if let Some(word) = numbers.blank
         && read_blank(word.as_bytes()).is_none()

@@ -7,7 +7,7 @@ use crate::fault::FilesFault;
 use crate::host::{RealFiles, folder_of, forget_redo};
 use crate::links::resolve;
 use crate::lock::{lock_to_read, lock_to_write};
-use crate::names::{DIR_LIMIT, FileBytes, Names, Place, names_of, put, sources};
+use crate::names::{DIR_LIMIT, FileBytes, Names, PROGRAM_LIMIT, Place, names_of, put, sources};
 use crate::saving::{Change, Saved, save_change};
 use crate::side::{Side, SideFault, open_beside, side_fault};
 use sdbm_files::Image;
@@ -80,6 +80,27 @@ fn take_to_write<R: Files<File = File> + Clock + AllocGlobal>(
     let (bytes, redo) = read_database(rt, place, &names)?;
     let held = Some(Held { names, redo, lock });
     Ok(Taken { bytes, held })
+}
+
+/// Reads the files of a database once more whose lock is held, by the names under which they were taken: links may lead elsewhere by now.
+///
+/// # Errors
+/// As `take_files`, but for its lock.
+pub fn read_again<R: Files<File = File> + AllocGlobal>(
+    rt: &R,
+    place: Place<'_>,
+    names: &Names,
+) -> Result<Found, FilesFault> {
+    let place = Place {
+        base: names.pages.as_str().strip_suffix(".pag"),
+        ..place
+    };
+    let (bytes, redo) = read_database(rt, place, names)?;
+    Ok(Found {
+        pages: bytes.pages,
+        directory: bytes.directory,
+        redo,
+    })
 }
 
 // Reads the files of a run that changes nothing, under a lock where there is one.
@@ -256,6 +277,17 @@ fn read_file<R: Files + AllocGlobal>(
         }
         Err(_) => Err(FilesFault::ReadFile),
     }
+}
+
+/// The bytes of a program's file, which is neither a FIFO nor a device.
+///
+/// # Errors
+/// `ReadFile` where it cannot be read, `FileTooLong` where it has more than 1,048,576 bytes, and `NoMemory`.
+pub fn read_program<R: Files + AllocGlobal>(rt: &R, name: &str) -> Result<Vec<u8>, FilesFault> {
+    if is_special(rt, name) {
+        return Err(FilesFault::ReadFile);
+    }
+    read_file(rt, name, PROGRAM_LIMIT, false)
 }
 
 // All bytes of a file that is open.

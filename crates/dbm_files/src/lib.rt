@@ -13,7 +13,7 @@ mod side;
 
 pub use absent::{has_no_files, is_special};
 pub use fault::FilesFault;
-pub use files::{Held, Taken, save_files, take_files};
+pub use files::{Held, Taken, read_again, read_program, save_files, take_files};
 pub use host::{RealFiles, folder_of};
 pub use links::resolve;
 pub use names::{FileBytes, Names, Part, Place, Source, names_of, put, sources};

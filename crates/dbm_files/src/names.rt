@@ -9,7 +9,7 @@ use std::alloc::{AllocError, Global};
 pub(crate) const DIR_LIMIT: u64 = 268_435_456;
 
 /// A program's file has at most this many bytes.
-const PROGRAM_LIMIT: u64 = 1_048_576;
+pub(crate) const PROGRAM_LIMIT: u64 = 1_048_576;
 
 /// What a run of the program says of its files.
 #[derive(Clone, Copy)]

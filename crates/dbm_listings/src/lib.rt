@@ -6,9 +6,11 @@ mod chosen;
 mod keys;
 mod list;
 mod rows;
+mod shown;
 mod stats;
 
 pub use check::{Check, check_command};
 pub use keys::{Keys, keys_command};
 pub use list::{List, list_command};
+pub use shown::{Shown, show_listing};
 pub use stats::{Stats, stats_command};

@@ -89,8 +89,12 @@ pub fn run_lines<A: Allocator + Copy>(
     Ok((image, text))
 }
 
-// Answers one line, unless it is empty.
-fn answer_line<A: Allocator + Copy>(
+/// Answers one line on a database as session 0, unless it is empty, and writes the answer, with its end, after a text. Programs that it
+/// submits go into the registry.
+///
+/// # Errors
+/// `AllocError` where there is no memory left for it.
+pub fn answer_line<A: Allocator + Copy>(
     alloc: A,
     notation: &Notation<A>,
     image: &mut Image<A>,

@@ -51,8 +51,11 @@ pub fn spell_out<A: Allocator + Copy>(
     Ok(text)
 }
 
-// Writes what a line stands for after a text.
-fn spell_line<A: Allocator>(
+/// Writes what a line stands for after a text, as `spell_out` does for each line.
+///
+/// # Errors
+/// `AllocError` where there is no memory for it.
+pub fn spell_line<A: Allocator>(
     lines: Lines,
     time: Option<TimeOfDay>,
     line: &[u8],

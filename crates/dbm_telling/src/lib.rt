@@ -10,6 +10,9 @@ mod waiting;
 
 pub use kept::{Kept, Watched, has_bad_line, is_refused, note_of_bad_lines, note_of_line_end};
 pub use progress::{Counted, Work, tell_saving};
-pub use telling::{advise, note_absent, note_object, note_pending, note_refusal, note_that};
+pub use telling::{
+    advise, note_absent, note_object, note_pending, note_refusal, note_that, note_unsaved,
+    note_waiting_save,
+};
 pub use told::Told;
-pub use waiting::take_and_tell;
+pub use waiting::{is_terminal, take_and_tell};

@@ -4,7 +4,7 @@ use crate::findings::{find_object, find_too_long, find_unread, find_unsafe, find
 use crate::told::Told;
 use dbm_faults::{
     Finding, Look, Sentence, ServeFault, absent_note, finding_sentence, look_for, memory_sentence,
-    object_note, pending_note, refusal_note, sentence_of,
+    object_note, pending_note, refusal_note, sentence_of, unsaved_note,
 };
 use dbm_files::{has_no_files, names_of, resolve, sources};
 use dbm_words::Words;
@@ -159,7 +159,17 @@ pub fn note_absent<R: Runtime<File = File> + AllocGlobal>(rt: &R, told: &Told<'_
 
 /// Says that a save is kept in the redo file, and not done in the files of the database.
 pub fn note_pending<R: Runtime>(rt: &R, told: &Told<'_>) {
-    note_that(rt, pending_note(told.place.base.unwrap_or("BASE")));
+    note_waiting_save(rt, told.place.base);
+}
+
+/// The same of the files of a base.
+pub fn note_waiting_save<R: Runtime>(rt: &R, base: Option<&str>) {
+    note_that(rt, pending_note(base.unwrap_or("BASE")));
+}
+
+/// Says of how many lines of a session the changes are not saved.
+pub fn note_unsaved<R: Runtime>(rt: &R, lines: u64) {
+    note_that(rt, unsaved_note(lines));
 }
 
 /// Says of a program's image that was refused that it is an object, where it is one.

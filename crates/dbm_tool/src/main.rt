@@ -11,19 +11,20 @@ mod request;
 mod serve;
 
 use clock::{read_clock, read_time};
-use dbm_command_line::{Request, ToolFault, Wish, read_words};
+use dbm_command_line::{Ask, Request, ToolFault, Wish, read_words};
 use dbm_faults::ServeFault;
 use dbm_files::{Held, Saved, Taken, has_no_files, save_files};
 use dbm_programs::refusal_of;
 use dbm_reports::{Given, NOT_RUN, ReportFault};
 use dbm_script::{Lines, read_number};
+use dbm_shell::serve_session;
 use dbm_telling::{
     Counted, Kept, Told, Watched, advise, has_bad_line, is_refused, note_absent, note_object,
     note_of_bad_lines, note_of_line_end, note_pending, note_refusal, note_that, take_and_tell,
     tell_saving,
 };
 use ending::{Ending, ending_of, exit_status};
-use request::{given_of, place_of, told_of, work_of};
+use request::{given_of, place_asked, told_of, work_asked, work_of};
 use sdbm_saves::Found;
 use serve::serve;
 use std::fs::File;
@@ -74,9 +75,9 @@ fn run<R: Runtime<File = File> + AllocGlobal + Threads + Wait + Sync>(
     match read_words(alloc, words.as_slice()) {
         Ok(request) => {
             let told = told_of(&request);
-            let is_dump = matches!(request.wish, Wish::Dump(_));
-            let keeps = !matches!(request.wish, Wish::Load(_));
-            let input = Counted::new(rt, rt.reader(), work_of(&request.wish));
+            let is_dump = matches!(request.ask, Ask::Wish(Wish::Dump(_)));
+            let keeps = !matches!(request.ask, Ask::Wish(Wish::Load(_)) | Ask::Session(_));
+            let input = Counted::new(rt, rt.reader(), work_asked(&request.ask));
             let mut reader = Kept::new(alloc, input, keeps);
             let ending = match serve_request(rt, request, &mut reader) {
                 Ok(ending) => ending,
@@ -140,22 +141,35 @@ fn note_line_end<R: Runtime, I: Read>(rt: &R, lines: Lines, input: &Kept<I>) {
 }
 
 // Serves what is asked once it is plain that its base is a name, for how long it waits, and that its files are there where they have to be.
+// The lock, where there is one, is held to the end. What writes is refused first where standard output cannot be written: behind the
+// change its answer would be lost.
 fn serve_request<R: Runtime<File = File> + AllocGlobal + Threads + Wait + Sync, I: Read>(
     rt: &R,
     request: Request<'_>,
     reader: &mut Kept<I>,
 ) -> Result<Ending, ServeFault> {
-    let Request { wish, access } = request;
-    if let Some(base) = wish.base()
+    let Request { ask, access } = request;
+    let place = place_asked(&ask);
+    if let Some(base) = place.base
         && !is_name(base)
     {
         return Err(ServeFault::BadBase);
     }
     let patience = patience_of(access.timeout)?;
-    if access.must_exist && has_no_files(rt, wish.base()) {
+    if access.must_exist && has_no_files(rt, place.base) {
         return Err(ServeFault::Absent);
     }
-    serve_files(rt, wish, patience, access.verbose, reader)
+    if place.writes && io::writer(rt).write(&[]).is_err() {
+        return Err(ServeFault::Write);
+    }
+    let taken = take_and_tell(rt, place, patience, access.verbose, work_asked(&ask))?;
+    match ask {
+        Ask::Wish(wish) => serve_timed(rt, wish, taken, reader),
+        Ask::Session(session) => {
+            serve_session(rt, session, place, taken, reader)?;
+            Ok(Ending::Served(0))
+        }
+    }
 }
 
 // Whether the files of a base have names of their own: those of a folder, as of `users/`, would be `users/.dir` and `users/.pag`.
@@ -178,25 +192,7 @@ fn patience_of(timeout: Option<&str>) -> Result<Option<Duration>, ServeFault> {
     }
 }
 
-// Serves a wish on the files that it names. The lock, where there is one, is held to the end. Where the time of day is asked, the clock
-// is read once, and after the wait for the lock. A wish that writes is refused first where standard output cannot be written: behind the
-// change its answer would be lost.
-fn serve_files<R: Runtime<File = File> + AllocGlobal + Threads + Wait + Sync, I: Read>(
-    rt: &R,
-    wish: Wish<'_>,
-    patience: Option<Duration>,
-    verbose: bool,
-    reader: &mut Kept<I>,
-) -> Result<Ending, ServeFault> {
-    let place = place_of(&wish);
-    if place.writes && io::writer(rt).write(&[]).is_err() {
-        return Err(ServeFault::Write);
-    }
-    let taken = take_and_tell(rt, place, patience, verbose, work_of(&wish))?;
-    serve_timed(rt, wish, taken, reader)
-}
-
-// Serves a wish on its files, which were taken, with the time of day where it asks that.
+// Serves a wish on its files, which were taken, with the time of day where it asks that: the clock is read once, after the wait for the lock.
 fn serve_timed<R: Runtime<File = File> + AllocGlobal + Threads + Wait + Sync, I: Read>(
     rt: &R,
     wish: Wish<'_>,

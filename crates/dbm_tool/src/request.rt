@@ -3,9 +3,10 @@ ghost use Rattle.std.specs.Prelude.{◌≡◌, option_map};
 ghost use Rattle.dbm_command_line.specs.Wishes.{base_of, file_of, writes_files};
 ghost use Rattle.sdbm_files.specs.Limits.{pag_limit};
 
-use dbm_command_line::{Request, Wish};
+use dbm_command_line::{Ask, Request, Wish};
 use dbm_files::{FileBytes, Place};
 use dbm_reports::Given;
+use dbm_sessions::Session;
 use dbm_telling::{Told, Work};
 use dbm_words::{Numbers, Words};
 use sdbm_files::PAG_LIMIT;
@@ -38,23 +39,70 @@ pub fn given_of(bytes: FileBytes) -> Given
 
 /// What of a request the notes and the sentences take.
 pub fn told_of<'a>(request: &Request<'a>) -> Told<'a> {
-    let wish = &request.wish;
-    let words = wish.words();
+    let told = match &request.ask {
+        Ask::Wish(wish) => told_of_wish(wish),
+        Ask::Session(session) => told_of_session(session),
+    };
     let numbers = Numbers {
         timeout: request.access.timeout,
-        ..words.numbers
+        ..told.words.numbers
     };
+    Told {
+        words: Words {
+            numbers,
+            ..told.words
+        },
+        ..told
+    }
+}
+
+fn told_of_wish<'a>(wish: &Wish<'a>) -> Told<'a> {
     Told {
         place: place_of(wish),
         words: Words {
             base: wish.base(),
             file: wish.file(),
-            numbers,
-            ..words
+            ..wish.words()
         },
         notation: wish.notation(),
         strict: matches!(wish, Wish::Script(script) if script.strict),
         clock: wish.asks_clock(),
+    }
+}
+
+fn told_of_session<'a>(session: &Session<'a>) -> Told<'a> {
+    Told {
+        place: place_of_session(session),
+        words: session.words(),
+        notation: session.notation,
+        strict: false,
+        clock: session.clock,
+    }
+}
+
+/// What a request says of its files.
+pub fn place_asked<'a>(ask: &Ask<'a>) -> Place<'a> {
+    match ask {
+        Ask::Wish(wish) => place_of(wish),
+        Ask::Session(session) => place_of_session(session),
+    }
+}
+
+// What a session says of its files.
+fn place_of_session<'a>(session: &Session<'a>) -> Place<'a> {
+    Place {
+        base: Some(session.base),
+        file: None,
+        writes: true,
+        pages_limit: PAG_LIMIT,
+    }
+}
+
+/// What a request asks that takes its time on a large database.
+pub fn work_asked(ask: &Ask<'_>) -> Option<Work> {
+    match ask {
+        Ask::Wish(wish) => work_of(wish),
+        Ask::Session(_) => None,
     }
 }
 

@@ -18,6 +18,7 @@ pub struct Numbers<'a> {
     pub expect: Option<&'a str>,
     pub workers: Option<&'a str>,
     pub max_output: Option<&'a str>,
+    pub save_every: Option<&'a str>,
 }
 
 impl<'a> Numbers<'a> {
@@ -30,17 +31,20 @@ impl<'a> Numbers<'a> {
             expect: None,
             workers: None,
             max_output: None,
+            save_every: None,
         }
     }
 }
 
-/// What a program's file is read for, where sentences tell that apart.
+/// What is asked, where sentences tell that apart.
 #[derive(Clone, Copy)]
 pub enum Subject {
-    /// Its image is asked.
+    /// The image of a program is asked.
     Asm,
-    /// Its text is asked.
+    /// The text of a program is asked.
     Disasm,
+    /// Lines are answered one by one.
+    Session,
     /// Anything else.
     Other,
 }

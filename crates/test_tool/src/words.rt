@@ -1,6 +1,6 @@
 //! What command lines ask, why they are refused, and what help prints.
 
-use dbm_command_line::{Request, ToolFault, Wish, read_words};
+use dbm_command_line::{Ask, Request, ToolFault, Wish, read_words};
 use dbm_words::{Access, TimeUnit};
 use std::alloc::{AllocError, Global};
 use std::fmt::Write;
@@ -66,7 +66,10 @@ fn wish_text(global: Global, wish: &Wish<'_>) -> Option<String> {
 
 // The wish, and how its database is come by where the words say so.
 fn request_text(global: Global, request: &Request<'_>) -> Option<String> {
-    let mut out = wish_text(global, &request.wish)?;
+    let mut out = match &request.ask {
+        Ask::Wish(wish) => wish_text(global, wish)?,
+        Ask::Session(session) => format!(in global; "{session:?}").ok()?,
+    };
     let Access {
         timeout,
         must_exist,
@@ -123,7 +126,9 @@ fn part_text(global: Global, rest: &str) -> Option<String> {
 fn time_text(global: Global, rest: &str) -> Option<String> {
     let (unit, words) = rest.split_once(' ')?;
     let words = words_of(global, words)?;
-    let wish = asked(global, words.as_slice()).ok()?.wish;
+    let Ask::Wish(wish) = asked(global, words.as_slice()).ok()?.ask else {
+        return String::from_str(global, "none").ok();
+    };
     match wish.time_asked() {
         Some(TimeUnit::Seconds) if unit == "seconds" => (),
         Some(TimeUnit::Milliseconds) if unit == "milliseconds" => (),

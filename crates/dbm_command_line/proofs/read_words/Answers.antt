@@ -22,8 +22,8 @@ returns-in-Some-asked-clause-wish c =
     let named : Some c.in-Some.name.now ≡ subcommand_name_of m = search rules in
     let found : Some rows ≡ option_map (λ (p : Text × List Row). p.1) (subcommand_rows_of m) = search rules in
     let given : subcommand_rows_of m ≡ subcommand_of tool texts = (c.in_ok-matches.ensures.matches (ap is_simple is_tool ∙ tool_is_simple)).1 ∙ ap (λ a. subcommand_of a texts) is_tool in
-    let asks : IsAsked (Some (c.in-Some.name.now, rows)) c.in-Some-asked.wish = c.in-Some-asked.ensures.some in
-    subst (λ p. IsAsked p c.in-Some-asked.wish) (sym (met m c.in-Some.name.now rows named found) ∙ given) asks
+    let asks : IsAsked (Some (c.in-Some.name.now, rows)) c.in-Some-asked.ask = c.in-Some-asked.ensures.some in
+    subst (λ p. IsAsked p c.in-Some-asked.ask) (sym (met m c.in-Some.name.now rows named found) ∙ given) asks
 
 pub returns-in-Some-asked-clause-accepted : goal.returns-in-Some-asked-clause-accepted
 returns-in-Some-asked-clause-accepted c =

@@ -8,6 +8,7 @@ use Rattle.dbm_listings.specs.Check.{check}
 use Rattle.dbm_listings.specs.Stats.{stats}
 use Rattle.dbm_scripts.specs.Script.{script}
 use Rattle.dbm_scripts.specs.Widen.{widen}
+use Rattle.dbm_sessions.specs.Session.{session}
 use Rattle.dbm_dumps.specs.Dump.{dump}
 use Rattle.dbm_dumps.specs.Load.{load}
 use Rattle.dbm_programs.specs.Asm.{asm}
@@ -28,11 +29,12 @@ returns c =
     let checked = c.with_subcommand-command-7.ensures _ check keyed c.check_command.ensures in
     let counted = c.with_subcommand-command-8.ensures _ stats checked c.stats_command.ensures in
     let scripted = c.with_subcommand-command-9.ensures _ script counted c.script_command.ensures in
-    let widened = c.with_subcommand-command-10.ensures _ widen scripted c.widen_command.ensures in
-    let dumped = c.with_subcommand-command-11.ensures _ dump widened c.dump_command.ensures in
-    let loaded = c.with_subcommand-command-12.ensures _ load dumped c.load_command.ensures in
-    let assembled = c.with_subcommand-command-13.ensures _ asm loaded c.asm_command.ensures in
-    let disassembled = c.with_subcommand-command-14.ensures _ disasm assembled c.disasm_command.ensures in
-    let verified = c.with_subcommand-command-15.ensures _ verify disassembled c.verify_command.ensures in
-    let ran = c.with_subcommand-command-16.ensures _ run verified c.run_command.ensures in
+    let lasting = c.with_subcommand-command-10.ensures _ session scripted c.session_command.ensures in
+    let widened = c.with_subcommand-command-11.ensures _ widen lasting c.widen_command.ensures in
+    let dumped = c.with_subcommand-command-12.ensures _ dump widened c.dump_command.ensures in
+    let loaded = c.with_subcommand-command-13.ensures _ load dumped c.load_command.ensures in
+    let assembled = c.with_subcommand-command-14.ensures _ asm loaded c.asm_command.ensures in
+    let disassembled = c.with_subcommand-command-15.ensures _ disasm assembled c.disasm_command.ensures in
+    let verified = c.with_subcommand-command-16.ensures _ verify disassembled c.verify_command.ensures in
+    let ran = c.with_subcommand-command-17.ensures _ run verified c.run_command.ensures in
     c.with_subcommand.ensures _ batch ran c.batch_command.ensures

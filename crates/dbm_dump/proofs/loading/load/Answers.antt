@@ -2,7 +2,8 @@ use Rattle.std.proofs.Common.{◌≡◌, ◌≤◌, ◌∙◌, List, ℕ, Bool, 
 use Rattle.std.proofs.lemmas.Result.{IfErr-weaker, IfOk-weaker}
 use Rattle.dbm_dump.specs.declared.fault.DumpFault.{DumpFault}
 use Rattle.dbm_dump.specs.declared.loading.Loading.{Loading}
-use Rattle.dbm_dump.specs.Loading.{Gives, IsLoadFault, lines_left}
+use Rattle.dbm_dump.specs.Loading.{IsLoadFault}
+use Rattle.dbm_lines.specs.Lines.{Gives, lines_left}
 use Rattle.dbm_dump.proofs.MorePairs.{as_err, at_most_one}
 use Rattle.dbm_dump.proofs.Progress.{all_begun, all_cut_off, all_line_fault, all_loaded, all_step_fault, all_taken}
 use Rattle.dbm_dump.proofs.loading.load.Goals as goal

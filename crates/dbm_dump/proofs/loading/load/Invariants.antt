@@ -1,5 +1,5 @@
 use Rattle.std.proofs.Common.{◌≡◌, ◌<◌}
-use Rattle.dbm_dump.specs.Loading.{lines_left}
+use Rattle.dbm_lines.specs.Lines.{lines_left}
 use Rattle.dbm_dump.proofs.Progress.{AllProgress}
 use Rattle.dbm_dump.proofs.loading.load.Given as goal
 

@@ -1,7 +1,7 @@
 use Rattle.std.proofs.Common.{◌≡◌, ◌∙◌, ◌∷◌, List, ℕ, sym, ap}
 use Rattle.dbm_script.specs.Pieces.{pieces_left, pieces_of}
 use Rattle.dbm_dump.specs.Marks.{pair_in}
-use Rattle.dbm_dump.proofs.CutTexts.{too_many}
+use Rattle.dbm_dump.proofs.MoreMarks.{too_many}
 use Rattle.dbm_dump.proofs.marks.pair_of.Goals as goal
 
 pub returns-in-Some-rest : goal.returns-in-Some-rest

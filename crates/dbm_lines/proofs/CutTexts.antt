@@ -6,8 +6,7 @@ use Rattle.std.proofs.lemmas.List.{append-nil}
 use Rattle.std.proofs.lemmas.List.Elements.{All-append, All-head, All-tail}
 use Rattle.std.proofs.lemmas.List.Splits.{length-slice_split, slice_split_at, slice_split_none, slice_split-cons_no}
 use Rattle.dbm_script.specs.Pieces.{pieces_of}
-use Rattle.dbm_dump.specs.Marks.{pair_in}
-use Rattle.dbm_dump.specs.Loading.{Gives, IsLongNext, IsPiece, TakesPiece, Unread, line_limit, lines_left}
+use Rattle.dbm_lines.specs.Lines.{Gives, IsLongNext, IsPiece, TakesPiece, Unread, lines_left}
 
 abbrev pub unread : List ℕ → Bool → Unread
 unread rest ended = record { rest = rest; ended = ended }
@@ -93,16 +92,16 @@ gives_last rest₀ (Some more₀) line rest (Some more) known' rest' same whole 
     subst (λ (ls : List (List ℕ)). Gives (Some ls) true line (Some [])) (sym cut) (refl, refl)
 
 -- a line that is no longer than so much as far as it was read
-long_first : (line : List ℕ) (xs : List (List ℕ)) → line_limit < length line → IsLongNext (Some (prepended line xs))
-long_first line [] h = h
-long_first line (x ∷ xs) h = omega (arith, length-append line x)
+long_first : (most : ℕ) (line : List ℕ) (xs : List (List ℕ)) → most < length line → IsLongNext most (Some (prepended line xs))
+long_first most line [] h = h
+long_first most line (x ∷ xs) h = omega (arith, length-append line x)
 
-is_long : (rest₀ : List ℕ) (known₀ : Option (List ℕ)) (line rest : List ℕ) (known : Option (List ℕ)) → SameText rest₀ known₀ line rest known → IsPiece line → line_limit < length line
-    → IsLongNext (lines_left (unread rest₀ false) known₀)
-is_long rest₀ None line rest known same whole long = tt
-is_long rest₀ (Some more₀) line rest None same whole long = absurd same
-is_long rest₀ (Some more₀) line rest (Some more) same whole long =
-    subst (λ (ls : List (List ℕ)). IsLongNext (Some ls)) (sym (ap (pieces_of 10) same ∙ piece_open line (rest ++ more) whole)) (long_first line (pieces_of 10 (rest ++ more)) long)
+is_long : (most : ℕ) (rest₀ : List ℕ) (known₀ : Option (List ℕ)) (line rest : List ℕ) (known : Option (List ℕ)) → SameText rest₀ known₀ line rest known → IsPiece line → most < length line
+    → IsLongNext most (lines_left (unread rest₀ false) known₀)
+is_long most rest₀ None line rest known same whole long = tt
+is_long most rest₀ (Some more₀) line rest None same whole long = absurd same
+is_long most rest₀ (Some more₀) line rest (Some more) same whole long =
+    subst (λ (ls : List (List ℕ)). IsLongNext most (Some ls)) (sym (ap (pieces_of 10) same ∙ piece_open line (rest ++ more) whole)) (long_first most line (pieces_of 10 (rest ++ more)) long)
 
 -- the line without its end is as long as that
 same_found : (rest₀ : List ℕ) (known₀ : Option (List ℕ)) (line rest : List ℕ) (known : Option (List ℕ)) (line' rest' : List ℕ) → SameText rest₀ known₀ line rest known
@@ -121,12 +120,12 @@ taken_piece true line rest line' rest' whole takes =
 taken_piece false line rest line' rest' whole takes =
     subst IsPiece (sym takes.1.1) (All-append (λ b. eqb b 10 ≡ false) line rest whole takes.0)
 
-pub long_next : (found : Bool) (rest₀ : List ℕ) (known₀ : Option (List ℕ)) (line rest : List ℕ) (known : Option (List ℕ)) (line' rest' : List ℕ) → SameText rest₀ known₀ line rest known → IsPiece line
-    → TakesPiece found rest line line' rest' → line_limit < length line' → IsLongNext (lines_left (unread rest₀ false) known₀)
-long_next true rest₀ known₀ line rest known line' rest' same whole takes long =
-    is_long rest₀ known₀ line' (10 ∷ rest') known (same_found rest₀ known₀ line rest known line' rest' same takes) (taken_piece true line rest line' rest' whole takes) long
-long_next false rest₀ known₀ line rest known line' rest' same whole takes long =
-    is_long rest₀ known₀ line' rest' known (same_taken rest₀ known₀ line rest known line' rest' same takes) (taken_piece false line rest line' rest' whole takes) long
+pub long_next : (most : ℕ) (found : Bool) (rest₀ : List ℕ) (known₀ : Option (List ℕ)) (line rest : List ℕ) (known : Option (List ℕ)) (line' rest' : List ℕ) → SameText rest₀ known₀ line rest known → IsPiece line
+    → TakesPiece found rest line line' rest' → most < length line' → IsLongNext most (lines_left (unread rest₀ false) known₀)
+long_next most true rest₀ known₀ line rest known line' rest' same whole takes long =
+    is_long most rest₀ known₀ line' (10 ∷ rest') known (same_found rest₀ known₀ line rest known line' rest' same takes) (taken_piece true line rest line' rest' whole takes) long
+long_next most false rest₀ known₀ line rest known line' rest' same whole takes long =
+    is_long most rest₀ known₀ line' rest' known (same_taken rest₀ known₀ line rest known line' rest' same takes) (taken_piece false line rest line' rest' whole takes) long
 
 -- ---- lines that are open
 
@@ -146,20 +145,12 @@ open_last u v known₀ known line rest a b same whole none end =
     (subst (λ (l : Option (List (List ℕ))). Gives (lines_left (unread u.rest false) known₀) true line l) (sym (ap (λ (e : Bool). lines_left (unread v.rest e) known) b))
     (gives_last u.rest known₀ line rest known known v.rest same whole none end))
 
-pub open_long : (found : Bool) (u : Unread) (known₀ known : Option (List ℕ)) (line rest line' rest' : List ℕ) → u.ended ≡ false → SameText u.rest known₀ line rest known → IsPiece line
-    → TakesPiece found rest line line' rest' → line_limit < length line' → IsLongNext (lines_left u known₀)
-open_long found u known₀ known line rest line' rest' a same whole takes long =
-    subst IsLongNext (sym (opened u known₀ a)) (long_next found u.rest known₀ line rest known line' rest' same whole takes long)
+pub open_long : (most : ℕ) (found : Bool) (u : Unread) (known₀ known : Option (List ℕ)) (line rest line' rest' : List ℕ) → u.ended ≡ false → SameText u.rest known₀ line rest known → IsPiece line
+    → TakesPiece found rest line line' rest' → most < length line' → IsLongNext most (lines_left u known₀)
+open_long most found u known₀ known line rest line' rest' a same whole takes long =
+    subst (IsLongNext most) (sym (opened u known₀ a)) (long_next most found u.rest known₀ line rest known line' rest' same whole takes long)
 
 -- all lines were given
 pub ended_gives : (u v : Unread) (known₀ known : Option (List ℕ)) (line : List ℕ) → u.ended ≡ true → v.ended ≡ true → Gives (lines_left u known₀) false line (lines_left v known)
 ended_gives u v known₀ known line a b =
     subst (λ (l : Option (List (List ℕ))). Gives l false line (lines_left v known)) (sym (ap (λ (e : Bool). lines_left (unread u.rest e) known₀) a)) (ap (λ (e : Bool). lines_left (unread v.rest e) known) b)
-
--- three words and more are no pair
-pub too_many : (a b rest : List ℕ) → None ≡ pair_in (a ∷ b ∷ pieces_of 32 rest)
-too_many a b rest = none (pieces_of 32 rest) (let long = length-slice_split (λ x. eqb x 32) rest in omega arith)
-  where
-    none : (words : List (List ℕ)) → 0 < length words → None ≡ pair_in (a ∷ b ∷ words)
-    none [] h = absurd (omega arith)
-    none (word ∷ words) h = refl

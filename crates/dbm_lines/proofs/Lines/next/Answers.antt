@@ -1,12 +1,12 @@
 use Rattle.std.proofs.Common.{◌≡◌, ◌<◌, ◌∙◌, [], List, ℕ, Bool, true, false, length, refl, subst, rules}
-use Rattle.dbm_dump.specs.Loading.{IsPiece, Refills, TakesPiece}
-use Rattle.dbm_dump.proofs.CutTexts.{SameText, open_found, open_last, open_long, same_refilled, same_taken, taken_piece, unread}
-use Rattle.dbm_dump.proofs.lines.Lines.next.Goals as goal
+use Rattle.dbm_lines.specs.Lines.{IsPiece, Refills, TakesPiece}
+use Rattle.dbm_lines.proofs.CutTexts.{SameText, open_found, open_last, open_long, same_refilled, same_taken, taken_piece, unread}
+use Rattle.dbm_lines.proofs.Lines.next.Goals as goal
 
-pub returns-then-len-gt-LINE_LIMIT-clause-long : goal.returns-then-len-gt-LINE_LIMIT-clause-long
-returns-then-len-gt-LINE_LIMIT-clause-long g c = λ _.
-    let long : 16384 < length c.take_piece.new.line.items = search rules in
-    open_long c.in_ok-found.found c.args.self.now (g.R.Read.remaining c.args.reader.now) (g.R.Read.remaining c.loop-found.reader) c.loop-found.line.items c.loop-found.self.rest
+pub returns-then-len-most-clause-long : goal.returns-then-len-most-clause-long
+returns-then-len-most-clause-long g c = λ _.
+    let long : c.args.most < length c.take_piece.new.line.items = search rules in
+    open_long c.args.most c.in_ok-found.found c.args.self.now (g.R.Read.remaining c.args.reader.now) (g.R.Read.remaining c.loop-found.reader) c.loop-found.line.items c.loop-found.self.rest
     c.take_piece.new.line.items c.take_piece.new.self.rest c.loop-found.invariant.was_open c.loop-found.invariant.same c.loop-found.invariant.piece c.in_ok-found.ensures.taken long
 
 pub returns-then-found-clause-given : goal.returns-then-found-clause-given

@@ -1,7 +1,7 @@
 use Rattle.std.proofs.Common.{◌≡◌, ◌≤◌, ◌+◌, ◌-◌, ◌*◌, false, length}
-use Rattle.dbm_dump.specs.Loading.{IsPiece}
-use Rattle.dbm_dump.proofs.CutTexts.{SameText}
-use Rattle.dbm_dump.proofs.lines.Lines.next.Given as goal
+use Rattle.dbm_lines.specs.Lines.{IsPiece}
+use Rattle.dbm_lines.proofs.CutTexts.{SameText}
+use Rattle.dbm_lines.proofs.Lines.next.Given as goal
 
 -- a piece of the line was read
 abbrev pub invariant-loop-found : goal.invariant-loop-found
@@ -9,9 +9,9 @@ invariant-loop-found g l = record {
   is_open : l.self.ended ≡ false;
   was_open : l.fn.self.ended ≡ false;
   piece : IsPiece l.line.items;
-  short : length l.line.items ≤ 16384;
+  short : length l.line.items ≤ l.fn.most;
   same : SameText l.fn.self.rest (g.R.Read.remaining l.fn.reader) l.line.items l.self.rest (g.R.Read.remaining l.reader);
 }
 
 abbrev pub decreases-loop-found : goal.decreases-loop-found
-decreases-loop-found g l = 2 * (16384 - length l.line.items) + (1 - length l.self.rest)
+decreases-loop-found g l = 2 * (l.fn.most - length l.line.items) + (1 - length l.self.rest)

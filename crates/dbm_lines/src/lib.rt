@@ -1,23 +1,22 @@
 //! The lines of a reader, of which no more is kept than a line and a buffer.
+#![tactic(auto)]
+
 ghost use Rattle.std.specs.Prelude.{◌≡◌, ◌≤◌, [], false, vec_len, IfOk, IsErrOf};
 ghost use Rattle.std.specs.Io.KnownBytes.{Consumes};
-ghost use Rattle.dbm_dump.specs.Loading.{Gives, IsLongNext, Refills, TakesPiece, lines_left};
-ghost use Rattle.dbm_dump.specs.declared.lines.LineFault.TheVariants.{NoMemory};
+ghost use Rattle.dbm_lines.specs.Lines.{Gives, IsLongNext, Refills, TakesPiece, lines_left};
+ghost use Rattle.dbm_lines.specs.declared.LineFault.TheVariants.{NoMemory};
 
 use memchr::memchr;
 use std::alloc::{AllocError, Global};
 use std::io::Read;
 use std::marker::Model;
 
-/// A line has at most this many bytes: that of a pair of a database has at most 16,018.
-const LINE_LIMIT: usize = 16_384;
-
 /// Why a reader gave no line.
 #[derive(Clone, Copy, Debug, PartialEq, Eq)]
 pub enum LineFault {
     /// The reader failed.
     Read,
-    /// The line has more than 16,384 bytes.
+    /// The line has more bytes than it may have.
     TooLong,
     /// No memory was left.
     NoMemory,
@@ -42,7 +41,7 @@ pub struct Lines {
 
 impl Model for Lines {
     ghost use Rattle.std.specs.Prelude.{drop};
-    ghost use Rattle.dbm_dump.specs.Loading.{Unread};
+    ghost use Rattle.dbm_lines.specs.Lines.{Unread};
 
     ghost Value = { Unread };
 
@@ -62,15 +61,27 @@ impl Lines {
         }
     }
 
+    /// Whether all lines were given.
+    pub fn has_ended(&self) -> bool
+        ensures { result ≡ self.now.ended }
+    {
+        self.ended
+    }
+
     /// Puts the next line of the reader, without its end, in place of `line`, and tells whether there is one. Behind the last LF
-    /// stands one more, which may be empty.
+    /// stands one more, which may be empty. No more is read than it takes to have the line.
     ///
     /// # Errors
-    /// `Read` where the reader fails or is interrupted, `TooLong` where the line has more than 16,384 bytes, and `NoMemory`. What was
+    /// `Read` where the reader fails or is interrupted, `TooLong` where the line has more than `most` bytes, and `NoMemory`. What was
     /// read is of no use then.
-    pub fn next<R: Read>(&mut self, reader: &mut R, line: &mut Vec<u8>) -> Result<bool, LineFault>
+    pub fn next<R: Read>(
+        &mut self,
+        reader: &mut R,
+        line: &mut Vec<u8>,
+        most: usize,
+    ) -> Result<bool, LineFault>
         ensures given { IfOk result (λ found. Gives (lines_left self.old (R.remaining reader.old)) found line.new.items (lines_left self.new (R.remaining reader.new))) }
-        ensures long { IsErrOf result LineFault.TooLong → IsLongNext (lines_left self.old (R.remaining reader.old)) }
+        ensures long { IsErrOf result LineFault.TooLong → IsLongNext most (lines_left self.old (R.remaining reader.old)) }
     {
         line.clear();
         if self.ended {
@@ -78,7 +89,7 @@ impl Lines {
         }
         loop {
             let found = self.take_piece(line)?;
-            if line.len() > LINE_LIMIT {
+            if line.len() > most {
                 return Err(LineFault::TooLong);
             }
             if found {

@@ -1,0 +1,64 @@
+//! What the lines of a session show of a database that is open.
+
+use crate::rows::{Listing, show_rows};
+use dbm_script::{Notation, read_bytes};
+use dbm_stats::figures_text;
+use sdbm_files::Image;
+use sdbm_stats::stats_of;
+use std::alloc::{AllocError, Global};
+
+/// What a line shows of a database. A prefix is a word in its notation.
+#[derive(Clone, Copy)]
+pub enum Shown<'a> {
+    /// What `list` prints.
+    Pairs(Option<&'a [u8]>),
+    /// What `keys` prints.
+    Keys(Option<&'a [u8]>),
+    /// What `stats` prints.
+    Stats,
+}
+
+/// Puts what a line shows of a database behind a text, and tells whether its prefix is bytes; where it is not, nothing is put there.
+///
+/// # Errors
+/// `AllocError` where no memory is left.
+pub fn show_listing(
+    alloc: Global,
+    notation: &Notation<Global>,
+    image: &Image<Global>,
+    shown: Shown<'_>,
+    text: &mut Vec<u8>,
+) -> Result<bool, AllocError> {
+    match shown {
+        Shown::Pairs(prefix) => put_rows(alloc, notation, image, prefix, Listing::Pairs, text),
+        Shown::Keys(prefix) => put_rows(alloc, notation, image, prefix, Listing::Keys, text),
+        Shown::Stats => {
+            let stats = stats_of(alloc, image)?;
+            let figures = figures_text(alloc, &stats)?;
+            text.extend_from_slice(figures.as_slice())?;
+            Ok(true)
+        }
+    }
+}
+
+// Puts a row for each pair whose key begins with a prefix behind a text, and tells whether the prefix is bytes.
+fn put_rows(
+    alloc: Global,
+    notation: &Notation<Global>,
+    image: &Image<Global>,
+    prefix: Option<&[u8]>,
+    listing: Listing,
+    text: &mut Vec<u8>,
+) -> Result<bool, AllocError> {
+    let begin = match prefix {
+        Some(word) => read_bytes(alloc, notation, word)?,
+        None => read_bytes(alloc, notation, b".")?,
+    };
+    let Some(begin) = begin else {
+        return Ok(false);
+    };
+    let pairs = image.lend_pairs()?;
+    let rows = show_rows(alloc, notation, listing, begin.as_slice(), pairs.as_slice())?;
+    text.extend_from_slice(rows.as_slice())?;
+    Ok(true)
+}

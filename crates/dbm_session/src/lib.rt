@@ -1,0 +1,11 @@
+//! Sessions: scripts that last. Each line is answered before the next is read, and the database is saved between lines.
+#![tactic(auto)]
+
+mod fault;
+mod host;
+mod lines;
+mod running;
+
+pub use fault::SessionFault;
+pub use host::{Host, Own};
+pub use running::run_session;

@@ -1,0 +1,7 @@
+//! Sessions on the files of a database, and at a terminal.
+#![tactic(auto)]
+
+mod serving;
+mod shell;
+
+pub use serving::serve_session;

@@ -1,0 +1,86 @@
+//! A session on the files of its database.
+
+use crate::shell::Shell;
+use dbm_faults::ServeFault;
+use dbm_files::{FileBytes, FilesFault, Place, Taken};
+use dbm_reports::{Given, ReportFault, notation_by, open};
+use dbm_script::Notation;
+use dbm_session::{SessionFault, run_session};
+use dbm_sessions::{Session, read_every};
+use sdbm_files::Image;
+use std::alloc::Global;
+use std::fs::File;
+use std::io::{self, Read};
+use std::rt::Runtime;
+use std::time::Clock;
+
+/// Answers the lines of a reader on the database of files that were taken, and saves it there. The lock is held to the end.
+///
+/// # Errors
+/// `Report` with `BadLayout` where the layout of values is none, with `BadNumber` where `--save-every` says nothing, and with `Open` where
+/// the files do not open, before a line is read; then `Report` with `Read`, and with `TooLong` where a line has more than 16,777,216
+/// bytes, `Write` where an answer was not written, those of a save, and `NoMemory`. What lines have asked since the last save is lost
+/// then, and a note says how many they were.
+pub fn serve_session<R: Runtime<File = File> + Clock + AllocGlobal, I: Read>(
+    rt: &R,
+    session: Session<'_>,
+    place: Place<'_>,
+    taken: Taken,
+    reader: &mut I,
+) -> Result<(), ServeFault> {
+    let notation = notation_by(rt.alloc(), session.notation)?;
+    let Some(every) = read_every(session.save_every) else {
+        return Err(ServeFault::Report(ReportFault::BadNumber));
+    };
+    let Taken { bytes, held } = taken;
+    let Some(held) = held else {
+        return Err(ServeFault::WriteFile);
+    };
+    let image = opened(rt.alloc(), session, bytes)?;
+    let names = &held.names;
+    let mut shell = Shell::new(rt, place, names, &notation, every, session.clock);
+    answer_lines(rt, &notation, image, reader, &mut shell)
+}
+
+// The database of the files, whose bytes are let go.
+fn opened(
+    alloc: Global,
+    session: Session<'_>,
+    bytes: FileBytes,
+) -> Result<Image<Global>, ServeFault> {
+    let given = Given {
+        dir: bytes.directory,
+        pag: bytes.pages,
+        file: bytes.program,
+    };
+    Ok(open(alloc, &given, session.form)?)
+}
+
+// Answers the lines. Behind a fault it says how many of them are lost.
+fn answer_lines<R: Runtime<File = File> + Clock + AllocGlobal, I: Read>(
+    rt: &R,
+    notation: &Notation<Global>,
+    image: Image<Global>,
+    reader: &mut I,
+    shell: &mut Shell<'_, R>,
+) -> Result<(), ServeFault> {
+    let mut writer = io::writer(rt);
+    match run_session(rt.alloc(), notation, image, reader, &mut writer, shell) {
+        Ok(_) => Ok(()),
+        Err(fault) => {
+            shell.tell_unsaved();
+            Err(serve_fault(fault))
+        }
+    }
+}
+
+// The fault of the program.
+fn serve_fault(fault: SessionFault<FilesFault>) -> ServeFault {
+    match fault {
+        SessionFault::Read => ServeFault::Report(ReportFault::Read),
+        SessionFault::TooLong => ServeFault::Report(ReportFault::TooLong),
+        SessionFault::Write => ServeFault::Write,
+        SessionFault::NoMemory => ServeFault::NoMemory,
+        SessionFault::Save(fault) => ServeFault::from(fault),
+    }
+}

@@ -1,0 +1,161 @@
+//! What a session stands on: the files of its database, the clock, and the terminal at which its lines are typed.
+ghost use Rattle.std.specs.Prelude.{◌≡◌, IfOk, IfSome, codes, nat_eq, true};
+ghost use Rattle.std.specs.List.{starts_with};
+
+use dbm_faults::ServeFault;
+use dbm_files::{FilesFault, Names, Place, Saved, read_again, read_program, save_files};
+use dbm_reports::is_too_long;
+use dbm_script::{Notation, TimeOfDay};
+use dbm_session::{Host, Own};
+use dbm_sessions::{Every, OwnLine, program_line, read_own, show_own};
+use dbm_telling::{is_terminal, note_unsaved, note_waiting_save};
+use sdbm_files::Image;
+use std::alloc::{AllocError, Global};
+use std::fs::File;
+use std::io;
+use std::rt::Runtime;
+use std::time::{Clock, Duration, SystemTime, UNIX_EPOCH};
+
+/// The files of a session's database, the clock, and the terminal at which its lines are typed, where there is one. What it has read of the
+/// files it does not keep: each save reads them again, and finds what differs.
+#[derive(Drop)]
+pub struct Shell<'a, R: Runtime> {
+    rt: &'a R,
+    place: Place<'a>,
+    names: &'a Names,
+    notation: &'a Notation<Global>,
+    every: Every,
+    clock: bool,
+    is_prompted: bool,
+    // How many lines have asked changes since the last save.
+    changes: u64,
+    // When it was saved last. Where the system does not tell, a save is due.
+    saved_at: Option<Duration>,
+}
+
+impl<'a, R: Runtime<File = File> + Clock + AllocGlobal> Shell<'a, R> {
+    /// That of a session of which no line was read. With `clock` its lines may ask the time of day.
+    pub fn new(
+        rt: &'a R,
+        place: Place<'a>,
+        names: &'a Names,
+        notation: &'a Notation<Global>,
+        every: Every,
+        clock: bool,
+    ) -> Self {
+        Shell {
+            rt,
+            place,
+            names,
+            notation,
+            every,
+            clock,
+            is_prompted: is_terminal(rt, 0) && is_terminal(rt, 2),
+            changes: 0,
+            saved_at: rt.monotonic().ok(),
+        }
+    }
+
+    /// Says how many lines have asked changes that are not saved, where there are any.
+    pub fn tell_unsaved(&self) {
+        if self.changes > 0 {
+            note_unsaved(self.rt, self.changes);
+        }
+    }
+
+    // The seconds since the last save, as far as the system tells them.
+    fn seconds(&self) -> u64 {
+        let (Some(saved_at), Ok(now)) = (self.saved_at, self.rt.monotonic()) else {
+            return u64::MAX;
+        };
+        now.saturating_sub(saved_at).as_secs()
+    }
+
+    // The line that submits the program in a file of this name, or none, where a line behind the text says why.
+    fn program(&self, name: &[u8], text: &mut Vec<u8>) -> Result<Option<Vec<u8>>, AllocError>
+        ensures { IfOk result (λ line. IfSome line (λ full. starts_with nat_eq full.items (codes "program ") ≡ true)) }
+    {
+        let read = match str::from_utf8(name) {
+            Ok(name) => read_program(self.rt, name),
+            Err(_) => Err(FilesFault::ReadFile),
+        };
+        match read {
+            Ok(file) => program_line(self.rt.alloc(), file.as_slice(), text),
+            Err(FilesFault::NoMemory) => Err(AllocError),
+            Err(fault) => {
+                let fault = ServeFault::from(fault);
+                let line = format!(in self.rt.alloc(); "refused {fault}\n")?;
+                text.extend_from_slice(line.as_bytes())?;
+                Ok(None)
+            }
+        }
+    }
+}
+
+impl<R: Runtime<File = File> + Clock + AllocGlobal> Host for Shell<'_, R> {
+    type Fault = FilesFault;
+
+    fn ask(&mut self, is_over: bool) {
+        if !self.is_prompted {
+            return;
+        }
+        if is_over {
+            let _ = eprintln!(self.rt; "");
+        } else {
+            let _ = eprint!(self.rt; "dbm> ");
+        }
+    }
+
+    fn time(&mut self) -> Option<TimeOfDay> {
+        if !self.clock {
+            return None;
+        }
+        let since = SystemTime::now(self.rt)
+            .ok()?
+            .duration_since(UNIX_EPOCH)
+            .ok()?;
+        Some(TimeOfDay {
+            seconds: since.as_secs(),
+            millis: u64::try_from(since.as_millis()).ok()?,
+        })
+    }
+
+    fn is_due(&mut self, asks_change: bool) -> bool {
+        if asks_change {
+            self.changes = self.changes.saturating_add(1);
+        }
+        self.every != Every::Never && self.every.is_due(self.changes, self.seconds())
+    }
+
+    fn answer_own(
+        &mut self,
+        line: &[u8],
+        image: &Image<Global>,
+        text: &mut Vec<u8>,
+    ) -> Result<Own, AllocError> {
+        let alloc = self.rt.alloc();
+        let asked = read_own(line);
+        if let OwnLine::Program(name) = asked {
+            return match self.program(name, text)? {
+                Some(line) => Ok(Own::Line(line)),
+                None => Ok(Own::Shown),
+            };
+        }
+        show_own(alloc, self.notation, image, asked, text)?;
+        Ok(Own::Shown)
+    }
+
+    fn save(&mut self, image: &Image<Global>) -> Result<(), FilesFault> {
+        if is_too_long(image) {
+            return Err(FilesFault::FileTooLong);
+        }
+        let found = read_again(self.rt, self.place, self.names)?;
+        let saved = save_files(self.rt, self.names, &found, image, &[], &mut io::sink())?;
+        if saved == Saved::Pending {
+            note_waiting_save(self.rt, self.place.base);
+        }
+        self.changes = 0;
+        self.saved_at = self.rt.monotonic().ok();
+        Ok(())
+    }
+}

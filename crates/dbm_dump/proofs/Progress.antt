@@ -15,6 +15,7 @@ use Rattle.dbm_dump.specs.Reading.{Read, pair_list, pairs_of, read, read_so, who
 use Rattle.dbm_dump.specs.Loading.{AtLine, IsBad, IsCrowded, IsCutOff, IsLineFault, IsLoadFault, IsLoaded, IsOversized, IsStepFault, StoresAll, TakesLine, line_limit}
 use Rattle.dbm_lines.specs.Lines.{Gives, IsLongNext, Unread, lines_left}
 use Rattle.dbm_lines.proofs.CutTexts.{unread}
+use Rattle.dbm_lines.proofs.LinesGiven.{IsNext, known, next_line, no_line}
 use Rattle.dbm_dump.proofs.MoreLines.{read_more}
 use Rattle.dbm_dump.proofs.MorePairs.{StoresAll-append, StoresAll-unique}
 
@@ -29,18 +30,6 @@ pub record Progress (start : Stage) (mode : Mode) (db : Database) (input : List 
   pub reads : read start done ≡ Some (read_so pairs loading.stage)
   pub stores : StoresAll mode db pairs loading.image
   pub count_is : loading.count ≡ length pairs
-
--- the next line is this one
-abbrev pub IsNext : List (List ℕ) → List ℕ → Option (List (List ℕ)) → Type 0
-IsNext others line left = (behind : List (List ℕ)) × ((others ≡ line ∷ behind) × (left ≡ Some behind))
-
-next_line : (others : List (List ℕ)) (line : List ℕ) (left : Option (List (List ℕ))) → Gives (Some others) true line left → IsNext others line left
-next_line [] line left gives = absurd gives
-next_line (l ∷ ls) line left gives = (ls, (ap (λ (x : List ℕ). x ∷ ls) (sym gives.0), gives.1))
-
-no_line : (others : List (List ℕ)) (line : List ℕ) (left : Option (List (List ℕ))) → Gives (Some others) false line left → others ≡ []
-no_line [] line left gives = refl
-no_line (l ∷ ls) line left gives = absurd gives
 
 pub given_next : (start : Stage) (mode : Mode) (db : Database) (input : List ℕ) (number : ℕ) (left : Option (List (List ℕ))) (loading : Loading) (line : List ℕ) (left' : Option (List (List ℕ)))
     → (p : Progress start mode db input number left loading) → Gives left true line left' → IsNext p.others line left'
@@ -141,10 +130,6 @@ line_fault start mode db input number left loading fault.CutOff p is = absurd is
 line_fault start mode db input number left loading fault.NoMemory p is = tt
 
 -- ---- where the bytes are known
-
-pub known : (known : Option (List ℕ)) (P Q : List ℕ → Type 0) → ((input : List ℕ) → P input → Q input) → IfSome known P → IfSome known Q
-known None P Q f h = tt
-known (Some input) P Q f h = f input h
 
 -- nothing was read yet
 pub begun : (start : Stage) (mode : Mode) (db : Database) (input : List ℕ) (u : Unread) (loading : Loading) → u.rest ≡ [] → u.ended ≡ false → loading.image ≡ db → loading.stage ≡ start → loading.count ≡ 0

@@ -1,3 +1,4 @@
 pub mod Names
 pub mod Faults
 pub mod Sides
+pub mod Saving

@@ -28,7 +28,8 @@ pub fn has_no_files<R: Files<File = File> + AllocGlobal>(rt: &R, base: Option<&s
     }
 }
 
-fn is_absent<R: Files<File = File>>(rt: &R, name: &str) -> bool {
+/// Whether nothing has this name.
+pub fn is_absent<R: Files<File = File>>(rt: &R, name: &str) -> bool {
     match fs::symlink_metadata(rt, name) {
         Err(error) => error.kind() == ErrorKind::NotFound,
         Ok(_) => false,

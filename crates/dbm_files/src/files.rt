@@ -1,19 +1,22 @@
 //! The files of a run, read and written.
-ghost use Rattle.sdbm_saves.specs.Redo.{CanEnd};
-ghost use Rattle.sdbm_saves.specs.Recording.{image_of};
+ghost use Rattle.sdbm_saves.specs.Redo.{files, CanEnd, IsPlan, Knows};
+ghost use Rattle.sdbm_saves.specs.Recording.{image_of, part_image};
 
 use crate::absent::is_special;
 use crate::fault::FilesFault;
 use crate::host::{RealFiles, folder_of, forget_redo};
 use crate::links::resolve;
 use crate::lock::{lock_to_read, lock_to_write};
-use crate::names::{DIR_LIMIT, FileBytes, Names, PROGRAM_LIMIT, Place, names_of, put, sources};
-use crate::saving::{Change, Saved, save_change};
+use crate::names::{
+    DIR_LIMIT, FileBytes, Names, PROGRAM_LIMIT, Part, Place, names_of, put, sources,
+};
+use crate::peeking::{Guard, UnreadPages};
+use crate::saving::{Change, Saved, save_change, save_plan};
 use crate::side::{Side, SideFault, open_beside, side_fault};
 use sdbm_files::Image;
 use sdbm_saves::{
-    CallLog, Contents, Found, Recorded, Unknown, can_end, lengths_after, plan_in, read_through,
-    recover,
+    CallLog, Contents, Found, FoundPart, Recorded, Unknown, can_end, lengths_after, plan_in,
+    read_through, recover,
 };
 use std::alloc::Global;
 use std::fs;
@@ -31,6 +34,8 @@ const REDO_LIMIT: u64 = 2_696_151_069;
 pub struct Taken {
     pub bytes: FileBytes,
     pub held: Option<Held>,
+    /// A `.pag` of which nothing was read, for a run that wants one page of it.
+    pub unread: Option<UnreadPages>,
 }
 
 /// A database that a run may change: the names of its files, the bytes of a redo file that is not marked, and its lock. Others wait
@@ -44,7 +49,8 @@ pub struct Held {
 
 /// Reads the files of a run, once no other has a lock that keeps it off. A save that was cut off is ended first by a run that writes;
 /// one that reads lays its redo file over what it reads. A run that writes keeps its lock, since its files are those that were read
-/// until it has written them. The lock and the redo file lie beside the files themselves, whatever links lead there.
+/// until it has written them. The lock and the redo file lie beside the files themselves, whatever links lead there. A run that peeks gets
+/// `.pag` unread, unless there is a save to end or something is wrong with a file: then all is read.
 ///
 /// # Errors
 /// Those of `resolve`, `Unsafe` where the lock or the redo file is one that others could have planted, `Locked` where others hold the
@@ -54,19 +60,31 @@ pub struct Held {
 pub fn take_files<R: Files<File = File> + Clock + AllocGlobal>(
     rt: &R,
     place: Place<'_>,
+    peeks: bool,
     patience: Option<Duration>,
 ) -> Result<Taken, FilesFault> {
     let Some(base) = place.base else {
-        let bytes = read_files(rt, place)?;
-        return Ok(Taken { bytes, held: None });
+        return Ok(read_whole(read_files(rt, place, false)?, None));
     };
     let base = resolve(rt, base)?;
     let names = names_of(rt.alloc(), base.as_str())?;
     if place.writes {
-        return take_to_write(rt, place, names, patience);
+        return take_to_write(rt, place, names, peeks, patience);
+    }
+    if peeks && let Some(taken) = peek_to_read(rt, place, &names, patience)? {
+        return Ok(taken);
     }
     let bytes = read_under_lock(rt, place, &names, patience)?;
-    Ok(Taken { bytes, held: None })
+    Ok(read_whole(bytes, None))
+}
+
+// Files that were read whole.
+fn read_whole(bytes: FileBytes, held: Option<Held>) -> Taken {
+    Taken {
+        bytes,
+        held,
+        unread: None,
+    }
 }
 
 // Reads the files of a run that may change its database, and keeps their lock.
@@ -74,12 +92,53 @@ fn take_to_write<R: Files<File = File> + Clock + AllocGlobal>(
     rt: &R,
     place: Place<'_>,
     names: Names,
+    peeks: bool,
     patience: Option<Duration>,
 ) -> Result<Taken, FilesFault> {
     let lock = lock_to_write(rt, names.lock.as_str(), names.pages.as_str(), patience)?;
+    if peeks && let Some((bytes, redo, unread)) = peek(rt, place, &names, Guard::Writer) {
+        return Ok(Taken {
+            bytes,
+            held: Some(Held { names, redo, lock }),
+            unread: Some(unread),
+        });
+    }
     let (bytes, redo) = read_database(rt, place, &names)?;
-    let held = Some(Held { names, redo, lock });
-    Ok(Taken { bytes, held })
+    Ok(read_whole(bytes, Some(Held { names, redo, lock })))
+}
+
+// Reads the files of a run that changes nothing, but for `.pag`, and keeps the lock where there is one. None where all has to be read.
+fn peek_to_read<R: Files<File = File> + Clock + AllocGlobal>(
+    rt: &R,
+    place: Place<'_>,
+    names: &Names,
+    patience: Option<Duration>,
+) -> Result<Option<Taken>, FilesFault> {
+    let guard = Guard::of_reader(rt.alloc(), read_lock(rt, names, patience)?, names)?;
+    let Some((bytes, _redo, unread)) = peek(rt, place, names, guard) else {
+        return Ok(None);
+    };
+    Ok(Some(Taken {
+        bytes,
+        held: None,
+        unread: Some(unread),
+    }))
+}
+
+// The files of a run but for `.pag`, and the bytes of a redo file that is not marked. None where all has to be read.
+fn peek<R: Files<File = File> + AllocGlobal>(
+    rt: &R,
+    place: Place<'_>,
+    names: &Names,
+    guard: Guard,
+) -> Option<(FileBytes, Vec<u8>, UnreadPages)> {
+    let redo = read_redo(rt, names).ok()?;
+    if plan_in(redo.as_slice()).is_some() {
+        return None;
+    }
+    let unread = UnreadPages::open(rt, names.pages.as_str(), place.pages_limit, guard)?;
+    let bytes = read_files(rt, place, true).ok()?;
+    Some((bytes, redo, unread))
 }
 
 /// Reads the files of a database once more whose lock is held, by the names under which they were taken: links may lead elsewhere by now.
@@ -146,7 +205,7 @@ fn read_database<R: Files<File = File> + AllocGlobal>(
     names: &Names,
 ) -> Result<(FileBytes, Vec<u8>), FilesFault> {
     let redo = read_redo(rt, names)?;
-    let read = read_files(rt, place)?;
+    let read = read_files(rt, place, false)?;
     if plan_in(redo.as_slice()).is_none() {
         return Ok((read, redo));
     }
@@ -163,7 +222,7 @@ fn read_database<R: Files<File = File> + AllocGlobal>(
     }
     if place.writes {
         end_save(rt, names, &found)?;
-        return Ok((read_files(rt, place)?, Vec::new(rt.alloc())));
+        return Ok((read_files(rt, place, false)?, Vec::new(rt.alloc())));
     }
     if keep_plan(rt, names).is_err() {
         return Err(FilesFault::ReadFile);
@@ -222,7 +281,7 @@ fn end_save<R: Files<File = File> + AllocGlobal>(
     requires { CanEnd (image_of found.now) }
 {
     let files = RealFiles::new(rt, names, CallLog::new(rt.alloc())?);
-    let mut disk = Recorded::<RealFiles<'_, R>, Unknown>::new(files, found);
+    let mut disk = Recorded::<RealFiles<'_, R>, Unknown, Found>::new(files, found);
     Ok(recover(&mut disk, found.redo.as_slice())?)
 }
 
@@ -244,9 +303,13 @@ fn read_redo<R: Files<File = File> + AllocGlobal>(
     }
 }
 
-// The bytes of the files that a run reads. The error is the first that is met: `ReadFile`, `FileTooLong` where a file has more bytes
-// than it may, and `NoMemory`.
-fn read_files<R: Files + AllocGlobal>(rt: &R, place: Place<'_>) -> Result<FileBytes, FilesFault> {
+// The bytes of the files that a run reads, but for `.pag` where it peeks. The error is the first that is met: `ReadFile`, `FileTooLong`
+// where a file has more bytes than it may, and `NoMemory`.
+fn read_files<R: Files + AllocGlobal>(
+    rt: &R,
+    place: Place<'_>,
+    peeks: bool,
+) -> Result<FileBytes, FilesFault> {
     let alloc = rt.alloc();
     let mut read = FileBytes {
         directory: Vec::new(alloc),
@@ -254,8 +317,10 @@ fn read_files<R: Files + AllocGlobal>(rt: &R, place: Place<'_>) -> Result<FileBy
         program: Vec::new(alloc),
     };
     for source in sources(alloc, place)? {
-        let bytes = read_file(rt, source.name.as_str(), source.limit, source.may_be_absent)?;
-        put(&mut read, source.part, bytes);
+        if !peeks || source.part != Part::Pag {
+            let bytes = read_file(rt, source.name.as_str(), source.limit, source.may_be_absent)?;
+            put(&mut read, source.part, bytes);
+        }
     }
     Ok(read)
 }
@@ -330,11 +395,41 @@ pub fn save_files<R: Files<File = File> + AllocGlobal, W: Write>(
         return Err(FilesFault::BadRedo);
     }
     let files = RealFiles::new(rt, names, CallLog::new(rt.alloc())?);
-    let mut disk = Recorded::<RealFiles<'_, R>, Unknown>::new(files, old);
+    let mut disk = Recorded::<RealFiles<'_, R>, Unknown, Found>::new(files, old);
     let saved = save_change(rt.alloc(), &mut disk, change, lines, writer);
+    forget_failed(rt, names, &saved);
+    saved
+}
+
+/// The same of a database of which one page was read, by a plan that knows its files.
+///
+/// # Errors
+/// Those of `save_plan`, and `BadRedo` where the redo file is marked.
+pub fn save_part<R: Files<File = File> + AllocGlobal, W: Write>(
+    rt: &R,
+    names: &Names,
+    old: &FoundPart<'_>,
+    plan: &[u8],
+    lines: &[u8],
+    writer: &mut W,
+) -> Result<Saved, FilesFault>
+    requires plan { IsPlan plan.now }
+    requires knows { Knows plan.now (files (part_image old.now)) }
+{
+    if plan_in(old.redo).is_some() {
+        return Err(FilesFault::BadRedo);
+    }
+    let files = RealFiles::new(rt, names, CallLog::new(rt.alloc())?);
+    let mut disk = Recorded::<RealFiles<'_, R>, Unknown, FoundPart<'_>>::new(files, old);
+    let saved = save_plan(&mut disk, old.redo, plan, lines, writer);
+    forget_failed(rt, names, &saved);
+    saved
+}
+
+// Takes the redo file away of a save that has failed before it was committed.
+fn forget_failed<R: Files<File = File>>(rt: &R, names: &Names, saved: &Result<Saved, FilesFault>) {
     match saved {
         Ok(_) | Err(FilesFault::Write) => (),
         Err(_) => forget_redo(rt, names),
     }
-    saved
 }

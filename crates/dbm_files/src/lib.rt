@@ -8,14 +8,16 @@ mod host;
 mod links;
 mod lock;
 mod names;
+mod peeking;
 mod saving;
 mod side;
 
 pub use absent::{has_no_files, is_special};
 pub use fault::FilesFault;
-pub use files::{Held, Taken, read_again, read_program, save_files, take_files};
+pub use files::{Held, Taken, read_again, read_program, save_files, save_part, take_files};
 pub use host::{RealFiles, folder_of};
 pub use links::resolve;
 pub use names::{FileBytes, Names, Part, Place, Source, names_of, put, sources};
-pub use saving::{Change, Saved, save_change};
+pub use peeking::UnreadPages;
+pub use saving::{Change, Saved, save_change, save_plan};
 pub use side::{Side, Standing, doubt_of, takes_lock, takes_redo};

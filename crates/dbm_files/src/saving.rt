@@ -3,8 +3,9 @@ ghost use Rattle.std.specs.Prelude.{◌≡◌, ◌≢◌, ◌⊎◌, get_or, OnO
 ghost use Rattle.std.specs.Io.KnownBytes.{Appends};
 ghost use Rattle.byte_text.specs.Writing.{WritesPart};
 ghost use Rattle.sdbm_saves.specs.Disk.{LeavesOnly};
-ghost use Rattle.sdbm_saves.specs.Redo.{files, CanEnd, IsCommitted, IsSettled};
-ghost use Rattle.sdbm_saves.specs.Saves.{IsOldOrSaved, IsSaved, IsSaving, LeavesDatabase};
+ghost use Rattle.sdbm_saves.specs.Redo.{files, renewed_files, CanEnd, IsCommitted, IsOldOrNew, IsPlan, IsSettled, Knows};
+ghost use Rattle.sdbm_saves.specs.Saves.{IsOldOrSaved, IsSaved};
+ghost use Rattle.dbm_files.specs.Saving.{StandFor};
 ghost use Rattle.dbm_files.specs.declared.fault.FilesFault.TheVariants as fault;
 ghost use Rattle.dbm_files.specs.declared.saving.Saved.TheVariants as saved;
 
@@ -71,7 +72,7 @@ pub fn save_change<D: Disk, W: Write>(
         (λ c. D.may_leave disk.old c ⊎ (IsOldOrSaved (change.entry.before.pages.now, change.entry.before.directory.now) change.entry.after.now c × CanEnd c)) }
 {
     match plan_save(alloc, change.before, change.after)? {
-        Some(plan) => save_plan(disk, change, plan.as_slice(), lines, writer),
+        Some(plan) => save_plan(disk, change.redo, plan.as_slice(), lines, writer),
         None => {
             print(writer, lines)?;
             Ok(Saved::Unchanged)
@@ -90,28 +91,33 @@ fn print<W: Write>(writer: &mut W, lines: &[u8]) -> Result<(), FilesFault>
     }
 }
 
-// Saves a change by its plan, and prints its lines.
-fn save_plan<D: Disk, W: Write>(
+/// Saves a change by its plan, which knows the files, and then prints the lines that tell of it, as `save_change` does. `redo` are the bytes
+/// of the redo file, which is not marked.
+///
+/// # Errors
+/// Those of `save_change` but for those of the plan.
+pub fn save_plan<D: Disk, W: Write>(
     disk: &mut D,
-    change: Change<'_>,
+    redo: &[u8],
     plan: &[u8],
     lines: &[u8],
     writer: &mut W,
 ) -> Result<Saved, FilesFault>
-    requires read { D.seen disk.old ≡ record { pages = change.before.pages.now; directory = change.before.directory.now; redo = change.redo.now } }
-    requires unmarked { get_or change.redo.now 0 0 ≢ 1 }
-    requires plan { IsSaving change.after.now plan.now change.before.pages.now change.before.directory.now }
+    requires read { redo.now ≡ (D.seen disk.old).redo }
+    requires unmarked { get_or redo.now 0 0 ≢ 1 }
+    requires plan { IsPlan plan.now }
+    requires knows { Knows plan.now (files (D.seen disk.old)) }
 
-    ensures saved { OnOk result (LeavesDatabase change.entry.after.now D.may_leave disk.new) }
+    ensures saved { OnOk result (StandFor (renewed_files plan.now (D.seen disk.old)) D.may_leave disk.new) }
     ensures printed { OnOk result (Appends (W.contents writer.old) (W.contents writer.new) lines.now) }
     ensures whole { IfOk result (λ how. how ≡ saved.Whole → IsSettled D.seen D.may_leave disk.new) }
-    ensures stands { IsErrOf result fault.Write → LeavesDatabase change.entry.after.now D.may_leave disk.new }
+    ensures stands { IsErrOf result fault.Write → StandFor (renewed_files plan.now (D.seen disk.old)) D.may_leave disk.new }
     ensures part { IsErrOf result fault.Write → WritesPart (W.contents writer.old) (W.contents writer.new) lines.now }
     ensures unprinted { IfErr result (λ why. why ≢ fault.Write → W.contents writer.new ≡ W.contents writer.old) }
     ensures any_moment { LeavesOnly D.moment D.left_since disk.old disk.new
-        (λ c. D.may_leave disk.old c ⊎ (IsOldOrSaved (change.entry.before.pages.now, change.entry.before.directory.now) change.entry.after.now c × CanEnd c)) }
+        (λ c. D.may_leave disk.old c ⊎ (IsOldOrNew (files (D.seen disk.old)) (renewed_files plan.now (D.seen disk.old)) c × CanEnd c)) }
 {
-    commit_plan(disk, change, plan)?;
+    commit_plan(disk, redo, plan)?;
     let printed = print(writer, lines);
     let ended = finish(disk, plan);
     printed?;
@@ -123,18 +129,19 @@ fn save_plan<D: Disk, W: Write>(
 
 // Commits a change by its plan: settles the redo file, tries whether the disk has room, writes the plan into a new redo file, and marks
 // that. The fault is `NoMemory` or `WriteFile`.
-fn commit_plan<D: Disk>(disk: &mut D, change: Change<'_>, plan: &[u8]) -> Result<(), FilesFault>
-    requires read { D.seen disk.old ≡ record { pages = change.before.pages.now; directory = change.before.directory.now; redo = change.redo.now } }
-    requires unmarked { get_or change.redo.now 0 0 ≢ 1 }
-    requires plan { IsSaving change.after.now plan.now change.before.pages.now change.before.directory.now }
+fn commit_plan<D: Disk>(disk: &mut D, redo: &[u8], plan: &[u8]) -> Result<(), FilesFault>
+    requires read { redo.now ≡ (D.seen disk.old).redo }
+    requires unmarked { get_or redo.now 0 0 ≢ 1 }
+    requires plan { IsPlan plan.now }
+    requires knows { Knows plan.now (files (D.seen disk.old)) }
 
     ensures committed { OnOk result (IsCommitted plan.now D.seen D.may_leave disk.new) }
-    ensures same { OnOk result (files (D.seen disk.new) ≡ (change.entry.before.pages.now, change.entry.before.directory.now)) }
+    ensures same { OnOk result (files (D.seen disk.new) ≡ files (D.seen disk.old)) }
     ensures fault { IfErr result (λ why. why ≢ fault.Write) }
     ensures any_moment { LeavesOnly D.moment D.left_since disk.old disk.new
-        (λ c. D.may_leave disk.old c ⊎ (IsOldOrSaved (change.entry.before.pages.now, change.entry.before.directory.now) change.entry.after.now c × CanEnd c)) }
+        (λ c. D.may_leave disk.old c ⊎ (IsOldOrNew (files (D.seen disk.old)) (renewed_files plan.now (D.seen disk.old)) c × CanEnd c)) }
 {
-    recover(disk, change.redo)?;
+    recover(disk, redo)?;
     try_room(disk, plan)?;
     stage(disk, plan)?;
     commit(disk, plan)?;

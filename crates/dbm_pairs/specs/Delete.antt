@@ -13,7 +13,7 @@ use Rattle.dbm_reports.specs.Reports.{Changes}
 use Rattle.dbm_words.specs.CommandLine.{flag, required_word, subcommand, with_alias, writing_in}
 
 abbrev pub delete : Shape
-delete = with_alias (codes "del") (subcommand (codes "delete") (required_word (codes "BASE") ∷ required_word (codes "KEY") ∷ flag (codes "raw-key") ∷ writing_in))
+delete = with_alias (codes "del") (subcommand (codes "delete") (required_word (codes "BASE") ∷ required_word (codes "KEY") ∷ flag (codes "raw-key") ∷ flag (codes "quick") ∷ writing_in))
 
 abbrev pub DeleteAsks : List Row → Delete → Type 0
 DeleteAsks rows delete =

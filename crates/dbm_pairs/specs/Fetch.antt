@@ -18,7 +18,7 @@ use Rattle.store_cmd.specs.declared.Command.{Command}
 use Rattle.dbm_words.specs.CommandLine.{flag, required_word, subcommand, with_alias, reading_in}
 
 abbrev pub fetch : Shape
-fetch = with_alias (codes "get") (subcommand (codes "fetch") (required_word (codes "BASE") ∷ required_word (codes "KEY") ∷ flag (codes "raw") ∷ flag (codes "raw-key") ∷ reading_in))
+fetch = with_alias (codes "get") (subcommand (codes "fetch") (required_word (codes "BASE") ∷ required_word (codes "KEY") ∷ flag (codes "raw") ∷ flag (codes "raw-key") ∷ flag (codes "quick") ∷ reading_in))
 
 abbrev pub FetchAsks : List Row → Fetch → Type 0
 FetchAsks rows fetch =

@@ -19,7 +19,7 @@ use Rattle.dbm_reports.specs.Reports.{Changes}
 use Rattle.dbm_words.specs.CommandLine.{required_word, flag, subcommand, with_alias, writing_in}
 
 abbrev pub store : Shape
-store = with_alias (codes "put") (subcommand (codes "store") (required_word (codes "BASE") ∷ required_word (codes "KEY") ∷ required_word (codes "VALUE") ∷ flag (codes "insert") ∷ flag (codes "raw-key") ∷ flag (codes "raw-value") ∷ writing_in))
+store = with_alias (codes "put") (subcommand (codes "store") (required_word (codes "BASE") ∷ required_word (codes "KEY") ∷ required_word (codes "VALUE") ∷ flag (codes "insert") ∷ flag (codes "raw-key") ∷ flag (codes "raw-value") ∷ flag (codes "quick") ∷ writing_in))
 
 abbrev pub StoreAsks : List Row → Store → Type 0
 StoreAsks rows store =

@@ -35,8 +35,11 @@ pub fn command_on(
     Ok((image, command))
 }
 
-// The command that words ask.
-fn command_in(
+/// The command that words ask.
+///
+/// # Errors
+/// `BadHex`, or as text `BadText`, where a word is no bytes, and `NoMemory`.
+pub fn command_in(
     alloc: Global,
     notation: &Notation<Global>,
     name: &[u8],

@@ -12,7 +12,7 @@ use clap::{ArgMatches, Command};
 use dbm_reports::{Given, Report, ReportFault, Subcommand, answer_status, look, word_asked};
 use dbm_script::{Answer, Notation, answer_command};
 use dbm_words::arguments::{
-    base, flag, key, layout, raw_key, text, timeout, unsigned, verbose, wide,
+    base, flag, key, layout, quick, raw_key, text, timeout, unsigned, verbose, wide,
 };
 use dbm_words::{Form, NotationOptions, Words, aliased_subcommand, form, has_flag, notation, word};
 use sdbm_files::Image;
@@ -76,6 +76,7 @@ pub fn fetch_command<'a>(alloc: Global) -> Result<Command<'a>, AllocError>
         key(alloc),
         raw,
         raw_key(alloc),
+        quick(alloc),
         text(alloc),
         layout(alloc),
         unsigned(alloc),
@@ -119,8 +120,11 @@ impl Subcommand for Fetch<'_> {
     }
 }
 
-// The answer to a fetch: in a line, or of a raw one the bytes of the value alone.
-fn look_as(
+/// The answer to a fetch: in a line, or of a raw one the bytes of the value alone.
+///
+/// # Errors
+/// `AllocError` where no memory is left.
+pub fn look_as(
     alloc: Global,
     notation: &Notation<Global>,
     image: Image<Global>,

@@ -8,7 +8,8 @@ mod rename;
 mod renaming;
 mod store;
 
+pub use command::command_in;
 pub use delete::{Delete, delete_command};
-pub use fetch::{Fetch, fetch_command};
+pub use fetch::{Fetch, fetch_command, look_as};
 pub use rename::{Rename, rename_command};
-pub use store::{Store, store_command};
+pub use store::{Store, store_command, store_name, takes_input};

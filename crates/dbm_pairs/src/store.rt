@@ -13,8 +13,8 @@ use clap::{ArgMatches, Command};
 use dbm_reports::{Given, Report, ReportFault, Subcommand, change, read_input, word_asked};
 use dbm_script::Notation;
 use dbm_words::arguments::{
-    base, flag, key, layout, must_exist, raw_key, required_word, text, timeout, unsigned, verbose,
-    wide,
+    base, flag, key, layout, must_exist, quick, raw_key, required_word, text, timeout, unsigned,
+    verbose, wide,
 };
 use dbm_words::{
     Form, Named, NotationOptions, Words, aliased_subcommand, form, has_flag, notation, word,
@@ -108,6 +108,7 @@ pub fn store_command<'a>(alloc: Global) -> Result<Command<'a>, AllocError>
         insert,
         raw_key(alloc),
         raw_value,
+        quick(alloc),
         text(alloc),
         layout(alloc),
         unsigned(alloc),
@@ -198,8 +199,8 @@ fn store_input<R: Read>(
     Ok(change(alloc, notation, image, command, None)?)
 }
 
-// Whether the value is all of standard input.
-fn takes_input(store: &Store<'_>) -> bool
+/// Whether the value is all of standard input.
+pub fn takes_input(store: &Store<'_>) -> bool
     ensures { result ≡ takes_input store.now }
 {
     store.raw_value && store.value == "-"

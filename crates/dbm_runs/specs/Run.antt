@@ -12,7 +12,7 @@ use Rattle.dbm_reports.specs.Words.{word_asked}
 use Rattle.dbm_words.specs.CommandLine.{required_word, flag, valued_option, subcommand, writing_in}
 
 abbrev pub run : Shape
-run = subcommand (codes "run") (required_word (codes "BASE") ∷ required_word (codes "KEY") ∷ required_word (codes "FILE") ∷ required_word (codes "ARG") ∷ required_word (codes "BLANK") ∷ required_word (codes "NOW") ∷ valued_option (codes "expect") ∷ flag (codes "image") ∷ flag (codes "raw-key") ∷ writing_in)
+run = subcommand (codes "run") (required_word (codes "BASE") ∷ required_word (codes "KEY") ∷ required_word (codes "FILE") ∷ required_word (codes "ARG") ∷ required_word (codes "BLANK") ∷ required_word (codes "NOW") ∷ valued_option (codes "expect") ∷ flag (codes "image") ∷ flag (codes "raw-key") ∷ flag (codes "quick") ∷ writing_in)
 
 abbrev pub RunAsks : List Row → Run → Type 0
 RunAsks rows run =

@@ -14,8 +14,8 @@ use clap::{ArgMatches, Command};
 use dbm_reports::{Given, Report, ReportFault, Subcommand, word_asked};
 use dbm_script::{Notation, RunWords, read_number, read_run_words};
 use dbm_words::arguments::{
-    base, file, image, key, layout, must_exist, raw_key, required_word, text, timeout, unsigned,
-    valued_option, verbose, wide,
+    base, file, image, key, layout, must_exist, quick, raw_key, required_word, text, timeout,
+    unsigned, valued_option, verbose, wide,
 };
 use dbm_words::{
     Form, Named, NotationOptions, Numbers, Words, form, has_flag, notation, subcommand, word,
@@ -129,6 +129,7 @@ pub fn run_command<'a>(alloc: Global) -> Result<Command<'a>, AllocError>
         ),
         image(alloc),
         raw_key(alloc),
+        quick(alloc),
         text(alloc),
         layout(alloc),
         unsigned(alloc),
@@ -177,8 +178,11 @@ impl Subcommand for Run<'_> {
     }
 }
 
-// What the words mean, read from left to right, and then the code.
-fn run_words(
+/// What the words mean, read from left to right, and then the code, where the bytes of the key are these.
+///
+/// # Errors
+/// `BadHex`, or as text `BadText`, where a word is no bytes, `BadNumber` where one is no number, and `NoMemory`.
+pub fn run_words(
     alloc: Global,
     notation: &Notation<Global>,
     key: &[u8],

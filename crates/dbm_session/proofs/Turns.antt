@@ -1,5 +1,5 @@
 -- How far the lines of a session were answered.
-use Rattle.std.proofs.Common.{◌≡◌, ℕ, ◌+◌, List, [], ◌∷◌, ◌++◌, length, Bool, true, false, Option, Some, None, IfSome, refl, sym, ap, ◌∙◌, subst, append_assoc, append-nil, codes, Result, Ok, Err, IfErr}
+use Rattle.std.proofs.Common.{◌≡◌, ℕ, ◌+◌, List, [], ◌∷◌, ◌++◌, length, Bool, true, false, Option, Some, None, IfSome, refl, sym, ap, ◌∙◌, subst, append_assoc, append-nil, Result, Ok, Err, IfErr}
 use Rattle.std.specs.Io.KnownBytes.{Appends, Keeps}
 use Rattle.std.proofs.KnownBytes.{Appends-kept, Appends-nil, Appends-trans}
 use Rattle.std.proofs.Math.Seq.{take-append-add, take-length}
@@ -11,13 +11,12 @@ use Rattle.std.specs.List.{All}
 use Rattle.std.proofs.lemmas.List.Elements.{All-head, All-tail}
 use Rattle.dbm_script.specs.Pieces.{pieces_of}
 use Rattle.dbm_script.proofs.Runs.{RunsLines-append}
-use Rattle.dbm_script.specs.Script.{Adds, RunsLines, Stage, stage}
+use Rattle.dbm_script.specs.Script.{RunsLines, Stage, stage}
 use Rattle.dbm_script.specs.Shorthand.{spelled_line}
 use Rattle.dbm_script.specs.declared.notations.Notation.{Notation}
 use Rattle.dbm_script.specs.declared.shorthand.Lines.TheVariants.{OfScript}
-use Rattle.dbm_script.specs.declared.shorthand.TimeOfDay.{TimeOfDay}
-use Rattle.dbm_lines.specs.Lines.{Gives, Unread, lines_left}
-use Rattle.dbm_lines.proofs.CutTexts.{unread}
+use Rattle.dbm_lines.specs.Lines.{Gives}
+use Rattle.dbm_lines.proofs.LinesGiven.{known, next_line, no_line}
 use Rattle.dbm_session.specs.Sessions.{Answered, AnswersAs, AnswersLine, AnswersOwn, AnswersScripted, AreSpelled, Ends, IsOfScript, RunsAsScript, RunsSession, Saves, SavesAtMostOne, SavesMaybe, Stops, WritesSome, is_own, is_save}
 
 Saves-nil : (a : Option (List Database)) → Saves a a []
@@ -32,9 +31,6 @@ Saves-trans (Some a) (Some b) (Some c) x y p q = q ∙ ap (λ (l : List Database
 
 pub Saves-same : (a b : Option (List Database)) → b ≡ a → Saves a b []
 Saves-same a b is = subst (λ (x : Option (List Database)). Saves a x []) (sym is) (Saves-nil a)
-
-pub Saves-from : (a b c : Option (List Database)) (x : List Database) → b ≡ a → Saves b c x → Saves a c x
-Saves-from a b c x is h = subst (λ (z : Option (List Database)). Saves z c x) is h
 
 pub saves_none : (a b : Option (List Database)) (db : Database) → b ≡ a → SavesMaybe a b db
 saves_none a b db same = record { saves = []; may = tt; kept = Saves-same a b same }
@@ -84,17 +80,6 @@ pub record Progress (n : Notation Global) (db : Database) (input : List ℕ) (le
   pub runs : RunsSession n (stage db []) done text saves s
   pub written : Appends old now text
   pub kept : Saves saved saved' saves
-
-abbrev IsNext : List (List ℕ) → List ℕ → Option (List (List ℕ)) → Type 0
-IsNext others line left = (behind : List (List ℕ)) × ((others ≡ line ∷ behind) × (left ≡ Some behind))
-
-next_line : (others : List (List ℕ)) (line : List ℕ) (left : Option (List (List ℕ))) → Gives (Some others) true line left → IsNext others line left
-next_line [] line left gives = absurd gives
-next_line (l ∷ ls) line left gives = (ls, (ap (λ (x : List ℕ). x ∷ ls) (sym gives.0), gives.1))
-
-no_line : (others : List (List ℕ)) (line : List ℕ) (left : Option (List (List ℕ))) → Gives (Some others) false line left → others ≡ []
-no_line [] line left gives = refl
-no_line (l ∷ ls) line left gives = absurd gives
 
 answered : (n : Notation Global) (db : Database) (input : List ℕ) (left : Option (List (List ℕ))) (old now now' : Option (List ℕ)) (a b c : Option (List Database)) (s s' : Stage) (line added : List ℕ)
     (left' : Option (List (List ℕ))) → Progress n db input left old now a b s → Gives left true line left' → Answered n s line added b c s' → Appends now now' added
@@ -172,25 +157,6 @@ stopped_within n db input left old now now' a b c s s' line added left' p gives 
 abbrev pub AllProgress : Notation Global → Database → Option (List ℕ) → Option (List (List ℕ)) → Option (List ℕ) → Option (List ℕ) → Option (List Database) → Option (List Database) → Stage → Type 0
 AllProgress n db bytes left old now a b s = IfSome bytes (λ input. Progress n db input left old now a b s)
 
-known : (known : Option (List ℕ)) (P Q : List ℕ → Type 0) → ((input : List ℕ) → P input → Q input) → IfSome known P → IfSome known Q
-known None P Q f h = tt
-known (Some input) P Q f h = f input h
-
-pub all_begun : (n : Notation Global) (db : Database) (bytes : Option (List ℕ)) (u : Unread) (old : Option (List ℕ)) (a : Option (List Database)) (programs : List Accepted) → u.rest ≡ [] → u.ended ≡ false
-    → programs ≡ [] → AllProgress n db bytes (lines_left u bytes) old old a a (stage db programs)
-all_begun n db None u old a programs rest ended none = tt
-all_begun n db (Some input) u old a programs rest ended none = record {
-  done = [];
-  others = pieces_of 10 input;
-  left_is = ap (λ (b : Bool). lines_left (unread u.rest b) (Some input)) ended ∙ ap (λ (r : List ℕ). lines_left (unread r false) (Some input)) rest;
-  lines = refl;
-  text = [];
-  saves = [];
-  runs = (refl, (refl, ap (λ (ps : List Accepted). stage db ps) none));
-  written = Appends-nil old;
-  kept = Saves-nil a;
-}
-
 -- the host was asked for a line
 pub all_same : (n : Notation Global) (db : Database) (bytes : Option (List ℕ)) (left : Option (List (List ℕ))) (old now : Option (List ℕ)) (a b c : Option (List Database)) (s : Stage) → c ≡ b
     → AllProgress n db bytes left old now a b s → AllProgress n db bytes left old now a c s
@@ -242,27 +208,7 @@ all_unread n db (Some input) old a = record {
 
 -- ---- one line
 
--- the answer to a line of a script
-pub scripted : (n : Notation Global) (s s' : Stage) (line spelled : List ℕ) (time : Option TimeOfDay) (old new : List ℕ) → old ≡ [] → spelled ≡ spelled_line OfScript time line
-    → Adds old new (λ added. (told : List (Option Verdict)) × RunsLines Global n s (spelled ∷ []) told added s') → AnswersScripted n s line new s'
-scripted n s s' line spelled time old new none is adds =
-    let all : new ≡ adds.added = adds.is ∙ ap (λ (xs : List ℕ). xs ++ adds.added) none in
-    record {
-      time = time;
-      told = adds.holds.0;
-      runs = subst (λ (t : List ℕ). RunsLines Global n s (spelled_line OfScript time line ∷ []) adds.holds.0 t s') (sym all)
-          (subst (λ (l : List ℕ). RunsLines Global n s (l ∷ []) adds.holds.0 adds.added s') is adds.holds.1);
-    }
-
 -- what a line does, by what it is
-pub answers_save : (n : Notation Global) (s : Stage) (line text : List ℕ) (a b : Option (List Database)) → is_save line ≡ true → text ≡ codes "saved" ++ 10 ∷ [] → Saves a b (s.db ∷ [])
-    → Answered n s line text a b s
-answers_save n s line text a b save is kept = record {
-  saves = s.db ∷ [];
-  answers = subst (λ (x : Bool). AnswersAs x (is_own line) n s line text (s.db ∷ []) s) (sym save) (is, (refl, refl));
-  kept = kept;
-}
-
 pub answers_own : (n : Notation Global) (s : Stage) (line text : List ℕ) (s' : Stage) (a b : Option (List Database)) → is_save line ≡ false → is_own line ≡ true → b ≡ a → AnswersOwn n s text s'
     → Answered n s line text a b s'
 answers_own n s line text s' a b save own same h = record {
@@ -270,19 +216,6 @@ answers_own n s line text s' a b save own same h = record {
   answers = subst (λ (x : Bool). AnswersAs x (is_own line) n s line text [] s') (sym save) (subst (λ (x : Bool). AnswersAs false x n s line text [] s') (sym own) (refl, h));
   kept = Saves-same a b same;
 }
-
-pub answers_scripted : (n : Notation Global) (s : Stage) (line text : List ℕ) (s' : Stage) (a b c : Option (List Database)) → is_save line ≡ false → is_own line ≡ false → b ≡ a → AnswersScripted n s line text s'
-    → SavesMaybe b c s'.db → Answered n s line text a c s'
-answers_scripted n s line text s' a b c save own same h maybe = record {
-  saves = maybe.saves;
-  answers = subst (λ (x : Bool). AnswersAs x (is_own line) n s line text maybe.saves s') (sym save)
-      (subst (λ (x : Bool). AnswersAs false x n s line text maybe.saves s') (sym own) (maybe.may, h));
-  kept = Saves-from a b c maybe.saves same maybe.kept;
-}
-
--- whether a save was due
-pub saves_one : (a b c : Option (List Database)) (db : Database) → b ≡ a → Saves b c (db ∷ []) → SavesMaybe a c db
-saves_one a b c db same kept = record { saves = db ∷ []; may = refl; kept = Saves-from a b c (db ∷ []) same kept }
 
 -- all of a text was written, and then a flush failed
 pub writes_all : (a b c : Option (List ℕ)) (text : List ℕ) → Appends a b text → Keeps b c → WritesSome a c text
@@ -292,10 +225,6 @@ writes_all a b c text writes keeps = record { count = length text; written = sub
 pub any_err : {T F : Type 0} (r : Result T F) (P : Type 0) → P → IfErr r (λ fault. P)
 any_err (Ok x) P h = tt
 any_err (Err f) P h = h
-
--- what stands behind nothing more may be saved
-pub maybe_from : (a b c : Option (List Database)) → b ≡ a → SavesAtMostOne b c → SavesAtMostOne a c
-maybe_from a b c same maybe = subst (λ (x : Option (List Database)). SavesAtMostOne x c) same maybe
 
 -- ---- lines of scripts alone
 

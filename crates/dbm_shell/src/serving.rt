@@ -32,7 +32,7 @@ pub fn serve_session<R: Runtime<File = File> + Clock + AllocGlobal, I: Read>(
     let Some(every) = read_every(session.save_every) else {
         return Err(ServeFault::Report(ReportFault::BadNumber));
     };
-    let Taken { bytes, held } = taken;
+    let Taken { bytes, held, .. } = taken;
     let Some(held) = held else {
         return Err(ServeFault::WriteFile);
     };

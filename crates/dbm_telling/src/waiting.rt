@@ -19,12 +19,13 @@ const SILENT_WAIT: u64 = 500;
 pub fn take_and_tell<R: Runtime<File = File> + Clock + AllocGlobal>(
     rt: &R,
     place: Place<'_>,
+    peeks: bool,
     patience: Option<Duration>,
     verbose: bool,
     work: Option<Work>,
 ) -> Result<Taken, FilesFault> {
     tell_reading(rt, work, place.base);
-    let taken = take_patiently(rt, place, patience, verbose)?;
+    let taken = take_patiently(rt, place, peeks, patience, verbose)?;
     tell_work(rt, work, taken.bytes.pages.len() as u64);
     Ok(taken)
 }
@@ -33,22 +34,23 @@ pub fn take_and_tell<R: Runtime<File = File> + Clock + AllocGlobal>(
 fn take_patiently<R: Runtime<File = File> + Clock + AllocGlobal>(
     rt: &R,
     place: Place<'_>,
+    peeks: bool,
     patience: Option<Duration>,
     verbose: bool,
 ) -> Result<Taken, FilesFault> {
     let silent = Duration::from_millis(SILENT_WAIT);
     let rest = match patience {
-        Some(patience) if patience <= silent => return take_files(rt, place, Some(patience)),
+        Some(patience) if patience <= silent => return take_files(rt, place, peeks, Some(patience)),
         Some(patience) => Some(patience.saturating_sub(silent)),
         None => None,
     };
     if !verbose && !is_at_terminal(rt) {
-        return take_files(rt, place, patience);
+        return take_files(rt, place, peeks, patience);
     }
-    match take_files(rt, place, Some(silent)) {
+    match take_files(rt, place, peeks, Some(silent)) {
         Err(FilesFault::Locked) => {
             tell_wait(rt, place.base);
-            take_files(rt, place, rest)
+            take_files(rt, place, peeks, rest)
         }
         taken => taken,
     }

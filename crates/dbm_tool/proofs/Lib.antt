@@ -1,3 +1,4 @@
 pub mod Faults
 pub mod Turns
 pub mod Examples
+pub mod QuickParts

@@ -7,23 +7,25 @@ mod clock;
 mod dispatch;
 mod ending;
 mod outcome;
+mod quick;
 mod request;
 mod serve;
 
 use clock::{read_clock, read_time};
 use dbm_command_line::{Ask, Request, ToolFault, Wish, read_words};
 use dbm_faults::ServeFault;
-use dbm_files::{Held, Saved, Taken, has_no_files, save_files};
+use dbm_files::{Held, Place, Saved, Taken, has_no_files, save_files};
 use dbm_programs::refusal_of;
 use dbm_reports::{Given, NOT_RUN, ReportFault};
 use dbm_script::{Lines, read_number};
 use dbm_shell::serve_session;
 use dbm_telling::{
-    Counted, Kept, Told, Watched, advise, has_bad_line, is_refused, note_absent, note_object,
+    Counted, Kept, Told, Watched, Work, advise, has_bad_line, is_refused, note_absent, note_object,
     note_of_bad_lines, note_of_line_end, note_pending, note_refusal, note_that, take_and_tell,
     tell_saving,
 };
 use ending::{Ending, ending_of, exit_status};
+use quick::{may_be_quick, serve_quick};
 use request::{given_of, place_asked, told_of, work_asked, work_of};
 use sdbm_saves::Found;
 use serve::serve;
@@ -162,13 +164,51 @@ fn serve_request<R: Runtime<File = File> + AllocGlobal + Threads + Wait + Sync, 
     if place.writes && io::writer(rt).write(&[]).is_err() {
         return Err(ServeFault::Write);
     }
-    let taken = take_and_tell(rt, place, patience, access.verbose, work_asked(&ask))?;
+    let taking = Taking {
+        place,
+        patience,
+        verbose: access.verbose,
+    };
+    let peeks = may_be_quick(&ask) && (access.quick || is_quick(rt));
+    let taken = taking.take(rt, peeks, work_asked(&ask))?;
     match ask {
-        Ask::Wish(wish) => serve_timed(rt, wish, taken, reader),
+        Ask::Wish(wish) => serve_timed(rt, wish, taking, taken, reader),
         Ask::Session(session) => {
             serve_session(rt, session, place, taken, reader)?;
             Ok(Ending::Served(0))
         }
+    }
+}
+
+// How the files of a request are taken.
+#[derive(Clone, Copy)]
+struct Taking<'a> {
+    place: Place<'a>,
+    patience: Option<Duration>,
+    verbose: bool,
+}
+
+impl Taking<'_> {
+    fn take<R: Runtime<File = File> + AllocGlobal>(
+        self,
+        rt: &R,
+        peeks: bool,
+        work: Option<Work>,
+    ) -> Result<Taken, ServeFault> {
+        let Taking {
+            place,
+            patience,
+            verbose,
+        } = self;
+        Ok(take_and_tell(rt, place, peeks, patience, verbose, work)?)
+    }
+}
+
+// Whether the environment asks for what the option `--quick` does.
+fn is_quick<R: Runtime + AllocGlobal>(rt: &R) -> bool {
+    match env::var(rt, "DBM_QUICK") {
+        Ok(word) => word.as_str() == "1",
+        Err(_) => false,
     }
 }
 
@@ -196,15 +236,35 @@ fn patience_of(timeout: Option<&str>) -> Result<Option<Duration>, ServeFault> {
 fn serve_timed<R: Runtime<File = File> + AllocGlobal + Threads + Wait + Sync, I: Read>(
     rt: &R,
     wish: Wish<'_>,
+    taking: Taking<'_>,
     taken: Taken,
     reader: &mut Kept<I>,
 ) -> Result<Ending, ServeFault> {
     let Some(unit) = wish.time_asked() else {
         let wish = with_lines_timed(rt, wish)?;
-        return serve_taken(rt, wish, taken, reader);
+        return serve_peeked(rt, wish, taking, taken, reader);
     };
     let time = read_clock(rt, rt.alloc(), unit)?;
-    serve_taken(rt, wish.with_time(time.as_str()), taken, reader)
+    serve_peeked(rt, wish.with_time(time.as_str()), taking, taken, reader)
+}
+
+// Serves a wish on the page of its key where its files were taken so and that page tells what comes of it, and else on all of them.
+fn serve_peeked<R: Runtime<File = File> + AllocGlobal + Threads + Wait + Sync, I: Read>(
+    rt: &R,
+    wish: Wish<'_>,
+    taking: Taking<'_>,
+    taken: Taken,
+    reader: &mut Kept<I>,
+) -> Result<Ending, ServeFault> {
+    if taken.unread.is_none() {
+        return serve_taken(rt, wish, taken, reader);
+    }
+    if let Some(ending) = serve_quick(rt, wish, &taken, reader)? {
+        return Ok(ending);
+    }
+    drop(taken);
+    let taken = taking.take(rt, false, work_of(&wish))?;
+    serve_taken(rt, wish, taken, reader)
 }
 
 // The same wish, with the time of day for its lines where they may ask that.
@@ -223,7 +283,7 @@ fn serve_taken<R: Runtime<File = File> + AllocGlobal + Threads + Wait + Sync, I:
     taken: Taken,
     reader: &mut Kept<I>,
 ) -> Result<Ending, ServeFault> {
-    let Taken { bytes, held } = taken;
+    let Taken { bytes, held, .. } = taken;
     let given = given_of(bytes);
     match held {
         Some(held) => serve_change(rt, wish, given, held, reader),

@@ -184,6 +184,18 @@ pub fn must_exist<'a>(alloc: Global) -> Arg<'a>
     )
 }
 
+/// The option for a command that reads one page.
+pub fn quick<'a>(alloc: Global) -> Arg<'a>
+    ensures rule { rule_of result ≡ spec.flag (codes "quick") }
+    ensures local { result.global ≡ false }
+{
+    flag(
+        alloc,
+        "quick",
+        "Read the page of KEY and the directory, not all pages: faults of other pages are not seen",
+    )
+}
+
 /// The option for a program's file that is an image.
 pub fn image<'a>(alloc: Global) -> Arg<'a>
     ensures rule { rule_of result ≡ spec.flag (codes "image") }

@@ -50,6 +50,7 @@ pub fn access<'a>(matches: &ArgMatches<'a>) -> Access<'a>
     Access {
         timeout: word(matches, "timeout"),
         must_exist: has_flag(matches, "must-exist"),
+        quick: has_flag(matches, "quick"),
         verbose: has_flag(matches, "verbose"),
     }
 }

@@ -18,13 +18,15 @@ pub struct NotationOptions<'a> {
     pub layout: Option<&'a str>,
 }
 
-/// How a database is come by, as the options `--timeout`, `--must-exist` and `--verbose` say.
+/// How a database is come by, as the options `--timeout`, `--must-exist`, `--quick` and `--verbose` say.
 #[derive(Clone, Copy)]
 pub struct Access<'a> {
     /// For how many seconds the run waits for the lock; without it, for as long as others hold it.
     pub timeout: Option<&'a str>,
     /// The run makes no database where none is.
     pub must_exist: bool,
+    /// The run reads of the pages the one of its key alone.
+    pub quick: bool,
     /// The run says who has the lock, where it waits for that.
     pub verbose: bool,
 }

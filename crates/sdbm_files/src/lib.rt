@@ -20,6 +20,7 @@ mod limits;
 mod opening;
 mod pages;
 mod parsed;
+mod parts;
 mod reading;
 mod sink;
 mod told;

@@ -74,9 +74,9 @@ fn leads_here<A: Allocator>(
     }
 }
 
-// Whether each key of a page leads to this number. Where the first one does, the others do whose hashes have its lowest bits, as
-// many as lead to the page.
-fn keys_lead<A: Allocator>(dir: &Dir<A>, kind: KeyBytes, number: usize, page: &Page<A>) -> bool
+/// Whether each key of a page leads to this number. Where the first one does, the others do whose hashes have its lowest bits, as
+/// many as lead to the page.
+pub fn keys_lead<A: Allocator>(dir: &Dir<A>, kind: KeyBytes, number: usize, page: &Page<A>) -> bool
     ensures { IsTrue result ↔ LeadTo kind dir.now.splits number page.now.pairs }
 {
     if page.is_empty() {

@@ -93,8 +93,8 @@ impl<A: Allocator + Copy> Parsed<A> {
     }
 }
 
-// The page that bytes spell, none where it has no pairs, or why they spell none.
-fn read_page<A: Allocator + Copy>(
+/// The page that bytes spell, none where it has no pairs, or why they spell none. The error is that no memory is left.
+pub fn read_page<A: Allocator + Copy>(
     alloc: A,
     bytes: &[u8],
     size: PageSize,

@@ -258,33 +258,34 @@ module _ (at next : ℕ) (new old block : List ℕ) (inside : next ≤ length ne
 -- the bytes of a plan
 module _ (pages directory : ℕ) (before : List ℕ × List ℕ) (count : ℕ) (changes : List ℕ) (pages_small : pages < 2 ^ 32) (directory_small : directory < 2 ^ 32) (count_small : count < 2 ^ 32)
     (old_pages_small : length before.0 < 2 ^ 32) (old_directory_small : length before.1 < 2 ^ 32) where
-  pages_planned : new_length Pages (plan_bytes pages directory before count changes) ≡ pages
+  pages_planned : new_length Pages (plan_bytes pages directory (length before.0) (length before.1) count changes) ≡ pages
   unfolding number_at
   pages_planned = omega (arith, pages_small)
 
-  directory_planned : new_length Directory (plan_bytes pages directory before count changes) ≡ directory
+  directory_planned : new_length Directory (plan_bytes pages directory (length before.0) (length before.1) count changes) ≡ directory
   unfolding number_at
   directory_planned = omega (arith, directory_small)
 
-  old_pages_planned : old_length Pages (plan_bytes pages directory before count changes) ≡ length before.0
+  old_pages_planned : old_length Pages (plan_bytes pages directory (length before.0) (length before.1) count changes) ≡ length before.0
   unfolding number_at
   old_pages_planned = omega (arith, old_pages_small)
 
-  old_directory_planned : old_length Directory (plan_bytes pages directory before count changes) ≡ length before.1
+  old_directory_planned : old_length Directory (plan_bytes pages directory (length before.0) (length before.1) count changes) ≡ length before.1
   unfolding number_at
   old_directory_planned = omega (arith, old_directory_small)
 
-  count_planned : count_of (plan_bytes pages directory before count changes) ≡ count
+  count_planned : count_of (plan_bytes pages directory (length before.0) (length before.1) count changes) ≡ count
   unfolding number_at
   count_planned = omega (arith, count_small)
 
-  length_planned : (file : File) → length_in pages directory file ≡ new_length file (plan_bytes pages directory before count changes)
+  length_planned : (file : File) → length_in pages directory file ≡ new_length file (plan_bytes pages directory (length before.0) (length before.1) count changes)
   length_planned Pages = sym pages_planned
   length_planned Directory = sym directory_planned
   length_planned Redo = refl
 
-  pub is_planned : AreChanges pages directory before count changes → IsPlan (plan_bytes pages directory before count changes)
-  is_planned are = record {
+  -- whatever the files were for which these are changes
+  pub is_planned_by : (other : List ℕ × List ℕ) → AreChanges pages directory other count changes → IsPlan (plan_bytes pages directory (length before.0) (length before.1) count changes)
+  is_planned_by other are = record {
     header = omega arith;
     signed = refl;
     ends = ap (λ n. rest_after n changes) count_planned ∙ are.ends;
@@ -294,8 +295,11 @@ module _ (pages directory : ℕ) (before : List ℕ × List ℕ) (count : ℕ) (
     };
   }
 
+  pub is_planned : AreChanges pages directory before count changes → IsPlan (plan_bytes pages directory (length before.0) (length before.1) count changes)
+  is_planned are = is_planned_by before are
+
   -- it knows the files that it was made for
-  pub knows_planned : AreChanges pages directory before count changes → Knows (plan_bytes pages directory before count changes) before
+  pub knows_planned : AreChanges pages directory before count changes → Knows (plan_bytes pages directory (length before.0) (length before.1) count changes) before
   knows_planned are = record {
     pages = record { no_shorter = omega (arith, old_pages_planned); no_longer = omega (arith, old_pages_planned) };
     directory = record { no_shorter = omega (arith, old_directory_planned); no_longer = omega (arith, old_directory_planned) };
@@ -304,7 +308,7 @@ module _ (pages directory : ℕ) (before : List ℕ × List ℕ) (count : ℕ) (
         record { change = change; one = one; offers = record { touches = refl; index = i; covered = lt; place = refl; is = inr (sym (fit.was i lt)) } };
   }
 
-  pub renewed_planned : (file : File) (n : ℕ) (old : List ℕ) → length_in pages directory file ≡ n → renewed file (plan_bytes pages directory before count changes) old ≡ replayed file count changes (resized n old)
+  pub renewed_planned : (file : File) (n : ℕ) (old : List ℕ) → length_in pages directory file ≡ n → renewed file (plan_bytes pages directory (length before.0) (length before.1) count changes) old ≡ replayed file count changes (resized n old)
   renewed_planned file n old is =
-      let long : new_length file (plan_bytes pages directory before count changes) ≡ n = sym (length_planned file) ∙ is in
+      let long : new_length file (plan_bytes pages directory (length before.0) (length before.1) count changes) ≡ n = sym (length_planned file) ∙ is in
       λ i. replayed file (count_planned i) changes (resized (long i) old)

@@ -4,6 +4,8 @@ pub mod Lists
 pub mod Marks
 pub mod Moments
 pub mod PageDrafts
+pub mod Parts
 pub mod Recording
 pub mod Replay
 pub mod Runs
+pub mod PartRead

@@ -22,10 +22,10 @@ part_of old at n = resized n (drop (min at (length old)) old)
 abbrev pub change_bytes : File → ℕ → List ℕ → List ℕ → List ℕ
 change_bytes file at bytes was = file_code file ∷ (spelled at ++ (spelled (length bytes) ++ (bytes ++ was)))
 
--- the plan of such changes, for files with these bytes
-abbrev pub plan_bytes : ℕ → ℕ → List ℕ × List ℕ → ℕ → List ℕ → List ℕ
-plan_bytes pages directory before count changes =
-    signature ++ (spelled pages ++ (spelled directory ++ (spelled (length before.0) ++ (spelled (length before.1) ++ (spelled count ++ changes)))))
+-- the plan of such changes: the new lengths of the pages and of the directory, their old lengths, and so many changes
+abbrev pub plan_bytes : ℕ → ℕ → ℕ → ℕ → ℕ → List ℕ → List ℕ
+plan_bytes pages directory old_pages old_directory count changes =
+    signature ++ (spelled pages ++ (spelled directory ++ (spelled old_pages ++ (spelled old_directory ++ (spelled count ++ changes)))))
 
 abbrev pub length_in : ℕ → ℕ → File → ℕ
 length_in pages directory Pages = pages

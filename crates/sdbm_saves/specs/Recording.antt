@@ -1,6 +1,18 @@
 -- The image of three files that were read.
+use Rattle.std.specs.Prelude.{ℕ, ◌*◌, List, ◌++◌, replicate}
+use Rattle.sdbm_addr.specs.declared.PageSize.{PageSize}
+use Rattle.sdbm_addr.specs.Pairs.{page_bytes}
 use Rattle.sdbm_saves.specs.declared.recorded.Found.{Found}
-use Rattle.sdbm_saves.specs.Disk.{Image}
+use Rattle.sdbm_saves.specs.declared.recorded.FoundPart.{FoundPart}
+use Rattle.sdbm_saves.specs.declared.part.Part.{Part}
+use Rattle.sdbm_saves.specs.Disk.{Image, resized}
 
 abbrev pub image_of : Found → Image
 image_of found = record { pages = found.pages.items; directory = found.directory.items; redo = found.redo.items }
+
+-- the pages of which one was read, where the others are zeros
+abbrev pub part_pages : Part → PageSize → List ℕ
+part_pages part size = resized part.len (replicate (part.number * page_bytes size) 0 ++ part.page.now)
+
+abbrev pub part_image : FoundPart → Image
+part_image found = record { pages = part_pages found.part found.size; directory = found.part.directory.now; redo = found.redo.now }

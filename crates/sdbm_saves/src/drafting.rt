@@ -2,9 +2,9 @@
 ghost use Rattle.std.specs.Prelude.{◌≡◌, ◌<◌, ◌≤◌, ◌^◌, ◌+◌, ◌++◌, length, IfOk, OnOk};
 ghost use Rattle.sdbm_saves.specs.Drafts.{spelled, part_of, change_bytes, plan_bytes};
 
+use crate::File;
 use crate::overlay::resized;
 use crate::plan::SIGNATURE;
-use crate::{Contents, File};
 use std::alloc::{AllocError, Allocator};
 
 /// A plan that is being made: the new lengths of both files, the changes so far, and how many they are.
@@ -72,26 +72,27 @@ pub(crate) fn push<A: Allocator>(
     Ok(())
 }
 
-// The plan that a draft has come to, for files with these bytes.
+// The plan that a draft has come to, for files with these lengths.
 pub(crate) fn assemble<A: Allocator>(
     alloc: A,
     draft: &Draft<A>,
-    before: Contents<'_>,
+    old_pages: usize,
+    old_directory: usize,
 ) -> Result<Vec<u8, A>, AllocError>
     requires pages { draft.now.pages < 2 ^ 32 }
     requires directory { draft.now.directory < 2 ^ 32 }
-    requires old_pages { length before.pages.now < 2 ^ 32 }
-    requires old_directory { length before.directory.now < 2 ^ 32 }
+    requires old_pages { old_pages < 2 ^ 32 }
+    requires old_directory { old_directory < 2 ^ 32 }
     requires count { draft.now.count < 2 ^ 32 }
 
-    ensures { IfOk result (λ plan. plan.items ≡ plan_bytes draft.now.pages draft.now.directory (before.entry.pages.now, before.entry.directory.now) draft.now.count draft.now.changes.items) }
+    ensures { IfOk result (λ plan. plan.items ≡ plan_bytes draft.now.pages draft.now.directory old_pages old_directory draft.now.count draft.now.changes.items) }
 {
     let mut plan = Vec::new(alloc);
     plan.extend_from_slice(&SIGNATURE)?;
     plan.extend_from_slice(&spelled(draft.pages))?;
     plan.extend_from_slice(&spelled(draft.directory))?;
-    plan.extend_from_slice(&spelled(before.pages.len()))?;
-    plan.extend_from_slice(&spelled(before.directory.len()))?;
+    plan.extend_from_slice(&spelled(old_pages))?;
+    plan.extend_from_slice(&spelled(old_directory))?;
     plan.extend_from_slice(&spelled(draft.count))?;
     plan.extend_from_slice(draft.changes.as_slice())?;
     Ok(plan)

@@ -20,12 +20,12 @@ use std::alloc::{AllocError, Allocator};
 const BLOCK: usize = 1024;
 
 /// A file has fewer bytes than this, so that its offsets stand in four bytes.
-const LIMIT: usize = 4294967296;
+pub(crate) const LIMIT: usize = 4294967296;
 
 /// Why there is no plan.
 #[derive(Clone, Copy, Debug, PartialEq, Eq)]
 pub enum PlanFault {
-    /// A file has 2^32 bytes or more, or would have.
+    /// A file has 2^32 bytes or more, or would have, or the pages are more than such a file has.
     TooLong,
     /// No memory is left.
     NoMemory,
@@ -96,7 +96,7 @@ pub fn plan_save<A: Allocator + Copy>(
     if draft.count == 0 && are_long(old, pages, directory.len()) {
         return Ok(None);
     }
-    Ok(Some(assemble(alloc, &draft, old)?))
+    Ok(Some(assemble(alloc, &draft, old.pages.len(), old.directory.len())?))
 }
 
 // Whether both files have these lengths.
@@ -145,7 +145,7 @@ fn draft_pages<A: Allocator + Copy>(
 }
 
 // The changes that make one file the new one, behind those of a draft that does not touch it.
-fn draft_file<A: Allocator + Copy>(
+pub(crate) fn draft_file<A: Allocator + Copy>(
     alloc: A,
     draft: &mut Draft<A>,
     file: File,
@@ -160,6 +160,7 @@ fn draft_file<A: Allocator + Copy>(
     requires untouched { (x : List ℕ) → replayed file draft.old.count draft.old.changes.items x ≡ x }
 
     ensures changes { OnOk result (AreChanges draft.new.pages draft.new.directory (before.entry.pages.now, before.entry.directory.now) draft.new.count draft.new.changes.items) }
+    ensures alike { OnOk result ((both : List ℕ × List ℕ) → data_in both file ≡ data_in (before.entry.pages.now, before.entry.directory.now) file → AreChanges draft.old.pages draft.old.directory both draft.old.count draft.old.changes.items → AreChanges draft.new.pages draft.new.directory both draft.new.count draft.new.changes.items) }
     ensures file { OnOk result (replayed file draft.new.count draft.new.changes.items (resized (length new.now) (data_in (before.entry.pages.now, before.entry.directory.now) file)) ≡ new.now) }
     ensures others { OnOk result ((g : File) → g ≢ file → (x : List ℕ) → replayed g draft.new.count draft.new.changes.items x ≡ replayed g draft.old.count draft.old.changes.items x) }
     ensures few { OnOk result (draft.new.count ≤ draft.old.count + 2 ^ 22) }
@@ -191,6 +192,7 @@ fn draft_block<A: Allocator>(
     requires changes { AreChanges draft.old.pages draft.old.directory (before.pages.now, before.directory.now) draft.old.count draft.old.changes.items }
 
     ensures changes { OnOk result (AreChanges draft.new.pages draft.new.directory (before.entry.pages.now, before.entry.directory.now) draft.new.count draft.new.changes.items) }
+    ensures alike { OnOk result ((both : List ℕ × List ℕ) → data_in both file ≡ data_in (before.entry.pages.now, before.entry.directory.now) file → AreChanges draft.old.pages draft.old.directory both draft.old.count draft.old.changes.items → AreChanges draft.new.pages draft.new.directory both draft.new.count draft.new.changes.items) }
     ensures file { OnOk result ((x : List ℕ) → RenewsBlock at (data_in (before.entry.pages.now, before.entry.directory.now) file) block.now (replayed file draft.old.count draft.old.changes.items x) (replayed file draft.new.count draft.new.changes.items x)) }
     ensures others { OnOk result ((g : File) → g ≢ file → (x : List ℕ) → replayed g draft.new.count draft.new.changes.items x ≡ replayed g draft.old.count draft.old.changes.items x) }
     ensures few { OnOk result (draft.new.count ≤ draft.old.count + 1) }
@@ -219,7 +221,7 @@ fn reads_as(old: &[u8], at: usize, block: &[u8]) -> bool
 }
 
 // Whether two lists of bytes are the same.
-fn is_same(one: &[u8], other: &[u8]) -> bool
+pub(crate) fn is_same(one: &[u8], other: &[u8]) -> bool
     ensures { IsTrue result ↔ one.now ≡ other.now }
 {
     one == other

@@ -5,7 +5,8 @@ ghost use Rattle.sdbm_saves.specs.declared.disk.DiskError.TheVariants.{Failed};
 ghost use Rattle.sdbm_saves.specs.Disk.{Image};
 ghost use Rattle.sdbm_saves.specs.Acts.{Act, write, resize, sync, clear, Notes};
 
-use crate::{Disk, DiskError, File};
+use crate::{Disk, DiskError, File, Part};
+use sdbm_addr::PageSize;
 use std::marker::PhantomData;
 
 /// The bytes of the three files as they were read.
@@ -17,6 +18,35 @@ pub struct Found {
     pub directory: Vec<u8>,
     /// The bytes of the redo file.
     pub redo: Vec<u8>,
+}
+
+/// The three files as a run has read them that reads one page.
+#[derive(Clone, Copy)]
+pub struct FoundPart<'a> {
+    /// The bytes of `.dir`, the length of `.pag`, and the page.
+    pub part: Part<'a>,
+    /// How large the pages are.
+    pub size: PageSize,
+    /// The bytes of the redo file.
+    pub redo: &'a [u8],
+}
+
+/// What a run has read of the three files. What it has not read of the pages is taken to be zeros: a plan that knows such files knows all
+/// that were read so (`plan_part`).
+pub trait Before {
+    ghost image: { Self → Image };
+}
+
+impl Before for Found {
+    ghost use Rattle.sdbm_saves.specs.Recording.{image_of};
+
+    ghost image = { image_of };
+}
+
+impl Before for FoundPart<'_> {
+    ghost use Rattle.sdbm_saves.specs.Recording.{part_image};
+
+    ghost image = { part_image };
 }
 
 /// The calls of a system on the three files, with a record of those that were begun, and of the syncs that were done. No contract
@@ -58,21 +88,19 @@ impl Past for Unknown {
 
 /// A disk over a system's files. After a call at which the system has failed it makes no more.
 #[derive(Drop)]
-pub struct Recorded<'a, H: Host, P: Past> {
+pub struct Recorded<'a, H: Host, P: Past, F: Before> {
     host: H,
-    found: &'a Found,
+    found: &'a F,
     failed: bool,
     past: PhantomData<P>,
 }
 
-impl<'a, H: Host, P: Past> Recorded<'a, H, P> {
-    ghost use Rattle.sdbm_saves.specs.Recording.{image_of};
-
+impl<'a, H: Host, P: Past, F: Before> Recorded<'a, H, P, F> {
     /// A disk over three files that were read, of which a crash might have left what `P` says. `recover` settles them.
-    pub fn new(host: H, found: &'a Found) -> Self
+    pub fn new(host: H, found: &'a F) -> Self
         requires { H.calls host ≡ [] }
-        ensures seen { (⟦<Recorded<'a, H, P> as Disk>⟧).seen result ≡ image_of found.now }
-        ensures past { (c : Image) → (⟦<Recorded<'a, H, P> as Disk>⟧).may_leave result c → P.may_leave c }
+        ensures seen { (⟦<Recorded<'a, H, P, F> as Disk>⟧).seen result ≡ F.image found.now }
+        ensures past { (c : Image) → (⟦<Recorded<'a, H, P, F> as Disk>⟧).may_leave result c → P.may_leave c }
     {
         Recorded {
             host,
@@ -93,23 +121,22 @@ fn has_failed(outcome: &Result<(), DiskError>) -> bool
     }
 }
 
-impl<'a, H: Host, P: Past> Disk for Recorded<'a, H, P> {
-    ghost use Rattle.sdbm_saves.specs.Recording.{image_of};
+impl<'a, H: Host, P: Past, F: Before> Disk for Recorded<'a, H, P, F> {
     ghost use Rattle.sdbm_saves.specs.Acts.{seen_after, LeftAfter, LeftSince, now_counts, only_the_last};
 
-    ghost seen = { λ disk. seen_after (H.calls disk.host) (image_of disk.found.now) };
+    ghost seen = { λ disk. seen_after (H.calls disk.host) (F.image disk.found.now) };
 
-    ghost may_leave = { λ disk c. LeftAfter (H.calls disk.host) (image_of disk.found.now) P.may_leave c };
+    ghost may_leave = { λ disk c. LeftAfter (H.calls disk.host) (F.image disk.found.now) P.may_leave c };
 
     ghost moment = { λ disk. length (H.calls disk.host) };
 
-    ghost left_since = { λ disk t c. LeftSince (H.calls disk.host) (image_of disk.found.now) P.may_leave t c };
+    ghost left_since = { λ disk t c. LeftSince (H.calls disk.host) (F.image disk.found.now) P.may_leave t c };
 
     ghost has_failed = { λ disk. IsTrue disk.failed };
 
-    ghost counts_now = { λ disk t c later left. now_counts (H.calls disk.host) (image_of disk.found.now) P.may_leave t c later left };
+    ghost counts_now = { λ disk t c later left. now_counts (H.calls disk.host) (F.image disk.found.now) P.may_leave t c later left };
 
-    ghost only_now = { λ disk c left. only_the_last (H.calls disk.host) (image_of disk.found.now) P.may_leave c left };
+    ghost only_now = { λ disk c left. only_the_last (H.calls disk.host) (F.image disk.found.now) P.may_leave c left };
 
     fn write_at(&mut self, file: File, at: usize, bytes: &[u8]) -> Result<(), DiskError> {
         if self.failed {

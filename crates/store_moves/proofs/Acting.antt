@@ -69,7 +69,7 @@ Acts-on_page {A} db db' ok place session command answer keyed small leads ends i
     let entry : Reply A → Entry A = λ r. record { session = session; command = command; reply = r } in
     record {
       small = small;
-      exact = keyed_exact db command (entry answer) db' keyed (record { place = place; leads = leads; answer_is = is; database = installed });
+      exact = keyed_exact db command (entry answer) db' keyed (record { place = place; leads = leads; ends = ends; answer_is = is; database = installed });
       move = subst (λ (d : Database). Moves (state_of db) (entry answer) (state_of d)) (sym installed)
           (subst (λ (r : Reply A). Moves (state_of db) (entry r) (state_of (changed_by db place.page result.change))) (sym is) (lead.move ends));
     }

@@ -7,3 +7,4 @@ pub mod Wanting
 pub mod Rewriting
 pub mod Examples
 pub mod Storing
+pub mod Parts

@@ -13,10 +13,11 @@ use Rattle.store_cmd.specs.Moves.{Moves}
 use Rattle.store_moves.specs.Works.{works, key_of, HasEnd}
 use Rattle.store_moves.specs.Leads.{IsPlaceOf, changed_by, state_of}
 
--- a command about a key: what it comes to on the page of its place is answered, and put in
+-- a command about a key, which is no run or one that ends: what it comes to on the page of its place is answered, and put in
 pub record IsOnPage {A : Type 0} (db : Database) (e : Entry A) (db' : Database) : Type 0 where
   pub place : Place
   pub leads : IsPlaceOf db (key_of e.command) place
+  pub ends : HasEnd (pairs_at db place.page) e.session e.command
   pub answer_is : e.reply ≡ (works place db.kind db.size (pairs_at db place.page) e.session e.command).reply
   pub database : db' ≡ changed_by db place.page (works place db.kind db.size (pairs_at db place.page) e.session e.command).change
 

@@ -73,6 +73,7 @@ fn request_text(global: Global, request: &Request<'_>) -> Option<String> {
     let Access {
         timeout,
         must_exist,
+        quick,
         verbose,
     } = request.access;
     if let Some(seconds) = timeout {
@@ -80,6 +81,9 @@ fn request_text(global: Global, request: &Request<'_>) -> Option<String> {
     }
     if must_exist {
         out.push_str(" must exist").ok()?;
+    }
+    if quick {
+        out.push_str(" quick").ok()?;
     }
     if verbose {
         out.push_str(" verbose").ok()?;

@@ -1,4 +1,4 @@
-use Rattle.std.proofs.Common.{◌≡◌, ◌<◌, ◌^◌, ℕ, List, ◌++◌, ◌+◌, length, get_or, sym, ◌∙◌, ap, subst, arith}
+use Rattle.std.proofs.Common.{◌≡◌, ◌<◌, ◌^◌, ℕ, List, ◌++◌, ◌+◌, length, get_or, refl, sym, ◌∙◌, ap, subst, arith}
 use Rattle.sdbm_saves.specs.Redo.{replayed, data_in}
 use Rattle.sdbm_saves.specs.Drafts.{change_bytes, part_of, AreChanges}
 use Rattle.sdbm_saves.proofs.Lists.{length-resized}
@@ -10,25 +10,27 @@ returns-then-reads_as-clause-file g c = λ x inside reads.
     written_same c.args.at c.args.block.now _ inside
     (λ i lt. c.reads_as.ensures.0 c.if-reads_as.true i lt ∙ ap (λ (l : List ℕ). get_or l (c.args.at + i) 0) c.data_in-old.ensures ∙ sym (reads i lt))
 
-pub returns-clause-changes : goal.returns-clause-changes
-returns-clause-changes g c =
+pub returns-clause-alike : goal.returns-clause-alike
+returns-clause-alike g c = λ both alike are.
     let draft = c.args.draft.now in
-    let before : List ℕ × List ℕ = (c.args.before.pages.now, c.args.before.directory.now) in
     let block = c.args.block.now in
-    let was = part_of (data_in before c.args.file) c.args.at (length block) in
+    let was = part_of (data_in both c.args.file) c.args.at (length block) in
     let change = change_bytes c.args.file c.args.at block was in
     let near : c.args.at < 2 ^ 32 = omega (arith, c.requires.near) in
     let short : length block < 2 ^ 32 = omega (arith, c.requires.near) in
-    let fit = fits_spelled draft.pages draft.directory before c.args.file c.args.at block near short c.requires.data c.requires.fits in
+    let fit = fits_spelled draft.pages draft.directory both c.args.file c.args.at block near short c.requires.data c.requires.fits in
     let long = length_spelled c.args.file c.args.at block was near short (length-resized (length block) _) in
-    let more = one_more draft.pages draft.directory before draft.count draft.changes.items change c.requires.changes fit long in
-    let was_is : c.as_slice.result.now ≡ was = c.as_slice.ensures.value ∙ c.in_ok-was.ensures ∙ ap (λ (l : List ℕ). part_of l c.args.at (length block)) c.data_in-old.ensures in
+    let more = one_more draft.pages draft.directory both draft.count draft.changes.items change are fit long in
+    let was_is : c.as_slice.result.now ≡ was = c.as_slice.ensures.value ∙ c.in_ok-was.ensures ∙ ap (λ (l : List ℕ). part_of l c.args.at (length block)) (c.data_in-old.ensures ∙ sym alike) in
     let ensures = c.in_ok-push.ensures in
     let changes_are : c.push.new.draft.changes.items ≡ draft.changes.items ++ change = ensures.changes ∙ ap (λ (l : List ℕ). draft.changes.items ++ change_bytes c.args.file c.args.at block l) was_is in
-    subst (λ p. AreChanges p c.push.new.draft.directory before c.push.new.draft.count c.push.new.draft.changes.items) (sym ensures.pages)
-    (subst (λ d. AreChanges draft.pages d before c.push.new.draft.count c.push.new.draft.changes.items) (sym ensures.directory)
-    (subst (λ n. AreChanges draft.pages draft.directory before n c.push.new.draft.changes.items) (sym ensures.count)
-    (subst (λ (l : List ℕ). AreChanges draft.pages draft.directory before (draft.count + 1) l) (sym changes_are) more)))
+    subst (λ p. AreChanges p c.push.new.draft.directory both c.push.new.draft.count c.push.new.draft.changes.items) (sym ensures.pages)
+    (subst (λ d. AreChanges draft.pages d both c.push.new.draft.count c.push.new.draft.changes.items) (sym ensures.directory)
+    (subst (λ n. AreChanges draft.pages draft.directory both n c.push.new.draft.changes.items) (sym ensures.count)
+    (subst (λ (l : List ℕ). AreChanges draft.pages draft.directory both (draft.count + 1) l) (sym changes_are) more)))
+
+pub returns-clause-changes : goal.returns-clause-changes
+returns-clause-changes g c = returns-clause-alike g c (c.args.before.pages.now, c.args.before.directory.now) refl c.requires.changes
 
 pub returns-clause-file : goal.returns-clause-file
 returns-clause-file g c = λ x inside reads.

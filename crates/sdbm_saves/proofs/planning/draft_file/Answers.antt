@@ -8,6 +8,7 @@ use Rattle.sdbm_saves.proofs.planning.draft_file.Goals as goal
 pub loop-index-init : goal.loop-index-init
 loop-index-init g c = let nothing : min 0 (length c.args.new.now) ≡ 0 = omega arith in record {
   changes = c.requires.changes;
+  alike = λ both same are. are;
   file = c.requires.untouched (resized (length c.args.new.now) (data_in (c.args.before.pages.now, c.args.before.directory.now) c.args.file)) ∙ ap (λ n. partly n c.args.new.now (resized (length c.args.new.now) (data_in (c.args.before.pages.now, c.args.before.directory.now) c.args.file))) (sym nothing);
   others = λ k other x. refl;
   few = omega arith;
@@ -41,6 +42,7 @@ loop-index-preserved g c =
     let room : at + length block ≤ length before = omega (arith, long, inside, ap (λ (l : List ℕ). length l) before_is, length_partly at new old start same_length) in
     record {
       changes = here.changes;
+      alike = λ both same are. here.alike both same (kept.alike both same are);
       file = here.file old room
           (λ i lt. ap (λ (l : List ℕ). get_or l (at + i) 0) before_is ∙ partly_old at new old start same_length (at + i) (omega arith) ∙ read_resized (length new) (data_in (c.args.before.pages.now, c.args.before.directory.now) c.args.file) (at + i) (omega (arith, lt, long, inside)))
           ∙ ap (λ (l : List ℕ). written at block l) before_is

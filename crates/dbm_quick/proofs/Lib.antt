@@ -1,0 +1,4 @@
+pub mod Pages
+pub mod PartOf
+pub mod Alike
+pub mod Whole

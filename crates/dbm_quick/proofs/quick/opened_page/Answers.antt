@@ -1,0 +1,7 @@
+use Rattle.dbm_quick.proofs.Pages.{opened_as}
+use Rattle.dbm_quick.proofs.quick.opened_page.Goals as goal
+
+pub returns : goal.returns
+returns c =
+    let ensures = c.in-Ok.ensures in
+    opened_as c.args.part c.args.kind c.args.size _ ensures.directory ensures.kind ensures.size ensures.page ensures.others

@@ -1,0 +1,59 @@
+-- What a subcommand asks that may be done on the page of its key, and what comes of that on a database.
+use Rattle.std.specs.Prelude.{◌≡◌, ℕ, List, Option, None}
+use Rattle.std.specs.declared.alloc.Global.{Global}
+use Rattle.sdbm_addr.specs.Database.{Database}
+use Rattle.store_moves.specs.Works.{key_of, HasKey}
+use Rattle.dbm_script.specs.declared.notations.Notation.{Notation}
+use Rattle.dbm_words.specs.declared.options.Form.{Form}
+use Rattle.dbm_reports.specs.declared.report.Report.{Report}
+use Rattle.dbm_reports.specs.declared.databases.Given.{Given}
+use Rattle.dbm_reports.specs.Databases.{IsOpened}
+use Rattle.dbm_reports.specs.Reports.{Changes}
+use Rattle.dbm_pairs.specs.Fetch.{FetchShows, fetch_in}
+use Rattle.dbm_pairs.specs.Store.{store_in}
+use Rattle.dbm_pairs.specs.Delete.{delete_in}
+use Rattle.dbm_runs.specs.Running.{RunsImage}
+use Rattle.dbm_runs.specs.Run.{run_in}
+use Rattle.dbm_pairs.specs.declared.fetch.Fetch.{Fetch}
+use Rattle.dbm_pairs.specs.declared.store.Store.{Store}
+use Rattle.dbm_pairs.specs.declared.delete.Delete.{Delete}
+use Rattle.dbm_runs.specs.declared.run.Run.{Run}
+use Rattle.dbm_quick.specs.declared.asked.Asked.{Asked}
+use Rattle.dbm_quick.specs.declared.asked.Asked.TheVariants as asked
+
+-- it is about a key
+abbrev pub IsKeyed : Asked → Type 0
+IsKeyed (asked.Fetch command raw) = HasKey command
+IsKeyed (asked.Change command) = HasKey command
+IsKeyed (asked.Run words program expect) = Unit {0}
+
+-- the key
+abbrev pub key_in : Asked → List ℕ
+key_in (asked.Fetch command raw) = key_of command
+key_in (asked.Change command) = key_of command
+key_in (asked.Run words program expect) = words.key
+
+-- what comes of it on a database
+abbrev pub Answers : Notation Global → Asked → Database → Report → Type 0
+Answers n (asked.Fetch command raw) db report = FetchShows raw n db command report
+Answers n (asked.Change command) db report = Changes n db command None report
+Answers n (asked.Run words program expect) db report = RunsImage n db words expect program.items report
+
+-- It is what words ask, so far as they ask one thing: it is about a key, and what comes of it on the database of the files comes of the
+-- words with these files.
+pub record IsMeant (form : Form) (file : List ℕ) (n : Notation Global) (comes : Given → Report → Type 0) (asked : Asked) : Type 0 where
+  pub keyed : IsKeyed asked
+  pub same : (given : Given) (db : Database) (report : Report) → given.file.items ≡ file → IsOpened form given db → Answers n asked db report → comes given report
+
+-- what comes of each subcommand, with files and without standard input
+abbrev pub FetchComes : Notation Global → Fetch → Given → Report → Type 0
+FetchComes n fetch given report = (fetch_in n fetch given).reports report
+
+abbrev pub StoreComes : Notation Global → Store → Given → Report → Type 0
+StoreComes n store given report = (input : Option (List ℕ)) → (store_in n store given input).reports report
+
+abbrev pub DeleteComes : Notation Global → Delete → Given → Report → Type 0
+DeleteComes n delete given report = (delete_in n delete given).reports report
+
+abbrev pub RunComes : Notation Global → Run → Given → Report → Type 0
+RunComes n run given report = (run_in n run given).reports report

@@ -1,0 +1,169 @@
+//! What a subcommand asks that may be done on the page of its key.
+ghost use Rattle.std.specs.Prelude.{◌≡◌, ℕ, List, IfOk, IfSome, true};
+ghost use Rattle.store_moves.specs.Works.{HasKey};
+ghost use Rattle.dbm_quick.specs.Asked.{Answers, IsMeant, key_in, FetchComes, StoreComes, DeleteComes, RunComes};
+
+use dbm_pairs::{Delete, Fetch, Store, command_in, look_as, store_name, takes_input};
+use dbm_reports::{Report, ReportFault, change, file_image, word_asked};
+use dbm_runs::{Run, run_image, run_words};
+use dbm_script::{Notation, RunWords};
+use sdbm_files::Image;
+use std::alloc::{AllocError, Global};
+use store_cmd::Command;
+
+/// What words ask that may be done on the page of a key.
+#[derive(Drop)]
+pub enum Asked {
+    /// A fetch, of which the bytes of the value alone may be printed.
+    Fetch {
+        command: Command<Global>,
+        raw: bool,
+    },
+    /// A store or a delete.
+    Change {
+        command: Command<Global>,
+    },
+    /// A run of the program of an image, which may have to end with a code.
+    Run {
+        words: RunWords<Global>,
+        program: Vec<u8>,
+        expect: Option<u64>,
+    },
+}
+
+impl Asked {
+    /// The key.
+    pub fn key(&self) -> &[u8]
+        ensures { result.now ≡ key_in self.now }
+    {
+        match self {
+            Asked::Fetch { command, .. } | Asked::Change { command } => store_moves::key_in(
+                command,
+            ),
+            Asked::Run { words, .. } => words.key.as_slice(),
+        }
+    }
+
+    /// What comes of it on a database.
+    ///
+    /// # Errors
+    /// `AllocError` where no memory is left.
+    pub fn answer(
+        self,
+        alloc: Global,
+        notation: &Notation<Global>,
+        image: Image<Global>,
+    ) -> Result<Report, AllocError>
+        ensures { IfOk result (Answers notation.now self image) }
+    {
+        match self {
+            Asked::Fetch { command, raw } => look_as(alloc, notation, image, command, raw),
+            Asked::Change { command } => change(alloc, notation, image, command, None),
+            Asked::Run {
+                words,
+                program,
+                expect,
+            } => run_image(alloc, notation, image, program.as_slice(), words, expect),
+        }
+    }
+}
+
+// Whether a command is about a key.
+fn has_key(command: &Command<Global>) -> bool
+    ensures { result ≡ true → HasKey command.now }
+{
+    match command {
+        Command::Fetch { .. }
+        | Command::Store { .. }
+        | Command::Delete { .. }
+        | Command::Run { .. } => true,
+        Command::Count => false,
+    }
+}
+
+/// What a fetch asks.
+///
+/// # Errors
+/// `BadHex`, or as text `BadText`, where the key is no bytes, and `NoMemory`.
+pub fn asked_by_fetch(
+    alloc: Global,
+    notation: &Notation<Global>,
+    fetch: &Fetch<'_>,
+) -> Result<Option<Asked>, ReportFault>
+    ensures { IfOk result (λ asked. IfSome asked (λ asked. (file : List ℕ) → IsMeant fetch.now.form file notation.now (FetchComes notation.now fetch.now) asked)) }
+{
+    let key = word_asked(alloc, notation, fetch.key, fetch.raw_key)?;
+    let command = command_in(alloc, notation, b"fetch", &[key.as_slice()])?;
+    if !has_key(&command) {
+        return Ok(None);
+    }
+    Ok(Some(Asked::Fetch {
+        command,
+        raw: fetch.raw,
+    }))
+}
+
+/// What a store asks. None where its value is all of standard input.
+///
+/// # Errors
+/// `BadHex`, or as text `BadText`, where the key or the value is no bytes, and `NoMemory`.
+pub fn asked_by_store(
+    alloc: Global,
+    notation: &Notation<Global>,
+    store: &Store<'_>,
+) -> Result<Option<Asked>, ReportFault>
+    ensures { IfOk result (λ asked. IfSome asked (λ asked. (file : List ℕ) → IsMeant store.now.form file notation.now (StoreComes notation.now store.now) asked)) }
+{
+    if takes_input(store) {
+        return Ok(None);
+    }
+    let key = word_asked(alloc, notation, store.key, store.raw_key)?;
+    let value = word_asked(alloc, notation, store.value, store.raw_value)?;
+    let (name, args) = (store_name(store.insert), [key.as_slice(), value.as_slice()]);
+    let command = command_in(alloc, notation, name, &args)?;
+    if !has_key(&command) {
+        return Ok(None);
+    }
+    Ok(Some(Asked::Change { command }))
+}
+
+/// What a delete asks.
+///
+/// # Errors
+/// `BadHex`, or as text `BadText`, where the key is no bytes, and `NoMemory`.
+pub fn asked_by_delete(
+    alloc: Global,
+    notation: &Notation<Global>,
+    delete: &Delete<'_>,
+) -> Result<Option<Asked>, ReportFault>
+    ensures { IfOk result (λ asked. IfSome asked (λ asked. (file : List ℕ) → IsMeant delete.now.form file notation.now (DeleteComes notation.now delete.now) asked)) }
+{
+    let key = word_asked(alloc, notation, delete.key, delete.raw_key)?;
+    let command = command_in(alloc, notation, b"delete", &[key.as_slice()])?;
+    if !has_key(&command) {
+        return Ok(None);
+    }
+    Ok(Some(Asked::Change { command }))
+}
+
+/// What a run asks, with the bytes of its program's file.
+///
+/// # Errors
+/// Those of `run_words`, and then those of `file_image`.
+pub fn asked_by_run(
+    alloc: Global,
+    notation: &Notation<Global>,
+    run: &Run<'_>,
+    file: &[u8],
+) -> Result<Asked, ReportFault>
+    ensures { IfOk result (IsMeant run.entry.now.form file.now notation.now (RunComes notation.now run.entry.now)) }
+{
+    let key = word_asked(alloc, notation, run.key, run.raw_key)?;
+    let (words, expect) = run_words(alloc, notation, key.as_slice(), *run)?;
+    let program = file_image(alloc, file, run.image)?;
+    Ok(Asked::Run {
+        words,
+        program,
+        expect,
+    })
+}

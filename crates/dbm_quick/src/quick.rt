@@ -1,0 +1,172 @@
+//! What a command comes to on the page of its key, and the plan that saves it.
+ghost use Rattle.std.specs.Prelude.{◌≡◌, ◌≢◌, ◌≤◌, ◌*◌, ◌+◌, ◌%◌, ◌-◌, ◌/◌, ◌<◌, ℕ, List, [], length, Contains, IfOk, IfSome, true, false};
+ghost use Rattle.sdbm_addr.specs.Hash.{hash_of};
+ghost use Rattle.sdbm_addr.specs.Directory.{page_of};
+ghost use Rattle.sdbm_addr.specs.DirectoryFile.{SpellsDirectory};
+ghost use Rattle.sdbm_addr.specs.Layout.{Spells};
+ghost use Rattle.sdbm_addr.specs.Pairs.{page_bytes};
+ghost use Rattle.sdbm_addr.specs.Database.{Database, IsDatabase, pairs_at};
+ghost use Rattle.sdbm_saves.specs.Redo.{IsPlan, Knows};
+ghost use Rattle.sdbm_saves.specs.Saves.{AreFilesFor, IsSaving};
+ghost use Rattle.sdbm_saves.specs.Parts.{IsPartOf, IsReadSo};
+ghost use Rattle.dbm_quick.specs.Asked.{IsKeyed, key_in};
+ghost use Rattle.dbm_quick.specs.Quick.{IsQuick};
+ghost use Rattle.dbm_quick.specs.Parts.{EndsWithPairs, IsOpenedPage, IsOpenedPart, IsPlannedPart};
+
+use crate::asked::Asked;
+use dbm_reports::Report;
+use dbm_script::Notation;
+use sdbm_addr::{KeyBytes, PageSize, hash};
+use sdbm_dir::Dir;
+use sdbm_files::{Image, PAG_LIMIT};
+use sdbm_saves::{Part, plan_part};
+use std::alloc::{AllocError, Global};
+
+/// What a command comes to: its text, its status, the plan that saves it where files are to be changed, and the numbers of the pages that
+/// the plan may write. Of these, all but the page that was read have to be zeros in the file.
+#[derive(Drop)]
+pub struct Quick {
+    pub text: Vec<u8>,
+    pub status: u8,
+    pub numbers: Vec<u32>,
+    pub plan: Option<Vec<u8>>,
+}
+
+/// The number of the page to which a key leads in the directory of these bytes. None where they are no directory, or no memory is left.
+pub fn page_of(alloc: Global, directory: &[u8], kind: KeyBytes, key: &[u8]) -> Option<u32> {
+    let dir = Dir::from_bytes(alloc, directory).ok()?;
+    Some(dir.place(hash(key, kind)).page)
+}
+
+/// Does a command on the page of its key, of which a database's files are known, and plans its save. None where that page does not tell
+/// it: the files have to be read whole then. So it is where the directory or the page would not open or are not as a save leaves them,
+/// where another page is that of the key, where the last page of the file would be without pairs, where `.pag` would be above
+/// `PAG_LIMIT`, and where no memory is left.
+pub fn work(
+    alloc: Global,
+    notation: &Notation<Global>,
+    asked: Asked,
+    part: Part<'_>,
+    kind: KeyBytes,
+    size: PageSize,
+) -> Option<Quick>
+    requires keyed { IsKeyed asked }
+    requires page { length part.page.now ≡ page_bytes size }
+    requires whole { part.len % page_bytes size ≡ 0 }
+    ensures same { IfSome result (IsQuick notation.now asked part.entry kind size) }
+    ensures plan { IfSome result (λ quick. IfSome quick.plan (λ plan. IsPlan plan.items × ((pag : List ℕ) → IsReadSo part.entry quick.numbers.items size pag → Knows plan.items (pag, part.entry.directory.now)))) }
+{
+    let image = open_part(alloc, asked.key(), part, kind, size)?;
+    let Ok(report) = asked.answer(alloc, notation, image) else {
+        return None;
+    };
+    let Report {
+        text,
+        status,
+        database,
+    } = report;
+    let Some(after) = database else {
+        return Some(Quick {
+            text,
+            status,
+            numbers: Vec::new(alloc),
+            plan: None,
+        });
+    };
+    let (numbers, plan) = plan_after(alloc, part, &after)?;
+    Some(Quick {
+        text,
+        status,
+        numbers,
+        plan,
+    })
+}
+
+// The database of the page that was read, where that is the one of a key, and the files are as a save leaves them.
+fn open_part(
+    alloc: Global,
+    key: &[u8],
+    part: Part<'_>,
+    kind: KeyBytes,
+    size: PageSize,
+) -> Option<Image<Global>>
+    requires page { length part.page.now ≡ page_bytes size }
+    ensures { IfSome result (IsOpenedPart key.now part.entry kind size) }
+{
+    let image = opened_page(alloc, part, kind, size)?;
+    if image.place(key).page != part.number {
+        return None;
+    }
+    let is_own = image.page_bytes(part.number) == part.page;
+    if !is_own || image.directory_bytes() != part.directory {
+        return None;
+    }
+    Some(image)
+}
+
+// The database of the page that was read.
+fn opened_page(
+    alloc: Global,
+    part: Part<'_>,
+    kind: KeyBytes,
+    size: PageSize,
+) -> Option<Image<Global>>
+    requires page { length part.page.now ≡ page_bytes size }
+    ensures { IfSome result (IsOpenedPage part.entry kind size) }
+{
+    let (dir, number, page) = (part.directory, part.number, part.page);
+    let Ok(opened) = Image::open_page(alloc, dir, number, page, kind, size) else {
+        return None;
+    };
+    opened
+}
+
+// The plan that saves a database of which only a page was read, and the numbers of the pages that it may write.
+fn plan_after(
+    alloc: Global,
+    part: Part<'_>,
+    after: &Image<Global>,
+) -> Option<(Vec<u32>, Option<Vec<u8>>)>
+    requires page { length part.page.now ≡ page_bytes after.now.size }
+    requires whole { part.len % page_bytes after.now.size ≡ 0 }
+    ensures { IfSome result (λ planned. IsPlannedPart part.entry after.now planned.0.items planned.1) }
+{
+    if after.pag_len() > PAG_LIMIT || ends_bare(part, after) {
+        return None;
+    }
+    let Ok(numbers) = numbers_of(part.number, after) else {
+        return None;
+    };
+    let Ok(plan) = plan_part(alloc, part, numbers.as_slice(), after) else {
+        return None;
+    };
+    Some((numbers, plan))
+}
+
+// Whether the page that was read is the last of the file, and is without pairs.
+fn ends_bare(part: Part<'_>, after: &Image<Global>) -> bool
+    ensures { result ≡ false → EndsWithPairs part.entry after.now }
+{
+    let pages = part.len / after.page_size().bytes();
+    pages == part.number as usize + 1 && !has_pairs(after, part.number)
+}
+
+// Whether the page with a number has pairs.
+fn has_pairs(image: &Image<Global>, number: u32) -> bool
+    ensures { result ≡ true → pairs_at image.now number ≢ [] }
+{
+    image.page(number).is_some()
+}
+
+// The number of the page that was read, and those of the pages that have pairs.
+fn numbers_of(number: u32, after: &Image<Global>) -> Result<Vec<u32>, AllocError>
+    ensures first { IfOk result (λ numbers. Contains numbers.items number) }
+    ensures covers { IfOk result (λ numbers. (n : ℕ) → pairs_at after.now n ≢ [] → Contains numbers.items n) }
+{
+    let mut numbers = after.page_numbers()?;
+    if has_pairs(after, number) {
+        return Ok(numbers);
+    }
+    numbers.insert(0, number)?;
+    Ok(numbers)
+}

@@ -1,0 +1,230 @@
+//! A wish that is served on the page of its key, where all else of `.pag` stays unread.
+ghost use Rattle.std.specs.Prelude.{◌≡◌, ◌+◌, ◌*◌, ◌%◌, ◌<◌, ◌≤◌, ℕ, List, Option, length, get_or, IfSome, Ok, Some};
+ghost use Rattle.sdbm_addr.specs.Pairs.{page_bytes};
+ghost use Rattle.sdbm_saves.specs.Redo.{IsPlan, Knows};
+ghost use Rattle.sdbm_saves.specs.Recording.{part_pages};
+ghost use Rattle.dbm_reports.specs.Databases.{page_size_of};
+ghost use Rattle.dbm_quick.specs.Asked.{IsMeant};
+ghost use Rattle.dbm_tool.specs.Services.{service_in};
+
+use crate::ending::Ending;
+use byte_text::write_all;
+use dbm_command_line::{Ask, Wish};
+use dbm_faults::ServeFault;
+use dbm_files::{FilesFault, Saved, Taken, UnreadPages, save_part};
+use dbm_programs::refusal_of;
+use dbm_quick::{
+    Asked, Quick, asked_by_delete, asked_by_fetch, asked_by_run, asked_by_store, page_of, work,
+};
+use dbm_reports::{ReportFault, key_bytes_of, notation_by, page_size_of};
+use dbm_script::Notation;
+use dbm_telling::{Kept, Watched, is_refused};
+use dbm_words::Form;
+use sdbm_addr::PageSize;
+use sdbm_files::Image;
+use sdbm_saves::{FoundPart, Part};
+use std::alloc::Global;
+use std::fs::File;
+use std::io::{self, Read};
+use std::rt::{Files, Runtime};
+
+/// Whether a wish may be served so.
+pub fn may_be_quick(ask: &Ask<'_>) -> bool {
+    matches!(
+        ask,
+        Ask::Wish(Wish::Fetch(_) | Wish::Store(_) | Wish::Delete(_) | Wish::Run(_))
+    )
+}
+
+/// Serves a wish on the page of its key, of files that were taken but for `.pag`. None where that page does not tell what comes of it, and
+/// then nothing was written: all has to be read.
+///
+/// # Errors
+/// `Write` where its lines could not be written, and those of a save.
+pub fn serve_quick<R: Runtime<File = File> + AllocGlobal, I: Read>(
+    rt: &R,
+    wish: Wish<'_>,
+    taken: &Taken,
+    reader: &mut Kept<I>,
+) -> Result<Option<Ending>, ServeFault> {
+    let Some(unread) = &taken.unread else {
+        return Ok(None);
+    };
+    let alloc = rt.alloc();
+    let Ok(notation) = notation_by(alloc, wish.notation()) else {
+        return Ok(None);
+    };
+    let file = taken.bytes.program.as_slice();
+    let Some((form, asked)) = asked_of(alloc, &notation, wish, file) else {
+        return Ok(None);
+    };
+    let directory = taken.bytes.directory.as_slice();
+    let Some((number, page)) = page_for(alloc, unread, directory, form, asked.key()) else {
+        return Ok(None);
+    };
+    let part = Part {
+        directory,
+        len: unread.len,
+        number,
+        page: page.as_slice(),
+    };
+    let (kind, size) = (key_bytes_of(form), page_size_of(form));
+    let Some(quick) = work(alloc, &notation, asked, part, kind, size) else {
+        return Ok(None);
+    };
+    if !are_free(alloc, unread, number, quick.numbers.as_slice(), size) || !unread.is_guarded(rt) {
+        return Ok(None);
+    }
+    note_refusal_in(alloc, wish, taken, quick.text.as_slice(), reader);
+    end_quick(rt, taken, part, size, &quick, reader)?;
+    Ok(Some(Ending::Served(quick.status)))
+}
+
+// What a wish asks that may be done on the page of its key, and how its files are read.
+fn asked_of(
+    alloc: Global,
+    notation: &Notation<Global>,
+    wish: Wish<'_>,
+    file: &[u8],
+) -> Option<(Form, Asked)>
+    ensures { IfSome result (λ meant. IsMeant meant.0 file.now notation.now (λ given report. (input : Option (List ℕ)) → (service_in notation.now wish.entry given input).reports report) meant.1) }
+{
+    match wish {
+        Wish::Fetch(fetch) => meant(fetch.form, asked_by_fetch(alloc, notation, &fetch)),
+        Wish::Store(store) => meant(store.form, asked_by_store(alloc, notation, &store)),
+        Wish::Delete(delete) => meant(delete.form, asked_by_delete(alloc, notation, &delete)),
+        Wish::Run(run) => match asked_by_run(alloc, notation, &run, file) {
+            Ok(asked) => Some((run.form, asked)),
+            Err(_) => None,
+        },
+        _ => None,
+    }
+}
+
+// What is asked, where something is, beside how its files are read.
+fn meant(form: Form, asked: Result<Option<Asked>, ReportFault>) -> Option<(Form, Asked)>
+    ensures { IfSome result (λ meant. (meant.0 ≡ form) × (asked ≡ Ok (Some meant.1))) }
+{
+    match asked {
+        Ok(Some(asked)) => Some((form, asked)),
+        _ => None,
+    }
+}
+
+// The page to which a key leads, and its number. None where it cannot be read, or the file has no whole pages, or its last page has no
+// pairs or is that of other keys.
+fn page_for(
+    alloc: Global,
+    unread: &UnreadPages,
+    directory: &[u8],
+    form: Form,
+    key: &[u8],
+) -> Option<(u32, Vec<u8>)>
+    ensures long { IfSome result (λ read. length read.1.items ≡ page_bytes (page_size_of form.wide)) }
+    ensures whole { IfSome result (λ read. unread.now.len % page_bytes (page_size_of form.wide) ≡ 0) }
+    ensures past { IfSome result (λ read. (i : ℕ) → i < page_bytes (page_size_of form.wide) → unread.now.len ≤ read.0 * page_bytes (page_size_of form.wide) + i → get_or read.1.items i 0 ≡ 0) }
+{
+    let size = page_size_of(form);
+    if unread.len % size.bytes() != 0 {
+        return None;
+    }
+    let number = page_of(alloc, directory, key_bytes_of(form), key)?;
+    let page = unread.page(alloc, number, size).ok()?;
+    if !ends_with_pairs(alloc, unread, directory, form) {
+        return None;
+    }
+    Some((number, page))
+}
+
+// Whether the last page of a file has pairs that belong there, where it has one. So a directory that is gone, or that of another database,
+// is seen.
+fn ends_with_pairs(alloc: Global, unread: &UnreadPages, directory: &[u8], form: Form) -> bool {
+    let (kind, size) = (key_bytes_of(form), page_size_of(form));
+    let pages = unread.len / size.bytes();
+    if pages == 0 {
+        return true;
+    }
+    let Ok(last) = u32::try_from(pages - 1) else {
+        return false;
+    };
+    let Ok(page) = unread.page(alloc, last, size) else {
+        return false;
+    };
+    match Image::open_page(alloc, directory, last, page.as_slice(), kind, size) {
+        Ok(Some(image)) => image.page(last).is_some(),
+        _ => false,
+    }
+}
+
+// Whether the pages with these numbers are zeros, but for the one that was read.
+fn are_free(
+    alloc: Global,
+    unread: &UnreadPages,
+    number: u32,
+    numbers: &[u32],
+    size: PageSize,
+) -> bool {
+    for other in numbers {
+        if *other != number && !is_free(alloc, unread, *other, size) {
+            return false;
+        }
+    }
+    true
+}
+
+fn is_free(alloc: Global, unread: &UnreadPages, number: u32, size: PageSize) -> bool {
+    match unread.page(alloc, number, size) {
+        Ok(page) => page.iter().all(|byte| *byte == 0),
+        Err(_) => false,
+    }
+}
+
+// Keeps why the program of a run is refused.
+fn note_refusal_in<I: Read>(
+    alloc: Global,
+    wish: Wish<'_>,
+    taken: &Taken,
+    lines: &[u8],
+    reader: &mut Kept<I>,
+) {
+    if let Wish::Run(run) = wish
+        && is_refused(lines)
+    {
+        let file = taken.bytes.program.as_slice();
+        reader.refusal = refusal_of(alloc, file, run.image).unwrap_or(None);
+    }
+}
+
+// Saves what a command has come to where that is to be saved, and prints its lines.
+fn end_quick<R: Runtime<File = File> + AllocGlobal, I: Read>(
+    rt: &R,
+    taken: &Taken,
+    part: Part<'_>,
+    size: PageSize,
+    quick: &Quick,
+    reader: &mut Kept<I>,
+) -> Result<(), ServeFault>
+    requires { IfSome quick.now.plan (λ plan. IsPlan plan.items × Knows plan.items (part_pages part size, part.directory.now)) }
+{
+    let lines = quick.text.as_slice();
+    match (&quick.plan, &taken.held) {
+        (Some(plan), Some(held)) => {
+            let redo = held.redo.as_slice();
+            let old = FoundPart { part, size, redo };
+            let writer = &mut io::writer(rt);
+            let saved = save_part(rt, &held.names, &old, plan.as_slice(), lines, writer)?;
+            reader.is_pending = saved == Saved::Pending;
+            Ok(())
+        }
+        (Some(_), None) => Err(ServeFault::from(FilesFault::WriteFile)),
+        (None, _) => {
+            let mut writer = Watched::new(io::writer(rt));
+            let written = write_all(&mut writer, lines);
+            reader.has_no_reader = taken.held.is_none() && writer.has_no_reader();
+            match written {
+                Ok(()) => Ok(()),
+                Err(_) => Err(ServeFault::Write),
+            }
+        }
+    }
+}

@@ -1,0 +1,129 @@
+//! A part of a database: one page of it alone, and which pages it has.
+ghost use Rattle.std.specs.Prelude.{◌≡◌, ◌≢◌, ◌↔◌, ℕ, [], length, nat_eq, IsTrue, IfOk, IfSome, IfNone};
+ghost use Rattle.std.specs.List.{All, Contains};
+ghost use Rattle.std.specs.List.Sorted.{IsStrictlyIncreasing};
+ghost use Rattle.std.specs.HashMap.{IsUnique, keys};
+ghost use Rattle.sdbm_addr.specs.declared.PageSize.{PageSize};
+ghost use Rattle.sdbm_addr.specs.DirectoryFile.{SpellsDirectory};
+ghost use Rattle.sdbm_addr.specs.Layout.{Spells};
+ghost use Rattle.sdbm_addr.specs.Pairs.{page_bytes};
+ghost use Rattle.sdbm_addr.specs.Database.{IsDatabase, pairs_at, put_page};
+ghost use Rattle.sdbm_files.specs.Kept.{pages_of, AreSized};
+ghost use Rattle.sdbm_files.specs.Opened.{LeadTo, SpellsNoPart, pairs_of_page};
+
+use crate::Image;
+use crate::opening::{OpenFault, keys_lead, read_dir};
+use crate::pages::{Pages, replace_page};
+use crate::parsed::read_page;
+use sdbm_addr::{KeyBytes, PageSize};
+use sdbm_dir::Dir;
+use sdbm_page::SharedPage;
+use std::alloc::{AllocError, Allocator};
+use std::collections::HashMap;
+
+impl<A: Allocator + Copy> Image<A> {
+    /// The database that the bytes of `.dir` spell with one page alone, whose number and bytes are given. All other pages are without
+    /// pairs. A command that asks for one key needs no more. The work goes by the bytes that are given, whatever the number is. None
+    /// where no database has that directory and that page: the bytes of `.dir` are no directory, those of the page are no page, or a
+    /// key on it leads to another page.
+    ///
+    /// # Errors
+    /// `AllocError` where no memory is left for it.
+    pub fn open_page(
+        alloc: A,
+        dir: &[u8],
+        number: u32,
+        page: &[u8],
+        kind: KeyBytes,
+        size: PageSize,
+    ) -> Result<Option<Self>, AllocError>
+        requires { length page.now ≡ page_bytes size }
+        ensures directory { IfOk result (λ opened. IfSome opened (λ image. SpellsDirectory dir.now image.splits)) }
+        ensures kind { IfOk result (λ opened. IfSome opened (λ image. image.kind ≡ kind)) }
+        ensures size { IfOk result (λ opened. IfSome opened (λ image. image.size ≡ size)) }
+        ensures page { IfOk result (λ opened. IfSome opened (λ image. Spells size page.now (pairs_at image number))) }
+        ensures others { IfOk result (λ opened. IfSome opened (λ image. (n : ℕ) → n ≢ number → pairs_at image n ≡ [])) }
+        ensures database { IfOk result (λ opened. IfSome opened IsDatabase) }
+        ensures none { IfOk result (λ opened. IfNone opened (SpellsNoPart kind size dir.now number page.now)) }
+    {
+        let splits = match read_dir(alloc, dir) {
+            Ok(splits) => splits,
+            Err(OpenFault::Dir(_)) => return Ok(None),
+            Err(_no_memory) => return Err(AllocError),
+        };
+        let Ok(read) = read_page(alloc, page, size)? else {
+            return Ok(None);
+        };
+        if !leads_there(&splits, kind, number, &read) {
+            return Ok(None);
+        }
+        let pages = one_page(alloc, number, read)?;
+        Ok(Some(Image {
+            alloc,
+            kind,
+            size,
+            dir: splits,
+            pages,
+        }))
+    }
+
+    /// The numbers of the pages that have pairs, in ascending order.
+    ///
+    /// # Errors
+    /// `AllocError` where no memory is left for them.
+    pub fn page_numbers(&self) -> Result<Vec<u32, A>, AllocError>
+        ensures covers { IfOk result (λ numbers. (n : ℕ) → pairs_at self.now n ≢ [] → Contains numbers.items n) }
+        ensures only { IfOk result (λ numbers. All (λ (n : ℕ). pairs_at self.now n ≢ []) numbers.items) }
+        ensures ascending { IfOk result (λ numbers. IsStrictlyIncreasing numbers.items) }
+    {
+        let mut numbers = copy_numbers(self.alloc, &self.pages)?;
+        numbers.sort_unstable();
+        Ok(numbers)
+    }
+}
+
+// Whether each key of a page that may not be kept leads to this number.
+fn leads_there<A: Allocator>(
+    dir: &Dir<A>,
+    kind: KeyBytes,
+    number: u32,
+    page: &Option<SharedPage<A>>,
+) -> bool
+    ensures { IsTrue result ↔ LeadTo kind dir.now.splits number (pairs_of_page page.now) }
+{
+    match page {
+        None => true,
+        Some(page) => keys_lead(dir, kind, number as usize, page.page()),
+    }
+}
+
+// One page under its number.
+fn one_page<A: Allocator + Copy>(
+    alloc: A,
+    number: u32,
+    page: Option<SharedPage<A>>,
+) -> Result<Pages<A>, AllocError>
+    ensures pages { IfOk result (λ pages. pages_of pages.entries ≡ put_page (pages_of []) number (pairs_of_page page)) }
+    ensures sizes { IfOk result (λ pages. (size : PageSize) → IfSome page (λ content. content.size ≡ size) → AreSized size pages.entries) }
+{
+    let mut pages = HashMap::new(alloc);
+    let Some(page) = page else {
+        return Ok(pages);
+    };
+    match replace_page(&mut pages, number, page) {
+        Ok(()) => Ok(pages),
+        Err(_) => Err(AllocError),
+    }
+}
+
+// The numbers of all pages.
+fn copy_numbers<A: Allocator + Copy>(alloc: A, pages: &Pages<A>) -> Result<Vec<u32, A>, AllocError>
+    ensures copy { IfOk result (λ numbers. numbers.items ≡ keys pages.now) }
+    ensures unique { IsUnique nat_eq pages.now }
+{
+    let mut numbers = Vec::new(alloc);
+    for number in pages.keys() {
+        numbers.push(*number)?;
+    }
+    Ok(numbers)
+}

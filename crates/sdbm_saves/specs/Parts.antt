@@ -1,0 +1,47 @@
+-- A database of which one page was read, and what a save of it knows of its files.
+use Rattle.std.specs.Prelude.{◌≡◌, ◌≢◌, ℕ, ◌+◌, ◌-◌, ◌*◌, ◌/◌, ◌<◌, ◌≤◌, List, [], ◌⊎◌, length, get_or, Contains}
+use Rattle.sdbm_addr.specs.declared.PageSize.{PageSize}
+use Rattle.sdbm_addr.specs.Pairs.{page_bytes}
+use Rattle.sdbm_addr.specs.Layout.{bytes_of_page}
+use Rattle.sdbm_addr.specs.Database.{Database, IsDatabase, pairs_at}
+use Rattle.sdbm_saves.specs.declared.part.Part.{Part}
+use Rattle.sdbm_saves.specs.Disk.{written}
+
+-- page n of a file reads as these bytes, where a byte past the end of either counts as zero
+abbrev pub ReadsPage : PageSize → List ℕ → ℕ → List ℕ → Type 0
+ReadsPage size pag n page = (i : ℕ) → i < page_bytes size → get_or pag (n * page_bytes size + i) 0 ≡ get_or page i 0
+
+-- page n is the same in two files
+abbrev pub SamePage : PageSize → ℕ → List ℕ → List ℕ → Type 0
+SamePage size n old new = (i : ℕ) → i < page_bytes size → get_or new (n * page_bytes size + i) 0 ≡ get_or old (n * page_bytes size + i) 0
+
+-- the page that was read is this one, and the other pages with these numbers are zeros
+pub record ReadsSo (old : Part) (numbers : List ℕ) (size : PageSize) (pag : List ℕ) : Type 0 where
+  pub page : ReadsPage size pag old.number old.page.now
+  pub others : (n : ℕ) → Contains numbers n → n ≢ old.number → ReadsPage size pag n []
+
+-- a file that was read so: it is so long, the page is this one, and the other pages with these numbers are zeros
+pub record IsReadSo (old : Part) (numbers : List ℕ) (size : PageSize) (pag : List ℕ) : Type 0 where
+  pub long : length pag ≡ old.len
+  pub reads : ReadsSo old numbers size pag
+
+-- A database is the known one on the pages with these numbers, and the file spells it beside them, in the bytes that are written for it.
+pub record IsPartOf (old : Part) (numbers : List ℕ) (known db : Database) (pag : List ℕ) : Type 0 where
+  pub database : IsDatabase db
+  pub size : db.size ≡ known.size
+  pub splits : db.splits ≡ known.splits
+  pub read : IsReadSo old numbers known.size pag
+  pub named : (n : ℕ) → Contains numbers n → pairs_at db n ≡ pairs_at known n
+  pub rest : (n : ℕ) → (Contains numbers n → ⊥) → ReadsPage known.size pag n (bytes_of_page known.size (pairs_at db n))
+  pub past : (n : ℕ) → (Contains numbers n → ⊥) → old.len ≤ n * page_bytes known.size → pairs_at db n ≡ []
+  pub last : 0 < old.len → pairs_at db (old.len / page_bytes known.size - 1) ≢ []
+
+-- A file of so many bytes has the pages of a database with these numbers, and the others as another file has them.
+pub record HasPages (db : Database) (numbers : List ℕ) (whole : ℕ) (old new : List ℕ) : Type 0 where
+  pub long : length new ≡ whole
+  pub named : (n : ℕ) → Contains numbers n → (n + 1) * page_bytes db.size ≤ whole → ReadsPage db.size new n (bytes_of_page db.size (pairs_at db n))
+  pub others : (n : ℕ) → (Contains numbers n → ⊥) → (n + 1) * page_bytes db.size ≤ whole → SamePage db.size n old new
+
+-- a page is written, or it stood there already
+abbrev pub RenewsPage : ℕ → List ℕ → List ℕ → List ℕ → List ℕ → Type 0
+RenewsPage at was page old new = (new ≡ written at page old) ⊎ ((new ≡ old) × (was ≡ page))

@@ -132,6 +132,12 @@ fn peek<R: Files<File = File> + AllocGlobal>(
     names: &Names,
     guard: Guard,
 ) -> Option<(FileBytes, Vec<u8>, UnreadPages)> {
+    // What a pipe gives could not be read once more.
+    if let Some(file) = place.file
+        && is_special(rt, file)
+    {
+        return None;
+    }
     let redo = read_redo(rt, names).ok()?;
     if plan_in(redo.as_slice()).is_some() {
         return None;
@@ -139,6 +145,65 @@ fn peek<R: Files<File = File> + AllocGlobal>(
     let unread = UnreadPages::open(rt, names.pages.as_str(), place.pages_limit, guard)?;
     let bytes = read_files(rt, place, true).ok()?;
     Some((bytes, redo, unread))
+}
+
+/// Reads what a run that peeks has left unread of its files, under the lock that it has. A run that reads and found no lock waits for one
+/// that has come since.
+///
+/// # Errors
+/// As `take_files`.
+pub fn take_rest<R: Files<File = File> + Clock + AllocGlobal>(
+    rt: &R,
+    place: Place<'_>,
+    taken: Taken,
+    patience: Option<Duration>,
+) -> Result<Taken, FilesFault> {
+    let Taken {
+        bytes,
+        held,
+        unread,
+    } = taken;
+    let program = bytes.program;
+    let place = Place {
+        file: None,
+        ..place
+    };
+    if let Some(held) = held {
+        let Held { names, lock, .. } = held;
+        let found = read_again(rt, place, &names)?;
+        let bytes = FileBytes {
+            directory: found.directory,
+            pages: found.pages,
+            program,
+        };
+        let redo = found.redo;
+        return Ok(read_whole(bytes, Some(Held { names, redo, lock })));
+    }
+    let lock = match unread {
+        Some(unread) => unread.into_lock(),
+        None => None,
+    };
+    let read = read_rest(rt, place, lock, patience)?;
+    let bytes = FileBytes { program, ..read };
+    Ok(read_whole(bytes, None))
+}
+
+// Reads the files of a run that changes nothing, under its lock where it has one.
+fn read_rest<R: Files<File = File> + Clock + AllocGlobal>(
+    rt: &R,
+    place: Place<'_>,
+    lock: Option<File>,
+    patience: Option<Duration>,
+) -> Result<FileBytes, FilesFault> {
+    let Some(base) = place.base else {
+        return read_files(rt, place, false);
+    };
+    let base = resolve(rt, base)?;
+    let names = names_of(rt.alloc(), base.as_str())?;
+    match lock {
+        Some(lock) => read_held(rt, place, &names, Some(lock)),
+        None => read_under_lock(rt, place, &names, patience),
+    }
 }
 
 /// Reads the files of a database once more whose lock is held, by the names under which they were taken: links may lead elsewhere by now.

@@ -14,7 +14,9 @@ mod side;
 
 pub use absent::{has_no_files, is_special};
 pub use fault::FilesFault;
-pub use files::{Held, Taken, read_again, read_program, save_files, save_part, take_files};
+pub use files::{
+    Held, Taken, read_again, read_program, save_files, save_part, take_files, take_rest,
+};
 pub use host::{RealFiles, folder_of};
 pub use links::resolve;
 pub use names::{FileBytes, Names, Part, Place, Source, names_of, put, sources};

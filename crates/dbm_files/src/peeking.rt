@@ -12,7 +12,7 @@ use std::io::ErrorKind;
 use std::os::unix::fs::FileExt;
 use std::rt::Files;
 
-/// A `.pag` of which no page was read yet: it is open, or not there and without bytes.
+/// A `.pag` whose pages are read one by one: it is open, or not there and without bytes.
 #[derive(Drop)]
 pub struct UnreadPages {
     /// How many bytes it has.
@@ -66,7 +66,13 @@ impl UnreadPages {
             Err(_) => return None,
         };
         let len = match &file {
-            Some(file) => file.metadata().ok()?.len(),
+            Some(file) => {
+                let found = file.metadata().ok()?;
+                if !found.is_file() {
+                    return None;
+                }
+                found.len()
+            }
             None => 0,
         };
         if len > limit {
@@ -99,6 +105,15 @@ impl UnreadPages {
         match file.read_exact_at(page.as_mut_slice(), at as u64) {
             Ok(()) => Ok(page),
             Err(_) => Err(FilesFault::ReadFile),
+        }
+    }
+
+    /// The lock of a run that reads, where it has one.
+    pub fn into_lock(self) -> Option<File> {
+        let UnreadPages { guard, .. } = self;
+        match guard {
+            Guard::Reader(lock) => Some(lock),
+            Guard::Writer | Guard::Absent(_) => None,
         }
     }
 

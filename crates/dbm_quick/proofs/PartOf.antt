@@ -16,7 +16,8 @@ use Rattle.sdbm_page.proofs.Spelled.{spelled_once}
 use Rattle.sdbm_split.specs.Planned.{PageChange}
 use Rattle.sdbm_files.specs.Installed.{marked}
 use Rattle.sdbm_files.proofs.PagesInBytes.{page_reads}
-use Rattle.sdbm_files.proofs.WriteLemmas.{empty_page, long_page, length-first_pages, page_of_first, SpellsPages-first}
+use Rattle.sdbm_files.proofs.WriteLemmas.{empty_page, long_page, length-first_pages, page_of_first}
+use Rattle.sdbm_saves.specs.Saves.{AreFilesFor}
 use Rattle.sdbm_saves.specs.Parts.{ReadsPage, IsReadSo, IsPartOf}
 use Rattle.sdbm_saves.specs.declared.part.Part.{Part}
 use Rattle.store_moves.specs.Leads.{MayChange, changed_by}
@@ -75,6 +76,32 @@ zeros_spell size = record {
   page = bare_page size;
 }
 
+-- a page that reads as pairs are spelled has them
+pub read_is : (db : Database) (dir pag : List ℕ) → SpellsDatabase db dir pag → (n : ℕ) (page : List ℕ) (pairs : List Pair) → Spells db.size page pairs → ReadsPage db.size pag n page → pairs_at db n ≡ pairs
+read_is db dir pag s n page pairs spells reads = at (nat_lt n s.count) refl
+  where
+    at : (b : Bool) → nat_lt n s.count ≡ b → pairs_at db n ≡ pairs
+    at true is =
+        let there : Spells db.size (page_at db.size pag n) (pairs_at db n) = s.pages.pages n (ltb-true n s.count is) in
+        let same : page_at db.size pag n ≡ page =
+        ext_get_or 0 (page_at db.size pag n) page (there.long ∙ sym spells.long) (λ i below. page_reads db.size pag n i (omega (arith, below, there.long)) ∙ reads i (omega (arith, below, there.long))) in
+        spelled_once db.size page (pairs_at db n) pairs (subst (λ (l : List ℕ). Spells db.size l (pairs_at db n)) same there) spells
+    at false is =
+        let past : s.count ≤ n = ltb-false n s.count is in
+        let zeros : bytes_of_page db.size [] ≡ page =
+        ext_get_or 0 (bytes_of_page db.size []) page ((zeros_spell db.size).long ∙ sym spells.long)
+        (λ i below.
+        let inside : i < page_bytes db.size = omega (arith, below, (zeros_spell db.size).long) in
+        ap (λ (l : List ℕ). get_or l i 0) (empty_page db.size) ∙ get_or-replicate (page_bytes db.size) i 0 0 inside
+        ∙ sym (get_or_past pag (n * page_bytes db.size + i) 0 (past_end db.size (length pag) s.count n i s.pages.long past)) ∙ reads i inside) in
+        s.pages.past n past ∙ spelled_once db.size page [] pairs (subst (λ (l : List ℕ). Spells db.size l []) zeros (zeros_spell db.size)) spells
+
+-- so a page of zeros has none
+zeros_bare : (db : Database) (dir pag : List ℕ) → SpellsDatabase db dir pag → (n : ℕ) → ReadsPage db.size pag n [] → pairs_at db n ≡ []
+zeros_bare db dir pag s n reads =
+    read_is db dir pag s n (bytes_of_page db.size []) [] (zeros_spell db.size)
+    (λ i below. reads i below ∙ sym (ap (λ (l : List ℕ). get_or l i 0) (empty_page db.size) ∙ get_or-replicate (page_bytes db.size) i 0 0 below))
+
 module _ (db : Database) (ok : IsDatabase db) (pag : List ℕ) (written : ArePagBytes db pag) where
   long_pag : length pag ≡ written.count * page_bytes db.size
   long_pag = ap (λ (l : List ℕ). length l) written.is ∙ length-first_pages db ok written.count
@@ -95,36 +122,6 @@ module _ (db : Database) (ok : IsDatabase db) (pag : List ℕ) (written : ArePag
           get_or_past pag (n * page_bytes db.size + i) 0 (past_end db.size (length pag) written.count n i long_pag past)
           ∙ sym (get_or-replicate (page_bytes db.size) i 0 0 below)
           ∙ ap (λ (l : List ℕ). get_or l i 0) (sym (ap (bytes_of_page db.size) (written.counted.past n past) ∙ empty_page db.size))
-
-  -- so one that reads as these bytes has them
-  own_is : (n : ℕ) (page : List ℕ) → length page ≡ page_bytes db.size → ReadsPage db.size pag n page → page ≡ bytes_of_page db.size (pairs_at db n)
-  own_is n page long reads =
-      ext_get_or 0 page (bytes_of_page db.size (pairs_at db n)) (long ∙ sym (long_page db ok n)) (λ i below. sym (reads i (omega (arith, below, long))) ∙ own_reads n i (omega (arith, below, long)))
-
-  -- a page with pairs spells them
-  own_spells : (n : ℕ) → n < written.count → Spells db.size (bytes_of_page db.size (pairs_at db n)) (pairs_at db n)
-  own_spells n below =
-      subst (λ (l : List ℕ). Spells db.size l (pairs_at db n)) (ap (λ (l : List ℕ). page_at db.size l n) (refl) ∙ page_of_first db ok n written.count below)
-      ((SpellsPages-first db ok written.count written.counted).pages n below)
-
-  -- a page that reads as pairs are spelled has them
-  read_is : (n : ℕ) (page : List ℕ) (pairs : List Pair) → Spells db.size page pairs → ReadsPage db.size pag n page → pairs_at db n ≡ pairs
-  read_is n page pairs spells reads = at (nat_lt n written.count) refl
-    where
-      is : page ≡ bytes_of_page db.size (pairs_at db n)
-      is = own_is n page spells.long reads
-
-      at : (b : Bool) → nat_lt n written.count ≡ b → pairs_at db n ≡ pairs
-      at true t = spelled_once db.size page (pairs_at db n) pairs (subst (λ (l : List ℕ). Spells db.size l (pairs_at db n)) (sym is) (own_spells n (ltb-true n written.count t))) spells
-      at false f =
-          let none : pairs_at db n ≡ [] = written.counted.past n (ltb-false n written.count f) in
-          none ∙ spelled_once db.size page [] pairs (subst (λ (l : List ℕ). Spells db.size l []) (sym (is ∙ ap (bytes_of_page db.size) none)) (zeros_spell db.size)) spells
-
-  -- so a page of zeros has none
-  zeros_bare : (n : ℕ) → ReadsPage db.size pag n [] → pairs_at db n ≡ []
-  zeros_bare n reads =
-      read_is n (bytes_of_page db.size []) [] (zeros_spell db.size)
-      (λ i below. reads i below ∙ sym (ap (λ (l : List ℕ). get_or l i 0) (empty_page db.size) ∙ get_or-replicate (page_bytes db.size) i 0 0 below))
 
 -- ---- a change of the page that was read
 
@@ -149,17 +146,17 @@ pub alike_of : (key : List ℕ) (part : Part) (numbers : List ℕ) (image db : D
 alike_of key part numbers image db pag opened whole = record {
   kind = opened.kind_is;
   size = opened.size_is;
-  splits = SpellsDirectory-unique part.directory.now image.splits db.splits opened.directory whole.files.spelled.directory;
-  here = sym (read_is db whole.files.spelled.database pag whole.files.written.pages part.number part.page.now (pairs_at image part.number) opened.page whole.read.reads.page);
+  splits = SpellsDirectory-unique part.directory.now image.splits db.splits opened.directory whole.spells.directory;
+  here = sym (read_is db part.directory.now pag whole.spells part.number part.page.now (pairs_at image part.number) opened.page whole.read.reads.page);
 }
 
-module _ (key : List ℕ) (part : Part) (numbers : List ℕ) (image db after db' : Database) (pag : List ℕ) (opened : IsOpenedPart key part db.kind db.size image) (whole : AreWhole part numbers db pag)
+module _ (key : List ℕ) (part : Part) (numbers : List ℕ) (image db after db' : Database) (pag : List ℕ) (opened : IsOpenedPart key part db.kind db.size image) (whole : AreWhole part numbers db pag) (files : AreFilesFor db pag part.directory.now)
     (changed : IsChangedAlike part.number image db after db') (named : Contains numbers part.number) (covers : (n : ℕ) → pairs_at after n ≢ [] → Contains numbers n) (ends : EndsWithPairs part after) where
   abbrev ok : IsDatabase db
-  ok = whole.files.spelled.database
+  ok = whole.spells.database
 
   abbrev written : ArePagBytes db pag
-  written = whole.files.written.pages
+  written = files.written.pages
 
   alike : IsAlikeAt part.number image db
   alike = alike_of key part numbers image db pag opened whole
@@ -181,7 +178,7 @@ module _ (key : List ℕ) (part : Part) (numbers : List ℕ) (image db after db'
     where
       at : Same n part.number → pairs_at db' n ≡ pairs_at after n
       at (is_same is) = sym (after_is n (ap (pairs_at image) is ∙ alike.here ∙ sym (ap (pairs_at db) is)))
-      at (is_other apart) = sym (after_is n (opened.others n apart ∙ sym (zeros_bare db ok pag written n (whole.read.reads.others n there apart))))
+      at (is_other apart) = sym (after_is n (opened.others n apart ∙ sym (zeros_bare db part.directory.now pag whole.spells n (whole.read.reads.others n there apart))))
 
   -- a page without pairs that was not read is the same as before
   kept : (n : ℕ) → (Contains numbers n → ⊥) → pairs_at db' n ≡ pairs_at db n

@@ -48,7 +48,7 @@ module _ (n : Notation Global) (asked : Asked) (keyed : IsKeyed asked) (part : P
 
     both : ((report.database ≡ None) × Answers n asked db report) ⊎ IsReportedAlike part.number image db (Answers n asked db) report
     both =
-        alike_answers n image db whole.files.spelled.database part.number (alike_of key part numbers image db pag opened_in whole) asked keyed opened.place
+        alike_answers n image db whole.spells.database part.number (alike_of key part numbers image db pag opened_in whole) asked keyed opened.place
         (subst (λ (k : List ℕ). IsPlaceOf image k opened.place) key_is opened.leads) opened.here report told
 
     changed_in : (after : Database) (r : IsReportedAlike part.number image db (Answers n asked db) report) → report.database ≡ Some after → IsChangedAlike part.number image db after r.after
@@ -62,7 +62,7 @@ module _ (n : Notation Global) (asked : Asked) (keyed : IsKeyed asked) (part : P
     where
       at : ((report.database ≡ None) × Answers n asked db report) ⊎ IsReportedAlike part.number image db (Answers n asked db) report
           → ComesTo n asked (record { text = report.text; status = report.status; numbers = numbers; plan = None }) db pag part.directory.now
-      at (inl (is, answers)) = record { after = None; answers = subst (λ (o : Option Database). Answers n asked db (report_on report o)) is answers; saves = refl }
+      at (inl (is, answers)) = record { after = None; answers = subst (λ (o : Option Database). Answers n asked db (report_on report o)) is answers; saves = λ files. refl }
       at (inr r) = absurd (let clash : None ≡ Some r.part' = sym none ∙ r.is in cc)
 
   pub changed_so : (after : Database) → report.database ≡ Some after → (numbers : Vec ℕ) (plan : Option (Vec ℕ)) → IsPlannedPart part after numbers.items plan
@@ -72,13 +72,13 @@ module _ (n : Notation Global) (asked : Asked) (keyed : IsKeyed asked) (part : P
       at : ((report.database ≡ None) × Answers n asked db report) ⊎ IsReportedAlike part.number image db (Answers n asked db) report
           → ComesTo n asked (record { text = report.text; status = report.status; numbers = numbers; plan = plan }) db pag part.directory.now
       at (inl (none, answers)) = absurd (let clash : None ≡ Some after = sym none ∙ some in cc)
-      at (inr r) =
-          let is_part : IsPartOf part numbers.items after r.after pag =
-          part_of key part numbers.items image db after r.after pag (opened_in numbers.items db pag kinds sizes whole) whole (changed_in numbers.items db pag kinds sizes whole after r some) planned.named planned.covers planned.ends in
-          record {
-            after = Some r.after;
-            answers = r.reports;
-            saves = saves_by r.after pag part.directory.now plan
-                (some_of (λ p. (other : Database) (file : List ℕ) → IsPartOf part numbers.items after other file → IsSaving other p.items file part.directory.now) (λ p. IsSaving r.after p.items pag part.directory.now) plan (λ p saves. saves r.after pag is_part) planned.saves)
-                (λ no_plan. planned.none no_plan r.after pag is_part);
-          }
+      at (inr r) = record {
+        after = Some r.after;
+        answers = r.reports;
+        saves = λ files.
+            let is_part : IsPartOf part numbers.items after r.after pag =
+            part_of key part numbers.items image db after r.after pag (opened_in numbers.items db pag kinds sizes whole) whole files (changed_in numbers.items db pag kinds sizes whole after r some) planned.named planned.covers planned.ends in
+            saves_by r.after pag part.directory.now plan
+            (some_of (λ p. (other : Database) (file : List ℕ) → IsPartOf part numbers.items after other file → IsSaving other p.items file part.directory.now) (λ p. IsSaving r.after p.items pag part.directory.now) plan (λ p saves. saves r.after pag is_part) planned.saves)
+            (λ no_plan. planned.none no_plan r.after pag is_part);
+      }

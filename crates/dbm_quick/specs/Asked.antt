@@ -39,8 +39,7 @@ Answers n (asked.Fetch command raw) db report = FetchShows raw n db command repo
 Answers n (asked.Change command) db report = Changes n db command None report
 Answers n (asked.Run words program expect) db report = RunsImage n db words expect program.items report
 
--- It is what words ask, so far as they ask one thing: it is about a key, and what comes of it on the database of the files comes of the
--- words with these files.
+-- It is what words ask: it is about a key, and what comes of it on the database of the files comes of the words with these files.
 pub record IsMeant (form : Form) (file : List ℕ) (n : Notation Global) (comes : Given → Report → Type 0) (asked : Asked) : Type 0 where
   pub keyed : IsKeyed asked
   pub same : (given : Given) (db : Database) (report : Report) → given.file.items ≡ file → IsOpened form given db → Answers n asked db report → comes given report

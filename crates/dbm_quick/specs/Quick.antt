@@ -5,7 +5,7 @@ use Rattle.std.specs.declared.alloc.Global.{Global}
 use Rattle.sdbm_addr.specs.declared.KeyBytes.{KeyBytes}
 use Rattle.sdbm_addr.specs.declared.PageSize.{PageSize}
 use Rattle.sdbm_addr.specs.Database.{Database}
-use Rattle.sdbm_addr.specs.Files.{AreFiles, SpellsDatabase}
+use Rattle.sdbm_addr.specs.Files.{SpellsDatabase}
 use Rattle.sdbm_saves.specs.Saves.{AreFilesFor, IsSaving}
 use Rattle.sdbm_saves.specs.Parts.{IsReadSo}
 use Rattle.sdbm_saves.specs.declared.part.Part.{Part}
@@ -15,12 +15,13 @@ use Rattle.dbm_quick.specs.declared.asked.Asked.{Asked}
 use Rattle.dbm_quick.specs.declared.quick.Quick.{Quick}
 use Rattle.dbm_quick.specs.Asked.{Answers}
 
--- The whole files of a database, as a save leaves them, of which a part was read.
+-- the whole files of a database, of which a part was read
 pub record AreWhole (part : Part) (numbers : List ℕ) (db : Database) (pag : List ℕ) : Type 0 where
-  pub files : AreFilesFor db pag part.directory.now
+  pub spells : SpellsDatabase db part.directory.now pag
   pub read : IsReadSo part numbers db.size pag
 
--- a plan makes the files those of a database that is to be saved; where there is no plan they are so already
+-- A plan makes the files those of a database that is to be saved; where there is no plan they are so already. Where none is to be saved
+-- there is no plan.
 abbrev pub SavesAs : Option Database → Option (Vec ℕ) → List ℕ → List ℕ → Type 0
 SavesAs None plan pag dir = plan ≡ None
 SavesAs (Some after) None pag dir = AreFilesFor after pag dir
@@ -30,11 +31,12 @@ SavesAs (Some after) (Some plan) pag dir = IsSaving after plan.items pag dir
 abbrev pub report_with : Quick → Option Database → Report
 report_with quick after = record { text = quick.text; status = quick.status; database = after }
 
--- On the whole files it comes to the same text and the same status, and its plan makes them those of the database that is to be saved then.
+-- On the whole files it comes to the same text and the same status. Where a save has left them, its plan makes them those of the database
+-- that is to be saved then.
 pub record ComesTo (n : Notation Global) (asked : Asked) (quick : Quick) (db : Database) (pag dir : List ℕ) : Type 0 where
   pub after : Option Database
   pub answers : Answers n asked db (report_with quick after)
-  pub saves : SavesAs after quick.plan pag dir
+  pub saves : AreFilesFor db pag dir → SavesAs after quick.plan pag dir
 
 -- the same on all whole files of which this part was read
 abbrev pub IsQuick : Notation Global → Asked → Part → KeyBytes → PageSize → Quick → Type 0

@@ -14,9 +14,10 @@ use store_cmd::Command;
 /// What words ask that may be done on the page of a key.
 #[derive(Drop)]
 pub enum Asked {
-    /// A fetch, of which the bytes of the value alone may be printed.
+    /// A fetch.
     Fetch {
         command: Command<Global>,
+        /// The bytes of the value alone are printed.
         raw: bool,
     },
     /// A store or a delete.

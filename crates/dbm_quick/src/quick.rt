@@ -1,14 +1,9 @@
 //! What a command comes to on the page of its key, and the plan that saves it.
-ghost use Rattle.std.specs.Prelude.{◌≡◌, ◌≢◌, ◌≤◌, ◌*◌, ◌+◌, ◌%◌, ◌-◌, ◌/◌, ◌<◌, ℕ, List, [], length, Contains, IfOk, IfSome, true, false};
-ghost use Rattle.sdbm_addr.specs.Hash.{hash_of};
-ghost use Rattle.sdbm_addr.specs.Directory.{page_of};
-ghost use Rattle.sdbm_addr.specs.DirectoryFile.{SpellsDirectory};
-ghost use Rattle.sdbm_addr.specs.Layout.{Spells};
+ghost use Rattle.std.specs.Prelude.{◌≡◌, ◌≢◌, ◌%◌, ℕ, List, [], length, Contains, IfOk, IfSome, true, false};
 ghost use Rattle.sdbm_addr.specs.Pairs.{page_bytes};
-ghost use Rattle.sdbm_addr.specs.Database.{Database, IsDatabase, pairs_at};
+ghost use Rattle.sdbm_addr.specs.Database.{pairs_at};
 ghost use Rattle.sdbm_saves.specs.Redo.{IsPlan, Knows};
-ghost use Rattle.sdbm_saves.specs.Saves.{AreFilesFor, IsSaving};
-ghost use Rattle.sdbm_saves.specs.Parts.{IsPartOf, IsReadSo};
+ghost use Rattle.sdbm_saves.specs.Parts.{IsReadSo};
 ghost use Rattle.dbm_quick.specs.Asked.{IsKeyed, key_in};
 ghost use Rattle.dbm_quick.specs.Quick.{IsQuick};
 ghost use Rattle.dbm_quick.specs.Parts.{EndsWithPairs, IsOpenedPage, IsOpenedPart, IsPlannedPart};
@@ -16,26 +11,69 @@ ghost use Rattle.dbm_quick.specs.Parts.{EndsWithPairs, IsOpenedPage, IsOpenedPar
 use crate::asked::Asked;
 use dbm_reports::Report;
 use dbm_script::Notation;
-use sdbm_addr::{KeyBytes, PageSize, hash};
-use sdbm_dir::Dir;
+use sdbm_addr::{KeyBytes, PageSize, hash, mask};
 use sdbm_files::{Image, PAG_LIMIT};
+use sdbm_page::Page;
 use sdbm_saves::{Part, plan_part};
 use std::alloc::{AllocError, Global};
 
-/// What a command comes to: its text, its status, the plan that saves it where files are to be changed, and the numbers of the pages that
-/// the plan may write. Of these, all but the page that was read have to be zeros in the file.
+/// What a command comes to on the page of its key.
 #[derive(Drop)]
 pub struct Quick {
+    /// The text that is printed.
     pub text: Vec<u8>,
+    /// The status with which the run ends.
     pub status: u8,
+    /// The numbers of the pages that the plan may write. All but the page that was read have to be zeros in the file.
     pub numbers: Vec<u32>,
+    /// The plan that saves it, where files are to be changed.
     pub plan: Option<Vec<u8>>,
 }
 
-/// The number of the page to which a key leads in the directory of these bytes. None where they are no directory, or no memory is left.
-pub fn page_of(alloc: Global, directory: &[u8], kind: KeyBytes, key: &[u8]) -> Option<u32> {
-    let dir = Dir::from_bytes(alloc, directory).ok()?;
-    Some(dir.place(hash(key, kind)).page)
+/// The number of the page to which a key leads by the bits of a directory, which may be any bytes. It takes time in the depth of the place,
+/// and not in the bytes; `work` looks whether they are a directory, and whether it leads there.
+pub fn page_of(directory: &[u8], kind: KeyBytes, key: &[u8]) -> u32 {
+    let hash = hash(key, kind);
+    let mut bit = 0usize;
+    for depth in 0..31 {
+        if !is_set(directory, bit) {
+            return hash & mask(depth);
+        }
+        let side = if (hash >> depth) & 1 == 1 { 2 } else { 1 };
+        bit = bit.wrapping_mul(2).wrapping_add(side);
+    }
+    hash & mask(31)
+}
+
+// Whether a bit of some bytes is set. Past the end none is.
+fn is_set(bytes: &[u8], bit: usize) -> bool {
+    match bytes.get(bit / 8) {
+        Some(byte) => (*byte >> (bit % 8)) & 1 == 1,
+        None => false,
+    }
+}
+
+/// Whether a page has pairs, and all of its keys lead to it by the bits of a directory. So a directory is seen that is gone, or that of
+/// another database. Where no memory is left it is false.
+pub fn has_own_pairs(
+    alloc: Global,
+    directory: &[u8],
+    kind: KeyBytes,
+    size: PageSize,
+    number: u32,
+    page: &[u8],
+) -> bool
+    requires { length page.now ≡ page_bytes size }
+{
+    let Ok(page) = Page::from_bytes(alloc, page, size) else {
+        return false;
+    };
+    for i in 0..page.len() {
+        if page_of(directory, kind, page.key(i)) != number {
+            return false;
+        }
+    }
+    !page.is_empty()
 }
 
 /// Does a command on the page of its key, of which a database's files are known, and plans its save. None where that page does not tell

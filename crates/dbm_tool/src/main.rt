@@ -14,18 +14,17 @@ mod serve;
 use clock::{read_clock, read_time};
 use dbm_command_line::{Ask, Request, ToolFault, Wish, read_words};
 use dbm_faults::ServeFault;
-use dbm_files::{Held, Place, Saved, Taken, has_no_files, save_files};
-use dbm_programs::refusal_of;
+use dbm_files::{Held, Place, Saved, Taken, has_no_files, save_files, take_rest};
 use dbm_reports::{Given, NOT_RUN, ReportFault};
 use dbm_script::{Lines, read_number};
 use dbm_shell::serve_session;
 use dbm_telling::{
-    Counted, Kept, Told, Watched, Work, advise, has_bad_line, is_refused, note_absent, note_object,
+    Counted, Kept, Told, Watched, Work, advise, has_bad_line, note_absent, note_object,
     note_of_bad_lines, note_of_line_end, note_pending, note_refusal, note_that, take_and_tell,
     tell_saving,
 };
 use ending::{Ending, ending_of, exit_status};
-use quick::{may_be_quick, serve_quick};
+use quick::{may_be_quick, print_quick, refusal_in, serve_quick};
 use request::{given_of, place_asked, told_of, work_asked, work_of};
 use sdbm_saves::Found;
 use serve::serve;
@@ -164,13 +163,10 @@ fn serve_request<R: Runtime<File = File> + AllocGlobal + Threads + Wait + Sync, 
     if place.writes && io::writer(rt).write(&[]).is_err() {
         return Err(ServeFault::Write);
     }
-    let taking = Taking {
-        place,
-        patience,
-        verbose: access.verbose,
-    };
+    let taking = Taking { place, patience };
     let peeks = may_be_quick(&ask) && (access.quick || is_quick(rt));
-    let taken = taking.take(rt, peeks, work_asked(&ask))?;
+    let work = work_asked(&ask);
+    let taken = take_and_tell(rt, place, peeks, patience, access.verbose, work)?;
     match ask {
         Ask::Wish(wish) => serve_timed(rt, wish, taking, taken, reader),
         Ask::Session(session) => {
@@ -185,23 +181,6 @@ fn serve_request<R: Runtime<File = File> + AllocGlobal + Threads + Wait + Sync, 
 struct Taking<'a> {
     place: Place<'a>,
     patience: Option<Duration>,
-    verbose: bool,
-}
-
-impl Taking<'_> {
-    fn take<R: Runtime<File = File> + AllocGlobal>(
-        self,
-        rt: &R,
-        peeks: bool,
-        work: Option<Work>,
-    ) -> Result<Taken, ServeFault> {
-        let Taking {
-            place,
-            patience,
-            verbose,
-        } = self;
-        Ok(take_and_tell(rt, place, peeks, patience, verbose, work)?)
-    }
 }
 
 // Whether the environment asks for what the option `--quick` does.
@@ -259,12 +238,16 @@ fn serve_peeked<R: Runtime<File = File> + AllocGlobal + Threads + Wait + Sync, I
     if taken.unread.is_none() {
         return serve_taken(rt, wish, taken, reader);
     }
-    if let Some(ending) = serve_quick(rt, wish, &taken, reader)? {
-        return Ok(ending);
-    }
+    let Some(quick) = serve_quick(rt, wish, &taken, reader)? else {
+        let taken = take_rest(rt, taking.place, taken, taking.patience)?;
+        return serve_taken(rt, wish, taken, reader);
+    };
+    let reads = taken.held.is_none();
     drop(taken);
-    let taken = taking.take(rt, false, work_of(&wish))?;
-    serve_taken(rt, wish, taken, reader)
+    if quick.plan.is_none() {
+        print_quick(rt, reads, quick.text.as_slice(), reader)?;
+    }
+    Ok(Ending::Served(quick.status))
 }
 
 // The same wish, with the time of day for its lines where they may ask that.
@@ -315,11 +298,7 @@ fn serve_change<R: Runtime<File = File> + AllocGlobal + Threads + Wait + Sync, I
     let mut lines = Vec::new(alloc);
     let outcome = serve(rt, alloc, wish, &given, reader, &mut lines);
     reader.has_bad_line = has_bad_line(lines.as_slice());
-    if let Wish::Run(run) = wish
-        && is_refused(lines.as_slice())
-    {
-        reader.refusal = refusal_of(alloc, given.file.as_slice(), run.image).unwrap_or(None);
-    }
+    reader.refusal = refusal_in(alloc, wish, given.file.as_slice(), lines.as_slice());
     let old = Found {
         pages: given.pag,
         directory: given.dir,

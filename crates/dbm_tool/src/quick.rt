@@ -7,21 +7,20 @@ ghost use Rattle.dbm_reports.specs.Databases.{page_size_of};
 ghost use Rattle.dbm_quick.specs.Asked.{IsMeant};
 ghost use Rattle.dbm_tool.specs.Services.{service_in};
 
-use crate::ending::Ending;
 use byte_text::write_all;
 use dbm_command_line::{Ask, Wish};
 use dbm_faults::ServeFault;
-use dbm_files::{FilesFault, Saved, Taken, UnreadPages, save_part};
+use dbm_files::{Held, Saved, Taken, UnreadPages, save_part};
 use dbm_programs::refusal_of;
 use dbm_quick::{
-    Asked, Quick, asked_by_delete, asked_by_fetch, asked_by_run, asked_by_store, page_of, work,
+    Asked, Quick, asked_by_delete, asked_by_fetch, asked_by_run, asked_by_store, has_own_pairs,
+    page_of, work,
 };
 use dbm_reports::{ReportFault, key_bytes_of, notation_by, page_size_of};
 use dbm_script::Notation;
 use dbm_telling::{Kept, Watched, is_refused};
 use dbm_words::Form;
 use sdbm_addr::PageSize;
-use sdbm_files::Image;
 use sdbm_saves::{FoundPart, Part};
 use std::alloc::Global;
 use std::fs::File;
@@ -36,8 +35,9 @@ pub fn may_be_quick(ask: &Ask<'_>) -> bool {
     )
 }
 
-/// Serves a wish on the page of its key, of files that were taken but for `.pag`. None where that page does not tell what comes of it, and
-/// then nothing was written: all has to be read.
+/// Works a wish out on the page of its key, of files that were taken but for `.pag`, and saves and prints what it comes to where there is
+/// something to save. What only prints its lines is left to `print_quick`, once the lock is let go. None where that page does not tell what
+/// comes of it, and then nothing was written: all has to be read.
 ///
 /// # Errors
 /// `Write` where its lines could not be written, and those of a save.
@@ -46,7 +46,7 @@ pub fn serve_quick<R: Runtime<File = File> + AllocGlobal, I: Read>(
     wish: Wish<'_>,
     taken: &Taken,
     reader: &mut Kept<I>,
-) -> Result<Option<Ending>, ServeFault> {
+) -> Result<Option<Quick>, ServeFault> {
     let Some(unread) = &taken.unread else {
         return Ok(None);
     };
@@ -75,9 +75,55 @@ pub fn serve_quick<R: Runtime<File = File> + AllocGlobal, I: Read>(
     if !are_free(alloc, unread, number, quick.numbers.as_slice(), size) || !unread.is_guarded(rt) {
         return Ok(None);
     }
-    note_refusal_in(alloc, wish, taken, quick.text.as_slice(), reader);
-    end_quick(rt, taken, part, size, &quick, reader)?;
-    Ok(Some(Ending::Served(quick.status)))
+    if let Some(held) = &taken.held {
+        save_quick(rt, held, part, size, &quick, reader)?;
+    } else if quick.plan.is_some() {
+        return Ok(None);
+    }
+    reader.refusal = refusal_in(alloc, wish, file, quick.text.as_slice());
+    Ok(Some(quick))
+}
+
+// Saves what a command has come to, where there is something to save, and prints its lines then.
+fn save_quick<R: Runtime<File = File> + AllocGlobal, I: Read>(
+    rt: &R,
+    held: &Held,
+    part: Part<'_>,
+    size: PageSize,
+    quick: &Quick,
+    reader: &mut Kept<I>,
+) -> Result<(), ServeFault>
+    requires { IfSome quick.now.plan (λ plan. IsPlan plan.items × Knows plan.items (part_pages part size, part.directory.now)) }
+{
+    let Some(plan) = &quick.plan else {
+        return Ok(());
+    };
+    let redo = held.redo.as_slice();
+    let old = FoundPart { part, size, redo };
+    let lines = quick.text.as_slice();
+    let writer = &mut io::writer(rt);
+    let saved = save_part(rt, &held.names, &old, plan.as_slice(), lines, writer)?;
+    reader.is_pending = saved == Saved::Pending;
+    Ok(())
+}
+
+/// Prints the lines of a wish that saves nothing. Where it is one that reads, its reader may have gone.
+///
+/// # Errors
+/// `Write` where they could not be printed.
+pub fn print_quick<R: Runtime<File = File> + AllocGlobal, I: Read>(
+    rt: &R,
+    reads: bool,
+    lines: &[u8],
+    reader: &mut Kept<I>,
+) -> Result<(), ServeFault> {
+    let mut writer = Watched::new(io::writer(rt));
+    let written = write_all(&mut writer, lines);
+    reader.has_no_reader = reads && writer.has_no_reader();
+    match written {
+        Ok(()) => Ok(()),
+        Err(_) => Err(ServeFault::Write),
+    }
 }
 
 // What a wish asks that may be done on the page of its key, and how its files are read.
@@ -128,7 +174,7 @@ fn page_for(
     if unread.len % size.bytes() != 0 {
         return None;
     }
-    let number = page_of(alloc, directory, key_bytes_of(form), key)?;
+    let number = page_of(directory, key_bytes_of(form), key);
     let page = unread.page(alloc, number, size).ok()?;
     if !ends_with_pairs(alloc, unread, directory, form) {
         return None;
@@ -150,10 +196,7 @@ fn ends_with_pairs(alloc: Global, unread: &UnreadPages, directory: &[u8], form: 
     let Ok(page) = unread.page(alloc, last, size) else {
         return false;
     };
-    match Image::open_page(alloc, directory, last, page.as_slice(), kind, size) {
-        Ok(Some(image)) => image.page(last).is_some(),
-        _ => false,
-    }
+    has_own_pairs(alloc, directory, kind, size, last, page.as_slice())
 }
 
 // Whether the pages with these numbers are zeros, but for the one that was read.
@@ -179,52 +222,12 @@ fn is_free(alloc: Global, unread: &UnreadPages, number: u32, size: PageSize) -> 
     }
 }
 
-// Keeps why the program of a run is refused.
-fn note_refusal_in<I: Read>(
-    alloc: Global,
-    wish: Wish<'_>,
-    taken: &Taken,
-    lines: &[u8],
-    reader: &mut Kept<I>,
-) {
-    if let Wish::Run(run) = wish
-        && is_refused(lines)
-    {
-        let file = taken.bytes.program.as_slice();
-        reader.refusal = refusal_of(alloc, file, run.image).unwrap_or(None);
-    }
-}
-
-// Saves what a command has come to where that is to be saved, and prints its lines.
-fn end_quick<R: Runtime<File = File> + AllocGlobal, I: Read>(
-    rt: &R,
-    taken: &Taken,
-    part: Part<'_>,
-    size: PageSize,
-    quick: &Quick,
-    reader: &mut Kept<I>,
-) -> Result<(), ServeFault>
-    requires { IfSome quick.now.plan (λ plan. IsPlan plan.items × Knows plan.items (part_pages part size, part.directory.now)) }
-{
-    let lines = quick.text.as_slice();
-    match (&quick.plan, &taken.held) {
-        (Some(plan), Some(held)) => {
-            let redo = held.redo.as_slice();
-            let old = FoundPart { part, size, redo };
-            let writer = &mut io::writer(rt);
-            let saved = save_part(rt, &held.names, &old, plan.as_slice(), lines, writer)?;
-            reader.is_pending = saved == Saved::Pending;
-            Ok(())
+/// Why the program of a run is refused whose lines say that it is, where memory is left to say it.
+pub fn refusal_in(alloc: Global, wish: Wish<'_>, file: &[u8], lines: &[u8]) -> Option<String> {
+    match wish {
+        Wish::Run(run) if is_refused(lines) => {
+            refusal_of(alloc, file, run.image).unwrap_or(None)
         }
-        (Some(_), None) => Err(ServeFault::from(FilesFault::WriteFile)),
-        (None, _) => {
-            let mut writer = Watched::new(io::writer(rt));
-            let written = write_all(&mut writer, lines);
-            reader.has_no_reader = taken.held.is_none() && writer.has_no_reader();
-            match written {
-                Ok(()) => Ok(()),
-                Err(_) => Err(ServeFault::Write),
-            }
-        }
+        _ => None,
     }
 }

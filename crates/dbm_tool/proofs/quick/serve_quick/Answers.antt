@@ -2,5 +2,5 @@ use Rattle.std.proofs.Common.{rules}
 use Rattle.dbm_tool.proofs.QuickParts.{knows_part}
 use Rattle.dbm_tool.proofs.quick.serve_quick.Goals as goal
 
-pub end_quick-requires : goal.end_quick-requires
-end_quick-requires g c = knows_part _ _ _ _ (search rules) (search rules) c.in-Some-work.ensures.plan
+pub save_quick-requires : goal.save_quick-requires
+save_quick-requires g c = knows_part _ _ _ _ (search rules) (search rules) c.in-Some-work.ensures.plan

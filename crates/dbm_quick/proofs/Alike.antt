@@ -5,12 +5,11 @@ use Rattle.sdbm_addr.specs.declared.KeyBytes.{KeyBytes}
 use Rattle.sdbm_addr.specs.declared.PageSize.{PageSize}
 use Rattle.sdbm_addr.specs.Database.{Database, IsDatabase}
 use Rattle.sdbm_dir.specs.declared.Place.{Place}
-use Rattle.sdbm_split.specs.Planned.{PageChange}
 use Rattle.store_cmd.specs.declared.Command.{Command}
 use Rattle.store_cmd.specs.declared.Command.TheVariants as command
 use Rattle.store_cmd.specs.Command.{IsSmall, IsSizeFault}
 use Rattle.store_moves.specs.Works.{key_of, HasKey}
-use Rattle.store_moves.specs.Leads.{IsPlaceOf, changed_by}
+use Rattle.store_moves.specs.Leads.{IsPlaceOf}
 use Rattle.store_moves.proofs.Parts.{IsAlikeAt, IsChangedAlike, acts_alike, unchanged_alike}
 use Rattle.dbm_script.specs.declared.notations.Notation.{Notation}
 use Rattle.dbm_script.specs.declared.answers.Answer.{Answer}
@@ -23,6 +22,7 @@ use Rattle.dbm_runs.specs.Running.{RunsImage}
 use Rattle.dbm_quick.specs.declared.asked.Asked.{Asked}
 use Rattle.dbm_quick.specs.declared.asked.Asked.TheVariants as asked
 use Rattle.dbm_quick.specs.Asked.{Answers, IsKeyed, key_in}
+use Rattle.dbm_quick.proofs.PartOf.{changed_kind, changed_size}
 
 -- what is printed, with another database
 abbrev pub report_on : Report → Option Database → Report
@@ -41,14 +41,6 @@ pub record IsReportedAlike (number : ℕ) (part db : Database) (answers : Report
   pub after : Database
   pub reports : answers (report_on report (Some after))
   pub changed : IsChangedAlike number part db part' after
-
-changed_kind : (number : ℕ) (db : Database) (change : Option PageChange) → (changed_by db number change).kind ≡ db.kind
-changed_kind number db None = refl
-changed_kind number db (Some change) = refl
-
-changed_size : (number : ℕ) (db : Database) (change : Option PageChange) → (changed_by db number change).size ≡ db.size
-changed_size number db None = refl
-changed_size number db (Some change) = refl
 
 module _ (n : Notation Global) (part db : Database) (ok : IsDatabase db) (number : ℕ) (alike : IsAlikeAt number part db) where
   answered : (command : Command Global) → HasKey command → (place : Place) → IsPlaceOf part (key_of command) place → place.page ≡ number

@@ -125,11 +125,11 @@ module _ (db : Database) (ok : IsDatabase db) (pag : List ℕ) (written : ArePag
 
 -- ---- a change of the page that was read
 
-changed_kind : (number : ℕ) (db : Database) (change : Option PageChange) → (changed_by db number change).kind ≡ db.kind
+pub changed_kind : (number : ℕ) (db : Database) (change : Option PageChange) → (changed_by db number change).kind ≡ db.kind
 changed_kind number db None = refl
 changed_kind number db (Some change) = refl
 
-changed_size : (number : ℕ) (db : Database) (change : Option PageChange) → (changed_by db number change).size ≡ db.size
+pub changed_size : (number : ℕ) (db : Database) (change : Option PageChange) → (changed_by db number change).size ≡ db.size
 changed_size number db None = refl
 changed_size number db (Some change) = refl
 
@@ -144,10 +144,10 @@ changed_database number db ok (Some change) may = may.database
 -- the part that was opened, and the whole of which it is one
 pub alike_of : (key : List ℕ) (part : Part) (numbers : List ℕ) (image db : Database) (pag : List ℕ) → IsOpenedPart key part db.kind db.size image → AreWhole part numbers db pag → IsAlikeAt part.number image db
 alike_of key part numbers image db pag opened whole = record {
-  kind = opened.kind_is;
-  size = opened.size_is;
-  splits = SpellsDirectory-unique part.directory.now image.splits db.splits opened.directory whole.spells.directory;
-  here = sym (read_is db part.directory.now pag whole.spells part.number part.page.now (pairs_at image part.number) opened.page whole.read.reads.page);
+  kind = opened.known.kind_is;
+  size = opened.known.size_is;
+  splits = SpellsDirectory-unique part.directory.now image.splits db.splits opened.known.directory whole.spells.directory;
+  here = sym (read_is db part.directory.now pag whole.spells part.number part.page.now (pairs_at image part.number) opened.known.page whole.read.reads.page);
 }
 
 module _ (key : List ℕ) (part : Part) (numbers : List ℕ) (image db after db' : Database) (pag : List ℕ) (opened : IsOpenedPart key part db.kind db.size image) (whole : AreWhole part numbers db pag) (files : AreFilesFor db pag part.directory.now)
@@ -162,13 +162,10 @@ module _ (key : List ℕ) (part : Part) (numbers : List ℕ) (image db after db'
   alike = alike_of key part numbers image db pag opened whole
 
   sizes : after.size ≡ db.size
-  sizes = ap (λ (d : Database). d.size) changed.part_is ∙ changed_size part.number image changed.change ∙ opened.size_is
+  sizes = ap (λ (d : Database). d.size) changed.part_is ∙ changed_size part.number image changed.change ∙ opened.known.size_is
 
-  pub size_kept : db'.size ≡ db.size
+  size_kept : db'.size ≡ db.size
   size_kept = ap (λ (d : Database). d.size) changed.db_is ∙ changed_size part.number db changed.change
-
-  pub kind_kept : db'.kind ≡ db.kind
-  kind_kept = ap (λ (d : Database). d.kind) changed.db_is ∙ changed_kind part.number db changed.change
 
   after_is : (n : ℕ) → pairs_at image n ≡ pairs_at db n → pairs_at after n ≡ pairs_at db' n
   after_is n same = pairs_alike part.number image db after db' ok alike changed n same
@@ -178,7 +175,7 @@ module _ (key : List ℕ) (part : Part) (numbers : List ℕ) (image db after db'
     where
       at : Same n part.number → pairs_at db' n ≡ pairs_at after n
       at (is_same is) = sym (after_is n (ap (pairs_at image) is ∙ alike.here ∙ sym (ap (pairs_at db) is)))
-      at (is_other apart) = sym (after_is n (opened.others n apart ∙ sym (zeros_bare db part.directory.now pag whole.spells n (whole.read.reads.others n there apart))))
+      at (is_other apart) = sym (after_is n (opened.known.others n apart ∙ sym (zeros_bare db part.directory.now pag whole.spells n (whole.read.reads.others n there apart))))
 
   -- a page without pairs that was not read is the same as before
   kept : (n : ℕ) → (Contains numbers n → ⊥) → pairs_at db' n ≡ pairs_at db n
@@ -191,7 +188,7 @@ module _ (key : List ℕ) (part : Part) (numbers : List ℕ) (image db after db'
       none = bare (pairs_at after n) (λ some. not (covers n some))
 
       at : (pairs : List Pair) → pairs_at db n ≡ pairs → pairs_at db' n ≡ pairs_at db n
-      at [] is = sym (after_is n (opened.others n elsewhere ∙ sym is)) ∙ none ∙ sym is
+      at [] is = sym (after_is n (opened.known.others n elsewhere ∙ sym is)) ∙ none ∙ sym is
       at (e ∷ es) is = pairs_beside part.number image db after db' ok alike changed n elsewhere e es is
 
   pages_of_part : part.len ≡ written.count * page_bytes db.size

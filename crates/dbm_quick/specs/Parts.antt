@@ -25,11 +25,7 @@ pub record IsOpenedPage (part : Part) (kind : KeyBytes) (size : PageSize) (db : 
 -- the same, where a key leads to that page
 pub record IsOpenedPart (key : List ℕ) (part : Part) (kind : KeyBytes) (size : PageSize) (db : Database) : Type 0 where
   pub database : IsDatabase db
-  pub kind_is : db.kind ≡ kind
-  pub size_is : db.size ≡ size
-  pub directory : SpellsDirectory part.directory.now db.splits
-  pub page : Spells size part.page.now (pairs_at db part.number)
-  pub others : (n : ℕ) → n ≢ part.number → pairs_at db n ≡ []
+  pub known : IsOpenedPage part kind size db
   pub place : Place
   pub leads : IsPlaceOf db key place
   pub here : place.page ≡ part.number

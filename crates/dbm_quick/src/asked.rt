@@ -82,7 +82,7 @@ fn has_key(command: &Command<Global>) -> bool
     }
 }
 
-/// What a fetch asks.
+/// What a fetch asks. It is never None: such words name a key, but no clause says so.
 ///
 /// # Errors
 /// `BadHex`, or as text `BadText`, where the key is no bytes, and `NoMemory`.
@@ -128,7 +128,7 @@ pub fn asked_by_store(
     Ok(Some(Asked::Change { command }))
 }
 
-/// What a delete asks.
+/// What a delete asks. It is never None: such words name a key, but no clause says so.
 ///
 /// # Errors
 /// `BadHex`, or as text `BadText`, where the key is no bytes, and `NoMemory`.

@@ -19,7 +19,7 @@ use dbm_reports::{Given, NOT_RUN, ReportFault};
 use dbm_script::{Lines, read_number};
 use dbm_shell::serve_session;
 use dbm_telling::{
-    Counted, Kept, Told, Watched, Work, advise, has_bad_line, note_absent, note_object,
+    Counted, Kept, Told, Watched, advise, has_bad_line, note_absent, note_object,
     note_of_bad_lines, note_of_line_end, note_pending, note_refusal, note_that, take_and_tell,
     tell_saving,
 };

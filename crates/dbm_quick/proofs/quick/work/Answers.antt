@@ -19,5 +19,5 @@ returns-clause-plan c =
     let part = c.args.part in
     let numbers : List ℕ = c.in_ok-numbers.numbers.items in
     let size : c.in-Some.after.size ≡ c.args.size =
-    size_after c.args.notation.now c.args.asked c.in_ok-image.image c.in-Ok.report c.in-Ok.ensures c.in-Some.after c.in-Some.is ∙ c.in_ok-image.ensures.size_is in
+    size_after c.args.notation.now c.args.asked c.in_ok-image.image c.in-Ok.report c.in-Ok.ensures c.in-Some.after c.in-Some.is ∙ c.in_ok-image.ensures.known.size_is in
     subst (λ (z : PageSize). IfSome c.in_ok-numbers.plan (λ p. IsPlan p.items × ((pag : List ℕ) → IsReadSo part numbers z pag → Knows p.items (pag, part.directory.now)))) size c.in_ok-numbers.ensures.knows

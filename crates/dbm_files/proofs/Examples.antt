@@ -1,4 +1,5 @@
 -- What the definitions of files make of runs that are written out.
+use Rattle.sdbm_addr.specs.declared.PageSize.TheVariants.{Small}
 use Rattle.std.proofs.Common.{◌≡◌, ℕ, Bool, List, [], ◌∷◌, Option, Some, None, Bor, true, false, refl, codes}
 use Rattle.dbm_files.specs.Names.{FileRead, files_read}
 use Rattle.dbm_files.specs.declared.names.Part.TheVariants.{Dir, Pag, Program}
@@ -14,7 +15,7 @@ abbrev program : FileRead
 program = record { part = Program; name = codes "counter.s"; limit = 1048576; may_be_absent = false }
 
 abbrev place : Option (Bor (List ℕ)) → Option (Bor (List ℕ)) → Bool → Place
-place base file writes = record { base = base; file = file; writes = writes; pages_limit = 1024 }
+place base file writes = record { base = base; file = file; writes = writes; pages_limit = 1024; page_size = Small }
 
 pub database_has_both : (base : Bor (List ℕ)) (writes : Bool) → base.now ≡ codes "db" → files_read (place (Some base) None writes) ≡ dir ∷ pag ∷ []
 database_has_both base writes h = rw h refl

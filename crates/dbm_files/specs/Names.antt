@@ -44,10 +44,10 @@ named_files limit None None = []
 abbrev pub files_read : Place → List FileRead
 files_read place = named_files place.pages_limit (option_map (λ text. text.now) place.base) (option_map (λ text. text.now) place.file)
 
--- the bytes of one file, beside those that are there
+-- the bytes of one file, beside those that are there; pages are read piece by piece
 abbrev pub with_part : Part → Vec ℕ → FileBytes → FileBytes
 with_part Dir bytes read = record read { directory = bytes }
-with_part Pag bytes read = record read { pages = bytes }
+with_part Pag bytes read = read
 with_part Program bytes read = record read { program = bytes }
 
 -- the names of the files of a base that are written, and of the one on which its runs wait for each other

@@ -1,4 +1,6 @@
 //! The files of a run, read and written.
+ghost use Rattle.std.specs.Prelude.{◌≡◌, ◌%◌, length, true, IfOk};
+ghost use Rattle.sdbm_addr.specs.Pairs.{page_bytes};
 ghost use Rattle.sdbm_saves.specs.Redo.{files, CanEnd, IsPlan, Knows};
 ghost use Rattle.sdbm_saves.specs.Recording.{image_of, part_image};
 
@@ -13,9 +15,10 @@ use crate::names::{
 use crate::peeking::{Guard, UnreadPages};
 use crate::saving::{Change, Saved, save_change, save_plan};
 use crate::side::{Side, SideFault, open_beside, side_fault};
-use sdbm_files::Image;
+use sdbm_addr::PageSize;
+use sdbm_files::{Image, ReadPages};
 use sdbm_saves::{
-    CallLog, Contents, Found, FoundPart, Recorded, Unknown, can_end, lengths_after, plan_in,
+    CallLog, Found, FoundPart, FoundRead, Recorded, Unknown, can_end, lengths_after, plan_in,
     read_through, recover,
 };
 use std::alloc::Global;
@@ -28,6 +31,9 @@ use std::time::{Clock, Duration};
 /// A redo file of the program has at most this many bytes: those of both files at their limits, new and old, in blocks of 1,024 with
 /// nine bytes before each, behind twenty-nine.
 const REDO_LIMIT: u64 = 2_696_151_069;
+
+/// How many bytes of BASE.pag are read at once: whole pages of either size.
+const PIECE: usize = 262_144;
 
 /// What was read for a run, and where it may change its database, what is held for that.
 #[derive(Drop)]
@@ -170,13 +176,8 @@ pub fn take_rest<R: Files<File = File> + Clock + AllocGlobal>(
     };
     if let Some(held) = held {
         let Held { names, lock, .. } = held;
-        let found = read_again(rt, place, &names)?;
-        let bytes = FileBytes {
-            directory: found.directory,
-            pages: found.pages,
-            program,
-        };
-        let redo = found.redo;
+        let (read, redo) = read_again(rt, place, &names)?;
+        let bytes = FileBytes { program, ..read };
         return Ok(read_whole(bytes, Some(Held { names, redo, lock })));
     }
     let lock = match unread {
@@ -207,6 +208,7 @@ fn read_rest<R: Files<File = File> + Clock + AllocGlobal>(
 }
 
 /// Reads the files of a database once more whose lock is held, by the names under which they were taken: links may lead elsewhere by now.
+/// Beside them it gives the bytes of the redo file, which is not marked.
 ///
 /// # Errors
 /// As `take_files`, but for its lock.
@@ -214,17 +216,12 @@ pub fn read_again<R: Files<File = File> + AllocGlobal>(
     rt: &R,
     place: Place<'_>,
     names: &Names,
-) -> Result<Found, FilesFault> {
+) -> Result<(FileBytes, Vec<u8>), FilesFault> {
     let place = Place {
         base: names.pages.as_str().strip_suffix(".pag"),
         ..place
     };
-    let (bytes, redo) = read_database(rt, place, names)?;
-    Ok(Found {
-        pages: bytes.pages,
-        directory: bytes.directory,
-        redo,
-    })
+    read_database(rt, place, names)
 }
 
 // Reads the files of a run that changes nothing, under a lock where there is one.
@@ -270,12 +267,13 @@ fn read_database<R: Files<File = File> + AllocGlobal>(
     names: &Names,
 ) -> Result<(FileBytes, Vec<u8>), FilesFault> {
     let redo = read_redo(rt, names)?;
-    let read = read_files(rt, place, false)?;
     if plan_in(redo.as_slice()).is_none() {
-        return Ok((read, redo));
+        return Ok((read_files(rt, place, false)?, redo));
     }
+    let read = read_files(rt, place, true)?;
+    let pages = read_file(rt, names.pages.as_str(), place.pages_limit, true)?;
     let found = Found {
-        pages: read.pages,
+        pages,
         directory: read.directory,
         redo,
     };
@@ -292,7 +290,7 @@ fn read_database<R: Files<File = File> + AllocGlobal>(
     if keep_plan(rt, names).is_err() {
         return Err(FilesFault::ReadFile);
     }
-    lay_over(rt.alloc(), &found, read.program)
+    lay_over(rt.alloc(), place, &found, read.program)
 }
 
 // Whether a file would be longer than it may be, once the save is ended that was cut off.
@@ -323,15 +321,18 @@ fn keep_plan<R: Files<File = File>>(rt: &R, names: &Names) -> io::Result<()> {
 // What files stand for behind whose marked plan a save was cut off, beside the bytes of a program.
 fn lay_over(
     alloc: Global,
+    place: Place<'_>,
     found: &Found,
     program: Vec<u8>,
 ) -> Result<(FileBytes, Vec<u8>), FilesFault>
     requires { CanEnd (image_of found.now) }
 {
     let stands = read_through(alloc, found)?;
+    let mut pages = ReadPages::new(alloc, place.page_size);
+    pages.push(stands.pages.as_slice())?;
     let read = FileBytes {
         directory: stands.directory,
-        pages: stands.pages,
+        pages,
         program,
     };
     Ok((read, stands.redo))
@@ -378,13 +379,16 @@ fn read_files<R: Files + AllocGlobal>(
     let alloc = rt.alloc();
     let mut read = FileBytes {
         directory: Vec::new(alloc),
-        pages: Vec::new(alloc),
+        pages: ReadPages::new(alloc, place.page_size),
         program: Vec::new(alloc),
     };
     for source in sources(alloc, place)? {
-        if !peeks || source.part != Part::Pag {
-            let bytes = read_file(rt, source.name.as_str(), source.limit, source.may_be_absent)?;
+        let name = source.name.as_str();
+        if source.part != Part::Pag {
+            let bytes = read_file(rt, name, source.limit, source.may_be_absent)?;
             put(&mut read, source.part, bytes);
+        } else if !peeks {
+            read.pages = read_pages(rt, name, source.limit, place.page_size)?;
         }
     }
     Ok(read)
@@ -397,16 +401,64 @@ fn read_file<R: Files + AllocGlobal>(
     limit: u64,
     may_be_absent: bool,
 ) -> Result<Vec<u8>, FilesFault> {
+    match open_file(rt, name, may_be_absent)? {
+        Some(file) => read_all(rt.alloc(), file, limit),
+        None => Ok(Vec::new(rt.alloc())),
+    }
+}
+
+// A file, opened to be read; none where it is not there and may be missing.
+fn open_file<R: Files>(
+    rt: &R,
+    name: &str,
+    may_be_absent: bool,
+) -> Result<Option<R::File>, FilesFault> {
     if may_be_absent && is_special(rt, name) {
         return Err(FilesFault::ReadFile);
     }
     match fs::open(rt, name) {
-        Ok(file) => read_all(rt.alloc(), file, limit),
-        Err(error) if may_be_absent && error.kind() == ErrorKind::NotFound => {
-            Ok(Vec::new(rt.alloc()))
-        }
+        Ok(file) => Ok(Some(file)),
+        Err(error) if may_be_absent && error.kind() == ErrorKind::NotFound => Ok(None),
         Err(_) => Err(FilesFault::ReadFile),
     }
+}
+
+// The pages of a file that may be missing, read piece by piece.
+fn read_pages<R: Files + AllocGlobal>(
+    rt: &R,
+    name: &str,
+    limit: u64,
+    size: PageSize,
+) -> Result<ReadPages<Global>, FilesFault> {
+    let mut pages = ReadPages::new(rt.alloc(), size);
+    let Some(mut file) = open_file(rt, name, true)? else {
+        return Ok(pages);
+    };
+    let mut piece = Vec::with_capacity(rt.alloc(), PIECE)?;
+    for _ in 0..limit / PIECE as u64 + 1 {
+        piece.clear();
+        read_up_to(&mut file, PIECE as u64, &mut piece)?;
+        if !push_piece(&mut pages, piece.as_slice(), limit)? {
+            return Ok(pages);
+        }
+    }
+    Err(FilesFault::FileTooLong)
+}
+
+// Reads a piece behind the others, and says whether more may stand behind it: a piece that is not full is the last.
+fn push_piece(pages: &mut ReadPages<Global>, piece: &[u8], limit: u64) -> Result<bool, FilesFault>
+    requires { length pages.old.bytes % page_bytes pages.old.size ≡ 0 }
+    ensures { IfOk result (λ more. more ≡ true → length pages.new.bytes % page_bytes pages.new.size ≡ 0) }
+{
+    let total = (pages.len() as u64).saturating_add(piece.len() as u64);
+    if total > limit.min(i64::MAX as u64) {
+        return Err(FilesFault::FileTooLong);
+    }
+    pages.push(piece)?;
+    if piece.len() != PIECE {
+        return Ok(false);
+    }
+    Ok(pages.is_whole())
 }
 
 /// The bytes of a program's file, which is neither a FIFO nor a device.
@@ -422,16 +474,22 @@ pub fn read_program<R: Files + AllocGlobal>(rt: &R, name: &str) -> Result<Vec<u8
 
 // All bytes of a file that is open.
 fn read_all<F: Read + Drop>(alloc: Global, file: F, limit: u64) -> Result<Vec<u8>, FilesFault> {
+    let mut file = file;
     let mut bytes = Vec::new(alloc);
-    match file.take(limit.saturating_add(1)).read_to_end(&mut bytes) {
-        Ok(_) => (),
-        Err(error) if error.kind() == ErrorKind::OutOfMemory => return Err(FilesFault::NoMemory),
-        Err(_) => return Err(FilesFault::ReadFile),
-    }
+    read_up_to(&mut file, limit.saturating_add(1), &mut bytes)?;
     if bytes.len() as u64 > limit {
         return Err(FilesFault::FileTooLong);
     }
     Ok(bytes)
+}
+
+// Reads the next bytes of a file, at most so many, behind others.
+fn read_up_to<F: Read>(file: &mut F, most: u64, bytes: &mut Vec<u8>) -> Result<(), FilesFault> {
+    match file.take(most).read_to_end(bytes) {
+        Ok(_) => Ok(()),
+        Err(error) if error.kind() == ErrorKind::OutOfMemory => Err(FilesFault::NoMemory),
+        Err(_) => Err(FilesFault::ReadFile),
+    }
 }
 
 /// Saves what a run has made of a database, and then prints its lines. The files are written in place, by a redo file: a crash at any
@@ -443,24 +501,21 @@ fn read_all<F: Read + Drop>(alloc: Global, file: F, limit: u64) -> Result<Vec<u8
 pub fn save_files<R: Files<File = File> + AllocGlobal, W: Write>(
     rt: &R,
     names: &Names,
-    old: &Found,
+    old: &FoundRead<'_>,
     new: &Image<Global>,
     lines: &[u8],
     writer: &mut W,
 ) -> Result<Saved, FilesFault> {
     let change = Change {
-        before: Contents {
-            pages: old.pages.as_slice(),
-            directory: old.directory.as_slice(),
-        },
-        redo: old.redo.as_slice(),
+        before: old.files,
+        redo: old.redo,
         after: new,
     };
     if plan_in(change.redo).is_some() {
         return Err(FilesFault::BadRedo);
     }
     let files = RealFiles::new(rt, names, CallLog::new(rt.alloc())?);
-    let mut disk = Recorded::<RealFiles<'_, R>, Unknown, Found>::new(files, old);
+    let mut disk = Recorded::<RealFiles<'_, R>, Unknown, FoundRead<'_>>::new(files, old);
     let saved = save_change(rt.alloc(), &mut disk, change, lines, writer);
     forget_failed(rt, names, &saved);
     saved

@@ -3,6 +3,8 @@ ghost use Rattle.std.specs.Prelude.{◌≡◌, ◌++◌, IfOk, codes, map, strin
 ghost use Rattle.dbm_files.specs.Names.{AreNames, files_read, shown_source, with_part};
 ghost use Rattle.dbm_files.specs.Names as spec;
 
+use sdbm_addr::PageSize;
+use sdbm_files::ReadPages;
 use std::alloc::{AllocError, Global};
 
 /// A `.dir` file of the program has at most this many bytes.
@@ -22,13 +24,15 @@ pub struct Place<'a> {
     pub writes: bool,
     /// BASE.pag has at most this many bytes.
     pub pages_limit: u64,
+    /// How large the pages of BASE.pag are taken to be while it is read. It opens in pages of the other size too, at the cost of a copy.
+    pub page_size: PageSize,
 }
 
-/// The bytes of the files that a run names; a file of a database that is not there has none.
+/// The files that a run names, as they were read; a file of a database that is not there has no bytes.
 #[derive(Drop)]
 pub struct FileBytes {
     pub directory: Vec<u8>,
-    pub pages: Vec<u8>,
+    pub pages: ReadPages<Global>,
     pub program: Vec<u8>,
 }
 
@@ -120,13 +124,13 @@ fn program_source(alloc: Global, file: &str) -> Result<Source, AllocError>
     })
 }
 
-/// Puts the bytes of a file where they belong; those of the others stay.
+/// Puts the bytes of a file where they belong; those of the others stay. Those of BASE.pag are read piece by piece, and have no place here.
 pub fn put(read: &mut FileBytes, part: Part, bytes: Vec<u8>)
     ensures { read.new ≡ with_part part bytes read.old }
 {
     match part {
         Part::Dir => read.directory = bytes,
-        Part::Pag => read.pages = bytes,
+        Part::Pag => (),
         Part::Program => read.program = bytes,
     }
 }

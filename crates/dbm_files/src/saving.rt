@@ -12,7 +12,7 @@ ghost use Rattle.dbm_files.specs.declared.saving.Saved.TheVariants as saved;
 use crate::fault::FilesFault;
 use byte_text::write_all;
 use sdbm_files::Image;
-use sdbm_saves::{Contents, Disk, commit, finish, plan_save, recover, stage, try_room};
+use sdbm_saves::{Disk, ReadFiles, commit, finish, plan_read, recover, stage, try_room};
 use std::alloc::Global;
 use std::io::Write;
 
@@ -30,7 +30,7 @@ pub enum Saved {
 /// What a save changes: both data files as they were read, the bytes of the redo file, and the database that is to be in them.
 #[derive(Clone, Copy)]
 pub struct Change<'a> {
-    pub before: Contents<'a>,
+    pub before: ReadFiles<'a, Global>,
     pub redo: &'a [u8],
     pub after: &'a Image<Global>,
 }
@@ -52,26 +52,26 @@ pub fn save_change<D: Disk, W: Write>(
     lines: &[u8],
     writer: &mut W,
 ) -> Result<Saved, FilesFault>
-    requires read { D.seen disk.old ≡ record { pages = change.before.pages.now; directory = change.before.directory.now; redo = change.redo.now } }
+    requires read { D.seen disk.old ≡ record { pages = change.before.pages.now.bytes; directory = change.before.directory.now; redo = change.redo.now } }
     requires unmarked { get_or change.redo.now 0 0 ≢ 1 }
 
-    ensures saved { OnOk result (IsSaved change.entry.after.now (change.entry.before.pages.now, change.entry.before.directory.now) D.may_leave disk.old disk.new) }
+    ensures saved { OnOk result (IsSaved change.entry.after.now (change.entry.before.pages.now.bytes, change.entry.before.directory.now) D.may_leave disk.old disk.new) }
     ensures printed { OnOk result (Appends (W.contents writer.old) (W.contents writer.new) lines.now) }
 
     // Where the save is whole no mark is left, and both files are on the disk.
     ensures whole { IfOk result (λ how. how ≡ saved.Whole → IsSettled D.seen D.may_leave disk.new) }
 
     // Lines are printed only where the change is saved.
-    ensures stands { IsErrOf result fault.Write → IsSaved change.entry.after.now (change.entry.before.pages.now, change.entry.before.directory.now) D.may_leave disk.old disk.new }
+    ensures stands { IsErrOf result fault.Write → IsSaved change.entry.after.now (change.entry.before.pages.now.bytes, change.entry.before.directory.now) D.may_leave disk.old disk.new }
     ensures part { IsErrOf result fault.Write → WritesPart (W.contents writer.old) (W.contents writer.new) lines.now }
     ensures unprinted { IfErr result (λ why. why ≢ fault.Write → W.contents writer.new ≡ W.contents writer.old) }
 
     // A crash at any moment of the call leaves what it might have left before, or the files before the change, or those of the database
     // after it; and where a save is cut off there, it can be ended.
     ensures any_moment { LeavesOnly D.moment D.left_since disk.old disk.new
-        (λ c. D.may_leave disk.old c ⊎ (IsOldOrSaved (change.entry.before.pages.now, change.entry.before.directory.now) change.entry.after.now c × CanEnd c)) }
+        (λ c. D.may_leave disk.old c ⊎ (IsOldOrSaved (change.entry.before.pages.now.bytes, change.entry.before.directory.now) change.entry.after.now c × CanEnd c)) }
 {
-    match plan_save(alloc, change.before, change.after)? {
+    match plan_read(alloc, change.before, change.after)? {
         Some(plan) => save_plan(disk, change.redo, plan.as_slice(), lines, writer),
         None => {
             print(writer, lines)?;

@@ -16,15 +16,14 @@ as_err Q (Ok x) is q = tt
 as_err Q (Err fault) is q = subst Q (sym is) q
 
 -- files that do not open
-pub shut_fault : (form : Form) (given : Given) (kind : KeyBytes) (size : PageSize) (dir pag : List ℕ) (fault : OpenFault) → kind ≡ key_bytes_of form.unsigned → size ≡ page_size_of form.wide
-    → dir ≡ given.dir.items → pag ≡ given.pag.items → IsOpenFault kind size dir pag fault → IsCaused (opening_causes form given) (open_fault fault)
-shut_fault form given kind size dir pag fault kinds sizes dirs pags is = of fault
-    (subst (λ (l : List ℕ). IsOpenFault (key_bytes_of form.unsigned) (page_size_of form.wide) given.dir.items l fault) pags
-    (subst (λ (l : List ℕ). IsOpenFault (key_bytes_of form.unsigned) (page_size_of form.wide) l pag fault) dirs
-    (subst (λ (z : PageSize). IsOpenFault (key_bytes_of form.unsigned) z dir pag fault) sizes
-    (subst (λ (k : KeyBytes). IsOpenFault k size dir pag fault) kinds is))))
+pub shut_fault : (form : Form) (given : Given) (kind : KeyBytes) (size : PageSize) (dir : List ℕ) (fault : OpenFault) → kind ≡ key_bytes_of form.unsigned → size ≡ page_size_of form.wide
+    → dir ≡ given.dir.items → IsOpenFault kind size dir given.pag.bytes fault → IsCaused (opening_causes form given) (open_fault fault)
+shut_fault form given kind size dir fault kinds sizes dirs is = of fault
+    (subst (λ (l : List ℕ). IsOpenFault (key_bytes_of form.unsigned) (page_size_of form.wide) l given.pag.bytes fault) dirs
+    (subst (λ (z : PageSize). IsOpenFault (key_bytes_of form.unsigned) z dir given.pag.bytes fault) sizes
+    (subst (λ (k : KeyBytes). IsOpenFault k size dir given.pag.bytes fault) kinds is)))
   where
-    of : (fault : OpenFault) → IsOpenFault (key_bytes_of form.unsigned) (page_size_of form.wide) given.dir.items given.pag.items fault → IsCaused (opening_causes form given) (open_fault fault)
+    of : (fault : OpenFault) → IsOpenFault (key_bytes_of form.unsigned) (page_size_of form.wide) given.dir.items given.pag.bytes fault → IsCaused (opening_causes form given) (open_fault fault)
     of opening.NoMemory h = tt
     of opening.PagLength h = h
     of (opening.Page number reason) h = h

@@ -22,11 +22,11 @@ page_size_of wide = cond wide Wide Small
 
 -- the files, read as the form says, spell this database and no other
 pub record IsOpened (form : Form) (given : Given) (db : Database) : Type 0 where
-  pub spells : SpellsDatabase db given.dir.items given.pag.items
+  pub spells : SpellsDatabase db given.dir.items given.pag.bytes
   pub kind : db.kind ≡ key_bytes_of form.unsigned
   pub size : db.size ≡ page_size_of form.wide
   pub only : (other : Database) → other.kind ≡ key_bytes_of form.unsigned → other.size ≡ page_size_of form.wide
-      → SpellsDatabase other given.dir.items given.pag.items → other ≡ db
+      → SpellsDatabase other given.dir.items given.pag.bytes → other ≡ db
 
 -- the files open
 abbrev pub Opens : Form → Given → Type 0
@@ -35,7 +35,7 @@ Opens form given = (db : Database) × IsOpened form given db
 -- Why the files do not open. Want of memory has a name of its own.
 abbrev pub IsShut : Form → Given → OpenFault → Type 0
 IsShut form given opening.NoMemory = ⊥
-IsShut form given reason = IsOpenFault (key_bytes_of form.unsigned) (page_size_of form.wide) given.dir.items given.pag.items reason
+IsShut form given reason = IsOpenFault (key_bytes_of form.unsigned) (page_size_of form.wide) given.dir.items given.pag.bytes reason
 
 -- the `.pag` of a database is longer than the program writes
 abbrev pub IsTooLong : Database → Type 0

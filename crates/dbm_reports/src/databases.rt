@@ -7,14 +7,14 @@ ghost use Rattle.dbm_reports.specs.Causes.{IsCaused, opening_causes};
 use crate::fault::ReportFault;
 use dbm_words::Form;
 use sdbm_addr::{KeyBytes, PageSize};
-use sdbm_files::{Image, PAG_LIMIT};
+use sdbm_files::{Image, PAG_LIMIT, ReadPages};
 use std::alloc::Global;
 
-/// The bytes of the files that a wish names; a file of a database that is not there has none.
+/// The files that a wish names, as they were read; a file of a database that is not there has no bytes.
 #[derive(Drop)]
 pub struct Given {
     pub dir: Vec<u8>,
-    pub pag: Vec<u8>,
+    pub pag: ReadPages<Global>,
     pub file: Vec<u8>,
 }
 
@@ -40,7 +40,7 @@ pub fn page_size_of(form: Form) -> PageSize
     }
 }
 
-/// The database that the files spell.
+/// The database that the files spell. It shares its pages with what was read until it changes them.
 ///
 /// # Errors
 /// `Open` with the fault of the files, and `NoMemory`.
@@ -48,8 +48,8 @@ pub fn open(alloc: Global, given: &Given, form: Form) -> Result<Image<Global>, R
     ensures ok { IfOk result (IsOpened form given.now) }
     ensures fault { IfErr result (IsCaused (opening_causes form given.now)) }
 {
-    let (dir, pag) = (given.dir.as_slice(), given.pag.as_slice());
-    let image = Image::open(alloc, dir, pag, key_bytes_of(form), page_size_of(form))?;
+    let (kind, size) = (key_bytes_of(form), page_size_of(form));
+    let image = Image::open_read(alloc, given.dir.as_slice(), &given.pag, kind, size)?;
     Ok(image)
 }
 

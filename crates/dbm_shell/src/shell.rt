@@ -10,6 +10,7 @@ use dbm_session::{Host, Own};
 use dbm_sessions::{Every, OwnLine, program_line, read_own, show_own};
 use dbm_telling::{is_terminal, note_unsaved, note_waiting_save};
 use sdbm_files::Image;
+use sdbm_saves::{FoundRead, ReadFiles};
 use std::alloc::{AllocError, Global};
 use std::fs::File;
 use std::io;
@@ -149,7 +150,14 @@ impl<R: Runtime<File = File> + Clock + AllocGlobal> Host for Shell<'_, R> {
         if is_too_long(image) {
             return Err(FilesFault::FileTooLong);
         }
-        let found = read_again(self.rt, self.place, self.names)?;
+        let (read, redo) = read_again(self.rt, self.place, self.names)?;
+        let found = FoundRead {
+            files: ReadFiles {
+                pages: &read.pages,
+                directory: read.directory.as_slice(),
+            },
+            redo: redo.as_slice(),
+        };
         let saved = save_files(self.rt, self.names, &found, image, &[], &mut io::sink())?;
         if saved == Saved::Pending {
             note_waiting_save(self.rt, self.place.base);

@@ -26,7 +26,7 @@ use dbm_telling::{
 use ending::{Ending, ending_of, exit_status};
 use quick::{may_be_quick, print_quick, refusal_in, serve_quick};
 use request::{given_of, place_asked, told_of, work_asked, work_of};
-use sdbm_saves::Found;
+use sdbm_saves::{FoundRead, ReadFiles};
 use serve::serve;
 use std::fs::File;
 use std::io::{ErrorKind, Read, Write};
@@ -299,10 +299,12 @@ fn serve_change<R: Runtime<File = File> + AllocGlobal + Threads + Wait + Sync, I
     let outcome = serve(rt, alloc, wish, &given, reader, &mut lines);
     reader.has_bad_line = has_bad_line(lines.as_slice());
     reader.refusal = refusal_in(alloc, wish, given.file.as_slice(), lines.as_slice());
-    let old = Found {
-        pages: given.pag,
-        directory: given.dir,
-        redo,
+    let old = FoundRead {
+        files: ReadFiles {
+            pages: &given.pag,
+            directory: given.dir.as_slice(),
+        },
+        redo: redo.as_slice(),
     };
     if let Some(new) = &outcome.database {
         tell_saving(rt, work_of(&wish), new.pag_len());

@@ -9,6 +9,7 @@ use dbm_reports::Given;
 use dbm_sessions::Session;
 use dbm_telling::{Told, Work};
 use dbm_words::{Numbers, Words};
+use sdbm_addr::PageSize;
 use sdbm_files::PAG_LIMIT;
 
 /// What a wish says of its files.
@@ -23,10 +24,20 @@ pub fn place_of<'a>(wish: &Wish<'a>) -> Place<'a>
         file: wish.file(),
         writes: wish.writes(),
         pages_limit: PAG_LIMIT,
+        page_size: size_of(&wish.words()),
     }
 }
 
-/// The bytes of files, as a report takes them.
+// How large the pages are, by the words.
+fn size_of(words: &Words<'_>) -> PageSize {
+    if words.wide {
+        PageSize::Wide
+    } else {
+        PageSize::Small
+    }
+}
+
+/// The files that were read, as a report takes them.
 pub fn given_of(bytes: FileBytes) -> Given
     ensures { result ≡ record { dir = bytes.directory; pag = bytes.pages; file = bytes.program } }
 {
@@ -95,6 +106,7 @@ fn place_of_session<'a>(session: &Session<'a>) -> Place<'a> {
         file: None,
         writes: true,
         pages_limit: PAG_LIMIT,
+        page_size: size_of(&session.words()),
     }
 }
 

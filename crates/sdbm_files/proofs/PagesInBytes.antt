@@ -1,6 +1,7 @@
 -- Pages in the bytes of a file: where they stand, and what bytes behind them change.
-use Rattle.std.proofs.Common.{◌≡◌, ℕ, ◌+◌, ◌*◌, ◌-◌, ◌/◌, ◌%◌, ◌<◌, ◌≤◌, List, [], ◌++◌, length, length-drop, take, drop, slice_range, replicate, get_or, sym, ap, ◌∙◌, subst, arith}
-use Rattle.std.proofs.lemmas.List.{append-nil, take-append-le, drop-append-le, length-take-le, get_or-take, get_or-drop, get_or-replicate, get_or_past, length-replicate}
+use Rattle.std.proofs.Common.{◌≡◌, ℕ, ◌+◌, ◌*◌, ◌-◌, ◌/◌, ◌%◌, ◌<◌, ◌≤◌, min, List, [], ◌++◌, length, length-drop, take, drop, get_or, sym, ap, ◌∙◌, subst, arith}
+use Rattle.std.proofs.lemmas.List.{append-nil, take-append-le, drop-append-le, take_all, get_or-take, get_or-drop}
+use Rattle.std.proofs.Math.Seq.{take-add}
 use Rattle.sdbm_addr.specs.declared.PageSize.{PageSize}
 use Rattle.sdbm_addr.specs.declared.PageSize.TheVariants.{Small, Wide}
 use Rattle.sdbm_addr.specs.Pairs.{page_bytes}
@@ -61,54 +62,72 @@ pub page_reads : (size : PageSize) (pag : List ℕ) (n i : ℕ) → i < page_byt
 page_reads size pag n i below =
     get_or-take ((n + 1) * page_bytes size - n * page_bytes size) (drop (n * page_bytes size) pag) i 0 (omega (arith, below, next_start size n)) ∙ get_or-drop (n * page_bytes size) pag i 0
 
-pub length-page_at : (size : PageSize) (pag : List ℕ) (n : ℕ) → (n + 1) * page_bytes size ≤ length pag → length (page_at size pag n) ≡ page_bytes size
-length-page_at size pag n inside =
-    let room : (n + 1) * page_bytes size - n * page_bytes size ≤ length (drop (n * page_bytes size) pag) = omega (arith, length-drop (n * page_bytes size) pag, inside) in
-    length-take-le ((n + 1) * page_bytes size - n * page_bytes size) (drop (n * page_bytes size) pag) room ∙ omega (arith, next_start size n)
+-- ---- whole pages
+
+-- so many whole pages
+pub pages_counted : (size : PageSize) (long : ℕ) → long % page_bytes size ≡ 0 → long ≡ long / page_bytes size * page_bytes size
+pages_counted Small long whole = omega arith
+pages_counted Wide long whole = omega arith
+
+pub count_is : (size : PageSize) (long count : ℕ) → long ≡ count * page_bytes size → long / page_bytes size ≡ count
+count_is Small long count is = omega arith
+count_is Wide long count is = omega arith
+
+pub count_more : (size : PageSize) (long count k : ℕ) → long ≡ count * page_bytes size → k ≡ page_bytes size → (long + k) / page_bytes size ≡ count + 1
+count_more Small long count k is page = omega arith
+count_more Wide long count k is page = omega arith
+
+pub count_kept : (size : PageSize) (long k : ℕ) → long % page_bytes size ≡ 0 → k < page_bytes size → (long + k) / page_bytes size ≡ long / page_bytes size
+count_kept Small long k whole short = omega arith
+count_kept Wide long k whole short = omega arith
+
+pub counted_inside : (size : PageSize) (long : ℕ) → long / page_bytes size * page_bytes size ≤ long
+counted_inside Small long = omega arith
+counted_inside Wide long = omega arith
+
+pub no_pages : (size : PageSize) (pag : List ℕ) → take (0 * page_bytes size) pag ≡ []
+no_pages size pag = ap (λ (k : ℕ). take k pag) (nothing (page_bytes size))
+  where
+    nothing : (n : ℕ) → 0 * n ≡ 0
+    nothing n = omega arith
+
+-- the first pages and the next one
+pub pages_next : (size : PageSize) (pag : List ℕ) (n : ℕ) → take (n * page_bytes size) pag ++ page_at size pag n ≡ take ((n + 1) * page_bytes size) pag
+pages_next size pag n =
+    let start = n * page_bytes size in
+    sym (take-add start ((n + 1) * page_bytes size - start) pag) ∙ ap (λ (k : ℕ). take k pag) (omega (arith, start_below size n))
+
+ceil_past : (size : PageSize) (long n : ℕ) → long / page_bytes size + min 1 (long % page_bytes size) ≤ n → long ≤ n * page_bytes size
+ceil_past Small long n h = omega arith
+ceil_past Wide long n h = omega arith
+
+-- so many first pages are all
+pub all_taken : (size : PageSize) (pag : List ℕ) (n b : ℕ) → b ≡ page_bytes size → length pag / b + min 1 (length pag % b) ≤ n → take (n * page_bytes size) pag ≡ pag
+all_taken size pag n b is past =
+    take_all (n * page_bytes size) pag (ceil_past size (length pag) n (subst (λ (k : ℕ). length pag / k + min 1 (length pag % k) ≤ n) is past))
 
 -- ---- blocks of 1,024 bytes
 
-abbrev pub in_page : PageSize → ℕ
-in_page size = page_bytes size / 1024
-
-starts_on : (size : PageSize) (index : ℕ) → index % in_page size * 1024 + 1024 ≤ page_bytes size
+starts_on : (size : PageSize) (index : ℕ) → index % (page_bytes size / 1024) * 1024 + 1024 ≤ page_bytes size
 starts_on Small index = omega arith
 starts_on Wide index = omega arith
 
-starts_in : (size : PageSize) (index : ℕ) → index / in_page size * page_bytes size + index % in_page size * 1024 ≡ index * 1024
+starts_in : (size : PageSize) (index : ℕ) → index / (page_bytes size / 1024) * page_bytes size + index % (page_bytes size / 1024) * 1024 ≡ index * 1024
 starts_in Small index = omega arith
 starts_in Wide index = omega arith
 
--- a part of a page that is known is a block of the file
-module _ (size : PageSize) (pag page : List ℕ) (index blocks : ℕ) (blocks_are : blocks ≡ in_page size) (inside : (index / blocks + 1) * page_bytes size ≤ length pag) (is : page ≡ page_at size pag (index / blocks)) where
-  abbrev start : ℕ
-  start = index % blocks * 1024
-
-  long_page : length page ≡ page_bytes size
-  long_page = ap (λ (l : List ℕ). length l) is ∙ length-page_at size pag (index / blocks) inside
-
-  within : start + 1024 ≤ page_bytes size
-  within = subst (λ (k : ℕ). index % k * 1024 + 1024 ≤ page_bytes size) (sym blocks_are) (starts_on size index)
-
-  place : index / blocks * page_bytes size + start ≡ index * 1024
-  place = subst (λ (k : ℕ). index / k * page_bytes size + index % k * 1024 ≡ index * 1024) (sym blocks_are) (starts_in size index)
-
-  pub block_inside : start + 1024 ≤ length page
-  block_inside = omega (arith, within, long_page)
-
-  pub block_of_page : IsBlock pag index (slice_range page start (start + 1024))
-  block_of_page = record {
-    long = length-take-le (start + 1024 - start) (drop start page) (omega (arith, block_inside, length-drop start page)) ∙ omega arith;
-    reads = λ i below.
-        get_or-take (start + 1024 - start) (drop start page) i 0 (omega (arith, below)) ∙ get_or-drop start page i 0
-        ∙ ap (λ (l : List ℕ). get_or l (start + i) 0) is ∙ page_reads size pag (index / blocks) (start + i) (omega (arith, below, within))
-        ∙ ap (λ (k : ℕ). get_or pag k 0) (omega (arith, place));
-  }
-
--- past the end of the file
-pub block_past : (pag zeros : List ℕ) (index : ℕ) → length pag ≤ index * 1024 → zeros ≡ replicate 1024 0 → IsBlock pag index zeros
-block_past pag zeros index past are = record {
-  long = ap (λ (l : List ℕ). length l) are ∙ length-replicate {A = ℕ} 1024 0;
+-- a part of a page is a block of the file
+pub block_of_page : (size : PageSize) (pag page block : List ℕ) (index bytes : ℕ) → bytes ≡ page_bytes size → page ≡ page_at size pag (index / (bytes / 1024)) → length block ≤ 1024
+    → ((i : ℕ) → i < 1024 → get_or block i 0 ≡ get_or page (index % (bytes / 1024) * 1024 + i) 0) → IsBlock pag index block
+block_of_page size pag page block index bytes bytes_are is short reads = record {
+  short = short;
   reads = λ i below.
-      ap (λ (l : List ℕ). get_or l i 0) are ∙ get_or-replicate {A = ℕ} 1024 i 0 0 below ∙ sym (get_or_past pag (index * 1024 + i) 0 (omega (arith, past)));
+      reads i below ∙ ap (λ (l : List ℕ). get_or l (index % (bytes / 1024) * 1024 + i) 0) is
+      ∙ page_reads size pag (index / (bytes / 1024)) (index % (bytes / 1024) * 1024 + i) (omega (arith, below, within)) ∙ ap (λ (k : ℕ). get_or pag k 0) (omega (arith, place));
 }
+  where
+    within : index % (bytes / 1024) * 1024 + 1024 ≤ page_bytes size
+    within = subst (λ (k : ℕ). index % (k / 1024) * 1024 + 1024 ≤ page_bytes size) (sym bytes_are) (starts_on size index)
+
+    place : index / (bytes / 1024) * page_bytes size + index % (bytes / 1024) * 1024 ≡ index * 1024
+    place = subst (λ (k : ℕ). index / (k / 1024) * page_bytes size + index % (k / 1024) * 1024 ≡ index * 1024) (sym bytes_are) (starts_in size index)

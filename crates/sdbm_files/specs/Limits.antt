@@ -1,5 +1,5 @@
 -- How long a `.pag` may be that is read or written (own), and the databases that one has room for.
-use Rattle.std.specs.Prelude.{◌≡◌, ◌≢◌, ◌<◌, ◌||◌, ℕ, Bool, true, false, nat_lt, List, [], ◌∷◌}
+use Rattle.std.specs.Prelude.{◌≢◌, ◌<◌, ◌||◌, ℕ, Bool, true, false, nat_lt, List, [], ◌∷◌}
 use Rattle.sdbm_addr.specs.declared.PageSize.{PageSize}
 use Rattle.sdbm_addr.specs.declared.PageSize.TheVariants.{Small, Wide}
 use Rattle.sdbm_addr.specs.Pairs.{Pair, Content}

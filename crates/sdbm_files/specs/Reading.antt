@@ -1,7 +1,9 @@
 -- Pages that are read of a `.pag` file, piece by piece.
-use Rattle.std.specs.Prelude.{◌≡◌, ◌≢◌, ℕ, ◌+◌, ◌*◌, ◌%◌, ◌^◌, ◌<◌, ◌≤◌, Bool, true, false, List, [], ◌++◌, length, take, get_or, Option, Some, None, nat_eq as eqb}
+use Rattle.std.specs.Prelude.{◌≡◌, ◌≢◌, ℕ, ◌+◌, ◌*◌, ◌/◌, ◌^◌, ◌<◌, ◌≤◌, List, [], ◌++◌, length, take, drop, get_or, cond, Option, Some, None, unwrap_or, nat_eq as eqb}
 use Rattle.std.specs.FinMap as map
 use Rattle.std.specs.Map.{lookup}
+use Rattle.std.specs.Option.{option_map}
+use Rattle.std.specs.declared.vec.Vec.{Vec}
 use Rattle.sdbm_addr.specs.declared.PageSize.{PageSize}
 use Rattle.sdbm_addr.specs.Pairs.{Pair, Content, page_bytes, IsPage, HasDistinctKeys}
 use Rattle.sdbm_addr.specs.Layout.{Spells, bytes_of_page}
@@ -29,30 +31,67 @@ abbrev pub EndsAt : PageSize → List ℕ → ℕ → Option (ℕ × PageFault) 
 EndsAt size pag count None = length pag < (count + 1) * page_bytes size
 EndsAt size pag count (Some bad) = IsBadPage size pag bad.0 bad.1
 
--- These pages were parsed: one for each test in `foreign`, which is true where the page's bytes may be others than its own.
-pub record AreParsed (size : PageSize) (entries : List (ℕ × Content)) (foreign : List Bool) (bad : Option (ℕ × PageFault)) (pag : List ℕ) : Type 0 where
+-- so many pages were parsed
+pub record AreParsed (size : PageSize) (entries : List (ℕ × Content)) (count : ℕ) (bad : Option (ℕ × PageFault)) (pag : List ℕ) : Type 0 where
   pub sizes : AreSized size entries
   pub pages : (n : ℕ) (pairs : List Pair) → map.get (pages_of entries) n ≡ Some pairs → (pairs ≢ []) × IsPage size pairs
-  pub inside : length foreign * page_bytes size ≤ length pag
-  pub each : (n : ℕ) → n < length foreign → Spells size (page_at size pag n) (pairs_under entries n)
-  pub past : (n : ℕ) → length foreign ≤ n → pairs_under entries n ≡ []
-  pub own : (n : ℕ) → n < length foreign → get_or foreign n true ≡ false → bytes_of_page size (pairs_under entries n) ≡ page_at size pag n
-  pub ends : EndsAt size pag (length foreign) bad
+  pub inside : count * page_bytes size ≤ length pag
+  pub each : (n : ℕ) → n < count → Spells size (page_at size pag n) (pairs_under entries n)
+  pub past : (n : ℕ) → count ≤ n → pairs_under entries n ≡ []
+  pub ends : EndsAt size pag count bad
 
--- what was so before these bytes is so with them behind whole pages
-abbrev pub Follows : PageSize → List ℕ → (List ℕ → Type 0) → (List ℕ → Type 0) → Type 0
-Follows size bytes before after = (pag : List ℕ) → length pag % page_bytes size ≡ 0 → before pag → after (pag ++ bytes)
+module _ {Z : Type 0} where
+  -- bytes that may not be kept
+  abbrev pub bytes_in : Option (Vec ℕ Z) → Option (List ℕ)
+  bytes_in = option_map (λ (v : Vec ℕ Z). v.items)
+
+  -- the bytes that are kept under a number
+  abbrev pub raw_under : List (ℕ × Vec ℕ Z) → ℕ → Option (List ℕ)
+  raw_under raw n = bytes_in (lookup (eqb n) raw)
+
+-- the bytes of page n: those that are kept, or else the page's own
+abbrev pub known_under : PageSize → List (ℕ × Content) → (ℕ → Option (List ℕ)) → ℕ → List ℕ
+known_under size entries raw n = unwrap_or (raw n) (bytes_of_page size (pairs_under entries n))
+
+-- the bytes of so many pages are known, and none further on are kept
+pub record AreKnown (size : PageSize) (entries : List (ℕ × Content)) (raw : ℕ → Option (List ℕ)) (total : ℕ) (pag : List ℕ) : Type 0 where
+  pub each : (n : ℕ) → n < total → known_under size entries raw n ≡ page_at size pag n
+  pub past : (n : ℕ) → total ≤ n → raw n ≡ None
+
+-- what is kept of so many pages
+pub record AreTaken (size : PageSize) (entries : List (ℕ × Content)) (raw : ℕ → Option (List ℕ)) (count : ℕ) (bad : Option (ℕ × PageFault)) (total : ℕ) (pag : List ℕ) : Type 0 where
+  pub parsed : AreParsed size entries count bad pag
+  pub known : AreKnown size entries raw total pag
+
+-- what was so of so many pages is so of one more with these bytes
+abbrev pub Follows : PageSize → ℕ → List ℕ → (ℕ → List ℕ → Type 0) → (ℕ → List ℕ → Type 0) → Type 0
+Follows size total bytes before after = (pag : List ℕ) → length pag ≡ total * page_bytes size → before total pag → after (total + 1) (pag ++ bytes)
+
+-- the entries with a page under n, where there is one
+abbrev pub HasPage : List (ℕ × Content) → List (ℕ × Content) → ℕ → Option Content → Type 0
+HasPage old new n None = new ≡ old
+HasPage old new n (Some content) = (q : ℕ) → lookup (eqb q) new ≡ cond (eqb n q) (Some content) (lookup (eqb q) old)
+
+-- the bytes that are kept with those of page n, of which none were kept
+abbrev pub HasRaw : (ℕ → Option (List ℕ)) → (ℕ → Option (List ℕ)) → ℕ → Option (List ℕ) → Type 0
+HasRaw old new n bytes = old n ≡ None → (q : ℕ) → new q ≡ cond (eqb n q) bytes (old q)
+
+-- how many whole pages there are
+abbrev pub whole_pages : PageSize → List ℕ → ℕ
+whole_pages size pag = length pag / page_bytes size
 
 -- what a value of the type keeps of the bytes that were read
-pub record IsReadAs (size : PageSize) (len : ℕ) (entries : List (ℕ × Content)) (foreign : List Bool) (bad : Option (ℕ × PageFault)) (pag : List ℕ) : Type 0 where
+pub record IsReadAs (size : PageSize) (len : ℕ) (entries : List (ℕ × Content)) (raw : ℕ → Option (List ℕ)) (count : ℕ) (bad : Option (ℕ × PageFault)) (behind pag : List ℕ) : Type 0 where
   pub long : length pag ≡ len
-  pub parsed : AreParsed size entries foreign bad pag
+  pub parsed : AreParsed size entries count bad pag
+  pub known : AreKnown size entries raw (whole_pages size pag) pag
+  pub rest : behind ≡ drop (whole_pages size pag * page_bytes size) pag
 
 -- pages that have pairs, with distinct keys, under numbers of 32 bits
 abbrev pub AreLow : List (ℕ × Content) → Type 0
 AreLow entries = (n : ℕ) (content : Content) → lookup (eqb n) entries ≡ Some content → (n < 2 ^ 32) × ((content.pairs ≢ []) × HasDistinctKeys content.pairs)
 
--- 1,024 bytes of a file, from a multiple of them on; a byte past its end counts as zero
+-- 1,024 bytes of a file, from a multiple of them on, or the first of these: those that are missing are zeros
 pub record IsBlock (file : List ℕ) (index : ℕ) (block : List ℕ) : Type 0 where
-  pub long : length block ≡ 1024
+  pub short : length block ≤ 1024
   pub reads : (i : ℕ) → i < 1024 → get_or block i 0 ≡ get_or file (index * 1024 + i) 0

@@ -113,14 +113,42 @@ impl<A: Allocator + Copy> Image<A> {
         let Ok(()) = read.push(pag) else {
             return Err(OpenFault::NoMemory);
         };
-        Image::open_read(alloc, dir, &read, kind)
+        Image::open_parsed(alloc, dir, &read, kind)
     }
 
-    /// The same for a `.pag` that was read piece by piece. The database shares its pages with what was read until it changes them.
+    /// The same for a `.pag` that was read piece by piece, in pages of either size. Where these have the size of the database it
+    /// shares them until it changes them; else all bytes are copied and parsed again. What was read stays as it is.
     ///
     /// # Errors
     /// Those of `open`.
     pub fn open_read(
+        alloc: A,
+        dir: &[u8],
+        pag: &ReadPages<A>,
+        kind: KeyBytes,
+        size: PageSize,
+    ) -> Result<Self, OpenFault>
+        ensures database { IfOk result (λ image. SpellsDatabase image dir.now pag.now.bytes) }
+        ensures kind { IfOk result (λ image. image.kind ≡ kind) }
+        ensures size { IfOk result (λ image. image.size ≡ size) }
+        ensures only { IfOk result (λ image. (db : Database) → db.kind ≡ kind → db.size ≡ size → SpellsDatabase db dir.now pag.now.bytes → db ≡ image) }
+        ensures fault { IfErr result (IsOpenFault kind size dir.now pag.now.bytes) }
+        ensures none { IfErr result (λ fault. fault ≢ OpenFault.NoMemory → SpellsNoDatabase kind size dir.now pag.now.bytes) }
+    {
+        if pag.page_size() == size {
+            return Image::open_parsed(alloc, dir, pag, kind);
+        }
+        if pag.len() % size.bytes() != 0 {
+            return Err(OpenFault::PagLength);
+        }
+        let Ok(bytes) = pag.to_vec(alloc) else {
+            return Err(OpenFault::NoMemory);
+        };
+        Image::open(alloc, dir, bytes.as_slice(), kind, size)
+    }
+
+    // The same for a database whose pages have the size of those that were read.
+    fn open_parsed(
         alloc: A,
         dir: &[u8],
         pag: &ReadPages<A>,
@@ -144,7 +172,7 @@ impl<A: Allocator + Copy> Image<A> {
             Ok(splits) => splits,
             Err(fault) => return Err(fault),
         };
-        let count = pag.parsed.foreign.len();
+        let count = pag.parsed.count;
         if let Some(number) = misplaced(&splits, kind, &pag.parsed.pages, count) {
             return Err(OpenFault::Misplaced(number));
         }

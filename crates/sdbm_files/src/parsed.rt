@@ -1,12 +1,13 @@
 //! Pages of a `.pag` file, parsed one by one.
-ghost use Rattle.std.specs.Prelude.{◌≡◌, ◌≢◌, ℕ, List, [], length, false, IfOk, IfErr, IfSome, OnOk, OnErr, None};
+ghost use Rattle.std.specs.Prelude.{◌≡◌, ◌≢◌, ◌<◌, ◌^◌, ℕ, List, [], Option, length, false, IfOk, IfErr, IfSome, OnOk, OnErr, None, unwrap_or};
+ghost use Rattle.std.specs.HashMap.{spare};
 ghost use Rattle.sdbm_addr.specs.Pairs.{page_bytes};
 ghost use Rattle.sdbm_addr.specs.Layout.{bytes_of_page};
 ghost use Rattle.sdbm_page.specs.Faults.{IsPageFault};
 ghost use Rattle.sdbm_page.specs.declared.PageFault.TheVariants.{NoMemory};
 ghost use Rattle.sdbm_files.specs.Kept.{pairs_under, AreSized};
 ghost use Rattle.sdbm_files.specs.Opened.{IsRead, pairs_of_page};
-ghost use Rattle.sdbm_files.specs.Reading.{AreParsed, Follows};
+ghost use Rattle.sdbm_files.specs.Reading.{AreTaken, Follows, HasPage, HasRaw, bytes_in, raw_under, known_under};
 
 use crate::writing::zeros;
 use sdbm_addr::PageSize;
@@ -18,13 +19,18 @@ use std::hash::{BuildHasherDefault, FoldHasher};
 /// The pages that have pairs, each under its number in the file.
 pub type Numbered<A> = HashMap<usize, SharedPage<A>, BuildHasherDefault<FoldHasher>, A>;
 
-/// What the first pages of a file have come to.
+/// Bytes of whole pages, each under its number in the file.
+pub type Raw<A> = HashMap<usize, Vec<u8, A>, BuildHasherDefault<FoldHasher>, A>;
+
+/// What the whole pages of a file have come to.
 #[derive(Drop)]
 pub struct Parsed<A: Allocator> {
     /// The pages that have pairs.
     pub pages: Numbered<A>,
-    /// For each page, whether its bytes were others than its own: its free bytes were not all zero.
-    pub foreign: Vec<bool, A>,
+    /// The bytes of the pages that have others than their own. Those of a page that was not parsed are zeros.
+    pub raw: Raw<A>,
+    /// How many pages were parsed.
+    pub count: usize,
     /// The page behind those, where it is none. No further one is parsed.
     pub bad: Option<(usize, PageFault)>,
 }
@@ -33,29 +39,40 @@ impl<A: Allocator + Copy> Parsed<A> {
     /// No pages.
     pub fn new(alloc: A) -> Self
         ensures pages { result.pages.entries ≡ [] }
-        ensures foreign { result.foreign.items ≡ [] }
+        ensures raw { result.raw.entries ≡ [] }
+        ensures count { result.count ≡ 0 }
         ensures bad { result.bad ≡ None }
     {
         Parsed {
             pages: HashMap::new(alloc),
-            foreign: Vec::new(alloc),
+            raw: HashMap::new(alloc),
+            count: 0,
             bad: None,
         }
     }
 
-    /// Parses one page more. Where no memory is left for it the pages are as they were.
-    pub fn take(&mut self, alloc: A, bytes: &[u8], size: PageSize) -> Result<(), AllocError>
-        requires { length bytes.now ≡ page_bytes size }
-        ensures ok { OnOk result (Follows size bytes.now (AreParsed size self.old.pages.entries self.old.foreign.items self.old.bad) (AreParsed size self.new.pages.entries self.new.foreign.items self.new.bad)) }
-        ensures err { OnErr result ((pag : List ℕ) → AreParsed size self.old.pages.entries self.old.foreign.items self.old.bad pag → AreParsed size self.new.pages.entries self.new.foreign.items self.new.bad pag) }
+    /// Takes one page more, the one with this number, and parses it where no page before it was bad. Where no memory is left for it
+    /// the pages are as they were.
+    pub fn take(
+        &mut self,
+        alloc: A,
+        number: usize,
+        bytes: &[u8],
+        size: PageSize,
+    ) -> Result<(), AllocError>
+        requires long { length bytes.now ≡ page_bytes size }
+        requires low { number < 2 ^ 63 }
+        ensures ok { OnOk result (Follows size number bytes.now (AreTaken size self.old.pages.entries (raw_under self.old.raw.entries) self.old.count self.old.bad) (AreTaken size self.new.pages.entries (raw_under self.new.raw.entries) self.new.count self.new.bad)) }
+        ensures err { OnErr result ((pag : List ℕ) → AreTaken size self.old.pages.entries (raw_under self.old.raw.entries) self.old.count self.old.bad number pag → AreTaken size self.new.pages.entries (raw_under self.new.raw.entries) self.new.count self.new.bad number pag) }
     {
         if self.bad.is_some() {
-            return Ok(());
+            return keep_bytes(alloc, &mut self.raw, number, bytes, size);
         }
         match read_page(alloc, bytes, size)? {
-            Ok(page) => self.keep(page, bytes, size),
+            Ok(page) => self.keep(alloc, number, page, bytes, size),
             Err(fault) => {
-                self.bad = Some((self.foreign.len(), fault));
+                keep_bytes(alloc, &mut self.raw, number, bytes, size)?;
+                self.bad = Some((number, fault));
                 Ok(())
             }
         }
@@ -64,32 +81,101 @@ impl<A: Allocator + Copy> Parsed<A> {
     // Keeps the page that bytes spell behind the others.
     fn keep(
         &mut self,
+        alloc: A,
+        number: usize,
         page: Option<SharedPage<A>>,
         bytes: &[u8],
         size: PageSize,
     ) -> Result<(), AllocError>
         requires long { length bytes.now ≡ page_bytes size }
+        requires low { number < 2 ^ 63 }
         requires read { IsRead size bytes.now page }
         requires sound { self.old.bad ≡ None }
-        ensures ok { OnOk result (Follows size bytes.now (AreParsed size self.old.pages.entries self.old.foreign.items self.old.bad) (AreParsed size self.new.pages.entries self.new.foreign.items self.new.bad)) }
-        ensures err { OnErr result ((pag : List ℕ) → AreParsed size self.old.pages.entries self.old.foreign.items self.old.bad pag → AreParsed size self.new.pages.entries self.new.foreign.items self.new.bad pag) }
+        ensures ok { OnOk result (Follows size number bytes.now (AreTaken size self.old.pages.entries (raw_under self.old.raw.entries) self.old.count self.old.bad) (AreTaken size self.new.pages.entries (raw_under self.new.raw.entries) self.new.count self.new.bad)) }
+        ensures err { OnErr result ((pag : List ℕ) → AreTaken size self.old.pages.entries (raw_under self.old.raw.entries) self.old.count self.old.bad number pag → AreTaken size self.new.pages.entries (raw_under self.new.raw.entries) self.new.count self.new.bad number pag) }
     {
-        let is_foreign = differs(&page, bytes, size);
-        let number = self.foreign.len();
-        self.foreign.reserve(1)?;
-        match page {
-            None => {
-                self.foreign.push_reserved(is_foreign);
-                Ok(())
-            }
-            Some(page) => match self.pages.insert(number, page) {
-                Ok(_none) => {
-                    self.foreign.push_reserved(is_foreign);
-                    Ok(())
-                }
-                Err(_) => Err(AllocError),
-            },
+        let copy = copy_foreign(alloc, &mut self.raw, own_bytes(&page, size), bytes)?;
+        insert_page(&mut self.pages, number, page)?;
+        put_bytes(&mut self.raw, number, copy);
+        self.count = number + 1;
+        Ok(())
+    }
+
+    /// The bytes of the page with a number: those that are kept, or else the page's own.
+    pub fn bytes(&self, number: usize, size: PageSize) -> &[u8]
+        requires { AreSized size self.now.pages.entries }
+        ensures { result.now ≡ known_under size self.now.pages.entries (raw_under self.now.raw.entries) number }
+    {
+        match self.raw.get(&number) {
+            Some(bytes) => bytes.as_slice(),
+            None => bytes_under(&self.pages, number, size),
         }
+    }
+}
+
+// Keeps the bytes of a page that is not parsed, where they are not all zero.
+fn keep_bytes<A: Allocator + Copy>(
+    alloc: A,
+    raw: &mut Raw<A>,
+    number: usize,
+    bytes: &[u8],
+    size: PageSize,
+) -> Result<(), AllocError>
+    ensures ok { OnOk result ((kept : Option (List ℕ)) × (HasRaw (raw_under raw.old.entries) (raw_under raw.new.entries) number kept × (unwrap_or kept (bytes_of_page size []) ≡ bytes.now))) }
+    ensures err { OnErr result ((n : ℕ) → raw_under raw.new.entries n ≡ raw_under raw.old.entries n) }
+{
+    let copy = copy_foreign(alloc, raw, zeros(size), bytes)?;
+    put_bytes(raw, number, copy);
+    Ok(())
+}
+
+// A copy of bytes that are not a page's own, and room to keep it.
+fn copy_foreign<A: Allocator + Copy>(
+    alloc: A,
+    raw: &mut Raw<A>,
+    own: &[u8],
+    bytes: &[u8],
+) -> Result<Option<Vec<u8, A>>, AllocError>
+    ensures copy { IfOk result (λ copy. unwrap_or (bytes_in copy) own.now ≡ bytes.now) }
+    ensures room { IfOk result (λ copy. IfSome copy (λ _. 0 < spare raw.new)) }
+    ensures same { (n : ℕ) → raw_under raw.new.entries n ≡ raw_under raw.old.entries n }
+{
+    if !differs(own, bytes) {
+        return Ok(None);
+    }
+    let copy = bytes.to_vec(alloc)?;
+    raw.reserve(1)?;
+    Ok(Some(copy))
+}
+
+// Keeps bytes under a number, where there are some.
+fn put_bytes<A: Allocator + Copy>(raw: &mut Raw<A>, number: usize, copy: Option<Vec<u8, A>>)
+    requires { IfSome copy (λ _. 0 < spare raw.old) }
+    ensures { HasRaw (raw_under raw.old.entries) (raw_under raw.new.entries) number (bytes_in copy) }
+{
+    let Some(copy) = copy else {
+        return;
+    };
+    let Ok(_none) = raw.insert(number, copy) else {
+        unreachable!()
+    };
+}
+
+// Keeps a page under a number, where there is one.
+fn insert_page<A: Allocator + Copy>(
+    pages: &mut Numbered<A>,
+    number: usize,
+    page: Option<SharedPage<A>>,
+) -> Result<(), AllocError>
+    ensures ok { OnOk result (HasPage pages.old.entries pages.new.entries number page) }
+    ensures err { OnErr result (pages.new.entries ≡ pages.old.entries) }
+{
+    let Some(page) = page else {
+        return Ok(());
+    };
+    match pages.insert(number, page) {
+        Ok(_none) => Ok(()),
+        Err(_) => Err(AllocError),
     }
 }
 
@@ -113,12 +199,11 @@ pub fn read_page<A: Allocator + Copy>(
     }
 }
 
-// Whether bytes may be others than those that are written for a page.
-fn differs<A: Allocator>(page: &Option<SharedPage<A>>, bytes: &[u8], size: PageSize) -> bool
-    requires { IfSome page.now (λ content. content.size ≡ size) }
-    ensures { result ≡ false → bytes_of_page size (pairs_of_page page.now) ≡ bytes.now }
+// Whether bytes are others than a page's own.
+fn differs(own: &[u8], bytes: &[u8]) -> bool
+    ensures { result ≡ false → own.now ≡ bytes.now }
 {
-    own_bytes(page, size) != bytes
+    own != bytes
 }
 
 // The bytes that are written for a page.
@@ -132,8 +217,8 @@ fn own_bytes<A: Allocator>(page: &Option<SharedPage<A>>, size: PageSize) -> &[u8
     }
 }
 
-/// The bytes that are written for the page with a number.
-pub fn bytes_under<A: Allocator>(pages: &Numbered<A>, number: usize, size: PageSize) -> &[u8]
+// The bytes that are written for the page with a number.
+fn bytes_under<A: Allocator>(pages: &Numbered<A>, number: usize, size: PageSize) -> &[u8]
     requires { AreSized size pages.now.entries }
     ensures { result.now ≡ bytes_of_page size (pairs_under pages.now.entries number) }
 {

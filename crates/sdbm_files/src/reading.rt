@@ -1,10 +1,10 @@
 //! The pages of a `.pag` file that is read piece by piece.
-ghost use Rattle.std.specs.Prelude.{◌≡◌, ◌+◌, ◌%◌, ◌^◌, ◌<◌, ◌↔◌, [], length, IsTrue, IfSome, OnOk, OnErr};
+ghost use Rattle.std.specs.Prelude.{◌≡◌, ◌+◌, ◌%◌, ◌^◌, ◌<◌, ◌≤◌, ◌↔◌, ℕ, [], length, get_or, IsTrue, IfOk, OnOk, OnErr};
 ghost use Rattle.sdbm_addr.specs.Pairs.{page_bytes};
+ghost use Rattle.sdbm_addr.specs.Files.{page_at};
 
-use crate::parsed::{Parsed, bytes_under};
+use crate::parsed::Parsed;
 use crate::told::Told;
-use crate::writing::zeros;
 use sdbm_addr::PageSize;
 use std::alloc::{AllocError, Allocator};
 use std::marker::Model;
@@ -12,25 +12,27 @@ use std::marker::Model;
 /// How many bytes a block has.
 const BLOCK: usize = 1024;
 
-/// A `.pag` file as far as it was read, seen as the size of its pages and all its bytes so far. It keeps the pages that have pairs and
-/// no bytes beside them, so a hole takes a byte of memory for each page; `Image::open_read` opens the database over the same pages.
+/// A `.pag` file as far as it was read, seen as the size of its pages and all its bytes so far. It keeps the pages that have pairs,
+/// the bytes of a page where they are not its own, and those behind the last whole page, so a hole takes no memory;
+/// `Image::open_read` opens the database over the same pages.
 #[derive(Drop)]
 pub struct ReadPages<A: Allocator> {
     alloc: A,
     pub(crate) size: PageSize,
     pub(crate) len: usize,
     pub(crate) parsed: Parsed<A>,
+    rest: Vec<u8, A>,
     pub(crate) told: Told,
 }
 
 impl<A: Allocator> Model for ReadPages<A> {
-    ghost use Rattle.sdbm_files.specs.Reading.{PagRead, IsReadAs};
+    ghost use Rattle.sdbm_files.specs.Reading.{PagRead, IsReadAs, raw_under};
 
     ghost Value = { PagRead };
 
     ghost view = { λ a. record { size = a.size; bytes = a.told.bytes } };
 
-    ghost invariant = { λ a. IsReadAs a.size a.len a.parsed.pages.entries a.parsed.foreign.items a.parsed.bad a.told.bytes };
+    ghost invariant = { λ a. IsReadAs a.size a.len a.parsed.pages.entries (raw_under a.parsed.raw.entries) a.parsed.count a.parsed.bad a.rest.items a.told.bytes };
 }
 
 impl<A: Allocator + Copy> ReadPages<A> {
@@ -45,6 +47,7 @@ impl<A: Allocator + Copy> ReadPages<A> {
             size,
             len: 0,
             parsed: Parsed::new(alloc),
+            rest: Vec::new(alloc),
             told: Told::none(),
         }
     }
@@ -77,8 +80,8 @@ impl<A: Allocator + Copy> ReadPages<A> {
         self.len % self.size.bytes() == 0
     }
 
-    /// Reads the next piece of the file, behind whole pages. It takes memory for the pages of the piece that have pairs, and a byte for
-    /// each page.
+    /// Reads the next piece of the file, behind whole pages. It takes memory for the pages of the piece that have pairs, for the bytes
+    /// of a page where they are not its own, and for those behind the last whole page. Pages of zeros take none.
     ///
     /// # Errors
     /// `AllocError` where no memory is left. The first pages of the piece may be read then.
@@ -94,8 +97,7 @@ impl<A: Allocator + Copy> ReadPages<A> {
             let at = index * size;
             self.push_page(&piece[at..at + size])?;
         }
-        self.push_rest(&piece[count * size..]);
-        Ok(())
+        self.push_rest(&piece[count * size..])
     }
 
     // Reads one page. Where no memory is left nothing was read.
@@ -106,48 +108,70 @@ impl<A: Allocator + Copy> ReadPages<A> {
         ensures ok { OnOk result (self.new ≡ with_piece self.old page.now) }
         ensures err { OnErr result (self.new ≡ self.old) }
     {
-        self.parsed.take(self.alloc, page, self.size)?;
+        let number = self.len / self.size.bytes();
+        self.parsed.take(self.alloc, number, page, self.size)?;
         self.told = self.told.more(page);
         self.len += page.len();
         Ok(())
     }
 
-    // Reads the bytes behind the last whole page.
-    fn push_rest(&mut self, rest: &[u8])
+    // Reads the bytes behind the last whole page. Where no memory is left nothing was read.
+    fn push_rest(&mut self, rest: &[u8]) -> Result<(), AllocError>
         requires whole { length self.old.bytes % page_bytes self.old.size ≡ 0 }
         requires short { length self.old.bytes + length rest.now < 2 ^ 63 }
         requires rest { length rest.now < page_bytes self.old.size }
-        ensures { self.new ≡ with_piece self.old rest.now }
+        ensures ok { OnOk result (self.new ≡ with_piece self.old rest.now) }
+        ensures err { OnErr result (self.new ≡ self.old) }
     {
+        self.rest.extend_from_slice(rest)?;
         self.told = self.told.more(rest);
         self.len += rest.len();
+        Ok(())
     }
 
-    /// The 1,024 bytes of the file from a multiple of that on, where they are known: a page whose free bytes were not all zero is not.
-    /// A byte past the end of the file counts as zero.
-    pub fn block(&self, index: usize) -> Option<&[u8]>
-        ensures { IfSome result (λ block. IsBlock self.now.bytes index block.now) }
+    /// The 1,024 bytes of the file from byte 1,024 times the index on, to compare them with those of another file. A block that
+    /// reaches past the end of the file may be shorter, or empty: the bytes that it lacks count as zeros. It takes no memory.
+    pub fn block(&self, index: usize) -> &[u8]
+        ensures { IsBlock self.now.bytes index result.now }
     {
         let blocks = self.size.bytes() / BLOCK;
-        let number = index / blocks;
-        if number >= self.parsed.foreign.len() {
-            return self.block_past(index);
-        }
-        if self.parsed.foreign[number] {
-            return None;
-        }
-        let page = bytes_under(&self.parsed.pages, number, self.size);
-        let start = index % blocks * BLOCK;
-        Some(&page[start..start + BLOCK])
+        part(self.page(index / blocks), index % blocks * BLOCK)
     }
 
-    // The same behind all that was read.
-    fn block_past(&self, index: usize) -> Option<&[u8]>
-        ensures { IfSome result (λ block. IsBlock self.now.bytes index block.now) }
+    /// A copy of all bytes that were read, to parse them again in pages of the other size. What was read stays as it is.
+    ///
+    /// # Errors
+    /// `AllocError` where no memory is left for the copy.
+    pub fn to_vec(&self, alloc: A) -> Result<Vec<u8, A>, AllocError>
+        ensures { IfOk result (λ copy. copy.items ≡ self.now.bytes) }
     {
-        if index < self.len.div_ceil(BLOCK) {
-            return None;
+        let mut copy = Vec::with_capacity(alloc, self.len)?;
+        for number in 0..self.len.div_ceil(self.size.bytes()) {
+            copy.extend_from_slice(self.page(number))?;
         }
-        Some(zeros(PageSize::Small))
+        Ok(copy)
     }
+
+    // The bytes of the page with a number, as many of them as were read.
+    fn page(&self, number: usize) -> &[u8]
+        ensures { result.now ≡ page_at self.now.size self.now.bytes number }
+    {
+        let whole = self.len / self.size.bytes();
+        if number < whole {
+            return self.parsed.bytes(number, self.size);
+        }
+        if number == whole {
+            return self.rest.as_slice();
+        }
+        &[]
+    }
+}
+
+// The bytes from a place on, at most a block of them.
+fn part(bytes: &[u8], start: usize) -> &[u8]
+    ensures short { length result.now ≤ 1024 }
+    ensures reads { (i : ℕ) → i < 1024 → get_or result.now i 0 ≡ get_or bytes.now (start + i) 0 }
+{
+    let tail = &bytes[start.min(bytes.len())..];
+    &tail[..tail.len().min(BLOCK)]
 }

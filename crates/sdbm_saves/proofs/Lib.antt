@@ -9,3 +9,4 @@ pub mod Recording
 pub mod Replay
 pub mod Runs
 pub mod PartRead
+pub mod Puts

@@ -1,5 +1,5 @@
 -- The pages of a database, one after another, as a draft writes them.
-use Rattle.std.proofs.Common.{◌≡◌, ℕ, suc, ◌+◌, ◌*◌, ◌-◌, ◌<◌, ◌≤◌, ◌^◌, List, ◌++◌, length, get_or, sym, ◌∙◌, ap, subst, arith, length-append}
+use Rattle.std.proofs.Common.{◌≡◌, ℕ, suc, ◌+◌, ◌*◌, ◌-◌, ◌/◌, ◌%◌, ◌<◌, ◌≤◌, ◌^◌, List, ◌++◌, length, take, drop, get_or, sym, ◌∙◌, ap, subst, arith, length-append}
 use Rattle.std.proofs.lemmas.List.{ext_get_or, get_or_append_left, get_or-append_right}
 use Rattle.sdbm_addr.specs.declared.PageSize.{PageSize}
 use Rattle.sdbm_addr.specs.declared.PageSize.TheVariants.{Small, Wide}
@@ -13,7 +13,7 @@ use Rattle.sdbm_saves.specs.Disk.{resized, written}
 use Rattle.sdbm_saves.specs.Drafts.{RenewsBlock}
 use Rattle.sdbm_saves.specs.Saves.{AreFilesFor}
 use Rattle.sdbm_saves.proofs.Lists.{length-resized, read_resized}
-use Rattle.sdbm_saves.proofs.Drafts.{partly, partly_old, length_partly, block_written}
+use Rattle.sdbm_saves.proofs.Drafts.{partly, partly_old, length_partly, block_written, length_part, part_reads}
 
 -- pages that stand within so many
 pub page_inside : (size : PageSize) (n count : ℕ) → n < count → n * page_bytes size + page_bytes size ≤ count * page_bytes size
@@ -27,6 +27,29 @@ few_pages Wide count short = omega (arith, short)
 pub next_page : (size : PageSize) (n : ℕ) → n * page_bytes size + page_bytes size ≡ (n + 1) * page_bytes size
 next_page Small n = omega arith
 next_page Wide n = omega arith
+
+-- how many blocks a page has
+abbrev pub in_page : PageSize → ℕ
+in_page size = page_bytes size / 1024
+
+-- a block stands on a page of so many
+pub page_is : (size : PageSize) (index count : ℕ) → index < count * in_page size → index / in_page size < count
+page_is Small index count below = omega (arith, below)
+page_is Wide index count below = omega (arith, below)
+
+-- where a block starts on its page, and in the file
+pub starts_on : (size : PageSize) (index : ℕ) → index % in_page size * 1024 + 1024 ≤ page_bytes size
+starts_on Small index = omega arith
+starts_on Wide index = omega arith
+
+pub starts_in : (size : PageSize) (index : ℕ) → index / in_page size * page_bytes size + index % in_page size * 1024 ≡ index * 1024
+starts_in Small index = omega arith
+starts_in Wide index = omega arith
+
+-- the blocks of all pages
+pub blocks_are : (size : PageSize) (count : ℕ) → count * in_page size * 1024 ≡ count * page_bytes size
+blocks_are Small count = omega arith
+blocks_are Wide count = omega arith
 
 -- a page stands where the pages before it end
 pub page_reads : (db : Database) → IsDatabase db → (n count i : ℕ) → n < count → i < length (bytes_of_page db.size (pairs_at db n))
@@ -71,6 +94,50 @@ page_renewed db ok n count whole below whole_is a given block before after a_is 
     ∙ ap (λ (z : ℕ). written z block (partly at new old)) a_is
     ∙ ap (λ (l : List ℕ). written at l (partly at new old)) block_is
     ∙ block_written at next new old page (omega (arith, ends, long, within, new_long, whole_is)) same_length ends (λ i lt. page_reads db ok n count i below lt)
+
+-- a block of the pages
+module _ (db : Database) (ok : IsDatabase db) (index count whole : ℕ) (below : index < count * in_page db.size) (whole_is : count * page_bytes db.size ≡ whole) where
+  abbrev page : List ℕ
+  page = bytes_of_page db.size (pairs_at db (index / in_page db.size))
+
+  abbrev at : ℕ
+  at = index * 1024
+
+  -- a block of its page is one of the file
+  pub block_reads_so : (block : List ℕ) → length block ≡ 1024 → ((i : ℕ) → i < 1024 → get_or block i 0 ≡ get_or page (index % in_page db.size * 1024 + i) 0)
+      → (i : ℕ) → i < length block → get_or block i 0 ≡ get_or (first_pages db count) (at + i) 0
+  block_reads_so block long reads i lt =
+      let n = index / in_page db.size in
+      let start = index % in_page db.size * 1024 in
+      let place : n * page_bytes db.size + (start + i) ≡ at + i = omega (arith, starts_in db.size index) in
+      reads i (omega (arith, lt, long))
+      ∙ page_reads db ok n count (start + i) (page_is db.size index count below) (omega (arith, lt, long, starts_on db.size index, long_page db ok n))
+      ∙ ap (λ (k : ℕ). get_or (first_pages db count) k 0) place
+
+-- a block of a page, as code reads it
+module _ (db : Database) (ok : IsDatabase db) (index per : ℕ) (per_is : per ≡ in_page db.size) (page : List ℕ) (page_is : page ≡ bytes_of_page db.size (pairs_at db (index / per))) where
+  abbrev part_start : ℕ
+  part_start = index % per * 1024
+
+  abbrev part_size : ℕ
+  part_size = part_start + 1024 - part_start
+
+  pub part_inside : part_start + 1024 ≤ length page
+  part_inside =
+      let within = subst (λ (k : ℕ). index % k * 1024 + 1024 ≤ page_bytes db.size) (sym per_is) (starts_on db.size index) in
+      omega (arith, within, ap (λ (l : List ℕ). length l) page_is, long_page db ok (index / per))
+
+  part_within : part_start + part_size ≤ length page
+  part_within = omega (arith, part_inside)
+
+  pub part_long : length (take part_size (drop part_start page)) ≡ 1024
+  part_long = length_part part_start part_size page part_within ∙ omega arith
+
+  pub part_reads_so : (i : ℕ) → i < 1024 → get_or (take part_size (drop part_start page)) i 0 ≡ get_or (bytes_of_page db.size (pairs_at db (index / in_page db.size))) (index % in_page db.size * 1024 + i) 0
+  part_reads_so i below =
+      part_reads part_start part_size page part_within i (omega (arith, below, part_long))
+      ∙ ap (λ (l : List ℕ). get_or l (part_start + i) 0) page_is
+      ∙ ap (λ (k : ℕ). get_or (bytes_of_page db.size (pairs_at db (index / k))) (index % k * 1024 + i) 0) per_is
 
 -- bytes that are those of a database's files
 pub are_files : (db : Database) → IsDatabase db → (count : ℕ) → IsPageCount db count → (pages directory own : List ℕ) → AreDirectoryBytes db.splits own

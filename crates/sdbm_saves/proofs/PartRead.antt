@@ -1,14 +1,13 @@
 -- The pages of which one was read, where the others are zeros, are read so.
-use Rattle.std.proofs.Common.{◌≡◌, ◌≢◌, ℕ, ◌+◌, ◌*◌, ◌-◌, ◌<◌, ◌≤◌, List, [], ◌++◌, length, get_or, replicate, Bool, true, false, nat_lt, refl, sym, ◌∙◌, ap, arith, Contains}
+use Rattle.std.proofs.Common.{◌≡◌, ◌≢◌, ℕ, ◌+◌, ◌*◌, ◌-◌, ◌<◌, ◌≤◌, List, [], ◌++◌, length, get_or, replicate, Bool, true, false, nat_lt, refl, sym, ◌∙◌, ap, arith}
 use Rattle.std.proofs.lemmas.Bool.{ltb-true, ltb-false}
 use Rattle.std.proofs.lemmas.List.{get_or_append_left, get_or-append_right, get_or-replicate, get_or_past, length-replicate, length-append}
 use Rattle.sdbm_addr.specs.declared.PageSize.{PageSize}
 use Rattle.sdbm_addr.specs.declared.PageSize.TheVariants.{Small, Wide}
 use Rattle.sdbm_addr.specs.Pairs.{page_bytes}
 use Rattle.sdbm_saves.specs.declared.part.Part.{Part}
-use Rattle.sdbm_saves.specs.Disk.{resized}
 use Rattle.sdbm_saves.specs.Recording.{part_pages}
-use Rattle.sdbm_saves.specs.Parts.{ReadsPage, IsReadSo}
+use Rattle.sdbm_saves.specs.Parts.{IsReadSo}
 use Rattle.sdbm_saves.proofs.Lists.{length-resized, read_resized}
 
 below_page : (size : PageSize) (n m i : ℕ) → n < m → i < page_bytes size → n * page_bytes size + i < m * page_bytes size

@@ -3,38 +3,27 @@ use Rattle.std.proofs.Common.{◌≡◌, ◌≢◌, ◌⊎◌, ⊎_elim, ℕ, ze
 use Rattle.std.specs.Prelude.{Contains}
 use Rattle.std.proofs.lemmas.List.{ext_get_or, get_or_past, get_or_default, get_or_append_left, get_or-append_right, get_or-replicate, length-replicate}
 use Rattle.std.proofs.lemmas.Bool.{cases_lt, cases_eq}
+use Rattle.std.proofs.lemmas.List.Elements.{Contains-get_or}
 use Rattle.sdbm_addr.specs.declared.PageSize.{PageSize}
 use Rattle.sdbm_addr.specs.declared.PageSize.TheVariants.{Small, Wide}
 use Rattle.sdbm_addr.specs.Pairs.{page_bytes}
 use Rattle.sdbm_addr.specs.Layout.{bytes_of_page}
-use Rattle.sdbm_addr.specs.Database.{Database, pairs_at}
+use Rattle.sdbm_addr.specs.Database.{Database, IsDatabase, pairs_at}
 use Rattle.sdbm_addr.specs.DirectoryFile.{AreDirectoryBytes}
 use Rattle.sdbm_addr.specs.Files.{first_pages, IsPageCount}
 use Rattle.sdbm_files.proofs.WriteLemmas.{length-first_pages, long_page}
 use Rattle.sdbm_saves.specs.declared.part.Part.{Part}
-use Rattle.sdbm_saves.specs.declared.disk.File.TheVariants.{Pages}
+use Rattle.sdbm_saves.specs.declared.marked.Marked.{Marked}
+use Rattle.sdbm_saves.specs.declared.disk.File.{File}
+use Rattle.sdbm_saves.specs.declared.disk.File.TheVariants.{Pages, Directory}
 use Rattle.sdbm_saves.specs.Disk.{written, resized}
-use Rattle.sdbm_saves.specs.Drafts.{change_bytes, FitsIn}
+use Rattle.sdbm_saves.specs.Redo.{replayed}
+use Rattle.sdbm_saves.specs.Drafts.{AreChanges, Puts, ReadsAt, HasPut}
 use Rattle.sdbm_saves.specs.Saves.{AreFilesFor, HasLongFile}
-use Rattle.sdbm_saves.specs.Parts.{ReadsPage, SamePage, ReadsSo, IsPartOf, HasPages, RenewsPage}
+use Rattle.sdbm_saves.specs.Parts.{ReadsPage, SamePage, ReadsSo, ReadPages, IsPartOf, IsMarkedIn, HasPages, HasPutPages}
 use Rattle.sdbm_saves.proofs.Lists.{length-written, written_before, written_inside, written_after, length-resized, read_resized}
-use Rattle.sdbm_saves.proofs.Drafts.{offset_spelled, size_spelled, was_spelled, length_spelled}
+use Rattle.sdbm_saves.proofs.Puts.{file_put}
 use Rattle.sdbm_saves.proofs.PageDrafts.{page_inside, next_page, page_reads, are_files}
-
--- a change of the pages that was spelled, with what stood there, fits
-pub page_fits : (pages directory : ℕ) (both : List ℕ × List ℕ) (at : ℕ) (page was : List ℕ) → at < 2 ^ 32 → length page < 2 ^ 32 → length was ≡ length page → at + length page ≤ pages
-    → ((i : ℕ) → i < length page → get_or was i 0 ≡ get_or both.0 (at + i) 0) → FitsIn pages directory both (change_bytes Pages at page was)
-page_fits pages directory both at page was near short same inside reads =
-    let offset_is = offset_spelled Pages at page was near short in
-    let size_is = size_spelled Pages at page was near short in
-    record {
-      whole = omega (arith, length_spelled Pages at page was near short same);
-      inside = omega (arith, offset_is, size_is, inside);
-      was = λ i lt.
-          ap (λ (l : List ℕ). get_or l i 0) (was_spelled Pages at page was near short same)
-          ∙ reads i (omega (arith, lt, size_is))
-          ∙ ap (λ n. get_or both.0 (n + i) 0) (sym offset_is);
-    }
 
 -- one of them, or none
 pub one_or_none : (numbers : List ℕ) (n : ℕ) → Contains numbers n ⊎ (Contains numbers n → ⊥)
@@ -103,19 +92,14 @@ module _ (old : Part) (numbers : List ℕ) (size : PageSize) (long : length old.
   pub sample_reads : ReadsSo old numbers size sample
   sample_reads = record { page = sample_own; others = λ n one differs. sample_other n differs }
 
-  -- the page that stood at a number
-  module _ (n : ℕ) (was : List ℕ) (own : n ≡ old.number → was ≡ old.page.now) (other : n ≢ old.number → was ≡ resized (page_bytes size) []) where
-    pub was_long : length was ≡ page_bytes size
-    was_long = ⊎_elim
-        (λ is. ap (λ (l : List ℕ). length l) (own is) ∙ long)
-        (λ differs. ap (λ (l : List ℕ). length l) (other differs) ∙ length-resized (page_bytes size) [])
-        (cases_eq n old.number)
-
-    pub was_reads : (pag : List ℕ) → ReadsSo old numbers size pag → Contains numbers n → (i : ℕ) → i < page_bytes size → get_or was i 0 ≡ get_or pag (n * page_bytes size + i) 0
-    was_reads pag so one i lt = ⊎_elim
-        (λ is. ap (λ (l : List ℕ). get_or l i 0) (own is) ∙ sym (so.page i lt) ∙ ap (λ k. get_or pag (k * page_bytes size + i) 0) (sym is))
-        (λ differs. ap (λ (l : List ℕ). get_or l i 0) (other differs) ∙ read_resized (page_bytes size) [] i lt ∙ sym (so.others n one differs i lt))
-        (cases_eq n old.number)
+-- the page that was read, and zeros on the other pages
+pub were_read : (old : Part) (numbers : List ℕ) (size : PageSize) (z : ℕ) (pages pag : List ℕ) → z ≡ page_bytes size → ReadsSo old numbers size pag
+    → ((j i : ℕ) → j < length numbers → i < z → get_or numbers j 0 ≡ old.number → get_or pages (j * z + i) 0 ≡ get_or old.page.now i 0)
+    → ((j i : ℕ) → j < length numbers → i < z → get_or numbers j 0 ≢ old.number → get_or pages (j * z + i) 0 ≡ 0) → ReadPages size numbers pages pag
+were_read old numbers size z pages pag z_is so own others j i below lt = sym (ap (λ k. get_or pages (j * k + i) 0) z_is) ∙ ⊎_elim
+    (λ is. own j i below (omega (arith, lt, z_is)) is ∙ sym (so.page i lt) ∙ ap (λ k. get_or pag (k * page_bytes size + i) 0) (sym is))
+    (λ differs. others j i below (omega (arith, lt, z_is)) differs ∙ sym (so.others (get_or numbers j 0) (Contains-get_or numbers j 0 below) differs i lt ∙ get_or_past [] i 0 (omega arith)))
+    (cases_eq (get_or numbers j 0) old.number)
 
 -- A file of so many bytes has the first of these pages, and each other as another file has it, or as the database has it.
 pub record IsRenewing (db : Database) (numbers : List ℕ) (index whole : ℕ) (old new : List ℕ) : Type 0 where
@@ -189,19 +173,21 @@ module _ (db : Database) (numbers : List ℕ) (index whole : ℕ) (old before : 
           (cases_eq (get_or numbers j 0) n);
     }
 
-  pub renewing_more : (was : List ℕ) → ((i : ℕ) → i < page_bytes db.size → get_or was i 0 ≡ get_or old (n * page_bytes db.size + i) 0) → length page ≡ page_bytes db.size → (a : ℕ) (new : List ℕ) → a ≡ n * page_bytes db.size
-      → (a + length page ≤ whole → RenewsPage a was page before new) → (whole < a + length page → new ≡ before) → IsRenewing db numbers (index + 1) whole old new
-  renewing_more was reads long a new a_is renews past = ⊎_elim
-      (λ out. subst (λ (l : List ℕ). IsRenewing db numbers (index + 1) whole old l) (sym (past out)) (stays (λ fits. absurd (omega (arith, fits, out, a_is, long, next_page db.size n)))))
-      (λ room. let fits : (n + 1) * page_bytes db.size ≤ whole = omega (arith, room, a_is, long, next_page db.size n) in
+  -- a page that the file has no room for
+  pub renewing_past : whole < (n + 1) * page_bytes db.size → IsRenewing db numbers (index + 1) whole old before
+  renewing_past out = stays (λ fits. absurd (omega (arith, fits, out)))
+
+  pub renewing_put : (was : List ℕ) → ((i : ℕ) → i < page_bytes db.size → get_or was i 0 ≡ get_or old (n * page_bytes db.size + i) 0) → length page ≡ page_bytes db.size → (a : ℕ) (new : List ℕ) → a ≡ n * page_bytes db.size
+      → Puts a was page before new → (n + 1) * page_bytes db.size ≤ whole → IsRenewing db numbers (index + 1) whole old new
+  renewing_put was reads long a new a_is puts fits =
+      let room : a + length page ≤ length before = omega (arith, a_is, inside long fits) in
+      let each : (i : ℕ) → i < length page → (get_or before (a + i) 0 ≡ get_or was i 0) ⊎ (get_or before (a + i) 0 ≡ get_or page i 0) = λ i lt.
+      let within : i < page_bytes db.size = omega (arith, lt, long) in
       ⊎_elim
-      (λ write. subst (λ (l : List ℕ). IsRenewing db numbers (index + 1) whole old l) (sym (write ∙ ap (λ k. written k page before) a_is)) (is_written long fits))
-      (λ same. subst (λ (l : List ℕ). IsRenewing db numbers (index + 1) whole old l) (sym same.0) (stays (λ _. ⊎_elim
-      (λ stood. λ i lt. stood i lt ∙ sym (reads i lt) ∙ ap (λ (l : List ℕ). get_or l i 0) same.1)
-      (λ both. subst (λ (l : List ℕ). ReadsPage db.size before n l) (sym page_is) both.1)
-      (renewing.each n fits))))
-      (renews room))
-      (cases_lt whole (a + length page))
+      (λ same. inl (ap (λ k. get_or before (k + i) 0) a_is ∙ same i within ∙ sym (reads i within)))
+      (λ both. inr (ap (λ k. get_or before (k + i) 0) a_is ∙ both.1 i within ∙ ap (λ (l : List ℕ). get_or l i 0) (sym page_is)))
+      (renewing.each n fits) in
+      subst (λ (l : List ℕ). IsRenewing db numbers (index + 1) whole old l) (sym (puts room each ∙ ap (λ k. written k page before) a_is)) (is_written long fits)
 
 -- the place of a byte in the pages
 in_page : (size : PageSize) (count i : ℕ) → i < count * page_bytes size → (i / page_bytes size < count) × ((i / page_bytes size * page_bytes size + i % page_bytes size ≡ i) × (i % page_bytes size < page_bytes size))
@@ -232,18 +218,30 @@ pub longer_whole : (size : PageSize) (len count whole : ℕ) → len % page_byte
 longer_whole Small len count whole is whole_is = omega (arith, is, whole_is)
 longer_whole Wide len count whole is whole_is = omega (arith, is, whole_is)
 
+-- a file whose pages are those of a database is the one that is written for it
+pub all_made : (db : Database) → IsDatabase db → (whole count : ℕ) (new : List ℕ) → length new ≡ whole → whole ≡ count * page_bytes db.size
+    → ((n : ℕ) → (n + 1) * page_bytes db.size ≤ whole → ReadsPage db.size new n (bytes_of_page db.size (pairs_at db n))) → new ≡ first_pages db count
+all_made db ok whole count new long whole_is own = ext_get_or 0 new (first_pages db count) (long ∙ whole_is ∙ sym (length-first_pages db ok count)) each
+  where
+    each : (i : ℕ) → i < length new → get_or new i 0 ≡ get_or (first_pages db count) i 0
+    each i below =
+        let n = i / page_bytes db.size in
+        let r = i % page_bytes db.size in
+        let place = in_page db.size count i (omega (arith, below, long, whole_is)) in
+        let fits : (n + 1) * page_bytes db.size ≤ whole = omega (arith, whole_is, page_inside db.size n count place.0, next_page db.size n) in
+        ap (λ k. get_or new k 0) (sym place.1.0)
+        ∙ own n fits r place.1.1
+        ∙ page_reads db ok n count r place.0 (omega (arith, place.1.1, long_page db ok n))
+        ∙ ap (λ k. get_or (first_pages db count) k 0) place.1.0
+
 -- a database of which one is the known part
 module _ (old : Part) (numbers : List ℕ) (known db : Database) (pag : List ℕ) (part : IsPartOf old numbers known db pag) where
   -- the file with the known pages is that of the database
   pub pages_made : (whole count : ℕ) (new : List ℕ) → whole ≡ count * page_bytes known.size → HasPages known numbers whole pag new → new ≡ first_pages db count
-  pages_made whole count new whole_is made = ext_get_or 0 new (first_pages db count) same_length each
+  pages_made whole count new whole_is made =
+      all_made db part.database whole count new made.long (whole_is ∙ ap (λ size. count * page_bytes size) (sym part.size))
+      (subst (λ size. (n : ℕ) → (n + 1) * page_bytes size ≤ whole → ReadsPage size new n (bytes_of_page db.size (pairs_at db n))) (sym part.size) own)
     where
-      ps : page_bytes known.size ≡ page_bytes db.size
-      ps = ap page_bytes (sym part.size)
-
-      same_length : length new ≡ length (first_pages db count)
-      same_length = made.long ∙ whole_is ∙ ap (λ z. count * z) ps ∙ sym (length-first_pages db part.database count)
-
       own : (n : ℕ) → (n + 1) * page_bytes known.size ≤ whole → ReadsPage known.size new n (bytes_of_page db.size (pairs_at db n))
       own n fits = ⊎_elim
           (λ one. subst (λ (l : List ℕ). ReadsPage known.size new n l)
@@ -251,18 +249,6 @@ module _ (old : Part) (numbers : List ℕ) (known db : Database) (pag : List ℕ
           (made.named n one fits))
           (λ none. λ i lt. made.others n none fits i lt ∙ part.rest n none i lt ∙ ap (λ size. get_or (bytes_of_page size (pairs_at db n)) i 0) (sym part.size))
           (one_or_none numbers n)
-
-      each : (i : ℕ) → i < length new → get_or new i 0 ≡ get_or (first_pages db count) i 0
-      each i below =
-          let n = i / page_bytes known.size in
-          let r = i % page_bytes known.size in
-          let place = in_page known.size count i (omega (arith, below, made.long, whole_is)) in
-          let fits : (n + 1) * page_bytes known.size ≤ whole = omega (arith, whole_is, page_inside known.size n count place.0, next_page known.size n) in
-          let on : n * page_bytes db.size + r ≡ i = ap (λ z. n * z + r) (sym ps) ∙ place.1.0 in
-          ap (λ k. get_or new k 0) (sym place.1.0)
-          ∙ own n fits r place.1.1
-          ∙ page_reads db part.database n count r place.0 (omega (arith, place.1.1, ps, long_page db part.database n))
-          ∙ ap (λ k. get_or (first_pages db count) k 0) on
 
   -- and it has as many pages as are written
   pub pages_counted : (n whole count : ℕ) → ((k : ℕ) → pairs_at known k ≢ [] → Contains numbers k) → IsPageCount known n → whole ≡ max old.len (n * page_bytes known.size) → whole ≡ count * page_bytes known.size → IsPageCount db count
@@ -311,3 +297,97 @@ module _ (old : Part) (numbers : List ℕ) (known db : Database) (pag : List ℕ
 pub near_page : (size : PageSize) (n : ℕ) → n < 2 ^ 32 → n * page_bytes size + page_bytes size < 2 ^ 63
 near_page Small n near = omega (arith, near)
 near_page Wide n near = omega (arith, near)
+
+-- a file that was read where it was marked is renewed to that of the database
+pub marked_made : (old : Marked) (db : Database) (pag : List ℕ) → IsDatabase db → IsMarkedIn old db pag → (whole count : ℕ) (new : List ℕ) → whole ≡ count * page_bytes db.size → HasPages db old.numbers.now whole pag new
+    → new ≡ first_pages db count
+marked_made old db pag ok marked whole count new whole_is made = all_made db ok whole count new made.long whole_is (λ n fits. ⊎_elim
+    (λ one. made.named n one fits)
+    (λ none. λ i lt. made.others n none fits i lt ∙ marked.rest n none i lt)
+    (one_or_none old.numbers.now n))
+
+-- the changes of the first pages of a list
+pub record IsPutting (db : Database) (numbers : List ℕ) (index pages directory : ℕ) (both : List ℕ × List ℕ) (few : ℕ) (before : List ℕ) (many : ℕ) (after : List ℕ) : Type 0 where
+  pub changes : AreChanges pages directory both many after
+  pub file : IsRenewing db numbers index pages both.0 (replayed Pages many after (resized pages both.0))
+  pub others : (g : File) → g ≢ Pages → (x : List ℕ) → replayed g many after x ≡ replayed g few before x
+
+pub putting_none : (db : Database) (numbers : List ℕ) (pages directory : ℕ) (both : List ℕ × List ℕ) (few : ℕ) (before : List ℕ) → ((x : List ℕ) → replayed Pages few before x ≡ x)
+    → AreChanges pages directory both few before → IsPutting db numbers 0 pages directory both few before few before
+putting_none db numbers pages directory both few before untouched are = record {
+  changes = are;
+  file = subst (λ (l : List ℕ). IsRenewing db numbers 0 pages both.0 l) (sym (untouched (resized pages both.0))) (renewing_none db numbers pages both.0);
+  others = λ g other x. refl;
+}
+
+pub putting_all : (db : Database) (numbers : List ℕ) (index pages directory : ℕ) (both : List ℕ × List ℕ) (few : ℕ) (before : List ℕ) (many : ℕ) (after : List ℕ) → length numbers ≤ index
+    → IsPutting db numbers index pages directory both few before many after → HasPutPages db numbers pages directory both few before many after
+putting_all db numbers index pages directory both few before many further all putting = record {
+  changes = putting.changes;
+  file = renewed_all db numbers index pages both.0 _ all putting.file;
+  others = putting.others;
+}
+
+-- a page of the list more
+module _ (db : Database) (ok : IsDatabase db) (numbers : List ℕ) (index pages directory : ℕ) (both : List ℕ × List ℕ) (few : ℕ) (before : List ℕ) (many : ℕ) (after : List ℕ) (n : ℕ) (is : get_or numbers index 0 ≡ n) (below : index < length numbers)
+    (putting : IsPutting db numbers index pages directory both few before many after) where
+  abbrev page : List ℕ
+  page = bytes_of_page db.size (pairs_at db n)
+
+  one : Contains numbers n
+  one = subst (λ k. Contains numbers k) is (Contains-get_or numbers index 0 below)
+
+  pub putting_past : pages < (n + 1) * page_bytes db.size → IsPutting db numbers (index + 1) pages directory both few before many after
+  putting_past out = record {
+    changes = putting.changes;
+    file = renewing_past db numbers index pages both.0 _ n page one is refl putting.file out;
+    others = putting.others;
+  }
+
+  pub putting_more : (was : List ℕ) (a more : ℕ) (further : List ℕ) → ((i : ℕ) → i < page_bytes db.size → get_or was i 0 ≡ get_or both.0 (n * page_bytes db.size + i) 0) → a ≡ n * page_bytes db.size → (n + 1) * page_bytes db.size ≤ pages
+      → HasPut pages directory both Pages a was page many after more further → IsPutting db numbers (index + 1) pages directory both few before more further
+  putting_more was a more further reads a_is fits put = record {
+    changes = put.changes;
+    file = renewing_put db numbers index pages both.0 _ n page one is refl putting.file was reads (long_page db ok n) a _ a_is (put.put (resized pages both.0)) fits;
+    others = λ g other x. put.others g other x ∙ putting.others g other x;
+  }
+
+-- the changes that make both files those with the pages of a database and with these bytes of the directory
+pub record IsDrafted (db : Database) (numbers own : List ℕ) (pages directory : ℕ) (both : List ℕ × List ℕ) (many : ℕ) (after : List ℕ) : Type 0 where
+  pub changes : AreChanges pages directory both many after
+  pub file : HasPages db numbers pages both.0 (replayed Pages many after (resized pages both.0))
+  pub bits : replayed Directory many after (resized (length own) both.1) ≡ own
+
+-- the directory is drafted first, and then the pages
+pub drafted : (db : Database) (numbers own : List ℕ) (pages directory : ℕ) (both : List ℕ × List ℕ) (none : List ℕ) (p d n : ℕ) (before : List ℕ) (q e m : ℕ) (after : List ℕ) → none ≡ [] → p ≡ pages → d ≡ directory → q ≡ p → e ≡ d
+    → (ReadsAt 0 both.1 (length own) both.1 → AreChanges pages directory both 0 none → HasPut pages directory both Directory 0 both.1 own 0 none n before)
+    → (((x : List ℕ) → replayed Pages n before x ≡ x) → AreChanges p d both n before → HasPutPages db numbers p d both n before m after)
+    → IsDrafted db numbers own q e both m after
+drafted db numbers own pages directory both none p d n before q e m after nothing p_is d_is q_is e_is first second =
+    subst (λ k. IsDrafted db numbers own k e both m after) (sym (q_is ∙ p_is))
+    (subst (λ k. IsDrafted db numbers own pages k both m after) (sym (e_is ∙ d_is)) is)
+  where
+    differ : Directory ≢ Pages
+    differ is = cc
+
+    back : Pages ≢ Directory
+    back is = cc
+
+    from_start : (i : ℕ) → i ≡ 0 + i
+    from_start i = omega arith
+
+    put : HasPut pages directory both Directory 0 both.1 own 0 none n before
+    put = first (λ i lt. ap (λ k. get_or both.1 k 0) (from_start i)) (record { fits = λ k lt. absurd (omega (arith, lt)); ends = nothing })
+
+    more : HasPutPages db numbers pages directory both n before m after
+    more = subst (λ k. HasPutPages db numbers k directory both n before m after) p_is
+        (subst (λ k. HasPutPages db numbers p k both n before m after) d_is
+        (second (λ x. put.others Pages back x)
+        (subst (λ k. AreChanges k d both n before) (sym p_is) (subst (λ k. AreChanges pages k both n before) (sym d_is) put.changes))))
+
+    is : IsDrafted db numbers own pages directory both m after
+    is = record {
+      changes = more.changes;
+      file = more.file;
+      bits = more.others Directory differ (resized (length own) both.1) ∙ file_put pages directory both Directory both.1 own 0 none n before (λ x. refl) put;
+    }

@@ -1,9 +1,9 @@
 -- The bytes of a plan that is made change by change. `Redo` says what they mean.
-use Rattle.std.specs.Prelude.{◌≡◌, ◌<◌, ◌≤◌, ℕ, ◌+◌, ◌/◌, ◌%◌, List, [], ◌∷◌, ◌++◌, length, drop, get_or, min}
+use Rattle.std.specs.Prelude.{◌≡◌, ◌≢◌, ◌⊎◌, ◌<◌, ◌≤◌, ℕ, ◌+◌, ◌/◌, ◌%◌, List, [], ◌∷◌, ◌++◌, length, drop, get_or, min}
 use Rattle.sdbm_saves.specs.declared.disk.File.{File}
 use Rattle.sdbm_saves.specs.declared.disk.File.TheVariants.{Pages, Directory, Redo}
 use Rattle.sdbm_saves.specs.Disk.{written, resized}
-use Rattle.sdbm_saves.specs.Redo.{file_of, offset_of, size_of, was_of, span_of, rest_after, data_in, signature}
+use Rattle.sdbm_saves.specs.Redo.{file_of, offset_of, size_of, was_of, span_of, rest_after, replayed, data_in, signature}
 
 -- a number below 2^32 as four bytes, the low one first
 abbrev pub spelled : ℕ → List ℕ
@@ -46,3 +46,20 @@ pub record AreChanges (pages directory : ℕ) (before : List ℕ × List ℕ) (c
 -- a block is written over bytes that read as the old ones did
 abbrev pub RenewsBlock : ℕ → List ℕ → List ℕ → List ℕ → List ℕ → Type 0
 RenewsBlock at old block before after = at + length block ≤ length before → ((i : ℕ) → i < length block → get_or before (at + i) 0 ≡ get_or old (at + i) 0) → after ≡ written at block before
+
+-- bytes are written at an offset of a file that has there, one by one, the old bytes or these
+abbrev pub Puts : ℕ → List ℕ → List ℕ → List ℕ → List ℕ → Type 0
+Puts at old new before after =
+    at + length new ≤ length before
+    → ((i : ℕ) → i < length new → (get_or before (at + i) 0 ≡ get_or old i 0) ⊎ (get_or before (at + i) 0 ≡ get_or new i 0))
+    → after ≡ written at new before
+
+-- a file reads so from an offset on, as far as so many bytes; a byte past the end of either counts as zero
+abbrev pub ReadsAt : ℕ → List ℕ → ℕ → List ℕ → Type 0
+ReadsAt at old size file = (i : ℕ) → i < size → get_or old i 0 ≡ get_or file (at + i) 0
+
+-- more changes, which put these bytes at an offset of a file in place of the old ones, and know those
+pub record HasPut (pages directory : ℕ) (both : List ℕ × List ℕ) (file : File) (at : ℕ) (old new : List ℕ) (few : ℕ) (before : List ℕ) (many : ℕ) (after : List ℕ) : Type 0 where
+  pub changes : AreChanges pages directory both many after
+  pub put : (x : List ℕ) → Puts at old new (replayed file few before x) (replayed file many after x)
+  pub others : (g : File) → g ≢ file → (x : List ℕ) → replayed g many after x ≡ replayed g few before x

@@ -1,11 +1,16 @@
 -- A database of which one page was read, and what a save of it knows of its files.
-use Rattle.std.specs.Prelude.{◌≡◌, ◌≢◌, ℕ, ◌+◌, ◌-◌, ◌*◌, ◌/◌, ◌<◌, ◌≤◌, List, [], ◌⊎◌, length, get_or, Contains}
+use Rattle.std.specs.Prelude.{◌≡◌, ◌≢◌, ℕ, ◌+◌, ◌-◌, ◌*◌, ◌/◌, ◌<◌, ◌≤◌, List, [], length, get_or, Contains}
 use Rattle.sdbm_addr.specs.declared.PageSize.{PageSize}
 use Rattle.sdbm_addr.specs.Pairs.{page_bytes}
 use Rattle.sdbm_addr.specs.Layout.{bytes_of_page}
 use Rattle.sdbm_addr.specs.Database.{Database, IsDatabase, pairs_at}
 use Rattle.sdbm_saves.specs.declared.part.Part.{Part}
-use Rattle.sdbm_saves.specs.Disk.{written}
+use Rattle.sdbm_saves.specs.declared.marked.Marked.{Marked}
+use Rattle.sdbm_saves.specs.declared.disk.File.{File}
+use Rattle.sdbm_saves.specs.declared.disk.File.TheVariants.{Pages}
+use Rattle.sdbm_saves.specs.Disk.{resized}
+use Rattle.sdbm_saves.specs.Redo.{replayed}
+use Rattle.sdbm_saves.specs.Drafts.{AreChanges}
 
 -- page n of a file reads as these bytes, where a byte past the end of either counts as zero
 abbrev pub ReadsPage : PageSize → List ℕ → ℕ → List ℕ → Type 0
@@ -42,6 +47,18 @@ pub record HasPages (db : Database) (numbers : List ℕ) (whole : ℕ) (old new 
   pub named : (n : ℕ) → Contains numbers n → (n + 1) * page_bytes db.size ≤ whole → ReadsPage db.size new n (bytes_of_page db.size (pairs_at db n))
   pub others : (n : ℕ) → (Contains numbers n → ⊥) → (n + 1) * page_bytes db.size ≤ whole → SamePage db.size n old new
 
--- a page is written, or it stood there already
-abbrev pub RenewsPage : ℕ → List ℕ → List ℕ → List ℕ → List ℕ → Type 0
-RenewsPage at was page old new = (new ≡ written at page old) ⊎ ((new ≡ old) × (was ≡ page))
+-- the pages with these numbers read as these bytes, one page behind the other
+abbrev pub ReadPages : PageSize → List ℕ → List ℕ → List ℕ → Type 0
+ReadPages size numbers pages pag = (j i : ℕ) → j < length numbers → i < page_bytes size → get_or pages (j * page_bytes size + i) 0 ≡ get_or pag (get_or numbers j 0 * page_bytes size + i) 0
+
+-- more changes, which put the pages of a database with these numbers into a file in which no change before did anything, and know what stood there
+pub record HasPutPages (db : Database) (numbers : List ℕ) (pages directory : ℕ) (both : List ℕ × List ℕ) (few : ℕ) (before : List ℕ) (many : ℕ) (after : List ℕ) : Type 0 where
+  pub changes : AreChanges pages directory both many after
+  pub file : HasPages db numbers pages both.0 (replayed Pages many after (resized pages both.0))
+  pub others : (g : File) → g ≢ Pages → (x : List ℕ) → replayed g many after x ≡ replayed g few before x
+
+-- A file of so many bytes was read as these bytes on the pages with these numbers, and has each other page as it is written for the database.
+pub record IsMarkedIn (old : Marked) (db : Database) (pag : List ℕ) : Type 0 where
+  pub long : length pag ≡ old.len
+  pub reads : ReadPages db.size old.numbers.now old.pages.now pag
+  pub rest : (n : ℕ) → (Contains old.numbers.now n → ⊥) → ReadsPage db.size pag n (bytes_of_page db.size (pairs_at db n))

@@ -4,11 +4,15 @@ use Rattle.sdbm_addr.specs.declared.PageSize.{PageSize}
 use Rattle.sdbm_addr.specs.Pairs.{page_bytes}
 use Rattle.sdbm_saves.specs.declared.recorded.Found.{Found}
 use Rattle.sdbm_saves.specs.declared.recorded.FoundPart.{FoundPart}
+use Rattle.sdbm_saves.specs.declared.recorded.FoundRead.{FoundRead}
 use Rattle.sdbm_saves.specs.declared.part.Part.{Part}
 use Rattle.sdbm_saves.specs.Disk.{Image, resized}
 
 abbrev pub image_of : Found → Image
 image_of found = record { pages = found.pages.items; directory = found.directory.items; redo = found.redo.items }
+
+abbrev pub read_image : FoundRead → Image
+read_image found = record { pages = found.files.pages.now.bytes; directory = found.files.directory.now; redo = found.redo.now }
 
 -- the pages of which one was read, where the others are zeros
 abbrev pub part_pages : Part → PageSize → List ℕ

@@ -2,14 +2,17 @@
 //! file is the commit (write-ahead logging, a redo log: Gray and Reuter, Transaction Processing 1993, chapter 9).
 #![tactic(auto)]
 
+mod blocks;
 mod call_log;
 mod disk;
 mod drafting;
 mod known;
+mod marked;
 mod overlay;
 mod part;
 mod plan;
 mod planning;
+mod reading;
 mod recorded;
 mod redo;
 mod room;
@@ -17,10 +20,12 @@ mod room;
 pub use call_log::CallLog;
 pub use disk::{Disk, DiskError, File};
 pub use known::can_end;
+pub use marked::{Marked, plan_marked};
 pub use overlay::read_through;
 pub use part::{Part, plan_part};
 pub use plan::{is_plan, lengths_after, plan_in};
 pub use planning::{Contents, PlanFault, plan_save};
-pub use recorded::{Before, Found, FoundPart, Host, Past, Recorded, Unknown};
+pub use reading::{ReadFiles, plan_read};
+pub use recorded::{Before, Found, FoundPart, FoundRead, Host, Past, Recorded, Unknown};
 pub use redo::{commit, finish, recover, stage};
 pub use room::try_room;

@@ -209,7 +209,7 @@ fn draft_block<A: Allocator>(
 }
 
 // Whether a file reads so from an offset on. A byte past its end counts as zero.
-fn reads_as(old: &[u8], at: usize, block: &[u8]) -> bool
+pub(crate) fn reads_as(old: &[u8], at: usize, block: &[u8]) -> bool
     requires { at + length block.now < 2 ^ 63 }
     ensures { IsTrue result ↔ ((i : ℕ) → i < length block.now → get_or block.now i 0 ≡ get_or old.now (at + i) 0) }
 {

@@ -5,8 +5,9 @@ ghost use Rattle.sdbm_saves.specs.declared.disk.DiskError.TheVariants.{Failed};
 ghost use Rattle.sdbm_saves.specs.Disk.{Image};
 ghost use Rattle.sdbm_saves.specs.Acts.{Act, write, resize, sync, clear, Notes};
 
-use crate::{Disk, DiskError, File, Part};
+use crate::{Disk, DiskError, File, Part, ReadFiles};
 use sdbm_addr::PageSize;
+use std::alloc::Global;
 use std::marker::PhantomData;
 
 /// The bytes of the three files as they were read.
@@ -31,6 +32,15 @@ pub struct FoundPart<'a> {
     pub redo: &'a [u8],
 }
 
+/// The three files as they were read piece by piece.
+#[derive(Clone, Copy)]
+pub struct FoundRead<'a> {
+    /// The pages of `.pag`, and the bytes of `.dir`.
+    pub files: ReadFiles<'a, Global>,
+    /// The bytes of the redo file.
+    pub redo: &'a [u8],
+}
+
 /// What a run has read of the three files. What it has not read of the pages is taken to be zeros: a plan that knows such files knows all
 /// that were read so (`plan_part`).
 pub trait Before {
@@ -41,6 +51,12 @@ impl Before for Found {
     ghost use Rattle.sdbm_saves.specs.Recording.{image_of};
 
     ghost image = { image_of };
+}
+
+impl Before for FoundRead<'_> {
+    ghost use Rattle.sdbm_saves.specs.Recording.{read_image};
+
+    ghost image = { read_image };
 }
 
 impl Before for FoundPart<'_> {

@@ -6,15 +6,14 @@ use Rattle.dbm_reports.proofs.databases.open.Goals as goal
 pub returns-in_err-image-clause-fault : goal.returns-in_err-image-clause-fault
 returns-in_err-image-clause-fault c =
     as_err (IsCaused (opening_causes c.args.form c.args.given.now)) _ c.from_residual.ensures.1
-    (shut_fault c.args.form c.args.given.now _ _ _ _ _ c.key_bytes_of.ensures c.page_size_of.ensures c.as_slice-dir.ensures.value c.as_slice-pag.ensures.value c.in_err-image.ensures.fault)
+    (shut_fault c.args.form c.args.given.now _ _ _ _ c.key_bytes_of-kind.ensures c.page_size_of-size.ensures c.as_slice.ensures.value c.in_err-image.ensures.fault)
 
 pub returns-clause-ok : goal.returns-clause-ok
 returns-clause-ok c =
-    let dir = c.as_slice-dir.ensures.value in
-    let pag = c.as_slice-pag.ensures.value in
+    let dir = c.as_slice.ensures.value in
     record {
-      spells = rw (sym dir, sym pag) c.in_ok-image.ensures.database;
-      kind = c.in_ok-image.ensures.kind ∙ c.key_bytes_of.ensures;
-      size = c.in_ok-image.ensures.size ∙ c.page_size_of.ensures;
-      only = λ other kind size spells. c.in_ok-image.ensures.only other (kind ∙ sym c.key_bytes_of.ensures) (size ∙ sym c.page_size_of.ensures) (rw (dir, pag) spells);
+      spells = rw (sym dir) c.in_ok-image.ensures.database;
+      kind = c.in_ok-image.ensures.kind ∙ c.key_bytes_of-kind.ensures;
+      size = c.in_ok-image.ensures.size ∙ c.page_size_of-size.ensures;
+      only = λ other kind size spells. c.in_ok-image.ensures.only other (kind ∙ sym c.key_bytes_of-kind.ensures) (size ∙ sym c.page_size_of-size.ensures) (rw dir spells);
     }

@@ -1,43 +1,27 @@
-use Rattle.std.proofs.Common.{◌≡◌, ◌++◌, ◌∷◌, [], ℕ, List, Bool, false, Option, Some, None, length, sym, ap, ◌∙◌, subst, arith}
-use Rattle.sdbm_addr.specs.Layout.{bytes_of_page}
-use Rattle.sdbm_addr.specs.Pairs.{Content}
+use Rattle.std.proofs.Common.{◌+◌, ◌++◌, ℕ, Option, unwrap_or, sym, ap, ◌∙◌, subst}
 use Rattle.sdbm_page.specs.declared.PageFault.{PageFault}
-use Rattle.sdbm_files.specs.Opened.{IsRead, pairs_of_page}
-use Rattle.sdbm_files.specs.Reading.{AreParsed}
-use Rattle.sdbm_files.proofs.InstallLemmas.{HasAt}
-use Rattle.sdbm_files.proofs.Parsing.{parsed_none, parsed_some}
+use Rattle.sdbm_files.specs.Reading.{AreTaken, bytes_in, raw_under}
+use Rattle.sdbm_files.proofs.Parsing.{taken_more, taken_same, put_behind}
+use Rattle.sdbm_files.proofs.SinkLemmas.{on_err}
 use Rattle.sdbm_files.proofs.parsed.Parsed.keep.Goals as goal
 
-pub returns-in-None-clause-ok : goal.returns-in-None-clause-ok
-returns-in-None-clause-ok g c = λ pag whole are.
+pub returns-clause-ok : goal.returns-clause-ok
+returns-clause-ok g c = λ pag all are.
     let size = c.args.size in
-    let bytes = c.args.bytes.now in
-    let entries = c.args.self.now.pages.entries in
-    let foreign = c.args.self.now.foreign.items in
-    let is_foreign = c.differs-is_foreign.result in
-    let items : c.push_reserved.new.self.items ≡ foreign ++ is_foreign ∷ [] = c.push_reserved.ensures.items ∙ ap (λ (fs : List Bool). fs ++ is_foreign ∷ []) c.reserve.ensures.items in
-    let read = subst (IsRead size bytes) c.in-None.is c.requires.read in
-    let own : is_foreign ≡ false → bytes_of_page size [] ≡ bytes = λ f. ap (λ (page : Option Content). bytes_of_page size (pairs_of_page page)) (sym c.in-None.is) ∙ c.differs-is_foreign.ensures f in
-    let sound = subst (λ (bad : Option (ℕ × PageFault)). AreParsed size entries foreign bad pag) c.requires.sound are in
-    subst (λ (bad : Option (ℕ × PageFault)). AreParsed size entries c.push_reserved.new.self.items bad (pag ++ bytes)) (sym c.requires.sound)
-    (subst (λ (fs : List Bool). AreParsed size entries fs None (pag ++ bytes)) (sym items)
-    (parsed_none size entries foreign is_foreign pag bytes c.requires.long read.spelled own whole sound))
+    let old = c.args.self.now in
+    let entries = c.insert_page.new.pages.entries in
+    let more = raw_under c.put_bytes.new.raw.entries in
+    let number = c.args.number in
+    let kept = bytes_in c.in_ok-copy.copy in
+    let is = ap (unwrap_or kept) (sym c.own_bytes.ensures) ∙ c.in_ok-copy.ensures.copy in
+    let has = put_behind (raw_under old.raw.entries) (raw_under c.copy_foreign.new.raw.entries) more number kept c.in_ok-copy.ensures.same c.put_bytes.ensures in
+    subst (λ (bad : Option (ℕ × PageFault)). AreTaken size entries more (number + 1) bad (number + 1) (pag ++ c.args.bytes.now)) (sym c.requires.sound)
+    (taken_more size old.pages.entries entries (raw_under old.raw.entries) more old.count number c.args.page kept c.args.bytes.now c.requires.long c.requires.read c.in_ok-insert_page.ensures.ok has is pag all
+    (subst (λ (bad : Option (ℕ × PageFault)). AreTaken size old.pages.entries (raw_under old.raw.entries) old.count bad number pag) c.requires.sound are))
 
-pub returns-in-Ok-clause-ok : goal.returns-in-Ok-clause-ok
-returns-in-Ok-clause-ok g c = λ pag whole are.
-    let size = c.args.size in
-    let bytes = c.args.bytes.now in
-    let old = c.args.self.now.pages.entries in
-    let new = c.insert.new.self.entries in
-    let foreign = c.args.self.now.foreign.items in
-    let is_foreign = c.differs-is_foreign.result in
-    let content = c.in-Some.page in
-    let items : c.push_reserved-in-Ok.new.self.items ≡ foreign ++ is_foreign ∷ [] = c.push_reserved-in-Ok.ensures.items ∙ ap (λ (fs : List Bool). fs ++ is_foreign ∷ []) c.reserve.ensures.items in
-    let read = subst (IsRead size bytes) c.in-Some.is c.requires.read in
-    let own : is_foreign ≡ false → bytes_of_page size content.pairs ≡ bytes = λ f. ap (λ (page : Option Content). bytes_of_page size (pairs_of_page page)) (sym c.in-Some.is) ∙ c.differs-is_foreign.ensures f in
-    let number_is : c.len-number.result ≡ length foreign = omega (arith, c.len-number.ensures, c.args.self.now.foreign.ok.0) in
-    let has = subst (λ (n : ℕ). HasAt old new n (Some content)) number_is c.in-Ok.ensures.updates.0 in
-    let sound = subst (λ (bad : Option (ℕ × PageFault)). AreParsed size old foreign bad pag) c.requires.sound are in
-    subst (λ (bad : Option (ℕ × PageFault)). AreParsed size new c.push_reserved-in-Ok.new.self.items bad (pag ++ bytes)) (sym c.requires.sound)
-    (subst (λ (fs : List Bool). AreParsed size new fs None (pag ++ bytes)) (sym items)
-    (parsed_some size old new foreign is_foreign content pag bytes c.requires.long read own has whole sound))
+pub returns-in_err-insert_page-clause-err : goal.returns-in_err-insert_page-clause-err
+returns-in_err-insert_page-clause-err g c =
+    let old = c.args.self.now in
+    on_err _ c.from_residual-in_err-insert_page.result
+    (λ pag are. taken_same c.args.size old.pages.entries c.insert_page.new.pages.entries (raw_under old.raw.entries) (raw_under c.copy_foreign.new.raw.entries) old.count old.bad c.args.number pag c.in_err-insert_page.ensures.err
+    c.in_ok-copy.ensures.same are)

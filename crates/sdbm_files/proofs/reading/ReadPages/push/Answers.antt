@@ -1,4 +1,5 @@
 use Rattle.std.proofs.Common.{◌≡◌, ◌≤◌, ◌*◌, ◌/◌, ◌^◌, ℕ, length, ap, ◌∙◌, arith}
+use Rattle.std.proofs.lemmas.Result.{on_ok_weaker, on_err_weaker}
 use Rattle.sdbm_addr.specs.Pairs.{page_bytes}
 use Rattle.sdbm_files.specs.Reading.{PagRead, IsPartlyRead}
 use Rattle.sdbm_files.proofs.Pieces.{piece_none, whole_still, next_page, next_short, next_read, inside_at, whole_all, rest_below, rest_fits, all_read}
@@ -62,4 +63,8 @@ pub returns-clause-ok : goal.returns-clause-ok
 returns-clause-ok g c =
     let b_is = c.bytes-size.ensures ∙ ap (λ (r : PagRead). page_bytes r.size) c.self.view_is in
     let all : c.loop-index.index ≡ length c.args.piece.now / c.bytes-size.result = omega (arith, c.loop-index.auto.index-end, c.loop-index-test.false) in
-    all_read c.args.self.now c.loop-index.self c.args.piece.now c.loop-index.index c.bytes-size.result c.loop-index.invariant b_is all c.push_rest.new.self c.push_rest.ensures
+    on_ok_weaker c.push_rest.result (all_read c.args.self.now c.loop-index.self c.args.piece.now c.loop-index.index c.bytes-size.result c.loop-index.invariant b_is all c.push_rest.new.self) c.push_rest.ensures.ok
+
+pub returns-clause-err : goal.returns-clause-err
+returns-clause-err g c =
+    on_err_weaker c.push_rest.result (λ e. record { count = c.loop-index.index * page_bytes c.args.self.now.size; is = e ∙ c.loop-index.invariant }) c.push_rest.ensures.err

@@ -1,0 +1,79 @@
+// What a plan changes of a file, by blocks.
+ghost use Rattle.std.specs.Prelude.{◌≡◌, ◌≢◌, ◌<◌, ◌≤◌, ◌^◌, ◌+◌, ◌/◌, ℕ, List, length, get_or, OnOk};
+ghost use Rattle.sdbm_saves.specs.declared.disk.File.TheVariants.{Redo};
+ghost use Rattle.sdbm_saves.specs.Redo.{data_in};
+ghost use Rattle.sdbm_saves.specs.Drafts.{AreChanges, HasPut, ReadsAt, length_in};
+
+use crate::File;
+use crate::drafting::{Draft, part_of, push};
+use crate::planning::reads_as;
+use std::alloc::{AllocError, Allocator};
+
+/// What is compared and written at once, in bytes.
+pub(crate) const BLOCK: usize = 1024;
+
+// The changes that make the bytes of a file from an offset on the new ones, block by block: each block that does not read so. The old bytes
+// that stood there may be fewer, and zeros follow them.
+pub(crate) fn draft_bytes<A: Allocator + Copy>(
+    alloc: A,
+    draft: &mut Draft<A>,
+    file: File,
+    from: usize,
+    old: &[u8],
+    new: &[u8],
+) -> Result<(), AllocError>
+    requires data { file ≢ Redo }
+    requires near { from + length new.now < 2 ^ 32 }
+    requires few { draft.old.count + (length new.now + 1023) / 1024 < 2 ^ 32 }
+    requires fits { from + length new.now ≤ length_in draft.old.pages draft.old.directory file }
+
+    ensures put { OnOk result ((both : List ℕ × List ℕ) → ReadsAt from old.now (length new.now) (data_in both file) → AreChanges draft.old.pages draft.old.directory both draft.old.count draft.old.changes.items
+        → HasPut draft.old.pages draft.old.directory both file from old.now new.now draft.old.count draft.old.changes.items draft.new.count draft.new.changes.items) }
+    ensures few { OnOk result (draft.new.count ≤ draft.old.count + (length new.now + 1023) / 1024) }
+    ensures pages { OnOk result (draft.new.pages ≡ draft.old.pages) }
+    ensures directory { OnOk result (draft.new.directory ≡ draft.old.directory) }
+{
+    let blocks = new.len().div_ceil(BLOCK);
+    for index in 0..blocks {
+        let at = index * BLOCK;
+        let end = new.len().min(at + BLOCK);
+        let (start, stop) = (at.min(old.len()), end.min(old.len()));
+        draft_block(
+            alloc,
+            draft,
+            file,
+            from + at,
+            &old[start..stop],
+            &new[at..end],
+        )?;
+    }
+    Ok(())
+}
+
+// The change that makes one block of a file the new one, where it does not read so. Its first bytes are known, and the others are zeros.
+pub(crate) fn draft_block<A: Allocator>(
+    alloc: A,
+    draft: &mut Draft<A>,
+    file: File,
+    at: usize,
+    known: &[u8],
+    block: &[u8],
+) -> Result<(), AllocError>
+    requires data { file ≢ Redo }
+    requires near { at + length block.now < 2 ^ 32 }
+    requires few { draft.old.count < 2 ^ 32 }
+    requires fits { at + length block.now ≤ length_in draft.old.pages draft.old.directory file }
+
+    ensures put { OnOk result ((both : List ℕ × List ℕ) → ReadsAt at known.now (length block.now) (data_in both file) → AreChanges draft.old.pages draft.old.directory both draft.old.count draft.old.changes.items
+        → HasPut draft.old.pages draft.old.directory both file at known.now block.now draft.old.count draft.old.changes.items draft.new.count draft.new.changes.items) }
+    ensures few { OnOk result (draft.new.count ≤ draft.old.count + 1) }
+    ensures pages { OnOk result (draft.new.pages ≡ draft.old.pages) }
+    ensures directory { OnOk result (draft.new.directory ≡ draft.old.directory) }
+{
+    if reads_as(known, 0, block) {
+        return Ok(());
+    }
+    let was = part_of(alloc, known, 0, block.len())?;
+    push(draft, file, at, block, was.as_slice())?;
+    Ok(())
+}

@@ -1,0 +1,116 @@
+// The plan of a save whose pages were read piece by piece.
+ghost use Rattle.std.specs.Prelude.{◌≡◌, ◌<◌, ◌≤◌, ◌^◌, ◌+◌, ◌*◌, ◌↔◌, ℕ, List, length, IsTrue, IfOk, IfErr, IfSome, IsNone, OnOk};
+ghost use Rattle.sdbm_saves.specs.declared.disk.File.TheVariants.{Pages};
+ghost use Rattle.sdbm_saves.specs.declared.planning.PlanFault.TheVariants.{TooLong};
+ghost use Rattle.sdbm_saves.specs.Drafts.{AreChanges, HasPut};
+ghost use Rattle.sdbm_saves.specs.Saves.{AreFilesFor, IsSaving, IsTooLong};
+ghost use Rattle.sdbm_addr.specs.Pairs.{page_bytes};
+ghost use Rattle.sdbm_addr.specs.Database.{IsDatabase};
+ghost use Rattle.sdbm_addr.specs.Files.{first_pages};
+
+use crate::blocks::{BLOCK, draft_block, draft_bytes};
+use crate::drafting::{Draft, assemble};
+use crate::planning::LIMIT;
+use crate::{File, PlanFault};
+use sdbm_files::{Image, ReadPages};
+use std::alloc::{AllocError, Allocator};
+
+/// Both data files of a database as they were read.
+#[derive(Clone, Copy)]
+pub struct ReadFiles<'a, A: Allocator> {
+    /// The pages of `.pag`.
+    pub pages: &'a ReadPages<A>,
+    /// The bytes of `.dir`.
+    pub directory: &'a [u8],
+}
+
+/// The plan that makes the old files those of a database: those that `Image::write` writes for it. It has the blocks of 1,024 bytes in which
+/// they differ, those of the directory first, where a byte past the end of a file counts as zero; so a page of zeros is not written into a
+/// hole. Beside each it has the bytes that stood there, so that it knows the old files. `None` where the old files are those of the database
+/// already. It takes memory for the plan, and for a block.
+///
+/// # Errors
+///
+/// `TooLong` where an old file, or one of the database, has 2^32 bytes or more, and `NoMemory`.
+pub fn plan_read<A: Allocator + Copy>(
+    alloc: A,
+    old: ReadFiles<'_, A>,
+    image: &Image<A>,
+) -> Result<Option<Vec<u8, A>>, PlanFault>
+    ensures plan { IfOk result (λ plan. IfSome plan (λ plan. IsSaving image.now plan.items old.entry.pages.now.bytes old.entry.directory.now)) }
+    ensures none { IfOk result (λ plan. IsNone plan → AreFilesFor image.now old.entry.pages.now.bytes old.entry.directory.now) }
+    ensures too_long { IfErr result (λ fault. fault ≡ TooLong → IsTooLong image.now old.entry.pages.now.bytes old.entry.directory.now) }
+{
+    let count = image.page_count();
+    let pages = count as usize * image.page_size().bytes();
+    let directory = image.directory_bytes();
+    if old.pages.len() >= LIMIT || old.directory.len() >= LIMIT {
+        return Err(PlanFault::TooLong);
+    }
+    if pages >= LIMIT || directory.len() >= LIMIT {
+        return Err(PlanFault::TooLong);
+    }
+    let mut draft = Draft {
+        pages,
+        directory: directory.len(),
+        changes: Vec::new(alloc),
+        count: 0,
+    };
+    draft_bytes(
+        alloc,
+        &mut draft,
+        File::Directory,
+        0,
+        old.directory,
+        directory,
+    )?;
+    draft_pages(alloc, &mut draft, old.pages, image, count)?;
+    if draft.count == 0 && are_long(old, pages, directory.len()) {
+        return Ok(None);
+    }
+    Ok(Some(assemble(alloc, &draft, old.pages.len(), old.directory.len())?))
+}
+
+// Whether both files have these lengths.
+fn are_long<A: Allocator + Copy>(files: ReadFiles<'_, A>, pages: usize, directory: usize) -> bool
+    ensures { IsTrue result ↔ (pages ≡ length files.entry.pages.now.bytes) × (directory ≡ length files.entry.directory.now) }
+{
+    files.pages.len() == pages && files.directory.len() == directory
+}
+
+// The changes that make the pages those of a database, so many.
+fn draft_pages<A: Allocator + Copy>(
+    alloc: A,
+    draft: &mut Draft<A>,
+    old: &ReadPages<A>,
+    image: &Image<A>,
+    count: u64,
+) -> Result<(), AllocError>
+    requires database { IsDatabase image.now }
+    requires long { count * page_bytes image.now.size ≡ draft.old.pages }
+    requires short { draft.old.pages < 2 ^ 32 }
+    requires few { draft.old.count ≤ 2 ^ 23 }
+
+    ensures put { OnOk result ((both : List ℕ × List ℕ) → both.0 ≡ old.now.bytes → AreChanges draft.old.pages draft.old.directory both draft.old.count draft.old.changes.items
+        → HasPut draft.old.pages draft.old.directory both Pages 0 old.now.bytes (first_pages image.now count) draft.old.count draft.old.changes.items draft.new.count draft.new.changes.items) }
+    ensures few { OnOk result (draft.new.count ≤ draft.old.count + 2 ^ 22) }
+    ensures pages { OnOk result (draft.new.pages ≡ draft.old.pages) }
+    ensures directory { OnOk result (draft.new.directory ≡ draft.old.directory) }
+{
+    let in_page = image.page_size().bytes() / BLOCK;
+    let blocks = count as usize * in_page;
+    for index in 0..blocks {
+        let page = image.page_bytes((index / in_page) as u32);
+        let start = index % in_page * BLOCK;
+        let block = &page[start..start + BLOCK];
+        draft_block(
+            alloc,
+            draft,
+            File::Pages,
+            index * BLOCK,
+            old.block(index),
+            block,
+        )?;
+    }
+    Ok(())
+}

@@ -70,7 +70,7 @@ typedef struct boddurci_cursor {
 } boddurci_cursor;
 
 /* The version of this header; and that of the library, which is the same where both were built together. */
-#define BODDURCI_VERSION "1.1.0"
+#define BODDURCI_VERSION "2.0.0"
 const char *boddurci_version(void);
 
 #define BODDURCI_CLOSED { NULL }
@@ -88,6 +88,7 @@ enum boddurci_status {
     BODDURCI_BAD_TEXT = 6,       /* the text is no program; the line and the text of the fault are told */
     BODDURCI_BAD_FILES = 7,      /* the bytes are no database; the text says why; the handle stays closed */
     BODDURCI_CHANGED = 8,        /* the page of the key is another than when the run was asked: ask again */
+    BODDURCI_STALE = 9,          /* a page that may have changed was not read for the plan: ask which those are, read, and ask again */
     BODDURCI_IS_CLOSED = 16,     /* the handle is closed */
     BODDURCI_IS_OPEN = 17,       /* the handle is open already */
     BODDURCI_PAIR_TOO_LARGE = 18,/* key and value, or key and blank, have more than BODDURCI_PAIR_MOST(wide) bytes together */
@@ -117,6 +118,7 @@ static inline const char *boddurci_text(uint32_t status)
     case BODDURCI_BAD_TEXT: return "text is no program";
     case BODDURCI_BAD_FILES: return "bad files";
     case BODDURCI_CHANGED: return "changed meanwhile";
+    case BODDURCI_STALE: return "a changed page was not read";
     case BODDURCI_IS_CLOSED: return "handle closed";
     case BODDURCI_IS_OPEN: return "handle open already";
     case BODDURCI_PAIR_TOO_LARGE: return "pair too large";
@@ -222,14 +224,30 @@ uint32_t boddurci_next(boddurci *db, boddurci_cursor *cursor, uint8_t *key, size
 uint32_t boddurci_files(boddurci *db, uint8_t *dir, size_t dir_room, size_t *dir_length, uint8_t *pag, size_t pag_room,
                         size_t *pag_length);
 
-/* What changed since the last save: of the bytes of both files as they are, `dir` and `pag`, the plan that makes them those of the database.
- * It has the pages that differ, and the blocks of 1,024 bytes of .dir; no bytes where nothing does. SHORT_ROOM; FILE_TOO_LONG, IS_CLOSED,
- * NO_MEMORY. A byte 1 and the plan are a redo file, which dbm and boddurci_files.h end: 8 bytes "sdbmred2"; the new lengths of .pag and of
- * .dir, and their lengths as they are; the number of changes; and of each its file (a byte, 0 for .pag and 1 for .dir), its offset, its
- * length, its bytes, and the bytes that stand there now, where one past the end of the file is zero. A number is 4 bytes, the lowest
- * first. */
-uint32_t boddurci_plan(boddurci *db, const uint8_t *dir, size_t dir_length, const uint8_t *pag, size_t pag_length, uint8_t *plan,
-                       size_t plan_room, size_t *plan_length);
+/* Which pages of .pag may have changed since the handle was opened, or since its last plan: their numbers, from 0, in any order, and
+ * how many they are. A page whose bytes are not as they are written, as one with garbage among its free bytes, is among them from
+ * the opening on; where there are none nothing has changed. SHORT_ROOM, IS_CLOSED. It takes no memory. */
+uint32_t boddurci_changed(boddurci *db, uint32_t *numbers, size_t room, size_t *count);
+
+/* The plan of a save, which makes the files those of the database. Of the files it wants the bytes of .dir, how many bytes .pag has, and the
+ * bytes of the pages with these numbers, one page behind the other, where a byte past the end of the file is zero. All pages that
+ * boddurci_changed tells have to be among them: a page that is not counts as one that stands in the file as it was written last, or opened.
+ * Where the files may be others, as behind another program, give all pages of the file and of the database.
+ *
+ * It has the blocks of 1,024 bytes of .dir, and behind them those of the pages, that differ; no bytes where nothing does. Once it is DONE no
+ * page counts as changed: where the plan is not done, give the numbers to boddurci_mark. STALE where a page that may have changed is not
+ * among the numbers, or where the bytes are not those of so many pages; SHORT_ROOM; FILE_TOO_LONG also for more than 2^22 numbers;
+ * IS_CLOSED, NO_MEMORY. After each of these the handle is as it was.
+ *
+ * A byte 1 and the plan are a redo file, which dbm and boddurci_files.h end: 8 bytes "sdbmred2"; the new lengths of .pag and of .dir, and
+ * their lengths as they are; the number of changes; and of each its file (a byte, 0 for .pag and 1 for .dir), its offset, its length, its
+ * bytes, and the bytes that stand there now, where one past the end of the file is zero. A number is 4 bytes, the lowest first. */
+uint32_t boddurci_plan(boddurci *db, const uint8_t *dir, size_t dir_length, size_t pag_length, const uint32_t *numbers, size_t count,
+                       const uint8_t *pages, size_t pages_length, uint8_t *plan, size_t plan_room, size_t *plan_length);
+
+/* Counts pages as changed, where a plan could not be done. A byte of memory goes for each number up to the largest, so give those that were
+ * told. IS_CLOSED, NO_MEMORY. */
+uint32_t boddurci_mark(boddurci *db, const uint32_t *numbers, size_t count);
 
 #ifdef __cplusplus
 }

@@ -94,7 +94,8 @@ boddurci_base *boddurci_open_files(const char *base, uint32_t flags, boddurci_fa
  * a signal was handled meanwhile: call it again to go on. */
 boddurci_base *boddurci_open_files_within(const char *base, uint32_t flags, int64_t milliseconds, boddurci_fault *fault);
 
-/* Waits for the mutex, and lends the handle until boddurci_give. Never close it. NULL in a child of the process that has opened the base, and
+/* Waits for the mutex, and lends the handle until boddurci_give. Never close it, and never give it to
+ * boddurci_plan, which takes the changes for saved. NULL in a child of the process that has opened the base, and
  * of a base that is NULL: then call neither boddurci_give nor anything else with it. */
 boddurci *boddurci_take(boddurci_base *base);
 void boddurci_give(boddurci_base *base);
@@ -103,9 +104,15 @@ void boddurci_give(boddurci_base *base);
  * files keep their owner, permissions and links. A .dir that is new gets those of .pag. Where nothing changed nothing is written or made. A
  * crash at any moment leaves what the next opening, or dbm, reads as the database before the save or the one after it. After a fault it is
  * the one before; but where BASE.redo itself failed it may be either once the machine stops. Then save again: a fault leaves the base open
- * and as it was. The mutex is held while the database is compared with the files, and not while they are read and written: what other
- * threads do meanwhile is in the next save. IS_CLOSED of a base that is NULL; FORKED, NO_SAVE, MOVED, UNSAFE, BAD_REDO, TOO_LONG,
- * FILE_FAILED, and FILE_TOO_LONG and NO_MEMORY of boddurci.h.
+ * and as it was.
+ *
+ * It reads .dir and the pages that may have changed, and no others: a save costs what changed, and not the base. Where a file is another, or
+ * of another length or time of last change, than this base has left or read it, or where it began with BODDURCI_EMPTY, it reads and
+ * compares all of both. What another program writes while a save writes, or within the same tick of the clock, it does not see. A page on
+ * which a run has saved nothing counts as one that may have changed. The mutex is held while pages are compared, and not while they are read and written (but where others change more
+ * pages than it can follow, three times over, it reads once under the mutex): what other threads do meanwhile is in the next save.
+ * IS_CLOSED of a base that is NULL; FORKED, NO_SAVE, MOVED, UNSAFE, BAD_REDO, TOO_LONG, FILE_FAILED, and FILE_TOO_LONG and NO_MEMORY of
+ * boddurci.h.
  *
  * Both files get the blocks that they want before the save counts, where the file system can give them, so that a full disk is FILE_FAILED
  * with nothing changed. Where a file cannot be written all the same, it is DONE, fault->system is not 0, and the text says which file: the

@@ -11,6 +11,7 @@
 #include <stdlib.h>
 #include <string.h>
 #include <sys/file.h>
+#include <sys/resource.h>
 #include <sys/stat.h>
 #include <sys/time.h>
 #include <sys/wait.h>
@@ -195,6 +196,169 @@ static void test_unchanged(void)
     boddurci_close_files(base);
 }
 
+/* Whether a file is as it was, and when it was changed last too. */
+static int is_untouched(const char *name, const struct stat *before)
+{
+    struct stat is;
+    EXPECT(stat(name, &is) == 0);
+    return is.st_ino == before->st_ino && is.st_size == before->st_size && is.st_mtim.tv_sec == before->st_mtim.tv_sec &&
+           is.st_mtim.tv_nsec == before->st_mtim.tv_nsec && is.st_ctim.tv_sec == before->st_ctim.tv_sec && is.st_ctim.tv_nsec == before->st_ctim.tv_nsec;
+}
+
+/* Zeros behind the ends of files, as another program may leave them, go with the first save. */
+static void test_ends(void)
+{
+    struct stat before[2], found;
+    boddurci_base *base;
+    EXPECT(stat("visits.pag", &before[0]) == 0 && stat("visits.dir", &before[1]) == 0);
+    EXPECT(truncate("visits.pag", before[0].st_size + 3 * 1024) == 0);
+    EXPECT(truncate("visits.dir", before[1].st_size + 2 * 4096) == 0);
+    base = opened("visits", 0);
+    EXPECT(boddurci_save(base, &fault) == BODDURCI_DONE);
+    boddurci_close_files(base);
+    EXPECT(stat("visits.pag", &found) == 0 && found.st_size == before[0].st_size);
+    EXPECT(stat("visits.dir", &found) == 0 && found.st_size == before[1].st_size);
+}
+
+/* A save of no change touches nothing, not behind a save either, nor where a pair was stored that stands there already. */
+static void test_untouched(void)
+{
+    struct stat pages, directory, folder;
+    boddurci_base *base = opened("visits", 0);
+    store_one(base, 5000);
+    EXPECT(boddurci_save(base, &fault) == BODDURCI_DONE);
+    delete_one(base, "key5000");
+    EXPECT(boddurci_save(base, &fault) == BODDURCI_DONE);
+    EXPECT(stat("visits.pag", &pages) == 0 && stat("visits.dir", &directory) == 0 && stat(".", &folder) == 0);
+    for (int i = 0; i < 3; i++) {
+        EXPECT(boddurci_save(base, &fault) == BODDURCI_DONE && fault.system == 0 && !is_there("visits.redo"));
+        EXPECT(is_untouched("visits.pag", &pages) && is_untouched("visits.dir", &directory) && is_untouched(".", &folder));
+        store_one(base, 5000);
+        delete_one(base, "key5000");
+    }
+    boddurci_close_files(base);
+}
+
+/* Changes the files while another has them open, as who knows nothing of the lock. */
+static void change_beside(const char *name, const char *lock)
+{
+    EXPECT(rename(lock, "away") == 0);
+    boddurci_base *base = opened(name, 0);
+    for (int i = 7000; i < 7100; i++)
+        store_one(base, i);
+    delete_one(base, "key1");
+    delete_one(base, "key2");
+    EXPECT(boddurci_save(base, &fault) == BODDURCI_DONE);
+    boddurci_close_files(base);
+    EXPECT(unlink(lock) == 0 && rename("away", lock) == 0);
+}
+
+static size_t value_of(boddurci_base *base, const char *key)
+{
+    uint8_t value[BODDURCI_VALUE_MOST];
+    size_t length = 0;
+    if (boddurci_fetch(boddurci_take(base), (const uint8_t *)key, strlen(key), value, sizeof value, &length) != BODDURCI_DONE)
+        length = 0;
+    boddurci_give(base);
+    return length;
+}
+
+/* Files that another has written meanwhile become those of the base as a whole, also where it has changed nothing, or begins as empty. */
+static void test_written_beside(void)
+{
+    boddurci_base *base = opened("visits", 0);
+    size_t count = count_of(base);
+    for (int changes = 0; changes < 2; changes++) {
+        change_beside("visits", "visits.lock");
+        EXPECT(found_beside("visits", "visits.lock") == count + 98);
+        if (changes)
+            store_one(base, 3);
+        EXPECT(boddurci_save(base, &fault) == BODDURCI_DONE && found_beside("visits", "visits.lock") == count);
+    }
+    boddurci_close_files(base);
+    base = opened("visits", 0);
+    EXPECT(count_of(base) == count && value_of(base, "key1") == 4 && value_of(base, "key7000") == 0);
+    boddurci_close_files(base);
+    base = opened("fresh", 0);
+    for (int i = 0; i < 100; i++)
+        store_one(base, i);
+    EXPECT(boddurci_save(base, &fault) == BODDURCI_DONE);
+    boddurci_close_files(base);
+    base = opened("fresh", BODDURCI_EMPTY);
+    store_one(base, 3);
+    EXPECT(boddurci_save(base, &fault) == BODDURCI_DONE && found_beside("fresh", "fresh.lock") == 1);
+    store_one(base, 4);
+    EXPECT(boddurci_save(base, &fault) == BODDURCI_DONE && found_beside("fresh", "fresh.lock") == 2);
+    boddurci_close_files(base);
+}
+
+/* What a save has planned and could not write is in the next one. */
+static void test_written_later(void)
+{
+    struct rlimit all, few;
+    EXPECT(getrlimit(RLIMIT_FSIZE, &all) == 0 && signal(SIGXFSZ, SIG_IGN) != SIG_ERR);
+    boddurci_base *base = opened("visits", 0);
+    size_t count = count_of(base);
+    for (int i = 8000; i < 8040; i++)
+        store_one(base, i);
+    few = all;
+    few.rlim_cur = 1024;
+    for (int i = 0; i < 2; i++) {
+        EXPECT(setrlimit(RLIMIT_FSIZE, &few) == 0 && boddurci_save(base, &fault) == BODDURCI_FILE_FAILED && fault.system == EFBIG);
+        EXPECT(setrlimit(RLIMIT_FSIZE, &all) == 0 && !is_there("visits.redo") && found_beside("visits", "visits.lock") == count);
+        store_one(base, 8040 + i);
+    }
+    EXPECT(boddurci_save(base, &fault) == BODDURCI_DONE && found_beside("visits", "visits.lock") == count + 42);
+    char key[16];
+    for (int i = 8000; i < 8042; i++) {
+        snprintf(key, sizeof key, "key%d", i);
+        delete_one(base, key);
+    }
+    EXPECT(boddurci_save(base, &fault) == BODDURCI_DONE);
+    boddurci_close_files(base);
+}
+
+enum { WRITERS = 3, WRITTEN = 2000 };
+
+struct writer {
+    boddurci_base *base;
+    int from;
+};
+
+static void *store_many(void *given)
+{
+    struct writer *writer = given;
+    for (int i = writer->from; i < writer->from + WRITTEN; i++) {
+        char key[16];
+        int length = snprintf(key, sizeof key, "key%d", i);
+        if (boddurci_store(boddurci_take(writer->base), (const uint8_t *)key, (size_t)length, (const uint8_t *)key, (size_t)length, 1) != BODDURCI_DONE)
+            abort();
+        boddurci_give(writer->base);
+    }
+    return NULL;
+}
+
+/* Threads store while another saves: the last save has everything. */
+static void test_meanwhile(void)
+{
+    pthread_t threads[WRITERS];
+    struct writer writers[WRITERS];
+    boddurci_base *base = opened("busy", 0);
+    for (int i = 0; i < WRITERS; i++) {
+        writers[i] = (struct writer){base, i * WRITTEN};
+        EXPECT(pthread_create(&threads[i], NULL, store_many, &writers[i]) == 0);
+    }
+    for (int i = 0; i < 20; i++)
+        EXPECT(boddurci_save(base, &fault) == BODDURCI_DONE && fault.system == 0);
+    for (int i = 0; i < WRITERS; i++)
+        EXPECT(pthread_join(threads[i], NULL) == 0);
+    EXPECT(boddurci_save(base, &fault) == BODDURCI_DONE && count_of(base) == WRITERS * WRITTEN);
+    boddurci_close_files(base);
+    base = opened("busy", BODDURCI_READ_ONLY);
+    EXPECT(count_of(base) == WRITERS * WRITTEN);
+    boddurci_close_files(base);
+}
+
 /* A link stays one, and the file to which it leads is written. */
 static void test_links(void)
 {
@@ -324,7 +488,7 @@ static void test_names(void)
     EXPECT(boddurci_save(NULL, &fault) == BODDURCI_IS_CLOSED && boddurci_take(NULL) == NULL);
     boddurci_give(NULL);
     for (uint32_t status = 0; status < 50; status++) {
-        int is_one = status <= BODDURCI_CHANGED || (status >= BODDURCI_IS_CLOSED && status <= BODDURCI_NO_TICKET) ||
+        int is_one = status <= BODDURCI_STALE || (status >= BODDURCI_IS_CLOSED && status <= BODDURCI_NO_TICKET) ||
                      (status >= BODDURCI_FILE_FAILED && status <= BODDURCI_OPEN_HERE);
         EXPECT((strcmp(boddurci_files_text(status), "no status") != 0) == is_one);
     }
@@ -500,6 +664,11 @@ int main(int argc, char **argv)
     test_ended_thread();
     test_failing();
     test_unchanged();
+    test_ends();
+    test_untouched();
+    test_written_beside();
+    test_written_later();
+    test_meanwhile();
     test_links();
     test_other_base();
     test_redo();

@@ -158,7 +158,9 @@ static void test_closed(void)
     REFUSES(BODDURCI_IS_CLOSED, boddurci_first(&db, &told.cursor));
     REFUSES(BODDURCI_IS_CLOSED, boddurci_next(&db, &told.cursor, room, most, &told.length, other, most, &told.more));
     REFUSES(BODDURCI_IS_CLOSED, boddurci_files(&db, room, most, &told.length, other, most, &told.more));
-    REFUSES(BODDURCI_IS_CLOSED, boddurci_plan(&db, BODDURCI_NO_BYTES, BODDURCI_NO_BYTES, room, most, &told.length));
+    REFUSES(BODDURCI_IS_CLOSED, boddurci_changed(&db, &told.number, 1, &told.length));
+    REFUSES(BODDURCI_IS_CLOSED, boddurci_mark(&db, &told.number, 1));
+    REFUSES(BODDURCI_IS_CLOSED, boddurci_plan(&db, BODDURCI_NO_BYTES, 0, &told.number, 0, BODDURCI_NO_BYTES, room, most, &told.length));
     REFUSES(BODDURCI_IS_CLOSED, boddurci_ask(&db, &ticket, 0, BYTES("a"), BODDURCI_NO_BYTES, 0, 0, 0));
     REFUSES(BODDURCI_NO_TICKET, boddurci_work(&ticket));
     REFUSES(BODDURCI_IS_CLOSED, boddurci_finish(&db, &ticket, &told.end, &told.word));
@@ -502,7 +504,7 @@ static uint8_t *made_by(const uint8_t *plan, size_t length, int file, const uint
     EXPECT(number_at(plan + 16 + 4 * file) == old_length);
     for (uint32_t left = number_at(plan + 24); left != 0; left--) {
         size_t offset = number_at(at + 1), size = number_at(at + 5);
-        EXPECT(at[0] <= 1 && size != 0 && size <= 8192 && offset + size <= number_at(plan + 8 + 4 * at[0]));
+        EXPECT(at[0] <= 1 && size != 0 && size <= 1024 && offset + size <= number_at(plan + 8 + 4 * at[0]));
         if (at[0] == file) {
             EXPECT(is_old(at + CHANGE_HEAD + size, offset, size, old, old_length));
             memcpy(made + offset, at + CHANGE_HEAD, size);
@@ -513,19 +515,43 @@ static uint8_t *made_by(const uint8_t *plan, size_t length, int file, const uint
     return made;
 }
 
+/* The plan for old files of which so many pages are read. */
+static uint32_t plan_all(boddurci *db, struct files old, size_t count, size_t page, uint8_t *plan, size_t room, size_t *length)
+{
+    uint32_t *numbers = malloc((count + 1) * sizeof *numbers);
+    uint8_t *pages = calloc(count + 1, page);
+    memcpy(pages, old.pag, old.pag_length);
+    for (size_t i = 0; i < count; i++)
+        numbers[i] = (uint32_t)i;
+    uint32_t status = boddurci_plan(db, old.dir, old.dir_length, old.pag_length, numbers, count, pages, count * page, plan, room, length);
+    free(numbers);
+    free(pages);
+    return status;
+}
+
+static size_t changed_in(boddurci *db)
+{
+    uint32_t none;
+    size_t count;
+    EXPECT(boddurci_changed(db, &none, 0, &count) == (count == 0 ? BODDURCI_DONE : BODDURCI_SHORT_ROOM));
+    return count;
+}
+
 /* Whether the plan for the old files makes them those of a database, and how long it is. */
-static size_t plan_from(boddurci *db, struct files old)
+static size_t plan_from(boddurci *db, struct files old, size_t page)
 {
     uint8_t none[1];
     size_t length, again;
     struct files wanted = files_of(db), made;
-    uint32_t status = boddurci_plan(db, old.dir, old.dir_length, old.pag, old.pag_length, none, 0, &length);
+    size_t count = (old.pag_length > wanted.pag_length ? old.pag_length : wanted.pag_length) / page, changed = changed_in(db);
+    uint32_t status = plan_all(db, old, count, page, none, 0, &length);
     EXPECT(status == (length == 0 ? BODDURCI_DONE : BODDURCI_SHORT_ROOM) && (length == 0) == are_same(old, wanted));
+    EXPECT(changed_in(db) == (length == 0 ? 0 : changed));
     uint8_t *plan = malloc(length + 1);
     plan[length] = 77;
     if (length != 0) {
-        EXPECT(boddurci_plan(db, old.dir, old.dir_length, old.pag, old.pag_length, plan, length - 1, &again) == BODDURCI_SHORT_ROOM);
-        EXPECT(boddurci_plan(db, old.dir, old.dir_length, old.pag, old.pag_length, plan, length, &again) == BODDURCI_DONE && again == length);
+        EXPECT(plan_all(db, old, count, page, plan, length - 1, &again) == BODDURCI_SHORT_ROOM && changed_in(db) == changed);
+        EXPECT(plan_all(db, old, count, page, plan, length, &again) == BODDURCI_DONE && again == length && changed_in(db) == 0);
         made.pag = made_by(plan, length, 0, old.pag, old.pag_length, &made.pag_length);
         made.dir = made_by(plan, length, 1, old.dir, old.dir_length, &made.dir_length);
         EXPECT(are_same(made, wanted) && plan[length] == 77);
@@ -538,25 +564,60 @@ static size_t plan_from(boddurci *db, struct files old)
 
 static void test_plans(uint32_t wide)
 {
+    enum { BLOCK = CHANGE_HEAD + 2 * 1024 };
     boddurci db = BODDURCI_CLOSED;
+    size_t page = wide ? 8192 : 1024;
     char key[16];
     open_empty(&db, wide, 0);
     struct files empty = files_of(&db);
-    EXPECT(plan_from(&db, empty) == 0);
+    EXPECT(plan_from(&db, empty, page) == 0);
     for (int i = 0; i < 3000; i++)
         EXPECT(boddurci_store(&db, (const uint8_t *)key, (size_t)snprintf(key, sizeof key, "%d", i), (const uint8_t *)&i, sizeof i, 1) ==
                BODDURCI_DONE);
     struct files full = files_of(&db);
-    size_t whole = plan_from(&db, empty), page = wide ? 8192 : 1024;
-    EXPECT(whole > 3000 * 8 && plan_from(&db, full) == 0);
-    EXPECT(boddurci_store(&db, BYTES("7"), BYTES("another"), 1) == BODDURCI_DONE);
-    EXPECT(plan_from(&db, full) == PLAN_HEAD + CHANGE_HEAD + 2 * page);
+    size_t whole = plan_from(&db, empty, page);
+    EXPECT(whole > 3000 * 8 && plan_from(&db, full, page) == 0);
+    EXPECT(boddurci_store(&db, BYTES("7"), BYTES("another"), 1) == BODDURCI_DONE && changed_in(&db) == 1);
+    size_t one = plan_from(&db, full, page) - PLAN_HEAD;
+    EXPECT(one % BLOCK == 0 && one >= BLOCK && one <= BLOCK * page / 1024);
     for (int i = 0; i < 3000; i++)
         EXPECT(boddurci_delete(&db, (const uint8_t *)key, (size_t)snprintf(key, sizeof key, "%d", i)) == BODDURCI_DONE);
-    plan_from(&db, full);
-    plan_from(&db, empty);
+    plan_from(&db, full, page);
+    plan_from(&db, empty, page);
     free_files(empty);
     free_files(full);
+    boddurci_close(&db);
+}
+
+/* Which pages count as changed, and plans that know of them or do not. */
+static void test_marks(void)
+{
+    static uint8_t pages[2048], plan[8192];
+    static const uint32_t some[] = {5, 0, 5};
+    uint32_t numbers[4] = {9, 9, 9, 9};
+    boddurci db = BODDURCI_CLOSED;
+    size_t count, length;
+    open_empty(&db, 0, 0);
+    EXPECT(changed_in(&db) == 0);
+    EXPECT(boddurci_delete(&db, BYTES("a")) == BODDURCI_MISSING && changed_in(&db) == 0);
+    EXPECT(boddurci_store(&db, BYTES("a"), BYTES("b"), 1) == BODDURCI_DONE && boddurci_store(&db, BYTES("b"), BYTES("b"), 1) == BODDURCI_DONE);
+    EXPECT(boddurci_changed(&db, numbers, 0, &count) == BODDURCI_SHORT_ROOM && count == 1 && numbers[0] == 9);
+    EXPECT(boddurci_changed(&db, numbers, 4, &count) == BODDURCI_DONE && count == 1 && numbers[0] == 0 && numbers[1] == 9);
+    length = 7;
+    EXPECT(boddurci_plan(&db, BODDURCI_NO_BYTES, 0, numbers, 0, BODDURCI_NO_BYTES, plan, sizeof plan, &length) == BODDURCI_STALE && length == 7);
+    EXPECT(boddurci_plan(&db, BODDURCI_NO_BYTES, 0, numbers, 1, pages, 1023, plan, sizeof plan, &length) == BODDURCI_STALE && length == 7);
+    EXPECT(boddurci_plan(&db, BODDURCI_NO_BYTES, 0, some, 1, pages, 1024, plan, sizeof plan, &length) == BODDURCI_STALE && changed_in(&db) == 1);
+    EXPECT(boddurci_plan(&db, BODDURCI_NO_BYTES, 0, some, 2, pages, 2048, plan, sizeof plan, &length) == BODDURCI_DONE && changed_in(&db) == 0);
+    EXPECT(length == PLAN_HEAD + CHANGE_HEAD + 2 * 1024);
+    EXPECT(boddurci_mark(&db, some, 3) == BODDURCI_DONE && changed_in(&db) == 2 && boddurci_mark(&db, some, 0) == BODDURCI_DONE);
+    EXPECT(boddurci_changed(&db, numbers, 4, &count) == BODDURCI_DONE && numbers[0] == 5 && numbers[1] == 0);
+    /* A page with garbage among its free bytes counts as changed from the opening on. */
+    struct files files = files_of(&db);
+    boddurci_close(&db);
+    files.pag[500] = 1;
+    EXPECT(boddurci_open(&db, files.dir, files.dir_length, files.pag, files.pag_length, 0, 0, pages, sizeof pages, &length) == BODDURCI_DONE);
+    EXPECT(boddurci_changed(&db, numbers, 4, &count) == BODDURCI_DONE && count == 1 && numbers[0] == 0);
+    free_files(files);
     boddurci_close(&db);
 }
 
@@ -631,7 +692,7 @@ static void test_files(void)
 static void test_texts(void)
 {
     for (uint32_t status = 0; status < 30; status++) {
-        int is_one = status <= BODDURCI_CHANGED || (status >= BODDURCI_IS_CLOSED && status <= BODDURCI_NO_TICKET);
+        int is_one = status <= BODDURCI_STALE || (status >= BODDURCI_IS_CLOSED && status <= BODDURCI_NO_TICKET);
         EXPECT((strcmp(boddurci_text(status), "no status") != 0) == is_one);
     }
 }
@@ -723,6 +784,16 @@ static void test_threads(int seconds)
 
 enum { STEPS = 80 };
 
+/* The plan of what changed, beside files that were empty. */
+static uint32_t plan_changed(boddurci *db, uint8_t *plan, size_t room)
+{
+    static const uint8_t zeros[65536];
+    static uint32_t numbers[64];
+    size_t count, length;
+    EXPECT(boddurci_changed(db, numbers, 64, &count) == BODDURCI_DONE);
+    return boddurci_plan(db, BODDURCI_NO_BYTES, 0, numbers, count, zeros, count * 1024, plan, room, &length);
+}
+
 /* A handle and a ticket, on which a step is one call. */
 static uint32_t do_step(boddurci *db, boddurci_ticket *ticket, int step)
 {
@@ -733,6 +804,7 @@ static uint32_t do_step(boddurci *db, boddurci_ticket *ticket, int step)
     char key[16];
     static uint8_t image[BODDURCI_IMAGE_MOST], dir[65536], pag[262144];
     static const uint8_t page[1024] = {1, 0, 0xff};
+    static const uint32_t many = 20000;
     boddurci other = BODDURCI_CLOSED;
     memset(value, step, sizeof value);
     size_t key_length = (size_t)snprintf(key, sizeof key, "key %d", step);
@@ -754,7 +826,8 @@ static uint32_t do_step(boddurci *db, boddurci_ticket *ticket, int step)
     case 54: return boddurci_work(ticket);
     case 55: return boddurci_finish(db, ticket, &end, &word);
     case 56: return boddurci_files(db, dir, sizeof dir, &length, pag, sizeof pag, &unit);
-    case 57: return boddurci_plan(db, BODDURCI_NO_BYTES, BODDURCI_NO_BYTES, pag, sizeof pag, &length);
+    case 57: return plan_changed(db, pag, sizeof pag);
+    case 60: return boddurci_mark(db, &many, 1);
     case 58: return boddurci_run(db, 0, (const uint8_t *)key, key_length, BODDURCI_NO_BYTES, 1, 900, 0, &end, &word);
     case 59: return boddurci_run(db, 0, (const uint8_t *)key, key_length, BODDURCI_NO_BYTES, 1, 900, 0, &end, &word);
     default: return boddurci_store(db, (const uint8_t *)key, key_length, value, sizeof value, 1);
@@ -848,6 +921,7 @@ int main(int argc, char **argv)
         test_many_tickets();
         test_plans(0);
         test_plans(1);
+        test_marks();
         test_turns();
         test_files();
         test_texts();

@@ -14,11 +14,23 @@
 /* The most bytes of BASE.pag, .dir and .redo. */
 static const size_t limits[3] = {1073741824, 268435456, 2696151069};
 
+/* What a data file was when it was last read or saved. */
+struct note {
+    int is_there;
+    dev_t device;
+    ino_t number;
+    off_t length;
+    struct timespec written, changed;
+};
+
 struct boddurci_base {
     boddurci db;
     struct boddurci_place place;
     uint32_t flags;
     pid_t process;         /* which has opened it */
+    int is_noted;          /* the data files, while they stay so, are those of the base but on its changed pages */
+    int is_planned;        /* a save has compared their lengths and the directory */
+    struct note notes[2];
     pthread_mutex_t mutex; /* of db */
     pthread_mutex_t saves; /* of the files; who wants both takes it first */
 };
@@ -41,6 +53,54 @@ static uint32_t is_pending(boddurci_fault *fault, enum boddurci_file file)
                                         "the save is kept in BASE.redo, and BASE.dir could not be written",
                                         "the save is done, and BASE.redo could not be taken away"};
     return boddurci_fail(fault, BODDURCI_DONE, errno, what[file]);
+}
+
+/* ---- what the files were */
+
+static struct note note_of(const struct boddurci_place *place, enum boddurci_file file)
+{
+    struct stat is;
+    struct note note;
+    memset(&note, 0, sizeof note);
+    if (fstatat(place->folder, place->names[file], &is, 0) != 0)
+        return note;
+    note.is_there = 1;
+    note.device = is.st_dev;
+    note.number = is.st_ino;
+    note.length = is.st_size;
+    note.written = is.st_mtim;
+    note.changed = is.st_ctim;
+    return note;
+}
+
+static void note_files(const struct boddurci_place *place, struct note notes[2])
+{
+    notes[BODDURCI_PAGES] = note_of(place, BODDURCI_PAGES);
+    notes[BODDURCI_DIRECTORY] = note_of(place, BODDURCI_DIRECTORY);
+}
+
+static int is_same_time(struct timespec one, struct timespec other)
+{
+    return one.tv_sec == other.tv_sec && one.tv_nsec == other.tv_nsec;
+}
+
+static int is_same_note(const struct note *one, const struct note *other)
+{
+    if (!one->is_there || !other->is_there)
+        return one->is_there == other->is_there;
+    return one->device == other->device && one->number == other->number && one->length == other->length &&
+           is_same_time(one->written, other->written) && is_same_time(one->changed, other->changed);
+}
+
+static int are_same_notes(const struct note one[2], const struct note other[2])
+{
+    return is_same_note(&one[BODDURCI_PAGES], &other[BODDURCI_PAGES]) && is_same_note(&one[BODDURCI_DIRECTORY], &other[BODDURCI_DIRECTORY]);
+}
+
+/* Whether the files are those that were noted. */
+static int are_noted(const boddurci_base *base, const struct note notes[2])
+{
+    return base->is_noted && are_same_notes(base->notes, notes);
 }
 
 /* ---- reading */
@@ -144,13 +204,14 @@ static uint32_t open_again(struct boddurci_disk *disk, int first, boddurci_fault
     return status;
 }
 
-/* Ends a save that was cut off, where one was. */
-static uint32_t end_marked(struct boddurci_disk *disk, boddurci_fault *fault)
+/* Ends a save that was cut off, where one was, and says whether. */
+static uint32_t end_marked(struct boddurci_disk *disk, int *is_ended, boddurci_fault *fault)
 {
     struct boddurci_bytes redo = {NULL, 0}, files[2] = {{NULL, 0}, {NULL, 0}};
     int opened = -1;
     uint32_t status = read_redo(disk->place, O_RDONLY, &redo, &opened, fault);
     int is_cut_off = status == BODDURCI_DONE && boddurci_is_marked(redo);
+    *is_ended = is_cut_off;
     if (is_cut_off)
         status = read_both(disk->place, 0, files, fault);
     if (is_cut_off && status == BODDURCI_DONE)
@@ -200,8 +261,8 @@ static uint32_t read_over(struct boddurci_place *place, int must_exist, struct b
 
 /* ---- opening */
 
-/* Notes which files there are that are not read. */
-static void note_files(struct boddurci_place *place)
+/* Sees which files there are that are not read. */
+static void see_files(struct boddurci_place *place)
 {
     for (enum boddurci_file file = BODDURCI_PAGES; file <= BODDURCI_DIRECTORY; file++) {
         int opened = boddurci_open_data(place, file, O_RDONLY);
@@ -214,18 +275,21 @@ static void note_files(struct boddurci_place *place)
 static uint32_t read_files(boddurci_base *base, struct boddurci_bytes *files, boddurci_fault *fault)
 {
     struct boddurci_disk disk;
-    int must_exist = (base->flags & BODDURCI_MUST_EXIST) != 0;
+    int must_exist = (base->flags & BODDURCI_MUST_EXIST) != 0, is_ended;
     boddurci_no_fault(fault);
     boddurci_see_none(&base->place);
     if (base->flags & BODDURCI_READ_ONLY)
         return base->flags & BODDURCI_EMPTY ? BODDURCI_DONE : read_over(&base->place, must_exist, files, fault);
     boddurci_disk_of(&disk, &base->place);
-    uint32_t status = end_marked(&disk, fault);
+    uint32_t status = end_marked(&disk, &is_ended, fault);
     boddurci_disk_close(&disk);
     if (base->flags & BODDURCI_EMPTY)
-        note_files(&base->place);
-    else if (status == BODDURCI_DONE)
+        see_files(&base->place);
+    note_files(&base->place, base->notes);
+    if (status == BODDURCI_DONE && !(base->flags & BODDURCI_EMPTY)) {
         status = read_both(&base->place, must_exist, files, fault);
+        base->is_noted = status == BODDURCI_DONE;
+    }
     return status;
 }
 
@@ -361,14 +425,140 @@ void boddurci_give(boddurci_base *base)
         pthread_mutex_unlock(&base->mutex);
 }
 
+/* ---- what a save reads */
+
+/* What was read of the files for a plan: all of .dir, and of .pag its length and the pages with these numbers. */
+struct reading {
+    struct boddurci_bytes directory;
+    size_t length;
+    uint32_t *numbers;
+    size_t count;
+    uint8_t *pages;
+    size_t size; /* of a page */
+};
+
+static void end_reading(struct reading *reading)
+{
+    free(reading->directory.at);
+    free(reading->numbers);
+    free(reading->pages);
+    reading->directory.at = reading->pages = NULL;
+    reading->numbers = NULL;
+    reading->directory.length = reading->count = 0;
+}
+
+static int by_number(const void *one, const void *other)
+{
+    uint32_t a = *(const uint32_t *)one, b = *(const uint32_t *)other;
+    return (a > b) - (a < b);
+}
+
+/* The numbers of the pages that may have changed, in their order. */
+static uint32_t list_changed(boddurci *db, struct reading *reading)
+{
+    uint32_t none, status = boddurci_changed(db, &none, 0, &reading->count);
+    if (status != BODDURCI_SHORT_ROOM)
+        return status;
+    reading->numbers = malloc(reading->count * sizeof *reading->numbers);
+    if (reading->numbers == NULL)
+        return BODDURCI_NO_MEMORY;
+    status = boddurci_changed(db, reading->numbers, reading->count, &reading->count);
+    if (status == BODDURCI_DONE)
+        qsort(reading->numbers, reading->count, sizeof *reading->numbers, by_number);
+    return status;
+}
+
+/* The numbers of all pages of the file and of the database, and of those that may have changed, which may lie further on. */
+static uint32_t list_all(boddurci *db, struct reading *reading)
+{
+    boddurci_cursor cursor;
+    uint32_t status = list_changed(db, reading);
+    if (status == BODDURCI_DONE)
+        status = boddurci_first(db, &cursor);
+    if (status != BODDURCI_DONE)
+        return status;
+    size_t end = (reading->length + reading->size - 1) / reading->size;
+    if (cursor.end > end)
+        end = cursor.end;
+    if (reading->count != 0 && reading->numbers[reading->count - 1] >= end)
+        end = (size_t)reading->numbers[reading->count - 1] + 1;
+    uint32_t *numbers = realloc(reading->numbers, (end + 1) * sizeof *numbers);
+    if (numbers == NULL)
+        return BODDURCI_NO_MEMORY;
+    for (size_t i = 0; i < end; i++)
+        numbers[i] = (uint32_t)i;
+    reading->numbers = numbers;
+    reading->count = end;
+    return status;
+}
+
+/* Reads bytes of a file into a room of zeros, where a byte past its end is zero. */
+static int read_at(int file, uint64_t at, uint8_t *room, size_t size)
+{
+    for (size_t done = 0; done < size;) {
+        ssize_t got = pread(file, room + done, size - done, (off_t)(at + done));
+        if (got == 0)
+            return 0;
+        if (got < 0 && errno != EINTR)
+            return -1;
+        done += got < 0 ? 0 : (size_t)got;
+    }
+    return 0;
+}
+
+/* How many of the pages that are listed stand side by side in the file, from one of them on. */
+static size_t side_by_side(const struct reading *reading, size_t first)
+{
+    size_t count = 1;
+    while (first + count < reading->count && reading->numbers[first + count] == reading->numbers[first] + count)
+        count++;
+    return count;
+}
+
+/* Reads the pages that are listed. A file that is not there has no bytes. */
+static uint32_t read_pages(struct boddurci_place *place, struct reading *reading, boddurci_fault *fault)
+{
+    uint32_t status = BODDURCI_DONE;
+    reading->pages = calloc(reading->count + 1, reading->size);
+    if (reading->pages == NULL)
+        return boddurci_no_memory(fault);
+    int file = boddurci_open_data(place, BODDURCI_PAGES, O_RDONLY);
+    if (file < 0)
+        return errno == ENOENT ? BODDURCI_DONE : boddurci_fail_by_system(fault, "a file cannot be opened");
+    for (size_t i = 0, count; i < reading->count && status == BODDURCI_DONE; i += count) {
+        count = side_by_side(reading, i);
+        if (read_at(file, (uint64_t)reading->numbers[i] * reading->size, reading->pages + i * reading->size, count * reading->size) != 0)
+            status = boddurci_fail_by_system(fault, "a file cannot be read");
+    }
+    close(file);
+    return status;
+}
+
+/* Reads the directory, and the pages that are listed. */
+static uint32_t read_listed(struct boddurci_place *place, struct reading *reading, boddurci_fault *fault)
+{
+    uint32_t status = read_file(place, BODDURCI_DIRECTORY, 0, &reading->directory, fault);
+    return status == BODDURCI_DONE ? read_pages(place, reading, fault) : status;
+}
+
 /* ---- saving */
+
+/* Room for a plan of which each block of the pages changes, as far as they are not too many, so that it is made once as a rule. */
+static size_t room_of(const struct reading *reading)
+{
+    enum { BLOCK = 1024, CHANGE = 9 + 2 * BLOCK, MOST = 8192, LEAST = 65536 };
+    size_t blocks = reading->count * (reading->size / BLOCK);
+    return LEAST + (blocks < MOST ? blocks : MOST) * CHANGE;
+}
 
 /* The redo file, not marked yet, that makes the files those of the database; an empty one where they are that already. It is to be freed
  * in any case. */
-static uint32_t plan_of(boddurci *db, const struct boddurci_bytes *files, struct boddurci_bytes *redo)
+static uint32_t plan_of(boddurci *db, const struct reading *reading, struct boddurci_bytes *redo)
 {
-    struct boddurci_bytes dir = files[BODDURCI_DIRECTORY], pag = files[BODDURCI_PAGES];
-    size_t room, length = 65536;
+    static const uint32_t no_number;
+    const uint8_t *directory = or_none(reading->directory);
+    const uint32_t *numbers = reading->numbers != NULL ? reading->numbers : &no_number;
+    size_t room, length = room_of(reading), pages = reading->count * reading->size;
     uint32_t status = BODDURCI_SHORT_ROOM;
     while (status == BODDURCI_SHORT_ROOM) {
         uint8_t *grown = realloc(redo->at, 1 + length);
@@ -376,7 +566,8 @@ static uint32_t plan_of(boddurci *db, const struct boddurci_bytes *files, struct
             return BODDURCI_NO_MEMORY;
         redo->at = grown;
         room = length;
-        status = boddurci_plan(db, or_none(dir), dir.length, or_none(pag), pag.length, grown + 1, room, &length);
+        status = boddurci_plan(db, directory, reading->directory.length, reading->length, numbers, reading->count, reading->pages,
+                               pages, grown + 1, room, &length);
     }
     if (status != BODDURCI_DONE)
         return status;
@@ -385,30 +576,68 @@ static uint32_t plan_of(boddurci *db, const struct boddurci_bytes *files, struct
     return status;
 }
 
-/* The same of the database as it is now, under the mutex. */
-static uint32_t plan_now(boddurci_base *base, const struct boddurci_bytes *files, struct boddurci_bytes *redo, boddurci_fault *fault)
+/* Lists the pages that are to be read, reads them, and plans; under the mutex, but not while it reads, unless it is to hold it then too. */
+static uint32_t try_plan(boddurci_base *base, int reads_all, int holds, struct reading *reading, struct boddurci_bytes *redo,
+                         boddurci_fault *fault)
 {
-    uint32_t status = plan_of(boddurci_take(base), files, redo);
+    boddurci *db = boddurci_take(base);
+    uint32_t status = reads_all ? list_all(db, reading) : list_changed(db, reading);
+    if (!holds)
+        boddurci_give(base);
+    int is_listed = status == BODDURCI_DONE, plans = reads_all || reading->count != 0 || !base->is_planned;
+    if (is_listed && plans)
+        status = read_listed(&base->place, reading, fault);
+    int is_read = is_listed && status == BODDURCI_DONE;
+    if (!holds)
+        boddurci_take(base);
+    if (is_read && plans)
+        status = plan_of(db, reading, redo);
     boddurci_give(base);
-    if (status != BODDURCI_DONE)
-        return boddurci_fail(fault, status, 0, boddurci_text(status));
-    for (enum boddurci_file file = BODDURCI_PAGES; redo->length != 0 && file <= BODDURCI_DIRECTORY; file++)
-        if (boddurci_new_length(*redo, file) > limits[file])
-            return boddurci_fail(fault, BODDURCI_TOO_LONG, 0, "a file would be too long: 1 GiB of pages and 256 MiB of directory is the most");
+    if (status == BODDURCI_DONE || status == BODDURCI_STALE || (is_listed && !is_read))
+        return status;
+    return boddurci_fail(fault, status, 0, boddurci_text(status));
+}
+
+enum { TRIES = 3 };
+
+/* Plans, once more where others have changed more pages meanwhile. */
+static uint32_t plan_now(boddurci_base *base, int reads_all, struct reading *reading, struct boddurci_bytes *redo, boddurci_fault *fault)
+{
+    uint32_t status = BODDURCI_STALE;
+    for (int tries = 0; status == BODDURCI_STALE; tries++) {
+        end_reading(reading);
+        status = try_plan(base, reads_all, tries >= TRIES, reading, redo, fault);
+    }
     return status;
 }
 
-/* What the redo file of a save is to be, behind a save that was cut off. */
-static uint32_t plan_save(boddurci_base *base, struct boddurci_disk *disk, struct boddurci_bytes *redo, boddurci_fault *fault)
+/* Whether the files may have the lengths that a save gives them. */
+static uint32_t fit(struct boddurci_bytes redo, boddurci_fault *fault)
 {
-    struct boddurci_bytes files[2] = {{NULL, 0}, {NULL, 0}};
-    uint32_t status = end_marked(disk, fault);
-    if (status == BODDURCI_DONE)
-        status = read_both(disk->place, 0, files, fault);
-    if (status == BODDURCI_DONE)
-        status = plan_now(base, files, redo, fault);
-    let_go(&files[BODDURCI_PAGES]);
-    let_go(&files[BODDURCI_DIRECTORY]);
+    for (enum boddurci_file file = BODDURCI_PAGES; redo.length != 0 && file <= BODDURCI_DIRECTORY; file++)
+        if (boddurci_new_length(redo, file) > limits[file])
+            return boddurci_fail(fault, BODDURCI_TOO_LONG, 0, "a file would be too long: 1 GiB of pages and 256 MiB of directory is the most");
+    return BODDURCI_DONE;
+}
+
+/* Does what was planned. Where that fails the pages count as changed again, or else the next save reads all. */
+static uint32_t do_plan(boddurci_base *base, struct boddurci_disk *disk, const struct reading *reading, struct boddurci_bytes redo,
+                        boddurci_fault *fault)
+{
+    struct boddurci_bytes none = {NULL, 0};
+    int is_left = 0;
+    uint32_t status = fit(redo, fault);
+    if (status == BODDURCI_DONE && redo.length != 0)
+        is_left = boddurci_recover(disk, none) != 0 || boddurci_stage(disk, redo) != 0 ? -1 : boddurci_commit(disk, redo);
+    if (is_left != 0)
+        status = is_left < 0 ? cannot_be_written(fault, disk->last) : is_pending(fault, disk->last);
+    if (status != BODDURCI_DONE) {
+        if (boddurci_mark(boddurci_take(base), reading->numbers, reading->count) != BODDURCI_DONE)
+            base->is_noted = 0;
+        boddurci_give(base);
+    } else {
+        base->is_noted = is_left == 0;
+    }
     return status;
 }
 
@@ -420,22 +649,39 @@ static void settle_lock(struct boddurci_place *place)
     place->is_lock_early = boddurci_be_like_pages(place, BODDURCI_LOCK, place->lock) != 0;
 }
 
-/* The whole save. Where the files are those of the database nothing is written. */
+/* The whole save. Where no page has changed and the files are those that were noted, nothing is read, unless it is the first save, which
+ * looks at the lengths of the files and at the directory; and where the files are those of the database nothing is written. Where another
+ * program writes them while they are read, the next save reads all. */
 static uint32_t save(boddurci_base *base, boddurci_fault *fault)
 {
     struct boddurci_disk disk;
-    struct boddurci_bytes redo = {NULL, 0}, none = {NULL, 0};
+    struct boddurci_bytes redo = {NULL, 0};
+    struct reading reading = {{NULL, 0}, 0, NULL, 0, NULL, base->flags & BODDURCI_WIDE ? 8192 : 1024};
+    struct note notes[2], again[2];
+    int is_ended = 0;
     if (!boddurci_is_held(&base->place))
         return boddurci_fail(fault, BODDURCI_MOVED, 0, "BASE.lock is another file than is held, and nothing was written");
     boddurci_disk_of(&disk, &base->place);
-    int is_left = 0;
-    uint32_t status = plan_save(base, &disk, &redo, fault);
-    if (status == BODDURCI_DONE && redo.length != 0)
-        is_left = boddurci_recover(&disk, none) != 0 || boddurci_stage(&disk, redo) != 0 ? -1 : boddurci_commit(&disk, redo);
-    if (is_left != 0)
-        status = is_left < 0 ? cannot_be_written(fault, disk.last) : is_pending(fault, disk.last);
+    uint32_t status = end_marked(&disk, &is_ended, fault);
+    note_files(&base->place, notes);
+    base->is_noted = !is_ended && are_noted(base, notes);
+    reading.length = (size_t)notes[BODDURCI_PAGES].length;
+    if (status == BODDURCI_DONE && notes[BODDURCI_PAGES].length > (off_t)limits[BODDURCI_PAGES])
+        status = too_long(fault);
     if (status == BODDURCI_DONE)
+        status = plan_now(base, !base->is_noted, &reading, &redo, fault);
+    note_files(&base->place, again);
+    if (status == BODDURCI_DONE)
+        status = do_plan(base, &disk, &reading, redo, fault);
+    if (status == BODDURCI_DONE) {
         settle_lock(&base->place);
+        base->is_planned = 1;
+        base->is_noted = base->is_noted && are_same_notes(notes, again);
+        if (redo.length != 0)
+            note_files(&base->place, notes);
+        memcpy(base->notes, notes, sizeof notes);
+    }
+    end_reading(&reading);
     free(redo.at);
     boddurci_disk_close(&disk);
     return status;

@@ -1,39 +1,31 @@
 -- What calls do with a handle.
-use Rattle.std.proofs.Common.{◌≡◌, ℕ, ◌*◌, ◌%◌, List, [], Option, Some, None, IfOk, unwrap_or, length, refl, sym, ap, ◌∙◌, subst, ◌/◌, lit<}
+use Rattle.std.proofs.Common.{◌≡◌, ℕ, ◌*◌, ◌%◌, List, [], Option, Some, None, unwrap_or, length, refl, sym, ap, ◌∙◌, subst}
 use Rattle.std.specs.FinMap as map
-use Rattle.std.specs.declared.result.Result.{Result}
-use Rattle.std.specs.declared.result.Result.TheVariants.{Ok, Err}
-use Rattle.std.proofs.Math.Nat.{mul-mod_left, mul-div_cancel}
+use Rattle.std.proofs.Math.Nat.{mul-mod_left}
 use Rattle.sdbm_addr.specs.Hash.{hash_of}
 use Rattle.sdbm_addr.specs.Directory.{page_of}
 use Rattle.sdbm_addr.specs.Pairs.{Pair, value_of, value_at, IsPlace, page_bytes}
 use Rattle.sdbm_addr.specs.declared.KeyBytes.{KeyBytes}
 use Rattle.sdbm_addr.specs.declared.PageSize.{PageSize}
-use Rattle.sdbm_addr.specs.declared.PageSize.TheVariants.{Small, Wide}
 use Rattle.sdbm_addr.specs.Database.{Database, IsDatabase, map_of, pairs_at}
 use Rattle.sdbm_addr.proofs.DatabaseLemmas.{get-map_of}
-use Rattle.boddurci_c.specs.declared.db.Db.{Db}
+use Rattle.boddurci_c.specs.declared.opened.Db.{Db}
 use Rattle.boddurci_c.specs.declared.status.Status.{Status}
 use Rattle.boddurci_c.specs.declared.status.Status.TheVariants.{Closed}
 use Rattle.boddurci_c.specs.Statuses.{code_of}
-use Rattle.boddurci_c.specs.Calls.{At, Shows, Why, Denies, IsOpened, open_word}
-
-module _ {A B : Type 0} (P : A → Db → Db → Type 0) where
-  pub if_ok_at : (r : Result A B) (old new : Option Db) (d d' : Db) → old ≡ Some d → new ≡ Some d' → IfOk r (λ a. P a d d') → IfOk r (λ a. At old new (P a))
-  if_ok_at (Ok a) old new d d' e e' is = record { before = d; after = d'; old_is = e; new_is = e'; is = is }
-  if_ok_at (Err b) old new d d' e e' is = tt
+use Rattle.boddurci_c.specs.Calls.{Shows, Why, Denies, IsOpened, open_word}
 
 -- a call of a closed handle
 pub closed_denies : (P : Db → Status → Type 0) (old new : Option Db) (code : ℕ) → old ≡ None → new ≡ None → code ≡ code_of Closed → Denies P old code new
 closed_denies P old new code e e' is = record { status = Closed; code_is = is; same = e' ∙ sym e; why = subst (λ o. Why P o Closed) (sym e) refl }
 
+-- a call that is denied by an open handle's database
+pub denies : (P : Db → Status → Type 0) (old new : Option Db) (code : ℕ) (d d' : Db) (status : Status) → old ≡ Some d → new ≡ Some d' → d' ≡ d → code ≡ code_of status → P d status → Denies P old code new
+denies P old new code d d' status e e' same is why = record { status = status; code_is = is; same = e' ∙ ap Some same ∙ sym e; why = subst (λ o. Why P o status) (sym e) why }
+
 -- a call that only reads
 pub shows : (P : Db → Type 0) (old new : Option Db) (d d' : Db) → old ≡ Some d → new ≡ Some d' → d' ≡ d → P d → Shows old new P
 shows P old new d d' e e' same is = record { db = d; old_is = e; same = e' ∙ ap Some same ∙ sym e; is = is }
-
-pub if_ok_shows : {A B : Type 0} (r : Result A B) (P : A → Db → Type 0) (old new : Option Db) (d d' : Db) → old ≡ Some d → new ≡ Some d' → d' ≡ d → IfOk r (λ a. P a d) → IfOk r (λ a. Shows old new (P a))
-if_ok_shows (Ok a) P old new d d' e e' same is = shows (P a) old new d d' e e' same is
-if_ok_shows (Err b) P old new d d' e e' same is = tt
 
 -- a handle that is not open
 pub shut : (held : Option Db) → (open_word held ≡ 1 → ⊥) → held ≡ None
@@ -58,8 +50,3 @@ module _ (db : Database) (ok : IsDatabase db) (key : List ℕ) (n : ℕ) (leads 
 
   pub there : (pairs : List Pair) (i : ℕ) → Some pairs ≡ map.get db.pages n → IsPlace pairs key i → Some (value_at pairs i) ≡ map.get (map_of db) key
   there pairs i e place = sym place.has_value ∙ on_page (Some pairs) e
-
--- whole pages are as many as they were counted
-pub pages_in : (size : PageSize) (n : ℕ) → n * page_bytes size / page_bytes size ≡ n
-pages_in Small n = mul-div_cancel n (lit< tt)
-pages_in Wide n = mul-div_cancel n (lit< tt)

@@ -24,7 +24,7 @@ use Rattle.store_moves.specs.Works.{works, change_of, key_of, HasKey, HasEnd}
 use Rattle.store_moves.specs.declared.work.Worked.{Worked}
 use Rattle.store_moves.proofs.Acting.{Acts-on_page}
 use Rattle.store_moves.proofs.Lifting.{works_lead}
-use Rattle.boddurci_c.specs.declared.db.Db.{Db}
+use Rattle.boddurci_c.specs.declared.opened.Db.{Db}
 use Rattle.boddurci_c.specs.Calls.{HasFiles}
 use Rattle.boddurci_c.specs.Plans.{IsPlanFor, pages_left}
 use Rattle.boddurci_c.specs.Growth.{has_pairs, may_grow}

@@ -28,8 +28,8 @@ use Rattle.std.proofs.cell.Inside.{Good}
 use Rattle.std.specs.declared.option.Option.{Option}
 use Rattle.std.specs.declared.option.Option.TheVariants.{None, Some}
 use Rattle.std.specs.Box.Ownership.{box_owns}
-use Rattle.boddurci_c.specs.contracts.db.Db as store
-use Rattle.boddurci_c.specs.declared.db.Db.{Db}
+use Rattle.boddurci_c.specs.contracts.opened.Db as store
+use Rattle.boddurci_c.specs.declared.opened.Db.{Db}
 use Rattle.boddurci_c.specs.Held.{held_at}
 use Rattle.boddurci_c.specs.declared.handle.Handle.{Handle}
 use Rattle.boddurci_c.specs.contracts.handle.Handle as handle

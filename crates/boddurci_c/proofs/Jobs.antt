@@ -1,12 +1,11 @@
 -- What was worked on a page that stands as it was asked is one command of the database.
-use Rattle.std.proofs.Common.{◌≡◌, ℕ, List, true, false, sym, ap, ◌∙◌, subst}
+use Rattle.std.proofs.Common.{◌≡◌, List, true, false, sym, ap, ◌∙◌, subst}
 use Rattle.std.specs.Option.{option_map}
 use Rattle.std.specs.declared.alloc.Global.{Global}
 use Rattle.sdbm_addr.specs.declared.KeyBytes.{KeyBytes}
 use Rattle.sdbm_addr.specs.declared.PageSize.{PageSize}
 use Rattle.sdbm_addr.specs.Pairs.{Pair}
 use Rattle.sdbm_addr.specs.Database.{Database, IsDatabase, pairs_at}
-use Rattle.store_cmd.specs.declared.Reply.{Reply}
 use Rattle.store_cmd.specs.Command.{IsSmall}
 use Rattle.store_moves.specs.declared.work.Worked.{Worked}
 use Rattle.store_moves.specs.Acts.{Acts}

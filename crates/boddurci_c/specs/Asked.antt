@@ -1,5 +1,5 @@
 -- A run that was asked, and the page of its key as it was (own).
-use Rattle.std.specs.Prelude.{◌≡◌, ℕ, Bool, Option, IfSome}
+use Rattle.std.specs.Prelude.{Bool, Option, IfSome}
 use Rattle.std.specs.declared.alloc.Global.{Global}
 use Rattle.sdbm_addr.specs.declared.KeyBytes.{KeyBytes}
 use Rattle.sdbm_addr.specs.Pairs.{Content}

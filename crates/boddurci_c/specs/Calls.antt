@@ -1,5 +1,5 @@
 -- What calls do with a handle, which is closed or has an open database with its programs (own).
-use Rattle.std.specs.Prelude.{◌≡◌, ◌≢◌, ◌==◌, ◌⊎◌, ◌<◌, ◌≤◌, ℕ, cond, length, take, drop, List, [], Option, Some, None, IsSome, Result, Ok, Err, slice_get, unwrap_or}
+use Rattle.std.specs.Prelude.{◌≡◌, ◌≢◌, ◌==◌, ◌⊎◌, ◌<◌, ◌≤◌, ℕ, cond, length, take, drop, List, [], Option, Some, None, IsSome, Result, Ok, Err, slice_get, unwrap_or, Contains}
 use Rattle.std.specs.declared.alloc.Global.{Global}
 use Rattle.std.specs.FinMap as map
 use Rattle.sdbm_addr.specs.declared.Mode.{Mode}
@@ -8,7 +8,9 @@ use Rattle.sdbm_addr.specs.declared.KeyBytes.{KeyBytes}
 use Rattle.sdbm_addr.specs.declared.KeyBytes.TheVariants.{Signed, Unsigned}
 use Rattle.sdbm_addr.specs.declared.PageSize.{PageSize}
 use Rattle.sdbm_addr.specs.declared.PageSize.TheVariants.{Small, Wide}
-use Rattle.sdbm_addr.specs.Database.{Database, map_of}
+use Rattle.sdbm_addr.specs.Layout.{bytes_of_page}
+use Rattle.sdbm_addr.specs.Database.{Database, map_of, pairs_at}
+use Rattle.sdbm_saves.specs.Parts.{ReadsPage}
 use Rattle.sdbm_addr.specs.Files.{SpellsDatabase, AreFiles}
 use Rattle.sdbm_files.specs.Opened.{IsOpenFault, SpellsNoDatabase}
 use Rattle.sdbm_files.specs.FaultText.{fault_text as open_text}
@@ -29,12 +31,13 @@ use Rattle.prog_registry.specs.Registry.{Registered, Gives, Refuses}
 use Rattle.prog_registry.specs.declared.registry.ProgId.{ProgId}
 use Rattle.prog_registry.specs.declared.fault.RegFault.{RegFault}
 use Rattle.prog_registry.specs.declared.fault.RegFault.TheVariants as faults
-use Rattle.boddurci_c.specs.declared.db.Db.{Db}
+use Rattle.boddurci_c.specs.declared.opened.Db.{Db}
 use Rattle.boddurci_c.specs.declared.status.Status.{Status}
-use Rattle.boddurci_c.specs.declared.status.Status.TheVariants.{Done, Missing, Exists, Crowded, ShortRoom, Refused, BadText, BadFiles, Changed, Closed, Open, PairTooLarge, ArgTooLong, NoProgram, NoMemory, TooLong, NoTicket}
+use Rattle.boddurci_c.specs.declared.status.Status.TheVariants.{Done, Missing, Exists, Crowded, ShortRoom, Refused, BadText, BadFiles, Changed, Stale, Closed, Open, PairTooLarge, ArgTooLong, NoProgram, NoMemory, TooLong, NoTicket}
 use Rattle.boddurci_c.specs.Statuses.{code_of, status_of}
 use Rattle.boddurci_c.specs.Units.{unit_in, nowhere}
 use Rattle.boddurci_c.specs.Growth.{Outgrows}
+use Rattle.boddurci_c.specs.Marks.{HasMore}
 
 -- ---- a handle before a call and after it
 
@@ -71,11 +74,14 @@ Never d status = ⊥
 
 -- ---- commands
 
--- A command is done as session 0, and the programs stay. A database for which the longest `.pag` has room stays one.
+-- A command is done as session 0, and the programs stay, and the base, and each page that was marked. A database for which the longest
+-- `.pag` has room stays one.
 pub record Does (d : Db) (command : Command Global) (reply : Reply Global) (d' : Db) : Type 0 where
   pub acts : Acts d.image (record { session = 0; command = command; reply = reply }) d'.image
   pub fits : FitsFiles d.image → FitsFiles d'.image
   pub registry : d'.registry ≡ d.registry
+  pub base : d'.base ≡ d.base
+  pub marks : HasMore d.marks d'.marks
 
 -- a command is not taken for its size; or memory ran out for one that is, or `.pag` would be too long
 abbrev pub DeniesBy : Db → Command Global → Status → Type 0
@@ -88,6 +94,7 @@ DeniesBy d command Refused = ⊥
 DeniesBy d command BadText = ⊥
 DeniesBy d command BadFiles = ⊥
 DeniesBy d command Changed = ⊥
+DeniesBy d command Stale = ⊥
 DeniesBy d command Closed = ⊥
 DeniesBy d command Open = ⊥
 DeniesBy d command PairTooLarge = IsSizeFault d.image.size command sizes.PairTooLarge
@@ -113,14 +120,14 @@ mode_for replace = cond (replace == 0) Insert Replace
 
 -- ---- rooms
 
--- bytes stand in the first places of a room, and the rest is as it was
-pub record IsFilled (bytes old new : List ℕ) : Type 0 where
+-- bytes, or numbers, stand in the first places of a room, and the rest is as it was
+pub record IsFilled {X : Type 0} (bytes old new : List X) : Type 0 where
   pub fits : length bytes ≤ length old
   pub filled : take (length bytes) new ≡ bytes
   pub rest : drop (length bytes) new ≡ drop (length bytes) old
 
 -- They stand there, or the room is too short and as it was. Their number is told either way.
-abbrev pub IsCopied : List ℕ → List ℕ → List ℕ → ℕ → Status → Type 0
+abbrev pub IsCopied : {X : Type 0} → List X → List X → List X → ℕ → Status → Type 0
 IsCopied bytes old new len Done = (len ≡ length bytes) × IsFilled bytes old new
 IsCopied bytes old new len Missing = ⊥
 IsCopied bytes old new len Exists = ⊥
@@ -130,6 +137,7 @@ IsCopied bytes old new len Refused = ⊥
 IsCopied bytes old new len BadText = ⊥
 IsCopied bytes old new len BadFiles = ⊥
 IsCopied bytes old new len Changed = ⊥
+IsCopied bytes old new len Stale = ⊥
 IsCopied bytes old new len Closed = ⊥
 IsCopied bytes old new len Open = ⊥
 IsCopied bytes old new len PairTooLarge = ⊥
@@ -167,10 +175,16 @@ pub record Counts (old : Option Db) (code : ℕ) (new : Option Db) (count : ℕ)
 
 -- ---- programs
 
--- an image has its number, or is refused for a fault, and the database stays
+-- all but the programs stays
+pub record IsSameBesidePrograms (d d' : Db) : Type 0 where
+  pub image : d'.image ≡ d.image
+  pub marks : d'.marks ≡ d.marks
+  pub base : d'.base ≡ d.base
+
+-- an image has its number, or is refused for a fault, and all else stays
 abbrev pub Submits : List ℕ → Result ProgId RegFault → Db → Db → Type 0
-Submits image (Ok id) d d' = Gives d.registry image id.0 d'.registry × (d'.image ≡ d.image)
-Submits image (Err fault) d d' = Refuses d.registry image fault d'.registry × (d'.image ≡ d.image)
+Submits image (Ok id) d d' = Gives d.registry image id.0 d'.registry × IsSameBesidePrograms d d'
+Submits image (Err fault) d d' = Refuses d.registry image fault d'.registry × IsSameBesidePrograms d d'
 
 -- the status of a fault
 abbrev pub status_of_fault : RegFault → Status
@@ -214,6 +228,7 @@ DeniesRun number key arg blank now d Refused = ⊥
 DeniesRun number key arg blank now d BadText = ⊥
 DeniesRun number key arg blank now d BadFiles = ⊥
 DeniesRun number key arg blank now d Changed = ⊥
+DeniesRun number key arg blank now d Stale = ⊥
 DeniesRun number key arg blank now d Closed = ⊥
 DeniesRun number key arg blank now d Open = ⊥
 DeniesRun number key arg blank now d PairTooLarge = IsSome (slice_get d.registry.programs number) × IsRunFault d.image.size key arg blank sizes.PairTooLarge
@@ -254,6 +269,7 @@ AreCopied dir pag dir_old dir_new pag_old pag_new Refused = ⊥
 AreCopied dir pag dir_old dir_new pag_old pag_new BadText = ⊥
 AreCopied dir pag dir_old dir_new pag_old pag_new BadFiles = ⊥
 AreCopied dir pag dir_old dir_new pag_old pag_new Changed = ⊥
+AreCopied dir pag dir_old dir_new pag_old pag_new Stale = ⊥
 AreCopied dir pag dir_old dir_new pag_old pag_new Closed = ⊥
 AreCopied dir pag dir_old dir_new pag_old pag_new Open = ⊥
 AreCopied dir pag dir_old dir_new pag_old pag_new PairTooLarge = ⊥
@@ -283,6 +299,26 @@ pub record Writes (old : Option Db) (code : ℕ) (new : Option Db) (dir_old dir_
 abbrev pub LacksMemory : Db → Status → Type 0
 LacksMemory d status = status ≡ NoMemory
 
+-- ---- marks
+
+-- the numbers of the pages that may have changed stand in a room, or the room is too short
+pub record Lists (old : Option Db) (code : ℕ) (new : Option Db) (numbers_old numbers_new : List ℕ) (count : ℕ) : Type 0 where
+  pub status : Status
+  pub code_is : code ≡ code_of status
+  pub is : Shows old new (λ d. IsCopied d.marks numbers_old numbers_new count status)
+
+-- these pages are marked beside the others, and all else stays
+pub record HasMarked (numbers : List ℕ) (d d' : Db) : Type 0 where
+  pub image : d'.image ≡ d.image
+  pub registry : d'.registry ≡ d.registry
+  pub base : d'.base ≡ d.base
+  pub marks : HasMore d.marks d'.marks
+  pub each : (n : ℕ) → Contains numbers n → Contains d'.marks n
+
+pub record Remarks (numbers : List ℕ) (old : Option Db) (code : ℕ) (new : Option Db) : Type 0 where
+  pub code_is : code ≡ code_of Done
+  pub is : At old new (HasMarked numbers)
+
 -- ---- opening
 
 -- no programs, and no verdicts
@@ -296,7 +332,8 @@ kind_for unsigned_keys = cond (unsigned_keys == 0) Signed Unsigned
 abbrev pub size_for : ℕ → PageSize
 size_for wide = cond (wide == 0) Small Wide
 
--- the one database that the bytes of both files spell, with no programs
+-- the one database that the bytes of both files spell, with no programs. It is its own base, and each page that is not marked stands in the
+-- file as it is written for it.
 pub record IsOpened (kind : KeyBytes) (size : PageSize) (dir pag : List ℕ) (d : Db) : Type 0 where
   pub spells : SpellsDatabase d.image dir pag
   pub kind_is : d.image.kind ≡ kind
@@ -304,6 +341,8 @@ pub record IsOpened (kind : KeyBytes) (size : PageSize) (dir pag : List ℕ) (d 
   pub only : (db : Database) → db.kind ≡ kind → db.size ≡ size → SpellsDatabase db dir pag → db ≡ d.image
   pub programs : d.registry ≡ empty_registry
   pub fits : length pag ≤ pag_limit → FitsFiles d.image
+  pub base : d.base.database ≡ d.image
+  pub reads : (n : ℕ) → (Contains d.marks n → ⊥) → ReadsPage size pag n (bytes_of_page size (pairs_at d.image n))
 
 -- a closed handle is open
 pub record Opens (kind : KeyBytes) (size : PageSize) (dir pag : List ℕ) (old : Option Db) (code : ℕ) (new : Option Db) : Type 0 where

@@ -6,8 +6,8 @@ use denote.RawPtr.{Ptr, null_ptr}
 use Rattle.std.specs.declared.alloc.Global.{Global}
 use Rattle.std.specs.contracts.impls.GlobalAllocator.TheImpl.{ghosts}
 use Rattle.std.specs.Box.Ownership.{box_owns}
-use Rattle.boddurci_c.specs.contracts.db.Db.{the_row}
-use Rattle.boddurci_c.specs.declared.db.Db.{Db}
+use Rattle.boddurci_c.specs.contracts.opened.Db.{the_row}
+use Rattle.boddurci_c.specs.declared.opened.Db.{Db}
 use Rattle.boddurci_c.specs.contracts.job.Job.{the_row as job_row}
 use Rattle.boddurci_c.specs.declared.job.Job.{Job}
 

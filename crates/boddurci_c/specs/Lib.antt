@@ -1,4 +1,5 @@
 pub mod Held
+pub mod Marks
 pub mod Statuses
 pub mod Units
 pub mod Growth

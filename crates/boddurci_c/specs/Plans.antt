@@ -1,15 +1,19 @@
 -- The plan of a save (own).
-use Rattle.std.specs.Prelude.{◌≡◌, ◌⊎◌, ◌≤◌, ℕ, List, [], ◌∷◌, length, Option}
-use Rattle.sdbm_addr.specs.Database.{Database}
+use Rattle.std.specs.Prelude.{◌≡◌, ◌≢◌, ◌⊎◌, ◌≤◌, ◌<◌, ◌*◌, ◌^◌, ℕ, List, [], ◌∷◌, length, Option, Contains}
+use Rattle.sdbm_addr.specs.Pairs.{page_bytes}
+use Rattle.sdbm_addr.specs.Layout.{bytes_of_page}
+use Rattle.sdbm_addr.specs.Database.{Database, pairs_at}
+use Rattle.sdbm_saves.specs.Parts.{ReadsPage, ReadPages}
 use Rattle.sdbm_files.specs.Limits.{pag_limit, FitsFiles}
 use Rattle.sdbm_saves.specs.declared.disk.File.TheVariants.{Pages}
 use Rattle.sdbm_saves.specs.Redo.{renewed}
 use Rattle.sdbm_saves.specs.Saves.{AreFilesFor, IsSaving, IsTooLong}
-use Rattle.boddurci_c.specs.declared.db.Db.{Db}
+use Rattle.boddurci_c.specs.declared.opened.Db.{Db}
 use Rattle.boddurci_c.specs.declared.status.Status.{Status}
-use Rattle.boddurci_c.specs.declared.status.Status.TheVariants.{TooLong, NoMemory}
+use Rattle.boddurci_c.specs.declared.status.Status.TheVariants.{Done, ShortRoom, Stale, TooLong, NoMemory}
 use Rattle.boddurci_c.specs.Statuses.{code_of}
-use Rattle.boddurci_c.specs.Calls.{IsCopied, Shows}
+use Rattle.boddurci_c.specs.Calls.{At, IsCopied}
+use Rattle.boddurci_c.specs.Marks.{AreAmong}
 
 -- the `.pag` that a plan leaves, which without bytes is the one that was there
 abbrev pub pages_left : List ℕ → List ℕ → List ℕ
@@ -22,14 +26,47 @@ pub record IsPlanFor (db : Database) (plan dir pag : List ℕ) : Type 0 where
   pub makes : IsSaving db plan pag dir ⊎ ((plan ≡ []) × AreFilesFor db pag dir)
   pub short : FitsFiles db → length (pages_left plan pag) ≤ pag_limit
 
--- why there is no plan: a file is too long or would be, or memory ran out
-abbrev pub DeniesPlan : List ℕ → List ℕ → Db → Status → Type 0
-DeniesPlan dir pag d status = ((status ≡ TooLong) × IsTooLong d.image pag dir) ⊎ (status ≡ NoMemory)
+-- A file of so many bytes reads as these bytes on the pages with these numbers, one page behind the other, and has each other page as it is
+-- written for the base. A byte past its end counts as zero.
+pub record IsReadBeside (base : Database) (pag_length : ℕ) (numbers pages pag : List ℕ) : Type 0 where
+  pub long : length pag ≡ pag_length
+  pub reads : ReadPages base.size numbers pages pag
+  pub rest : (n : ℕ) → (Contains numbers n → ⊥) → ReadsPage base.size pag n (bytes_of_page base.size (pairs_at base n))
 
--- the plan of an open handle's database stands in a room, or the room is too short
-pub record Plans (old : Option Db) (code : ℕ) (new : Option Db) (dir pag room_old room_new : List ℕ) (len : ℕ) : Type 0 where
+-- the plan for each `.pag` that was read so
+abbrev pub PlansFor : List ℕ → ℕ → List ℕ → List ℕ → Db → List ℕ → Type 0
+PlansFor dir pag_length numbers pages d plan = (pag : List ℕ) → IsReadBeside d.base.database pag_length numbers pages pag → IsPlanFor d.image plan dir pag
+
+-- the database is its own base, and all else stays
+pub record IsPlanned (d d' : Db) : Type 0 where
+  pub image : d'.image ≡ d.image
+  pub registry : d'.registry ≡ d.registry
+  pub base : d'.base.database ≡ d.image
+  pub marks : d'.marks ≡ []
+
+-- each page that is marked is among the numbers, and the bytes are those of so many pages
+abbrev pub HasRead : Db → List ℕ → List ℕ → Type 0
+HasRead d numbers pages = AreAmong d.marks numbers × (length pages ≡ length numbers * page_bytes d.image.size)
+
+-- the plan stands in a room, and the database is its own base; or the room is too short, and the database is as it was
+pub record PlansOn (dir : List ℕ) (pag_length : ℕ) (numbers pages : List ℕ) (d : Db) (room_old room_new : List ℕ) (len : ℕ) (status : Status) (d' : Db) : Type 0 where
   pub plan : List ℕ
-  pub is : Shows old new (λ d. IsPlanFor d.image plan dir pag)
+  pub read : HasRead d numbers pages
+  pub is : PlansFor dir pag_length numbers pages d plan
+  pub copied : IsCopied plan room_old room_new len status
+  pub planned : status ≡ Done → IsPlanned d d'
+  pub stays : status ≡ ShortRoom → d' ≡ d
+
+-- Why there is no plan: a page that is marked is not among the numbers, or the bytes are not those of so many pages; or a file is too long
+-- or would be, or the numbers are more than such a file has pages; or memory ran out.
+abbrev pub DeniesPlan : List ℕ → ℕ → List ℕ → List ℕ → Db → Status → Type 0
+DeniesPlan dir pag_length numbers pages d status =
+    ((status ≡ Stale) × ((AreAmong d.marks numbers → ⊥) ⊎ (length pages ≢ length numbers * page_bytes d.image.size)))
+    ⊎ (((status ≡ TooLong) × ((2 ^ 22 < length numbers) ⊎ ((pag : List ℕ) → IsReadBeside d.base.database pag_length numbers pages pag → IsTooLong d.image pag dir)))
+    ⊎ (status ≡ NoMemory))
+
+-- a plan of an open handle's database
+pub record Plans (old : Option Db) (code : ℕ) (new : Option Db) (dir : List ℕ) (pag_length : ℕ) (numbers pages room_old room_new : List ℕ) (len : ℕ) : Type 0 where
   pub status : Status
   pub code_is : code ≡ code_of status
-  pub copied : IsCopied plan room_old room_new len status
+  pub is : At old new (λ d d'. PlansOn dir pag_length numbers pages d room_old room_new len status d')

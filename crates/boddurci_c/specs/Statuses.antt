@@ -6,7 +6,7 @@ use Rattle.store_cmd.specs.declared.Reply.TheVariants as replies
 use Rattle.store_cmd.specs.declared.SizeFault.{SizeFault}
 use Rattle.store_cmd.specs.declared.SizeFault.TheVariants as sizes
 use Rattle.boddurci_c.specs.declared.status.Status.{Status}
-use Rattle.boddurci_c.specs.declared.status.Status.TheVariants.{Done, Missing, Exists, Crowded, ShortRoom, Refused, BadText, BadFiles, Changed, Closed, Open, PairTooLarge, ArgTooLong, NoProgram, NoMemory, TooLong, NoTicket}
+use Rattle.boddurci_c.specs.declared.status.Status.TheVariants.{Done, Missing, Exists, Crowded, ShortRoom, Refused, BadText, BadFiles, Changed, Stale, Closed, Open, PairTooLarge, ArgTooLong, NoProgram, NoMemory, TooLong, NoTicket}
 
 abbrev pub code_of : Status → ℕ
 code_of Done = 0
@@ -18,6 +18,7 @@ code_of Refused = 5
 code_of BadText = 6
 code_of BadFiles = 7
 code_of Changed = 8
+code_of Stale = 9
 code_of Closed = 16
 code_of Open = 17
 code_of PairTooLarge = 18

@@ -1,5 +1,5 @@
 -- Runs that are asked, worked and finished one after another (own).
-use Rattle.std.specs.Prelude.{◌≡◌, ◌⊎◌, ℕ, Bool, true, false, List, Option, Some, None, IsSome, slice_get}
+use Rattle.std.specs.Prelude.{◌≡◌, ◌⊎◌, ℕ, true, false, List, Option, Some, None, IsSome, slice_get}
 use Rattle.std.specs.declared.alloc.Global.{Global}
 use Rattle.sdbm_addr.specs.Database.{Database, pairs_at}
 use Rattle.store_cmd.specs.declared.Command.{Command}
@@ -8,7 +8,7 @@ use Rattle.store_cmd.specs.declared.Reply.{Reply}
 use Rattle.store_moves.specs.Works.{key_of}
 use Rattle.store_moves.specs.Leads.{IsPlaceOf}
 use Rattle.bpf_verify.specs.Verified.{Accepted}
-use Rattle.boddurci_c.specs.declared.db.Db.{Db}
+use Rattle.boddurci_c.specs.declared.opened.Db.{Db}
 use Rattle.boddurci_c.specs.declared.status.Status.{Status}
 use Rattle.boddurci_c.specs.declared.status.Status.TheVariants.{Done, Changed, NoMemory, NoTicket, TooLong}
 use Rattle.boddurci_c.specs.Statuses.{code_of, status_of}

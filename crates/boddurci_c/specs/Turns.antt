@@ -6,7 +6,7 @@ use Rattle.sdbm_addr.specs.Files.{IsPageCount}
 use Rattle.boddurci_c.specs.declared.turns.Cursor.{Cursor}
 use Rattle.boddurci_c.specs.declared.status.Status.{Status}
 use Rattle.boddurci_c.specs.declared.status.Status.TheVariants.{Done, Missing, ShortRoom}
-use Rattle.boddurci_c.specs.declared.db.Db.{Db}
+use Rattle.boddurci_c.specs.declared.opened.Db.{Db}
 use Rattle.boddurci_c.specs.Statuses.{code_of}
 use Rattle.boddurci_c.specs.Calls.{AreCopied, Shows}
 

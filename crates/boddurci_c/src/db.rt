@@ -1,22 +1,23 @@
-//! An open database with its programs, and what is done with it.
-ghost use Rattle.std.specs.Prelude.{◌≡◌, ◌≢◌, ◌⊎◌, IfOk, IfErr, IfSome, IfNone, OnErr};
-ghost use Rattle.std.specs.Option.{option_map};
+//! What is done with an open database.
+ghost use Rattle.std.specs.Prelude.{◌≡◌, ◌↔◌, IsTrue, ◌≢◌, ◌⊎◌, IfOk, IfErr, OnErr};
 ghost use Rattle.std.specs.Arc.{arc_value};
 ghost use Rattle.std.specs.declared.alloc.Global.{Global};
 ghost use Rattle.std.specs.FinMap as map;
-ghost use Rattle.sdbm_addr.specs.Database.{map_of};
 ghost use Rattle.sdbm_files.specs.Opened.{IsOpenFault, SpellsNoDatabase};
 ghost use Rattle.store_cmd.specs.Command.{IsSmall};
 ghost use Rattle.store_cmd.specs.declared.Command.TheVariants.{Store, Delete, Run};
-ghost use Rattle.store_moves.specs.Acts.{Acts};
-ghost use Rattle.store_moves.specs.Leads.{FillsNone};
 ghost use Rattle.store_moves.specs.Works.{HasKey};
 ghost use Rattle.boddurci_c.specs.Growth.{Outgrows};
-ghost use Rattle.boddurci_c.specs.Calls.{Does, DeniesBy, RunsBy, DeniesRun, Submits, IsEnd, FetchesIn, HasFiles, IsOpened, empty_registry};
+ghost use Rattle.boddurci_c.specs.Marks.{AreForeign};
+ghost use Rattle.boddurci_c.specs.Calls.{Does, DeniesBy, RunsBy, DeniesRun, IsEnd, FetchesIn, HasFiles, IsOpened, empty_registry};
 ghost use Rattle.boddurci_c.specs.Tickets.{IsRunAsked};
 
+use crate::base::Base;
+use crate::changes::{put_marked, run_there, store_there};
 use crate::growth::{has_pairs, may_grow};
 use crate::job::Job;
+use crate::marks::Marks;
+use crate::opened::Db;
 use crate::rooms::copy_out;
 use crate::status::Status;
 use bpf_verify::Verified;
@@ -26,14 +27,7 @@ use sdbm_files::{Image, MemSink, OpenFault};
 use std::alloc::{AllocError, Global};
 use std::sync::Arc;
 use store_cmd::{Command, Program, Reply, check_pair, check_run};
-use store_moves::{RunInput, act_run, act_store, key_in, put_in, ran, work_at};
-
-/// An open database with its programs.
-#[derive(Drop)]
-pub struct Db {
-    pub image: Image<Global>,
-    pub registry: Registry<Global>,
-}
+use store_moves::{key_in, work_at};
 
 // Does a command about a key whose size is taken, where the longest `.pag` has room for what it comes to.
 fn perform(alloc: Global, db: &mut Db, command: Command<Global>) -> Result<Reply<Global>, Status>
@@ -51,7 +45,7 @@ fn perform(alloc: Global, db: &mut Db, command: Command<Global>) -> Result<Reply
     if !may_grow(db.image.page_size(), there, place.page, &worked.change) {
         return Err(Status::TooLong);
     }
-    match put_in(&mut db.image, place, worked.change) {
+    match put_marked(&mut db.image, &mut db.marks, place, worked.change) {
         Ok(()) => Ok(worked.reply),
         Err(_) => Err(Status::NoMemory),
     }
@@ -72,29 +66,21 @@ pub fn store(
     if check_pair(key, value.len(), db.image.page_size()).is_err() {
         return Err(Status::PairTooLarge);
     }
-    if act_store(&mut db.image, key, value, mode) {
+    if store_there(&mut db.image, &mut db.marks, key, value, mode) {
         return Ok(Reply::Stored);
     }
-    let Ok(command) = store_command(alloc, key, value, mode) else {
+    let Ok(own_key) = Bytes::from_slice(alloc, key) else {
         return Err(Status::NoMemory);
     };
-    perform(alloc, db, command)
-}
-
-// The command of a store.
-fn store_command(
-    alloc: Global,
-    key: &[u8],
-    value: &[u8],
-    mode: Mode,
-) -> Result<Command<Global>, AllocError>
-    ensures { IfOk result (λ command. command ≡ Store key.now value.now mode) }
-{
-    Ok(Command::Store {
-        key: Bytes::from_slice(alloc, key)?,
-        value: Bytes::from_slice(alloc, value)?,
+    let Ok(own_value) = Bytes::from_slice(alloc, value) else {
+        return Err(Status::NoMemory);
+    };
+    let command = Command::Store {
+        key: own_key,
+        value: own_value,
         mode,
-    })
+    };
+    perform(alloc, db, command)
 }
 
 /// Takes a key and its value out.
@@ -109,29 +95,19 @@ pub fn delete(alloc: Global, db: &mut Db, key: &[u8]) -> Result<Reply<Global>, S
     perform(alloc, db, Command::Delete { key })
 }
 
-/// The value of a key.
-pub fn find<'a>(db: &'a Db, key: &[u8]) -> Option<&'a [u8]>
-    ensures { option_map (λ v. v.now) result ≡ map.get (map_of db.now.image) key.now }
-{
-    let place = db.image.place(key);
-    let Some(shared) = db.image.page(place.page) else {
-        return None;
-    };
-    let page = shared.page();
-    let Some(i) = page.find(key) else {
-        return None;
-    };
-    Some(page.record(i))
-}
-
 /// Fetches the value of a key into a room, and tells its length, also where it does not fit.
 pub fn fetch(db: &Db, key: &[u8], room: &mut [u8], len: &mut usize) -> Status
     ensures { FetchesIn key.now db.now result room.old room.new len.new }
 {
-    match find(db, key) {
-        Some(value) => copy_out(value, room, len),
-        None => Status::Missing,
-    }
+    let place = db.image.place(key);
+    let Some(shared) = db.image.page(place.page) else {
+        return Status::Missing;
+    };
+    let page = shared.page();
+    let Some(i) = page.find(key) else {
+        return Status::Missing;
+    };
+    copy_out(page.record(i), room, len)
 }
 
 // The command of a run.
@@ -154,34 +130,6 @@ fn run_command(
     })
 }
 
-// Runs a program on a record where it stands, and tells its reply, where that takes no memory.
-fn run_there(
-    image: &mut Image<Global>,
-    program: &Arc<Verified<Global>>,
-    key: &[u8],
-    arg: &[u8],
-    blank: Option<usize>,
-    now: u64,
-) -> Option<Reply<Global>>
-    requires small { IsSmall {A = Global} image.old.size (Run key.now (arc_value program.now).code arg.now blank now) }
-    ensures done { IfSome result (λ reply. Acts image.old (record { session = 0; command = Run key.now (arc_value program.now).code arg.now blank now; reply = reply }) image.new) }
-    ensures fills { IfSome result (λ _. FillsNone image.old image.new) }
-    ensures none { IfNone result (image.new ≡ image.old) }
-{
-    let input = RunInput {
-        session: 0,
-        time: now,
-        key,
-        program: &**program,
-        arg,
-        blank,
-    };
-    match act_run(image, &input) {
-        Some(ended) => Some(ran(ended)),
-        None => None,
-    }
-}
-
 /// Runs the program with a number.
 pub fn run(
     alloc: Global,
@@ -202,7 +150,7 @@ pub fn run(
     if let Err(fault) = check_run(key, arg, blank, db.image.page_size()) {
         return Err(Status::of_size(fault));
     }
-    if let Some(reply) = run_there(&mut db.image, program, key, arg, blank, now) {
+    if let Some(reply) = run_there(&mut db.image, &mut db.marks, program, key, arg, blank, now) {
         return Ok(reply);
     }
     let Ok(command) = run_command(alloc, program, key, arg, blank, now) else {
@@ -242,13 +190,6 @@ pub fn ask(
     }
 }
 
-/// Submits the image of a program.
-pub fn submit(db: &mut Db, image: &[u8]) -> Result<ProgId, RegFault>
-    ensures { Submits image.now result db.old db.new }
-{
-    db.registry.submit(image)
-}
-
 /// The bytes of both files, `.dir` first.
 pub fn files(alloc: Global, db: &Db) -> Result<(MemSink<Global>, MemSink<Global>), AllocError>
     ensures { IfOk result (λ sinks. HasFiles sinks.0.bytes sinks.1.bytes db.now) }
@@ -275,10 +216,45 @@ pub fn open(
     ensures err { IfErr result (IsOpenFault kind size dir.now pag.now) }
     ensures none { IfErr result (λ fault. fault ≢ OpenFault.NoMemory → SpellsNoDatabase kind size dir.now pag.now) }
 {
-    match Image::open(alloc, dir, pag, kind, size) {
-        Ok(image) => Ok(Db { image, registry }),
-        Err(fault) => Err(fault),
+    let image = match Image::open(alloc, dir, pag, kind, size) {
+        Ok(image) => image,
+        Err(fault) => return Err(fault),
+    };
+    let Ok(marks) = foreign_pages(alloc, &image, pag) else {
+        return Err(OpenFault::NoMemory);
+    };
+    let base = Base::of(&image);
+    Ok(Db {
+        image,
+        registry,
+        marks,
+        base,
+    })
+}
+
+// Whether bytes are the same.
+fn is_same(one: &[u8], other: &[u8]) -> bool
+    ensures { IsTrue result ↔ (one.now ≡ other.now) }
+{
+    one == other
+}
+
+// The pages of a file that do not stand there as they are written for its database.
+fn foreign_pages(alloc: Global, image: &Image<Global>, pag: &[u8]) -> Result<Marks, AllocError>
+    ensures { IfOk result (AreForeign image.now pag.now) }
+{
+    let size = image.page_size().bytes();
+    let Ok(count) = u32::try_from(pag.len() / size) else {
+        return Err(AllocError);
+    };
+    let mut marks = Marks::new(alloc);
+    for number in 0..count {
+        let at = number as usize * size;
+        if !is_same(&pag[at..at + size], image.page_bytes(number)) {
+            marks.add(number)?;
+        }
     }
+    Ok(marks)
 }
 
 /// The number with which a run ended, and its word, or zeros where it did not run.

@@ -1,11 +1,11 @@
 //! Handles.
 ghost use Rattle.std.specs.Prelude.{◌≡◌, Option, Some, None, IfSome, IfNone};
 ghost use Rattle.std.specs.Option.{option_map};
-ghost use Rattle.boddurci_c.specs.declared.db.Db.{Db};
+ghost use Rattle.boddurci_c.specs.declared.opened.Db.{Db};
 ghost use Rattle.boddurci_c.specs.Held.{held_at, coded_held};
 
-use crate::db::Db;
 use crate::loose::Loose;
+use crate::opened::Db;
 use std::alloc::Global;
 use std::marker::Model;
 

@@ -1,16 +1,19 @@
 //! Runs that are asked, worked and finished one after another: what a program does to a record is worked out while others use the
 //! database, and put in where the page of its key is still as it was.
 ghost use Rattle.std.specs.Prelude.{◌≡◌, ◌↔◌, IsTrue, IfOk, IfErr, OnOk, OnErr, true};
-ghost use Rattle.sdbm_addr.specs.Database.{IsDatabase};
+ghost use Rattle.sdbm_addr.specs.Database.{Database, IsDatabase};
 ghost use Rattle.store_cmd.specs.Command.{IsSmall};
 ghost use Rattle.store_moves.specs.Acts.{Acts};
 ghost use Rattle.store_moves.specs.Works.{HasKey};
 ghost use Rattle.sdbm_files.specs.Limits.{FitsFiles};
 ghost use Rattle.boddurci_c.specs.Asked.{result_of};
 ghost use Rattle.boddurci_c.specs.Growth.{has_pairs, may_grow};
+ghost use Rattle.boddurci_c.specs.Marks.{HasMore, DifferOn};
 ghost use Rattle.boddurci_c.specs.Tickets.{IsAskedOf, IsCurrent, DeniesFinish, worked_out};
 
+use crate::changes::put_marked;
 use crate::growth::may_grow;
+use crate::marks::Marks;
 use crate::snapshot::Snapshot;
 use crate::status::Status;
 use sdbm_addr::KeyBytes;
@@ -19,7 +22,7 @@ use sdbm_files::Image;
 use std::alloc::{AllocError, Global};
 use std::marker::Model;
 use store_cmd::{Command, Reply};
-use store_moves::{Worked, key_in, put_in, work_on};
+use store_moves::{Worked, key_in, work_on};
 
 /// A command that was asked: the place of its key in a database whose keys hash so, and the page there as it was; and what it came to,
 /// once it is worked.
@@ -86,13 +89,6 @@ impl Job {
         Ok(())
     }
 
-    // Whether the command was worked.
-    fn is_worked(&self) -> bool
-        ensures { result ≡ self.now.is_worked }
-    {
-        self.worked.is_some()
-    }
-
     // Whether the page of the key is as it was asked, in a database whose keys hash so.
     fn is_current(&self, image: &Image<Global>) -> bool
         ensures current { IsTrue result ↔ IsCurrent image.now self.now }
@@ -113,15 +109,22 @@ impl Job {
     /// # Errors
     /// `NoTicket` where it was not worked, `Changed` where the page is another, `TooLong` where `.pag` would be longer than it may be, and
     /// else `NoMemory`. The database and the job are then as they were.
-    pub fn finish(&mut self, image: &mut Image<Global>) -> Result<Reply<Global>, Status>
+    pub fn finish(
+        &mut self,
+        image: &mut Image<Global>,
+        marks: &mut Marks,
+    ) -> Result<Reply<Global>, Status>
         ensures ok { IfOk result (λ reply. Acts image.old (record { session = 0; command = self.old.command; reply = reply }) image.new) }
         ensures fits { OnOk result (FitsFiles image.old → FitsFiles image.new) }
+        ensures differ { OnOk result ((base : Database) → DifferOn marks.old base image.old → DifferOn marks.new base image.new) }
+        ensures more { OnOk result (HasMore marks.old marks.new) }
+        ensures unmarked { OnErr result (marks.new ≡ marks.old) }
         ensures worked { OnOk result (self.old.is_worked ≡ true) }
         ensures why { IfErr result (DeniesFinish image.old self.old) }
         ensures err { OnErr result (image.new ≡ image.old) }
         ensures kept { OnErr result (self.new ≡ self.old) }
     {
-        if !self.is_worked() {
+        if self.worked.is_none() {
             return Err(Status::NoTicket);
         }
         if !self.is_current(image) {
@@ -130,7 +133,7 @@ impl Job {
         if !self.may_grow() {
             return Err(Status::TooLong);
         }
-        match self.put(image) {
+        match self.put(image, marks) {
             Ok(reply) => Ok(reply),
             Err(_) => Err(Status::NoMemory),
         }
@@ -155,20 +158,27 @@ impl Job {
     }
 
     // Puts in what it came to.
-    fn put(&mut self, image: &mut Image<Global>) -> Result<Reply<Global>, AllocError>
+    fn put(
+        &mut self,
+        image: &mut Image<Global>,
+        marks: &mut Marks,
+    ) -> Result<Reply<Global>, AllocError>
         requires worked { self.old.is_worked ≡ true }
         requires current { IsCurrent image.old self.old }
         requires database { IsDatabase image.old }
         requires grows { may_grow self.old.page.size (has_pairs self.old.page.pairs) self.old.place.page (result_of self.old).change ≡ true }
         ensures ok { IfOk result (λ reply. Acts image.old (record { session = 0; command = self.old.command; reply = reply }) image.new) }
         ensures fits { OnOk result (FitsFiles image.old → FitsFiles image.new) }
+        ensures differ { OnOk result ((base : Database) → DifferOn marks.old base image.old → DifferOn marks.new base image.new) }
+        ensures more { OnOk result (HasMore marks.old marks.new) }
+        ensures unmarked { OnErr result (marks.new ≡ marks.old) }
         ensures err { OnErr result (image.new ≡ image.old) }
         ensures kept { OnErr result (self.new ≡ self.old) }
     {
         let Some(Worked { reply, change }) = self.worked.take() else {
             unreachable!()
         };
-        match put_in(image, self.place, change) {
+        match put_marked(image, marks, self.place, change) {
             Ok(()) => Ok(reply),
             Err((error, change)) => {
                 self.worked = Some(Worked { reply, change });

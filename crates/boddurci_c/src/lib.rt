@@ -2,21 +2,25 @@
 //! thread, and reads and writes no file.
 #![tactic(auto)]
 
-ghost use Rattle.std.specs.Prelude.{◌≡◌, ◌≢◌, ◌⊎◌, Option, Some, None, IfOk, IfErr, IfSome, IfNone, OnOk, OnErr};
+ghost use Rattle.std.specs.Prelude.{◌≡◌, ◌≢◌, ◌⊎◌, Option, Some, None, IfOk, IfErr, OnOk, OnErr};
 ghost use Rattle.store_cmd.specs.declared.Command.TheVariants.{Store, Delete};
-ghost use Rattle.boddurci_c.specs.Calls.{At, Shows, Why, Denies, Never, Does, DeniesBy, Says, Fetches, Counts, Runs, RunsBy, DeniesRun, Submits, Numbers, Rejects, HasFiles, Writes, LacksMemory, IsOpened, OpensOr, open_word, mode_for, blank_for, kind_for, size_for, empty_registry, status_of_fault, status_of_open, AreCopied};
+ghost use Rattle.boddurci_c.specs.Calls.{Denies, Never, Says, Fetches, Counts, Runs, DeniesRun, Numbers, Rejects, Writes, LacksMemory, Lists, Remarks, IsOpened, OpensOr, open_word, mode_for, blank_for, kind_for, size_for, empty_registry, status_of_fault, status_of_open};
 ghost use Rattle.boddurci_c.specs.Texts.{Assembles, Garbles};
 ghost use Rattle.boddurci_c.specs.Turns.{Begins, GoesOn};
-ghost use Rattle.boddurci_c.specs.declared.db.Db.{Db};
-ghost use Rattle.boddurci_c.specs.Plans.{Plans, IsPlanFor, DeniesPlan};
-ghost use Rattle.boddurci_c.specs.Tickets.{Asks, AsksNot, IsRunAsked, Works, WorksNot, FinishesOn, WhyNot, Finishes, FinishesNot};
+ghost use Rattle.boddurci_c.specs.declared.opened.Db.{Db};
+ghost use Rattle.boddurci_c.specs.Plans.{Plans, DeniesPlan};
+ghost use Rattle.boddurci_c.specs.Tickets.{Asks, AsksNot, Works, WorksNot, FinishesOn, WhyNot, Finishes, FinishesNot};
 ghost use Rattle.sdbm_files.specs.Opened.{IsOpenFault, SpellsNoDatabase};
 
+mod base;
+mod changes;
 mod db;
 mod growth;
 mod handle;
 mod job;
 mod loose;
+mod marks;
+mod opened;
 mod plans;
 mod rooms;
 mod snapshot;
@@ -26,20 +30,22 @@ mod ticket;
 mod turns;
 mod units;
 
-use db::{Db, ask, delete, end_of, fetch, files, open, run, store, submit};
+use db::{ask, delete, end_of, fetch, files, open, run, store};
 use handle::Handle;
 use job::Job;
+use opened::Db;
 use plans::plan;
 use prog_registry::{ProgId, RegFault, Registry};
 use rooms::{copy_both, copy_out, tell};
 use sdbm_addr::{KeyBytes, Mode, PageSize};
 use sdbm_files::{MemSink, OpenFault};
+use sdbm_saves::Marked;
 use status::Status;
 use std::alloc::Global;
 use store_cmd::Reply;
 use texts::image_of;
 use ticket::Ticket;
-use turns::{Cursor, start, turn};
+use turns::{Cursor, turn};
 use units::unit_of;
 
 // What a store does where its key is there.
@@ -53,26 +59,6 @@ fn mode_of(replace: u32) -> Mode
     }
 }
 
-// Stores a value on an open handle.
-fn store_at(
-    alloc: Global,
-    slot: &mut Handle,
-    key: &[u8],
-    value: &[u8],
-    mode: Mode,
-) -> Result<Reply<Global>, Status>
-    ensures ok { IfOk result (λ reply. At slot.old.held slot.new.held (λ d d'. Does d (Store key.now value.now mode) reply d')) }
-    ensures same { OnErr result (slot.new.held ≡ slot.old.held) }
-    ensures why { IfErr result (Why (λ d status. DeniesBy d (Store key.now value.now mode) status) slot.old.held) }
-{
-    let Some(mut db) = slot.take(alloc) else {
-        return Err(Status::Closed);
-    };
-    let done = store(alloc, &mut *db, key, value, mode);
-    slot.put(db);
-    done
-}
-
 /// Stores a value for a key.
 #[unsafe(no_mangle)]
 pub extern "C" fn boddurci_store(
@@ -84,24 +70,15 @@ pub extern "C" fn boddurci_store(
 ) -> u32
     ensures { Says (Store key.now value.now (mode_for replace)) slot.old.held result slot.new.held }
 {
-    match store_at(alloc, slot, key, value, mode_of(replace)) {
+    let Some(mut db) = slot.take(alloc) else {
+        return Status::Closed.code();
+    };
+    let done = store(alloc, &mut *db, key, value, mode_of(replace));
+    slot.put(db);
+    match done {
         Ok(reply) => Status::of_reply(&reply).code(),
         Err(status) => status.code(),
     }
-}
-
-// Takes a key and its value out of an open handle's database.
-fn delete_at(alloc: Global, slot: &mut Handle, key: &[u8]) -> Result<Reply<Global>, Status>
-    ensures ok { IfOk result (λ reply. At slot.old.held slot.new.held (λ d d'. Does d (Delete key.now) reply d')) }
-    ensures same { OnErr result (slot.new.held ≡ slot.old.held) }
-    ensures why { IfErr result (Why (λ d status. DeniesBy d (Delete key.now) status) slot.old.held) }
-{
-    let Some(mut db) = slot.take(alloc) else {
-        return Err(Status::Closed);
-    };
-    let done = delete(alloc, &mut *db, key);
-    slot.put(db);
-    done
 }
 
 /// Takes a key and its value out.
@@ -109,7 +86,12 @@ fn delete_at(alloc: Global, slot: &mut Handle, key: &[u8]) -> Result<Reply<Globa
 pub extern "C" fn boddurci_delete(alloc: Global, slot: &mut Handle, key: &[u8]) -> u32
     ensures { Says (Delete key.now) slot.old.held result slot.new.held }
 {
-    match delete_at(alloc, slot, key) {
+    let Some(mut db) = slot.take(alloc) else {
+        return Status::Closed.code();
+    };
+    let done = delete(alloc, &mut *db, key);
+    slot.put(db);
+    match done {
         Ok(reply) => Status::of_reply(&reply).code(),
         Err(status) => status.code(),
     }
@@ -148,18 +130,6 @@ pub extern "C" fn boddurci_count(alloc: Global, slot: &mut Handle, count: &mut u
     Status::Done.code()
 }
 
-// Submits an image to an open handle.
-fn submit_at(alloc: Global, slot: &mut Handle, image: &[u8]) -> Option<Result<ProgId, RegFault>>
-    ensures some { IfSome result (λ given. At slot.old.held slot.new.held (Submits image.now given)) }
-    ensures none { IfNone result (slot.old.held ≡ None) }
-    ensures same { IfNone result (slot.new.held ≡ slot.old.held) }
-{
-    let mut db = slot.take(alloc)?;
-    let given = submit(&mut *db, image);
-    slot.put(db);
-    Some(given)
-}
-
 // The status of a fault of an image.
 fn fault_status(fault: RegFault) -> Status
     ensures { result ≡ status_of_fault fault }
@@ -187,13 +157,18 @@ pub extern "C" fn boddurci_submit(
         ⊎ ((Rejects image.now slot.old.held result slot.new.held unit.new room.old room.new len.new × (id.new ≡ id.old))
         ⊎ (Denies Never slot.old.held result slot.new.held × ((id.new ≡ id.old) × ((unit.new ≡ unit.old) × ((room.new ≡ room.old) × (len.new ≡ len.old)))))) }
 {
-    match submit_at(alloc, slot, image) {
-        None => Status::Closed.code(),
-        Some(Ok(number)) => {
+    let Some(mut db) = slot.take(alloc) else {
+        return Status::Closed.code();
+    };
+    let open = &mut *db;
+    let given = open.registry.submit(image);
+    slot.put(db);
+    match given {
+        Ok(number) => {
             *id = number.0;
             Status::Done.code()
         }
-        Some(Err(fault)) => {
+        Err(fault) => {
             *unit = unit_of(fault);
             tell(alloc, &fault, room, len);
             fault_status(fault).code()
@@ -218,33 +193,12 @@ pub extern "C" fn boddurci_assemble(
     match image_of(alloc, text) {
         Ok(bytes) => copy_out(bytes.as_slice(), image, image_len).code(),
         Err(fault) => {
-            *line = fault.line();
+            let (status, at) = fault.told();
+            *line = at;
             tell(alloc, &fault, room, len);
-            fault.status().code()
+            status.code()
         }
     }
-}
-
-// Runs a program on an open handle.
-fn run_at(
-    alloc: Global,
-    slot: &mut Handle,
-    number: u32,
-    key: &[u8],
-    arg: &[u8],
-    blank: Option<usize>,
-    now: u64,
-) -> Result<Reply<Global>, Status>
-    ensures ok { IfOk result (λ reply. At slot.old.held slot.new.held (RunsBy number key.now arg.now blank now reply)) }
-    ensures same { OnErr result (slot.new.held ≡ slot.old.held) }
-    ensures why { IfErr result (Why (DeniesRun number key.now arg.now blank now) slot.old.held) }
-{
-    let Some(mut db) = slot.take(alloc) else {
-        return Err(Status::Closed);
-    };
-    let done = run(alloc, &mut *db, number, key, arg, blank, now);
-    slot.put(db);
-    done
 }
 
 // The blank of a run.
@@ -273,43 +227,19 @@ pub extern "C" fn boddurci_run(
     ensures { Runs number key.now arg.now (blank_for has_blank blank) now slot.old.held result slot.new.held end.new word.new
         ⊎ (Denies (DeniesRun number key.now arg.now (blank_for has_blank blank) now) slot.old.held result slot.new.held × ((end.new ≡ end.old) × (word.new ≡ word.old))) }
 {
-    match run_at(
-        alloc,
-        slot,
-        number,
-        key,
-        arg,
-        blank_of(has_blank, blank),
-        now,
-    ) {
+    let Some(mut db) = slot.take(alloc) else {
+        return Status::Closed.code();
+    };
+    let blank = blank_of(has_blank, blank);
+    let done = run(alloc, &mut *db, number, key, arg, blank, now);
+    slot.put(db);
+    match done {
         Ok(reply) => {
             (*end, *word) = end_of(&reply);
             Status::of_reply(&reply).code()
         }
         Err(status) => status.code(),
     }
-}
-
-// Asks a run of an open handle.
-fn ask_at(
-    alloc: Global,
-    slot: &mut Handle,
-    number: u32,
-    key: &[u8],
-    arg: &[u8],
-    blank: Option<usize>,
-    now: u64,
-) -> Result<Box<Job>, Status>
-    ensures ok { IfOk result (λ job. Shows slot.old.held slot.new.held (λ d. IsRunAsked number key.now arg.now blank now d job.value)) }
-    ensures same { slot.new.held ≡ slot.old.held }
-    ensures why { IfErr result (Why (DeniesRun number key.now arg.now blank now) slot.old.held) }
-{
-    let Some(db) = slot.take(alloc) else {
-        return Err(Status::Closed);
-    };
-    let asked = ask(alloc, &*db, number, key, arg, blank, now);
-    slot.put(db);
-    asked
 }
 
 /// Asks a run as `boddurci_run` does it, under a ticket: with the page of its key as it is now. Nothing is run yet. What was under the
@@ -329,15 +259,13 @@ pub extern "C" fn boddurci_ask(
     ensures { Asks number key.now arg.now (blank_for has_blank blank) now slot.old.held result slot.new.held ticket.new.asked
         ⊎ AsksNot number key.now arg.now (blank_for has_blank blank) now slot.old.held result slot.new.held ticket.old.asked ticket.new.asked }
 {
-    match ask_at(
-        alloc,
-        slot,
-        number,
-        key,
-        arg,
-        blank_of(has_blank, blank),
-        now,
-    ) {
+    let Some(db) = slot.take(alloc) else {
+        return Status::Closed.code();
+    };
+    let blank = blank_of(has_blank, blank);
+    let asked = ask(alloc, &*db, number, key, arg, blank, now);
+    slot.put(db);
+    match asked {
         Ok(job) => {
             ticket.put(job);
             Status::Done.code()
@@ -372,28 +300,13 @@ fn finish_on(alloc: Global, db: &mut Db, ticket: &mut Ticket) -> Result<Reply<Gl
     let Some(mut job) = ticket.take(alloc) else {
         return Err(Status::NoTicket);
     };
-    match job.finish(&mut db.image) {
+    match job.finish(&mut db.image, &mut db.marks) {
         Ok(reply) => Ok(reply),
         Err(status) => {
             ticket.put(job);
             Err(status)
         }
     }
-}
-
-// The same on an open handle.
-fn finish_at(alloc: Global, slot: &mut Handle, ticket: &mut Ticket) -> Result<Reply<Global>, Status>
-    ensures ok { IfOk result (λ reply. At slot.old.held slot.new.held (λ d d'. FinishesOn d ticket.old.asked reply d' ticket.new.asked)) }
-    ensures err { OnErr result (slot.new.held ≡ slot.old.held) }
-    ensures same { OnErr result (ticket.new.asked ≡ ticket.old.asked) }
-    ensures why { IfErr result (Why (WhyNot ticket.old.asked) slot.old.held) }
-{
-    let Some(mut db) = slot.take(alloc) else {
-        return Err(Status::Closed);
-    };
-    let done = finish_on(alloc, &mut *db, ticket);
-    slot.put(db);
-    done
 }
 
 /// Does what was worked under a ticket as one step of the database as it stands, where the page of its key is as it was asked, and
@@ -409,7 +322,12 @@ pub extern "C" fn boddurci_finish(
     ensures { Finishes slot.old.held result slot.new.held ticket.old.asked ticket.new.asked end.new word.new
         ⊎ (FinishesNot slot.old.held result slot.new.held ticket.old.asked ticket.new.asked × ((end.new ≡ end.old) × (word.new ≡ word.old))) }
 {
-    match finish_at(alloc, slot, ticket) {
+    let Some(mut db) = slot.take(alloc) else {
+        return Status::Closed.code();
+    };
+    let done = finish_on(alloc, &mut *db, ticket);
+    slot.put(db);
+    match done {
         Ok(reply) => {
             (*end, *word) = end_of(&reply);
             Status::of_reply(&reply).code()
@@ -434,7 +352,11 @@ pub extern "C" fn boddurci_first(alloc: Global, slot: &mut Handle, cursor: &mut 
     let Some(db) = slot.take(alloc) else {
         return Status::Closed.code();
     };
-    *cursor = start(&db.image);
+    *cursor = Cursor {
+        page: 0,
+        end: db.image.page_count() as u32,
+        pair: 0,
+    };
     slot.put(db);
     Status::Done.code()
 }
@@ -462,23 +384,6 @@ pub extern "C" fn boddurci_next(
     status.code()
 }
 
-// The bytes of both files of an open handle's database.
-fn files_at(alloc: Global, slot: &mut Handle) -> Result<(MemSink<Global>, MemSink<Global>), Status>
-    ensures ok { IfOk result (λ sinks. Shows slot.old.held slot.new.held (HasFiles sinks.0.bytes sinks.1.bytes)) }
-    ensures same { slot.new.held ≡ slot.old.held }
-    ensures why { IfErr result (Why LacksMemory slot.old.held) }
-{
-    let Some(db) = slot.take(alloc) else {
-        return Err(Status::Closed);
-    };
-    let done = files(alloc, &*db);
-    slot.put(db);
-    match done {
-        Ok(sinks) => Ok(sinks),
-        Err(_) => Err(Status::NoMemory),
-    }
-}
-
 /// Writes the bytes of both files into rooms, where both fit, and tells how many they are.
 #[unsafe(no_mangle)]
 pub extern "C" fn boddurci_files(
@@ -493,69 +398,98 @@ pub extern "C" fn boddurci_files(
         ⊎ (Denies LacksMemory slot.old.held result slot.new.held
         × ((dir.new ≡ dir.old) × ((dir_len.new ≡ dir_len.old) × ((pag.new ≡ pag.old) × (pag_len.new ≡ pag_len.old))))) }
 {
-    match files_at(alloc, slot) {
+    let Some(db) = slot.take(alloc) else {
+        return Status::Closed.code();
+    };
+    let done = files(alloc, &*db);
+    slot.put(db);
+    match done {
         Ok((dir_sink, pag_sink)) => {
             *dir_len = dir_sink.bytes().len();
             *pag_len = pag_sink.bytes().len();
             copy_both(dir_sink.bytes(), pag_sink.bytes(), dir, pag).code()
         }
-        Err(status) => status.code(),
+        Err(_) => Status::NoMemory.code(),
     }
 }
 
-// The plan of a save of an open handle's database.
-fn plan_at(alloc: Global, slot: &mut Handle, dir: &[u8], pag: &[u8]) -> Result<Vec<u8>, Status>
-    ensures ok { IfOk result (λ plan. Shows slot.old.held slot.new.held (λ d. IsPlanFor d.image plan.items dir.now pag.now)) }
-    ensures same { slot.new.held ≡ slot.old.held }
-    ensures why { IfErr result (Why (DeniesPlan dir.now pag.now) slot.old.held) }
+/// Tells the numbers of the pages that may have changed since the files were opened, or since the last plan, in a room.
+#[unsafe(no_mangle)]
+pub extern "C" fn boddurci_changed(
+    alloc: Global,
+    slot: &mut Handle,
+    numbers: &mut [u32],
+    count: &mut usize,
+) -> u32
+    ensures { Lists slot.old.held result slot.new.held numbers.old numbers.new count.new
+        ⊎ (Denies Never slot.old.held result slot.new.held × ((numbers.new ≡ numbers.old) × (count.new ≡ count.old))) }
 {
     let Some(db) = slot.take(alloc) else {
-        return Err(Status::Closed);
+        return Status::Closed.code();
     };
-    let done = plan(alloc, &*db, dir, pag);
+    let status = copy_out(db.marks.as_slice(), numbers, count);
     slot.put(db);
-    done
+    status.code()
 }
 
-/// Writes the plan that makes the old bytes of both files those of the database into a room, where it fits, and tells its length, which
-/// is 0 where they are that already.
+/// Marks pages as ones that may have changed, where a plan could not be done.
+#[unsafe(no_mangle)]
+pub extern "C" fn boddurci_mark(alloc: Global, slot: &mut Handle, numbers: &[u32]) -> u32
+    ensures { Remarks numbers.now slot.old.held result slot.new.held ⊎ Denies LacksMemory slot.old.held result slot.new.held }
+{
+    let Some(mut db) = slot.take(alloc) else {
+        return Status::Closed.code();
+    };
+    let open = &mut *db;
+    let marked = open.marks.add_all(numbers);
+    slot.put(db);
+    match marked {
+        Ok(()) => Status::Done.code(),
+        Err(_) => Status::NoMemory.code(),
+    }
+}
+
+/// Writes the plan that makes the files those of the database into a room, where it fits, and tells its length, which is 0 where they are
+/// that already. Of the files it is given the bytes of `.dir`, the length of `.pag`, and the pages with these numbers, among which are those
+/// of `boddurci_changed`; a byte past the end is zero. Once the plan is written no page counts as changed.
 #[unsafe(no_mangle)]
 pub extern "C" fn boddurci_plan(
     alloc: Global,
     slot: &mut Handle,
     dir: &[u8],
-    pag: &[u8],
+    pag_length: usize,
+    numbers: &[u32],
+    pages: &[u8],
     room: &mut [u8],
     len: &mut usize,
 ) -> u32
-    ensures { Plans slot.old.held result slot.new.held dir.now pag.now room.old room.new len.new
-        ⊎ (Denies (DeniesPlan dir.now pag.now) slot.old.held result slot.new.held × ((room.new ≡ room.old) × (len.new ≡ len.old))) }
+    ensures { Plans slot.old.held result slot.new.held dir.now pag_length numbers.now pages.now room.old room.new len.new
+        ⊎ (Denies (DeniesPlan dir.now pag_length numbers.now pages.now) slot.old.held result slot.new.held × ((room.new ≡ room.old) × (len.new ≡ len.old))) }
 {
-    match plan_at(alloc, slot, dir, pag) {
-        Ok(plan) => copy_out(plan.as_slice(), room, len).code(),
-        Err(status) => status.code(),
-    }
+    let Some(mut db) = slot.take(alloc) else {
+        return Status::Closed.code();
+    };
+    let read = Marked {
+        directory: dir,
+        len: pag_length,
+        numbers,
+        pages,
+    };
+    let status = plan(alloc, &mut *db, read, room, len);
+    slot.put(db);
+    status.code()
 }
 
-// How keys hash.
-fn kind_of(unsigned_keys: u32) -> KeyBytes
-    ensures { result ≡ kind_for unsigned_keys }
+// How keys hash, and how large pages are.
+fn form_of(unsigned_keys: u32, wide: u32) -> (KeyBytes, PageSize)
+    ensures kind { result.0 ≡ kind_for unsigned_keys }
+    ensures size { result.1 ≡ size_for wide }
 {
-    if unsigned_keys == 0 {
-        KeyBytes::Signed
-    } else {
-        KeyBytes::Unsigned
-    }
-}
-
-// How large pages are.
-fn size_of(wide: u32) -> PageSize
-    ensures { result ≡ size_for wide }
-{
-    if wide == 0 {
-        PageSize::Small
-    } else {
-        PageSize::Wide
+    match (unsigned_keys, wide) {
+        (0, 0) => (KeyBytes::Signed, PageSize::Small),
+        (0, _) => (KeyBytes::Signed, PageSize::Wide),
+        (_, 0) => (KeyBytes::Unsigned, PageSize::Small),
+        (_, _) => (KeyBytes::Unsigned, PageSize::Wide),
     }
 }
 
@@ -633,15 +567,8 @@ pub extern "C" fn boddurci_open(
     let Ok(registry) = Registry::new(alloc) else {
         return Status::NoMemory.code();
     };
-    match open_at(
-        alloc,
-        slot,
-        registry,
-        dir,
-        pag,
-        kind_of(unsigned_keys),
-        size_of(wide),
-    ) {
+    let (kind, size) = form_of(unsigned_keys, wide);
+    match open_at(alloc, slot, registry, dir, pag, kind, size) {
         Ok(()) => Status::Done.code(),
         Err(fault) => {
             tell(alloc, &fault, room, len);

@@ -1,27 +1,78 @@
 //! The plan of a save.
-ghost use Rattle.std.specs.Prelude.{IfOk, IfErr};
-ghost use Rattle.boddurci_c.specs.Plans.{IsPlanFor, DeniesPlan};
+ghost use Rattle.std.specs.Prelude.{◌≡◌, ◌↔◌, ◌⊎◌, ◌*◌, IsTrue, IfOk, IfErr, OnOk};
+ghost use Rattle.boddurci_c.specs.Marks.{AreAmong};
+ghost use Rattle.boddurci_c.specs.Plans.{HasRead, PlansFor, PlansOn, DeniesPlan};
 
-use crate::db::Db;
+use crate::base::Base;
+use crate::marks::Marks;
+use crate::opened::Db;
+use crate::rooms::copy_out;
 use crate::status::Status;
-use sdbm_saves::{Contents, PlanFault, plan_save};
-use std::alloc::Global;
+use sdbm_saves::{Marked, PlanFault, plan_marked};
+use std::alloc::{AllocError, Global};
 
-/// The plan that makes the old bytes of both files those of a database; no bytes where they are that already. Of a database for which the
-/// longest `.pag` has room it leaves none that is longer.
-#[tactic(auto, using(crate::proofs::Fitting::is_plan, crate::proofs::Fitting::no_plan))]
-pub fn plan(alloc: Global, db: &Db, dir: &[u8], pag: &[u8]) -> Result<Vec<u8>, Status>
-    ensures ok { IfOk result (λ plan. IsPlanFor db.now.image plan.items dir.now pag.now) }
-    ensures err { IfErr result (DeniesPlan dir.now pag.now db.now) }
+/// Writes the plan that makes files of which some pages were read those of a database into a room, where it fits, and tells its length; no
+/// bytes where they are that already. The database is then the base, and no page is marked. Of a database for which the longest `.pag` has
+/// room it leaves none that is longer.
+pub fn plan(alloc: Global, db: &mut Db, old: Marked<'_>, room: &mut [u8], len: &mut usize) -> Status
+    ensures { PlansOn old.entry.directory.now old.entry.len old.entry.numbers.now old.entry.pages.now db.old room.old room.new len.new result db.new
+        ⊎ (DeniesPlan old.entry.directory.now old.entry.len old.entry.numbers.now old.entry.pages.now db.old result
+        × ((db.new ≡ db.old) × ((room.new ≡ room.old) × (len.new ≡ len.old)))) }
 {
-    let old = Contents {
-        pages: pag,
-        directory: dir,
+    let plan = match plan_of(alloc, &*db, old) {
+        Ok(plan) => plan,
+        Err(status) => return status,
     };
-    match plan_save(alloc, old, &db.image) {
+    match copy_out(plan.as_slice(), room, len) {
+        Status::Done => {
+            let base = Base::of(&db.image);
+            db.marks.cut(0);
+            db.base = base;
+            Status::Done
+        }
+        status => status,
+    }
+}
+
+// The bytes of that plan.
+fn plan_of(alloc: Global, db: &Db, old: Marked<'_>) -> Result<Vec<u8>, Status>
+    ensures ok { IfOk result (λ plan. PlansFor old.entry.directory.now old.entry.len old.entry.numbers.now old.entry.pages.now db.now plan.items) }
+    ensures read { OnOk result (HasRead db.now old.entry.numbers.now old.entry.pages.now) }
+    ensures err { IfErr result (DeniesPlan old.entry.directory.now old.entry.len old.entry.numbers.now old.entry.pages.now db.now) }
+{
+    let Some(bytes) = old.numbers.len().checked_mul(db.image.page_size().bytes()) else {
+        return Err(Status::Stale);
+    };
+    if old.pages.len() != bytes {
+        return Err(Status::Stale);
+    }
+    match are_among(alloc, &db.marks, old.numbers) {
+        Ok(true) => {}
+        Ok(false) => return Err(Status::Stale),
+        Err(_) => return Err(Status::NoMemory),
+    }
+    match plan_marked(alloc, old, &db.image) {
         Ok(Some(plan)) => Ok(plan),
         Ok(None) => Ok(Vec::new(alloc)),
         Err(PlanFault::TooLong) => Err(Status::TooLong),
         Err(PlanFault::NoMemory) => Err(Status::NoMemory),
     }
+}
+
+// Whether each mark is one of some numbers.
+fn are_among(alloc: Global, marks: &Marks, numbers: &[u32]) -> Result<bool, AllocError>
+    ensures { IfOk result (λ are. IsTrue are ↔ AreAmong marks.now numbers.now) }
+{
+    let mut given = Marks::new(alloc);
+    for number in numbers {
+        if marks.has(*number) {
+            given.add(*number)?;
+        }
+    }
+    for mark in marks.as_slice() {
+        if !given.has(*mark) {
+            return Ok(false);
+        }
+    }
+    Ok(true)
 }

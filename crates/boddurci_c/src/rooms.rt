@@ -6,15 +6,15 @@ use crate::status::Status;
 use std::alloc::Global;
 use std::fmt::Display;
 
-/// Writes bytes in the first places of a room where they fit, and tells how many they are.
-pub fn copy_out(bytes: &[u8], room: &mut [u8], len: &mut usize) -> Status
-    ensures { IsCopied bytes.now room.old room.new len.new result }
+/// Writes bytes or numbers in the first places of a room where they fit, and tells how many they are.
+pub fn copy_out<T: Copy>(items: &[T], room: &mut [T], len: &mut usize) -> Status
+    ensures { IsCopied items.now room.old room.new len.new result }
 {
-    *len = bytes.len();
-    if bytes.len() > room.len() {
+    *len = items.len();
+    if items.len() > room.len() {
         return Status::ShortRoom;
     }
-    room[..bytes.len()].copy_from_slice(bytes);
+    room[..items.len()].copy_from_slice(items);
     Status::Done
 }
 

@@ -26,6 +26,8 @@ pub enum Status {
     BadFiles,
     /// The page of the key is another than it was when the run was asked.
     Changed,
+    /// A page that may have changed was not read for a plan, or the bytes of pages are not as many as their numbers.
+    Stale,
     /// The handle is closed.
     Closed,
     /// The handle is open already.
@@ -59,6 +61,7 @@ impl Status {
             Status::BadText => 6,
             Status::BadFiles => 7,
             Status::Changed => 8,
+            Status::Stale => 9,
             Status::Closed => 16,
             Status::Open => 17,
             Status::PairTooLarge => 18,

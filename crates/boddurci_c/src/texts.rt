@@ -36,26 +36,17 @@ pub fn image_of(alloc: Global, text: &[u8]) -> Result<Vec<u8>, TextFault>
 }
 
 impl TextFault {
-    /// The status of the fault.
-    pub fn status(&self) -> Status
-        ensures { result ≡ status_of_text self.now }
+    /// The status of the fault, and its line, counted from 1, or 0 where it has none.
+    pub fn told(&self) -> (Status, usize)
+        ensures status { result.0 ≡ status_of_text self.now }
+        ensures line { result.1 ≡ line_of self.now }
     {
         match self {
-            TextFault::NotText => Status::BadText,
+            TextFault::NotText => (Status::BadText, 0),
             TextFault::Line(fault) => match fault.kind {
-                FaultKind::NoMemory => Status::NoMemory,
-                _ => Status::BadText,
+                FaultKind::NoMemory => (Status::NoMemory, fault.line),
+                _ => (Status::BadText, fault.line),
             },
-        }
-    }
-
-    /// The line of the fault, counted from 1, or 0 where it has none.
-    pub fn line(&self) -> usize
-        ensures { result ≡ line_of self.now }
-    {
-        match self {
-            TextFault::NotText => 0,
-            TextFault::Line(fault) => fault.line,
         }
     }
 }

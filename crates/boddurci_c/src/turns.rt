@@ -1,9 +1,8 @@
 //! Pairs in turn: a cursor goes over the pages in the order of their numbers, and over the pairs of each in theirs.
-ghost use Rattle.std.specs.Prelude.{◌≡◌, ◌↔◌, ◌<◌, ◌≤◌, ◌+◌, ◌^◌, [], length, IsTrue, IfSome, IfNone};
-ghost use Rattle.sdbm_addr.specs.Database.{IsDatabase, pairs_at};
-ghost use Rattle.sdbm_addr.specs.Files.{IsPageCount};
+ghost use Rattle.std.specs.Prelude.{◌≡◌, ◌↔◌, ◌<◌, ◌+◌, [], length, IsTrue, IfSome, IfNone};
+ghost use Rattle.sdbm_addr.specs.Database.{pairs_at};
 ghost use Rattle.sdbm_addr.specs.Pairs.{key_at, value_at};
-ghost use Rattle.boddurci_c.specs.Turns.{IsStart, IsFirstFrom, AreBare, IsNext, IsOver, Turns};
+ghost use Rattle.boddurci_c.specs.Turns.{IsFirstFrom, AreBare, IsNext, IsOver, Turns};
 
 use crate::rooms::copy_both;
 use crate::status::Status;
@@ -25,25 +24,6 @@ struct Met<'a> {
     key: &'a [u8],
     value: &'a [u8],
     behind: usize,
-}
-
-// The number above all pages that have pairs.
-fn page_count(image: &Image<Global>) -> u64
-    ensures count { IsPageCount image.now result }
-    ensures few { result ≤ 2 ^ 31 }
-{
-    image.pag_len() / image.page_size().bytes() as u64
-}
-
-/// The start of a walk.
-pub fn start(image: &Image<Global>) -> Cursor
-    ensures { IsStart image.now result }
-{
-    Cursor {
-        page: 0,
-        end: page_count(image) as u32,
-        pair: 0,
-    }
 }
 
 // Whether a page has no pairs.

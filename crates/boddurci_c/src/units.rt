@@ -1,59 +1,45 @@
 //! At which unit an image is at fault.
 ghost use Rattle.std.specs.Prelude.{◌≡◌, unwrap_or};
-ghost use Rattle.boddurci_c.specs.Units.{unit_decoded, unit_verified, unit_in, nowhere};
+ghost use Rattle.boddurci_c.specs.Units.{unit_in, nowhere};
 
 use bpf_insn::DecodeFault;
 use bpf_verify::VerifyFault;
 use prog_registry::RegFault;
-
-// The unit at which the decoder is at fault.
-fn unit_decoded(fault: DecodeFault) -> Option<usize>
-    ensures { result ≡ unit_decoded fault }
-{
-    match fault {
-        DecodeFault::NoMemory | DecodeFault::Length | DecodeFault::TooLong => None,
-        DecodeFault::Opcode(at)
-        | DecodeFault::HalfWide(at)
-        | DecodeFault::Register(at)
-        | DecodeFault::Reserved(at) => Some(at),
-    }
-}
-
-// The unit at which the verifier is.
-fn unit_verified(fault: VerifyFault) -> Option<usize>
-    ensures { result ≡ unit_verified fault }
-{
-    match fault {
-        VerifyFault::NoMemory | VerifyFault::Empty => None,
-        VerifyFault::FrameWritten(at)
-        | VerifyFault::NoHelper(at)
-        | VerifyFault::Backward(at)
-        | VerifyFault::JumpOut(at)
-        | VerifyFault::JumpIntoWide(at)
-        | VerifyFault::FallsOff(at)
-        | VerifyFault::Unset(at)
-        | VerifyFault::HelperArgument(at)
-        | VerifyFault::ExitNotNumber(at)
-        | VerifyFault::NotPointer(at)
-        | VerifyFault::PointerOp(at)
-        | VerifyFault::PointerRange(at)
-        | VerifyFault::PointerStored(at)
-        | VerifyFault::ArgumentWritten(at)
-        | VerifyFault::OutOfRecord(at)
-        | VerifyFault::OutOfArgument(at)
-        | VerifyFault::OutOfStack(at) => Some(at),
-    }
-}
 
 /// The unit of 8 bytes at which an image is at fault, or the greatest number where it is at none.
 pub fn unit_of(fault: RegFault) -> usize
     ensures { result ≡ unwrap_or (unit_in fault) nowhere }
 {
     let unit = match fault {
-        RegFault::NoMemory => None,
-        RegFault::Decode(fault) => unit_decoded(fault),
-        RegFault::Verify(fault) => unit_verified(fault),
-        RegFault::Full => None,
+        RegFault::NoMemory | RegFault::Full => None,
+        RegFault::Decode(DecodeFault::NoMemory | DecodeFault::Length | DecodeFault::TooLong) =>
+            None,
+        RegFault::Decode(
+            DecodeFault::Opcode(at)
+            | DecodeFault::HalfWide(at)
+            | DecodeFault::Register(at)
+            | DecodeFault::Reserved(at),
+        ) => Some(at),
+        RegFault::Verify(VerifyFault::NoMemory | VerifyFault::Empty) => None,
+        RegFault::Verify(
+            VerifyFault::FrameWritten(at)
+            | VerifyFault::NoHelper(at)
+            | VerifyFault::Backward(at)
+            | VerifyFault::JumpOut(at)
+            | VerifyFault::JumpIntoWide(at)
+            | VerifyFault::FallsOff(at)
+            | VerifyFault::Unset(at)
+            | VerifyFault::HelperArgument(at)
+            | VerifyFault::ExitNotNumber(at)
+            | VerifyFault::NotPointer(at)
+            | VerifyFault::PointerOp(at)
+            | VerifyFault::PointerRange(at)
+            | VerifyFault::PointerStored(at)
+            | VerifyFault::ArgumentWritten(at)
+            | VerifyFault::OutOfRecord(at)
+            | VerifyFault::OutOfArgument(at)
+            | VerifyFault::OutOfStack(at),
+        ) => Some(at),
     };
     unit.unwrap_or(usize::MAX)
 }

@@ -1,7 +1,5 @@
 -- The files that a run is about, each under its name: what is read, what is written, and the lock.
 use Rattle.std.specs.Prelude.{◌≡◌, ℕ, ◌++◌, Bool, true, false, List, [], ◌∷◌, Option, Some, None, codes, option_map, string_bytes}
-use Rattle.std.specs.Global.{Vec}
-use Rattle.dbm_files.specs.declared.names.FileBytes.{FileBytes}
 use Rattle.dbm_files.specs.declared.names.Names.{Names}
 use Rattle.dbm_files.specs.declared.names.Part.{Part}
 use Rattle.dbm_files.specs.declared.names.Part.TheVariants.{Dir, Pag, Program}
@@ -43,12 +41,6 @@ named_files limit None None = []
 -- the files that are read for a run, in this order
 abbrev pub files_read : Place → List FileRead
 files_read place = named_files place.pages_limit (option_map (λ text. text.now) place.base) (option_map (λ text. text.now) place.file)
-
--- the bytes of one file, beside those that are there; pages are read piece by piece
-abbrev pub with_part : Part → Vec ℕ → FileBytes → FileBytes
-with_part Dir bytes read = record read { directory = bytes }
-with_part Pag bytes read = read
-with_part Program bytes read = record read { program = bytes }
 
 -- the names of the files of a base that are written, and of the one on which its runs wait for each other
 pub record AreNames (base : List ℕ) (names : Names) : Type 0 where

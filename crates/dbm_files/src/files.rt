@@ -1,5 +1,6 @@
 //! The files of a run, read and written.
-ghost use Rattle.std.specs.Prelude.{◌≡◌, ◌%◌, length, true, IfOk};
+ghost use Rattle.std.specs.Prelude.{◌≡◌, ◌≤◌, ◌%◌, length, true, IfOk, OnOk};
+ghost use Rattle.sdbm_files.specs.Reading.{with_piece};
 ghost use Rattle.sdbm_addr.specs.Pairs.{page_bytes};
 ghost use Rattle.sdbm_saves.specs.Redo.{files, CanEnd, IsPlan, Knows};
 ghost use Rattle.sdbm_saves.specs.Recording.{image_of, part_image};
@@ -9,9 +10,7 @@ use crate::fault::FilesFault;
 use crate::host::{RealFiles, folder_of, forget_redo};
 use crate::links::resolve;
 use crate::lock::{lock_to_read, lock_to_write};
-use crate::names::{
-    DIR_LIMIT, FileBytes, Names, PROGRAM_LIMIT, Part, Place, names_of, put, sources,
-};
+use crate::names::{DIR_LIMIT, FileBytes, Names, PROGRAM_LIMIT, Part, Place, names_of, sources};
 use crate::peeking::{Guard, UnreadPages};
 use crate::saving::{Change, Saved, save_change, save_plan};
 use crate::side::{Side, SideFault, open_beside, side_fault};
@@ -285,12 +284,13 @@ fn read_database<R: Files<File = File> + AllocGlobal>(
     }
     if place.writes {
         end_save(rt, names, &found)?;
+        drop(found);
         return Ok((read_files(rt, place, false)?, Vec::new(rt.alloc())));
     }
     if keep_plan(rt, names).is_err() {
         return Err(FilesFault::ReadFile);
     }
-    lay_over(rt.alloc(), place, &found, read.program)
+    lay_over(rt.alloc(), place, found, read.program)
 }
 
 // Whether a file would be longer than it may be, once the save is ended that was cut off.
@@ -322,12 +322,13 @@ fn keep_plan<R: Files<File = File>>(rt: &R, names: &Names) -> io::Result<()> {
 fn lay_over(
     alloc: Global,
     place: Place<'_>,
-    found: &Found,
+    found: Found,
     program: Vec<u8>,
 ) -> Result<(FileBytes, Vec<u8>), FilesFault>
-    requires { CanEnd (image_of found.now) }
+    requires { CanEnd (image_of found) }
 {
-    let stands = read_through(alloc, found)?;
+    let stands = read_through(alloc, &found)?;
+    drop(found);
     let mut pages = ReadPages::new(alloc, place.page_size);
     pages.push(stands.pages.as_slice())?;
     let read = FileBytes {
@@ -383,12 +384,12 @@ fn read_files<R: Files + AllocGlobal>(
         program: Vec::new(alloc),
     };
     for source in sources(alloc, place)? {
-        let name = source.name.as_str();
-        if source.part != Part::Pag {
-            let bytes = read_file(rt, name, source.limit, source.may_be_absent)?;
-            put(&mut read, source.part, bytes);
-        } else if !peeks {
-            read.pages = read_pages(rt, name, source.limit, place.page_size)?;
+        let (name, limit) = (source.name.as_str(), source.limit);
+        match source.part {
+            Part::Dir => read.directory = read_file(rt, name, limit, source.may_be_absent)?,
+            Part::Pag if peeks => (),
+            Part::Pag => read.pages = read_pages(rt, name, limit, place.page_size)?,
+            Part::Program => read.program = read_file(rt, name, limit, source.may_be_absent)?,
         }
     }
     Ok(read)
@@ -434,21 +435,44 @@ fn read_pages<R: Files + AllocGlobal>(
     let Some(mut file) = open_file(rt, name, true)? else {
         return Ok(pages);
     };
-    let mut piece = Vec::with_capacity(rt.alloc(), PIECE)?;
+    let mut room = vec![in rt.alloc(); 0u8; PIECE]?;
     for _ in 0..limit / PIECE as u64 + 1 {
-        piece.clear();
-        read_up_to(&mut file, PIECE as u64, &mut piece)?;
-        if !push_piece(&mut pages, piece.as_slice(), limit)? {
+        let count = read_piece(&mut file, room.as_mut_slice())?;
+        if !push_piece(&mut pages, &room[..count], limit)? {
             return Ok(pages);
         }
     }
     Err(FilesFault::FileTooLong)
 }
 
+// Reads the next bytes of a file into a room, and tells how many: fewer than have room only where the file ends.
+fn read_piece<F: Read>(file: &mut F, room: &mut [u8]) -> Result<usize, FilesFault>
+    ensures count { IfOk result (λ count. count ≤ length room.old) }
+    ensures room { length room.new ≡ length room.old }
+{
+    let mut count = 0;
+    for _ in 0..u64::MAX {
+        if count >= room.len() {
+            break;
+        }
+        match file.read(&mut room[count..]) {
+            Ok(0) => break,
+            Ok(more) => count += more,
+            Err(error) if error.kind() == ErrorKind::Interrupted => (),
+            Err(error) if error.kind() == ErrorKind::OutOfMemory => {
+                return Err(FilesFault::NoMemory);
+            }
+            Err(_) => return Err(FilesFault::ReadFile),
+        }
+    }
+    Ok(count)
+}
+
 // Reads a piece behind the others, and says whether more may stand behind it: a piece that is not full is the last.
 fn push_piece(pages: &mut ReadPages<Global>, piece: &[u8], limit: u64) -> Result<bool, FilesFault>
     requires { length pages.old.bytes % page_bytes pages.old.size ≡ 0 }
-    ensures { IfOk result (λ more. more ≡ true → length pages.new.bytes % page_bytes pages.new.size ≡ 0) }
+    ensures behind { OnOk result (pages.new ≡ with_piece pages.old piece.now) }
+    ensures whole { IfOk result (λ more. more ≡ true → length pages.new.bytes % page_bytes pages.new.size ≡ 0) }
 {
     let total = (pages.len() as u64).saturating_add(piece.len() as u64);
     if total > limit.min(i64::MAX as u64) {

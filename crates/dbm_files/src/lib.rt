@@ -19,7 +19,7 @@ pub use files::{
 };
 pub use host::{RealFiles, folder_of};
 pub use links::resolve;
-pub use names::{FileBytes, Names, Part, Place, Source, names_of, put, sources};
+pub use names::{FileBytes, Names, Part, Place, Source, names_of, sources};
 pub use peeking::UnreadPages;
 pub use saving::{Change, Saved, save_change, save_plan};
 pub use side::{Side, Standing, doubt_of, takes_lock, takes_redo};

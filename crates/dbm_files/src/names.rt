@@ -1,6 +1,6 @@
 //! Which files a run is about: what is read, what is written, and the lock, each under its name.
 ghost use Rattle.std.specs.Prelude.{◌≡◌, ◌++◌, IfOk, codes, map, string_bytes};
-ghost use Rattle.dbm_files.specs.Names.{AreNames, files_read, shown_source, with_part};
+ghost use Rattle.dbm_files.specs.Names.{AreNames, files_read, shown_source};
 ghost use Rattle.dbm_files.specs.Names as spec;
 
 use sdbm_addr::PageSize;
@@ -122,17 +122,6 @@ fn program_source(alloc: Global, file: &str) -> Result<Source, AllocError>
         limit: PROGRAM_LIMIT,
         may_be_absent: false,
     })
-}
-
-/// Puts the bytes of a file where they belong; those of the others stay. Those of BASE.pag are read piece by piece, and have no place here.
-pub fn put(read: &mut FileBytes, part: Part, bytes: Vec<u8>)
-    ensures { read.new ≡ with_part part bytes read.old }
-{
-    match part {
-        Part::Dir => read.directory = bytes,
-        Part::Pag => (),
-        Part::Program => read.program = bytes,
-    }
 }
 
 /// The names of the files of a base: BASE.pag, BASE.dir, BASE.redo and BASE.lock. The error is `AllocError`.

@@ -1,13 +1,13 @@
 -- A plan that is made change by change.
 use Rattle.std.proofs.Common.{◌≡◌, ◌≢◌, ⊎_elim, ℕ, zero, suc, ◌+◌, ◌-◌, ◌<◌, ◌≤◌, ◌^◌, inr, min, List, ◌++◌, length, take, drop, get_or, refl, sym, ◌∙◌, ap, subst, arith, length-append, length-drop}
-use Rattle.std.proofs.lemmas.List.{get_or_append_left, get_or-append_right, get_or-take, get_or-drop, get_or_past, take_all, drop_all, drop-drop, take-append-le, drop-append-le, append-nil, length-take-le, ext_get_or}
+use Rattle.std.proofs.lemmas.List.{get_or_append_left, get_or-take, get_or-drop, get_or_past, take_all, drop_all, drop-drop, take-append-le, drop-append-le, length-take-le, ext_get_or}
 use Rattle.std.proofs.lemmas.Bool.{cases_lt}
 use Rattle.sdbm_saves.specs.declared.disk.File.{File}
 use Rattle.sdbm_saves.specs.declared.disk.File.TheVariants.{Pages, Directory, Redo}
 use Rattle.sdbm_saves.specs.Disk.{written, resized}
 use Rattle.sdbm_saves.specs.Redo.{number_at, data_file, file_of, offset_of, size_of, data_of, was_of, span_of, rest_of, rest_after, effect, replayed, new_length, old_length, count_of, renewed, data_in, IsPlan, Knows}
 use Rattle.sdbm_saves.specs.Drafts.{change_bytes, plan_bytes, part_of, length_in, FitsIn, AreChanges}
-use Rattle.sdbm_saves.proofs.Lists.{length-written, length-resized, read_resized, written_before, written_inside, written_after}
+use Rattle.sdbm_saves.proofs.Lists.{length-written, read_resized, written_before, written_inside, written_after}
 use Rattle.sdbm_saves.proofs.Replay.{rest_next, replayed_next}
 
 number_append : (xs ys : List ℕ) (at : ℕ) → at + 4 ≤ length xs → number_at (xs ++ ys) at ≡ number_at xs at
@@ -165,26 +165,6 @@ part_read old at n i lt =
     (λ past. get_or_past old (min at (length old) + i) 0 (omega (arith, past)) ∙ sym (get_or_past old (at + i) 0 (omega (arith, past))))
     (cases_lt at (length old))
 
--- a change that was spelled, with what stood there, fits
-pub fits_spelled : (pages directory : ℕ) (before : List ℕ × List ℕ) (file : File) (at : ℕ) (bytes : List ℕ) → at < 2 ^ 32 → length bytes < 2 ^ 32 → file ≢ Redo
-    → at + length bytes ≤ length_in pages directory file → FitsIn pages directory before (change_bytes file at bytes (part_of (data_in before file) at (length bytes)))
-fits_spelled pages directory before file at bytes near short is_data inside =
-    let was = part_of (data_in before file) at (length bytes) in
-    let change = change_bytes file at bytes was in
-    let same : length was ≡ length bytes = length-resized (length bytes) _ in
-    let offset_is = offset_spelled file at bytes was near short in
-    let size_is = size_spelled file at bytes was near short in
-    let file_is : file_of change ≡ file = file_spelled file at bytes was is_data in
-    record {
-      whole = omega (arith, length_spelled file at bytes was near short same);
-      inside = subst (λ f. offset_of change + size_of change ≤ length_in pages directory f) (sym file_is) (omega (arith, offset_is, size_is, inside));
-      was = λ i lt.
-          ap (λ (l : List ℕ). get_or l i 0) (was_spelled file at bytes was near short same)
-          ∙ part_read (data_in before file) at (length bytes) i (omega (arith, lt, size_is))
-          ∙ ap (λ f. get_or (data_in before f) (at + i) 0) (sym file_is)
-          ∙ ap (λ n. get_or (data_in before (file_of change)) (n + i) 0) (sym offset_is);
-    }
-
 -- bytes that stand there already
 pub written_same : (at : ℕ) (block x : List ℕ) → at + length block ≤ length x → ((i : ℕ) → i < length block → get_or block i 0 ≡ get_or x (at + i) 0) → x ≡ written at block x
 written_same at block x inside same = ext_get_or 0 x (written at block x) (sym (length-written at block x inside))
@@ -211,49 +191,6 @@ module _ (at n : ℕ) (file : List ℕ) (inside : at + n ≤ length file) where
   pub block_read : (block : List ℕ) → length block ≡ n → ((i : ℕ) → i < length block → get_or block i 0 ≡ get_or file (at + i) 0) → take n (drop at file) ≡ block
   block_read block long same = ext_get_or 0 (take n (drop at file)) block (length_part ∙ sym long)
       (λ i below. part_reads i below ∙ sym (same i (omega (arith, below, long, length_part))))
-
--- the first bytes of a file renewed
-abbrev pub partly : ℕ → List ℕ → List ℕ → List ℕ
-partly at new old = take at new ++ drop at old
-
-module _ (at : ℕ) (new old : List ℕ) (inside : at ≤ length new) (same_length : length old ≡ length new) where
-  front : length (take at new) ≡ at
-  front = length-take-le at new inside
-
-  pub length_partly : length (partly at new old) ≡ length new
-  length_partly = omega (arith, front, same_length, inside, length-append (take at new) (drop at old), length-drop at old)
-
-  partly_new : (i : ℕ) → i < at → get_or (partly at new old) i 0 ≡ get_or new i 0
-  partly_new i lt = get_or_append_left (take at new) (drop at old) 0 i (omega (arith, front, lt)) ∙ get_or-take at new i 0 lt
-
-  pub partly_old : (i : ℕ) → at ≤ i → get_or (partly at new old) i 0 ≡ get_or old i 0
-  partly_old i le =
-      let on : at + (i - at) ≡ i = omega (arith, le) in
-      get_or-append_right (take at new) (drop at old) at i 0 front le ∙ get_or-drop at old (i - at) 0 ∙ ap (λ k. get_or old k 0) on
-
-pub partly_all : (n : ℕ) (new old : List ℕ) → n ≡ length new → length old ≡ length new → partly n new old ≡ new
-partly_all n new old all same_length =
-    ap (λ (l : List ℕ). take n new ++ l) (drop_all n old (omega (arith, all, same_length))) ∙ append-nil (take n new) ∙ take_all n new (omega (arith, all))
-
--- a further block renewed
-module _ (at next : ℕ) (new old block : List ℕ) (inside : next ≤ length new) (same_length : length old ≡ length new) (length_is : at + length block ≡ next) (block_is : (i : ℕ) → i < length block → get_or block i 0 ≡ get_or new (at + i) 0) where
-  start : at ≤ length new
-  start = omega (arith, inside, length_is)
-
-  fits : at + length block ≤ length (partly at new old)
-  fits = omega (arith, inside, length_is, length_partly at new old start same_length)
-
-  pub block_written : written at block (partly at new old) ≡ partly next new old
-  block_written = ext_get_or 0 (written at block (partly at new old)) (partly next new old)
-      (length-written at block (partly at new old) fits ∙ length_partly at new old start same_length ∙ sym (length_partly next new old inside same_length))
-      (λ i below. ⊎_elim
-      (λ lt. written_before at block (partly at new old) i (omega (arith, fits)) lt ∙ partly_new at new old start same_length i lt ∙ sym (partly_new next new old inside same_length i (omega (arith, lt, length_is))))
-      (λ le. ⊎_elim
-      (λ lt. let on : at + (i - at) ≡ i = omega (arith, le) in
-      written_inside at block (partly at new old) i (omega (arith, fits)) le (omega (arith, lt, length_is)) ∙ block_is (i - at) (omega (arith, lt, le, length_is)) ∙ ap (λ k. get_or new k 0) on ∙ sym (partly_new next new old inside same_length i lt))
-      (λ past. written_after at block (partly at new old) i (omega (arith, fits)) (omega (arith, past, length_is)) ∙ partly_old at new old start same_length i le ∙ sym (partly_old next new old inside same_length i past))
-      (cases_lt i next))
-      (cases_lt i at))
 
 -- the bytes of a plan
 module _ (pages directory : ℕ) (before : List ℕ × List ℕ) (count : ℕ) (changes : List ℕ) (pages_small : pages < 2 ^ 32) (directory_small : directory < 2 ^ 32) (count_small : count < 2 ^ 32)

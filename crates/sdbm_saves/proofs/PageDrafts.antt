@@ -1,5 +1,5 @@
 -- The pages of a database, one after another, as a draft writes them.
-use Rattle.std.proofs.Common.{◌≡◌, ℕ, suc, ◌+◌, ◌*◌, ◌-◌, ◌/◌, ◌%◌, ◌<◌, ◌≤◌, ◌^◌, List, ◌++◌, length, take, drop, get_or, sym, ◌∙◌, ap, subst, arith, length-append}
+use Rattle.std.proofs.Common.{◌≡◌, ℕ, suc, ◌+◌, ◌*◌, ◌-◌, ◌/◌, ◌%◌, ◌<◌, ◌≤◌, List, ◌++◌, length, take, drop, get_or, sym, ◌∙◌, ap, subst, arith, length-append}
 use Rattle.std.proofs.lemmas.List.{ext_get_or, get_or_append_left, get_or-append_right}
 use Rattle.sdbm_addr.specs.declared.PageSize.{PageSize}
 use Rattle.sdbm_addr.specs.declared.PageSize.TheVariants.{Small, Wide}
@@ -9,20 +9,15 @@ use Rattle.sdbm_addr.specs.Database.{Database, IsDatabase, pairs_at}
 use Rattle.sdbm_addr.specs.DirectoryFile.{AreDirectoryBytes}
 use Rattle.sdbm_addr.specs.Files.{first_pages, ArePagBytes, IsPageCount}
 use Rattle.sdbm_files.proofs.WriteLemmas.{first_pages-split, length-first_pages, long_page, SpellsDatabase-written}
-use Rattle.sdbm_saves.specs.Disk.{resized, written}
-use Rattle.sdbm_saves.specs.Drafts.{RenewsBlock}
+use Rattle.sdbm_saves.specs.Disk.{resized}
 use Rattle.sdbm_saves.specs.Saves.{AreFilesFor}
 use Rattle.sdbm_saves.proofs.Lists.{length-resized, read_resized}
-use Rattle.sdbm_saves.proofs.Drafts.{partly, partly_old, length_partly, block_written, length_part, part_reads}
+use Rattle.sdbm_saves.proofs.Drafts.{length_part, part_reads}
 
 -- pages that stand within so many
 pub page_inside : (size : PageSize) (n count : ℕ) → n < count → n * page_bytes size + page_bytes size ≤ count * page_bytes size
 page_inside Small n count below = omega (arith, below)
 page_inside Wide n count below = omega (arith, below)
-
-pub few_pages : (size : PageSize) (count : ℕ) → count * page_bytes size < 2 ^ 32 → count ≤ 2 ^ 22
-few_pages Small count short = omega (arith, short)
-few_pages Wide count short = omega (arith, short)
 
 pub next_page : (size : PageSize) (n : ℕ) → n * page_bytes size + page_bytes size ≡ (n + 1) * page_bytes size
 next_page Small n = omega arith
@@ -65,35 +60,6 @@ page_reads db ok n count i below inside =
     ∙ get_or_append_left (before ++ page) split.0 0 (at + i) (omega (arith, length-append before page, long, inside))
     ∙ get_or-append_right before page at (at + i) 0 long (omega arith)
     ∙ ap (λ (k : ℕ). get_or page k 0) on)
-
--- one page more is renewed
-pub page_renewed : (db : Database) → IsDatabase db → (n count whole : ℕ) → n < count → count * page_bytes db.size ≡ whole → (a : ℕ) (given block before after : List ℕ)
-    → a ≡ n * page_bytes db.size → block ≡ bytes_of_page db.size (pairs_at db n)
-    → before ≡ partly (n * page_bytes db.size) (first_pages db count) (resized whole given)
-    → RenewsBlock a given block before after
-    → after ≡ partly ((n + 1) * page_bytes db.size) (first_pages db count) (resized whole given)
-page_renewed db ok n count whole below whole_is a given block before after a_is block_is before_is renews =
-    let new = first_pages db count in
-    let old = resized whole given in
-    let at = n * page_bytes db.size in
-    let next = (n + 1) * page_bytes db.size in
-    let page = bytes_of_page db.size (pairs_at db n) in
-    let new_long : length new ≡ whole = length-first_pages db ok count ∙ whole_is in
-    let same_length : length old ≡ length new = length-resized whole given ∙ sym new_long in
-    let long : length page ≡ page_bytes db.size = long_page db ok n in
-    let block_long : length block ≡ length page = ap (λ (l : List ℕ). length l) block_is in
-    let within : at + page_bytes db.size ≤ count * page_bytes db.size = page_inside db.size n count below in
-    let start : at ≤ length new = omega (arith, within, new_long, whole_is) in
-    let before_long : length before ≡ length new = ap (λ (l : List ℕ). length l) before_is ∙ length_partly at new old start same_length in
-    let room : a + length block ≤ length before = omega (arith, a_is, block_long, long, within, new_long, whole_is, before_long) in
-    let reads : (i : ℕ) → i < length block → get_or before (a + i) 0 ≡ get_or given (a + i) 0 = λ i lt. ap (λ (l : List ℕ). get_or l (a + i) 0) before_is ∙ partly_old at new old start same_length (a + i) (omega (arith, a_is))
-    ∙ read_resized whole given (a + i) (omega (arith, lt, a_is, block_long, long, within, whole_is)) in
-    let ends : at + length page ≡ next = ap (λ (z : ℕ). at + z) long ∙ next_page db.size n in
-    renews room reads
-    ∙ ap (λ (l : List ℕ). written a block l) before_is
-    ∙ ap (λ (z : ℕ). written z block (partly at new old)) a_is
-    ∙ ap (λ (l : List ℕ). written at l (partly at new old)) block_is
-    ∙ block_written at next new old page (omega (arith, ends, long, within, new_long, whole_is)) same_length ends (λ i lt. page_reads db ok n count i below lt)
 
 -- a block of the pages
 module _ (db : Database) (ok : IsDatabase db) (index count whole : ℕ) (below : index < count * in_page db.size) (whole_is : count * page_bytes db.size ≡ whole) where

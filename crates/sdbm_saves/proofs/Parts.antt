@@ -294,10 +294,6 @@ module _ (old : Part) (numbers : List ℕ) (known db : Database) (pag : List ℕ
         long = ⊎_elim (λ le. inl (omega (arith, le, pages_are))) (λ le. inr le) long;
       }
 
-pub near_page : (size : PageSize) (n : ℕ) → n < 2 ^ 32 → n * page_bytes size + page_bytes size < 2 ^ 63
-near_page Small n near = omega (arith, near)
-near_page Wide n near = omega (arith, near)
-
 -- a file that was read where it was marked is renewed to that of the database
 pub marked_made : (old : Marked) (db : Database) (pag : List ℕ) → IsDatabase db → IsMarkedIn old db pag → (whole count : ℕ) (new : List ℕ) → whole ≡ count * page_bytes db.size → HasPages db old.numbers.now whole pag new
     → new ≡ first_pages db count

@@ -43,10 +43,6 @@ pub record AreChanges (pages directory : ℕ) (before : List ℕ × List ℕ) (c
   pub fits : (k : ℕ) → k < count → FitsIn pages directory before (rest_after k changes)
   pub ends : rest_after count changes ≡ []
 
--- a block is written over bytes that read as the old ones did
-abbrev pub RenewsBlock : ℕ → List ℕ → List ℕ → List ℕ → List ℕ → Type 0
-RenewsBlock at old block before after = at + length block ≤ length before → ((i : ℕ) → i < length block → get_or before (at + i) 0 ≡ get_or old (at + i) 0) → after ≡ written at block before
-
 -- bytes are written at an offset of a file that has there, one by one, the old bytes or these
 abbrev pub Puts : ℕ → List ℕ → List ℕ → List ℕ → List ℕ → Type 0
 Puts at old new before after =

@@ -1,12 +1,11 @@
 // What a plan changes of a file, by blocks.
-ghost use Rattle.std.specs.Prelude.{◌≡◌, ◌≢◌, ◌<◌, ◌≤◌, ◌^◌, ◌+◌, ◌/◌, ℕ, List, length, get_or, OnOk};
+ghost use Rattle.std.specs.Prelude.{◌≡◌, ◌≢◌, ◌<◌, ◌≤◌, ◌^◌, ◌+◌, ◌/◌, ◌↔◌, ℕ, List, length, get_or, IsTrue, OnOk};
 ghost use Rattle.sdbm_saves.specs.declared.disk.File.TheVariants.{Redo};
 ghost use Rattle.sdbm_saves.specs.Redo.{data_in};
 ghost use Rattle.sdbm_saves.specs.Drafts.{AreChanges, HasPut, ReadsAt, length_in};
 
 use crate::File;
 use crate::drafting::{Draft, part_of, push};
-use crate::planning::reads_as;
 use std::alloc::{AllocError, Allocator};
 
 /// What is compared and written at once, in bytes.
@@ -76,4 +75,36 @@ pub(crate) fn draft_block<A: Allocator>(
     let was = part_of(alloc, known, 0, block.len())?;
     push(draft, file, at, block, was.as_slice())?;
     Ok(())
+}
+
+// Whether a file reads so from an offset on. A byte past its end counts as zero.
+fn reads_as(old: &[u8], at: usize, block: &[u8]) -> bool
+    requires { at + length block.now < 2 ^ 63 }
+    ensures { IsTrue result ↔ ((i : ℕ) → i < length block.now → get_or block.now i 0 ≡ get_or old.now (at + i) 0) }
+{
+    if at + block.len() <= old.len() {
+        return is_same(&old[at..at + block.len()], block);
+    }
+    let start = at.min(old.len());
+    is_padded(&old[start..], block)
+}
+
+// Whether two lists of bytes are the same.
+fn is_same(one: &[u8], other: &[u8]) -> bool
+    ensures { IsTrue result ↔ one.now ≡ other.now }
+{
+    one == other
+}
+
+// Whether these bytes and zeros behind them are a block.
+fn is_padded(kept: &[u8], block: &[u8]) -> bool
+    ensures { IsTrue result ↔ ((i : ℕ) → i < length block.now → get_or block.now i 0 ≡ get_or kept.now i 0) }
+{
+    for index in 0..block.len() {
+        let byte = if index < kept.len() { kept[index] } else { 0 };
+        if block[index] != byte {
+            return false;
+        }
+    }
+    true
 }

@@ -4,8 +4,7 @@ ghost use Rattle.sdbm_saves.specs.Redo.{file_of, offset_of, size_of, data_of, wa
 ghost use Rattle.sdbm_saves.specs.Recording.{image_of};
 
 use crate::plan::{file_of, is_plan, number, plan_in, rest_of};
-use crate::planning::data_in;
-use crate::{Contents, File, Found};
+use crate::{File, Found};
 
 /// Whether what a save left that was cut off behind its mark can be ended: behind the mark there is a whole plan, and it knows the files.
 /// Each byte of a block that it plans is as it was before that save or as it is to be, and each length is the old one, the new one, or
@@ -142,4 +141,22 @@ fn offers(change: &[u8], file: File, at: usize, byte: u8) -> bool
         return false;
     }
     has(change, at - start, byte)
+}
+
+// The bytes of both data files of a database.
+#[derive(Clone, Copy)]
+struct Contents<'a> {
+    pages: &'a [u8],
+    directory: &'a [u8],
+}
+
+// The bytes of one data file.
+fn data_in<'a>(both: Contents<'a>, file: File) -> &'a [u8]
+    ensures { result.now ≡ data_in (both.entry.pages.now, both.entry.directory.now) file }
+{
+    match file {
+        File::Pages => both.pages,
+        File::Directory => both.directory,
+        File::Redo => &[],
+    }
 }

@@ -26,8 +26,8 @@ pub struct Marked<'a> {
     pub pages: &'a [u8],
 }
 
-/// The plan that makes the files those of a database which differs from them on these pages alone. It is that of `plan_read`, and costs what
-/// these pages and the directory cost. `None` where the files are those of the database already. It takes memory for the plan, and for a
+/// The plan that makes the files those of a database which differs from them on these pages alone. Where the numbers ascend it is that of
+/// `plan_read`, and it costs what these pages and the directory cost. `None` where the files are those of the database already. It takes memory for the plan, and for a
 /// block.
 ///
 /// # Errors

@@ -10,5 +10,5 @@ returns-in_default c = inr (closed_denies Never _ _ _ c.in_default.ensures.none 
 pub returns : goal.returns
 returns c = inl (record {
   code_is = c.code-2.ensures;
-  is = shows (λ d. IsStart d.image c.start.result) _ _ c.deref.result.now _ (c.in-Some.ensures.some ∙ ap Some (sym c.deref.ensures)) c.put.ensures (sym c.deref.ensures) c.start.ensures;
+  is = shows (λ d. IsStart d.image (record { page = 0; end = c.page_count.result; pair = 0 })) _ _ c.deref.result.now _ (c.in-Some.ensures.some ∙ ap Some (sym c.deref.ensures)) c.put.ensures (sym c.deref.ensures) (record { page = refl; pair = refl; end = c.page_count.ensures.count });
 })

@@ -13,8 +13,8 @@ returns-in-Ok-open_at c =
       code_is = c.code-in-Ok-open_at.ensures;
       old_is = shut c.args.slot.now.held (λ p. c.if-boddurci_is_open-eq1.false (c.boddurci_is_open.ensures.word ∙ p));
       new_is = was.1.0;
-      is = subst (λ s. IsOpened (kind_for c.args.unsigned_keys) s c.args.dir.now c.args.pag.now was.0) c.size_of.ensures
-          (subst (λ k. IsOpened k c.size_of.result c.args.dir.now c.args.pag.now was.0) c.kind_of.ensures was.1.1);
+      is = subst (λ s. IsOpened (kind_for c.args.unsigned_keys) s c.args.dir.now c.args.pag.now was.0) c.form_of-kind.ensures.size
+          (subst (λ k. IsOpened k c.form_of-kind.result.1 c.args.dir.now c.args.pag.now was.0) c.form_of-kind.ensures.kind was.1.1);
     })
 
 pub returns-in-Err : goal.returns-in-Err
@@ -24,9 +24,9 @@ returns-in-Err c =
       code_is = c.code-in-Err.ensures ∙ ap code_of c.open_status.ensures;
       closed = shut c.args.slot.now.held (λ p. c.if-boddurci_is_open-eq1.false (c.boddurci_is_open.ensures.word ∙ p));
       same = c.in-Err.ensures.err;
-      is = subst (λ s. IsOpenFault (kind_for c.args.unsigned_keys) s c.args.dir.now c.args.pag.now c.in-Err.fault) c.size_of.ensures
-          (subst (λ k. IsOpenFault k c.size_of.result c.args.dir.now c.args.pag.now c.in-Err.fault) c.kind_of.ensures c.in-Err.ensures.fault);
-      none = λ told. subst (λ s. SpellsNoDatabase (kind_for c.args.unsigned_keys) s c.args.dir.now c.args.pag.now) c.size_of.ensures
-          (subst (λ k. SpellsNoDatabase k c.size_of.result c.args.dir.now c.args.pag.now) c.kind_of.ensures (c.in-Err.ensures.none told));
+      is = subst (λ s. IsOpenFault (kind_for c.args.unsigned_keys) s c.args.dir.now c.args.pag.now c.in-Err.fault) c.form_of-kind.ensures.size
+          (subst (λ k. IsOpenFault k c.form_of-kind.result.1 c.args.dir.now c.args.pag.now c.in-Err.fault) c.form_of-kind.ensures.kind c.in-Err.ensures.fault);
+      none = λ told. subst (λ s. SpellsNoDatabase (kind_for c.args.unsigned_keys) s c.args.dir.now c.args.pag.now) c.form_of-kind.ensures.size
+          (subst (λ k. SpellsNoDatabase k c.form_of-kind.result.1 c.args.dir.now c.args.pag.now) c.form_of-kind.ensures.kind (c.in-Err.ensures.none told));
       text = c.tell.ensures _ refl;
     }))

@@ -1,25 +1,25 @@
-use Rattle.std.proofs.Common.{◌∙◌, ap, refl, subst, inl, inr}
+use Rattle.std.proofs.Common.{◌∙◌, Some, ap, sym, refl, inl, inr}
 use Rattle.boddurci_c.specs.Statuses.{code_of}
-use Rattle.boddurci_c.specs.Calls.{At, Never, Submits}
+use Rattle.boddurci_c.specs.Calls.{Never}
 use Rattle.boddurci_c.proofs.CallLemmas.{closed_denies}
 use Rattle.boddurci_c.proofs.boddurci_submit.Goals as goal
 
-pub returns-in-None : goal.returns-in-None
-returns-in-None c = inr (inr (closed_denies Never _ _ _ c.in-None.ensures.none (c.in-None.ensures.same ∙ c.in-None.ensures.none) c.code.ensures, (refl, (refl, (refl, refl)))))
+pub returns-in_default : goal.returns-in_default
+returns-in_default c = inr (inr (closed_denies Never _ _ _ c.in_default.ensures.none c.take.ensures.closed c.code.ensures, (refl, (refl, (refl, refl)))))
 
-pub returns-in-Some-Ok : goal.returns-in-Some-Ok
-returns-in-Some-Ok c = inl (record {
-  code_is = c.code-in-Some-Ok.ensures;
-  submits = subst (λ r. At c.args.slot.now.held c.submit_at.new.slot.held (Submits c.args.image.now r)) c.in-Some-Ok.field-0-is c.in-Some-Ok.ensures.some;
+pub returns-in-Ok : goal.returns-in-Ok
+returns-in-Ok c = inl (record {
+  code_is = c.code-in-Ok.ensures;
+  submits = record { before = c.deref_mut-open.result.now; after = _; old_is = c.in-Some.ensures.some ∙ ap Some (sym c.deref_mut-open.ensures.value); new_is = c.put.ensures; is = (c.in-Ok.ensures.ok, record { image = refl; marks = refl; base = refl }) };
 })
 
-pub returns-in-Some-Err : goal.returns-in-Some-Err
-returns-in-Some-Err c = inr (inl (
+pub returns-in-Err : goal.returns-in-Err
+returns-in-Err c = inr (inl (
   record {
-    fault = c.in-Some-Err.fault;
+    fault = c.in-Err.fault;
     unit_is = c.unit_of.ensures;
-    code_is = c.code-in-Some-Err.ensures ∙ ap code_of c.fault_status.ensures;
-    submits = subst (λ r. At c.args.slot.now.held c.submit_at.new.slot.held (Submits c.args.image.now r)) c.in-Some-Err.field-0-is c.in-Some-Err.ensures.some;
+    code_is = c.code-in-Err.ensures ∙ ap code_of c.fault_status.ensures;
+    submits = record { before = c.deref_mut-open.result.now; after = _; old_is = c.in-Some.ensures.some ∙ ap Some (sym c.deref_mut-open.ensures.value); new_is = c.put.ensures; is = (c.in-Err.ensures.err, record { image = refl; marks = refl; base = refl }) };
     text = c.tell.ensures _ refl;
   },
   refl,

@@ -12,9 +12,9 @@ use denote.Param.Send.{IsSend, Quiet, AllSend, part_keyless, owning_send, struct
 use Rattle.std.proofs.Crossing as heap
 use Rattle.std.proofs.alloc.Global.TheSendSync as global
 use Rattle.std.specs.declared.alloc.Global.{Global}
-use Rattle.boddurci_c.specs.contracts.db.Db as store
-use Rattle.boddurci_c.specs.declared.db.Db.{Db}
-use Rattle.boddurci_c.proofs.db.Db.TheSendSync.{the_send as store_send}
+use Rattle.boddurci_c.specs.contracts.opened.Db as store
+use Rattle.boddurci_c.specs.declared.opened.Db.{Db}
+use Rattle.boddurci_c.proofs.opened.Db.TheSendSync.{the_send as store_send}
 use Rattle.boddurci_c.specs.Held.{held_at}
 use Rattle.boddurci_c.specs.contracts.handle.Handle.{the_row, the_type}
 

@@ -35,7 +35,7 @@ use denote.RattleType.{RattleType}
 use mir.Syntax.{Fn}
 use Rattle.std.proofs.alloc.Global.TheLaws as heap_laws
 use Rattle.std.specs.contracts.impls.GlobalAllocator.TheImpl.{ghosts}
-use Rattle.boddurci_c.specs.contracts.db.Db as store
+use Rattle.boddurci_c.specs.contracts.opened.Db as store
 use Rattle.boddurci_c.proofs.Values.{both, Loose, loose_good, loose_in}
 use Rattle.boddurci_c.proofs.Handles.{H', Z, shut_good, handle_out, either}
 use Rattle.boddurci_c.specs.contracts.handle.Handle.into_loose as F

@@ -27,7 +27,7 @@ use Rattle.std.specs.declared.option.Option.TheVariants.{Some}
 use denote.RattleType.{RattleType}
 use Rattle.std.proofs.alloc.Global.TheLaws as heap_laws
 use Rattle.std.specs.contracts.impls.GlobalAllocator.TheImpl.{ghosts}
-use Rattle.boddurci_c.specs.contracts.db.Db as store
+use Rattle.boddurci_c.specs.contracts.opened.Db as store
 use Rattle.boddurci_c.specs.declared.handle.Handle.{Handle}
 use Rattle.boddurci_c.proofs.Values.{both, Loose, loose_good, loose_out}
 use Rattle.boddurci_c.proofs.Handles.{H', Z, handle_in}

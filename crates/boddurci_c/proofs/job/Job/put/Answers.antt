@@ -8,8 +8,8 @@ use Rattle.boddurci_c.specs.Tickets.{IsCurrent}
 use Rattle.boddurci_c.proofs.Jobs.{may_put, put_acts, put_fits}
 use Rattle.boddurci_c.proofs.job.Job.put.Goals as goal
 
-pub put_in-requires : goal.put_in-requires
-put_in-requires c =
+pub put_marked-requires : goal.put_marked-requires
+put_marked-requires c =
     let a : Asked = record { command = c.self.inside.command; place = c.self.inside.place; kind = c.self.inside.kind; page = c.self.inside.page; is_worked = is_some c.self.inside.worked } in
     let now : IsCurrent c.args.image.now a = subst (λ (x : Asked). IsCurrent c.args.image.now x) (sym c.self.view_is) c.requires.current in
     let out : IsWorkedOut a c.in-Some.field-0 = subst (λ (w : Option (Worked Global)). IfSome w (IsWorkedOut a)) (sym c.in-Some.ensures.value) c.self.invariant.done in
@@ -20,8 +20,8 @@ returns-in-Ok-clause-ok c =
     let a : Asked = record { command = c.self.inside.command; place = c.self.inside.place; kind = c.self.inside.kind; page = c.self.inside.page; is_worked = is_some c.self.inside.worked } in
     let now : IsCurrent c.args.image.now a = subst (λ (x : Asked). IsCurrent c.args.image.now x) (sym c.self.view_is) c.requires.current in
     let out : IsWorkedOut a c.in-Some.field-0 = subst (λ (w : Option (Worked Global)). IfSome w (IsWorkedOut a)) (sym c.in-Some.ensures.value) c.self.invariant.done in
-    subst (λ (x : Asked). Acts c.args.image.now (record { session = 0; command = x.command; reply = c.in-Some.field-0.reply }) c.put_in.new.image) c.self.view_is
-    (put_acts c.args.image.now c.requires.database a c.in-Some.field-0 now c.self.invariant.workable out c.put_in.new.image c.in-Ok.ensures.ok)
+    subst (λ (x : Asked). Acts c.args.image.now (record { session = 0; command = x.command; reply = c.in-Some.field-0.reply }) c.put_marked.new.image) c.self.view_is
+    (put_acts c.args.image.now c.requires.database a c.in-Some.field-0 now c.self.invariant.workable out c.put_marked.new.image c.in-Ok.ensures.ok)
 
 pub returns-in-Ok-clause-fits : goal.returns-in-Ok-clause-fits
 returns-in-Ok-clause-fits c =
@@ -29,4 +29,4 @@ returns-in-Ok-clause-fits c =
     let now : IsCurrent c.args.image.now a = subst (λ (x : Asked). IsCurrent c.args.image.now x) (sym c.self.view_is) c.requires.current in
     let out : IsWorkedOut a c.in-Some.field-0 = subst (λ (w : Option (Worked Global)). IfSome w (IsWorkedOut a)) (sym c.in-Some.ensures.value) c.self.invariant.done in
     let grows = subst (λ (x : Asked). may_grow x.page.size (has_pairs x.page.pairs) x.place.page (result_of x).change ≡ true) (sym c.self.view_is) c.requires.grows in
-    put_fits c.args.image.now c.requires.database a c.in-Some.field-0 now c.self.invariant.workable out grows c.put_in.new.image c.in-Ok.ensures.ok
+    put_fits c.args.image.now c.requires.database a c.in-Some.field-0 now c.self.invariant.workable out grows c.put_marked.new.image c.in-Ok.ensures.ok

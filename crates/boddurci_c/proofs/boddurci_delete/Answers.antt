@@ -1,0 +1,19 @@
+use Rattle.std.proofs.Common.{◌∙◌, Some, ap, sym, inl, inr}
+use Rattle.store_cmd.specs.declared.Command.TheVariants.{Delete}
+use Rattle.boddurci_c.specs.Statuses.{code_of}
+use Rattle.boddurci_c.specs.Calls.{DeniesBy}
+use Rattle.boddurci_c.proofs.CallLemmas.{closed_denies, denies}
+use Rattle.boddurci_c.proofs.boddurci_delete.Goals as goal
+
+pub returns-in_default : goal.returns-in_default
+returns-in_default c = inr (closed_denies (λ d status. DeniesBy d (Delete c.args.key.now) status) _ _ _ c.in_default.ensures.none c.take.ensures.closed c.code.ensures)
+
+pub returns-in-Ok : goal.returns-in-Ok
+returns-in-Ok c = inl (record {
+  reply = c.in-Ok.reply;
+  code_is = c.code-in-Ok.ensures ∙ ap code_of c.of_reply.ensures;
+  does = record { before = c.deref_mut.result.now; after = c.delete-done.new.db; old_is = c.in-Some.ensures.some ∙ ap Some (sym c.deref_mut.ensures.value); new_is = c.put.ensures; is = c.in-Ok.ensures.ok };
+})
+
+pub returns-in-Err : goal.returns-in-Err
+returns-in-Err c = inr (denies (λ d status. DeniesBy d (Delete c.args.key.now) status) _ _ _ c.deref_mut.result.now c.delete-done.new.db c.in-Err.status (c.in-Some.ensures.some ∙ ap Some (sym c.deref_mut.ensures.value)) c.put.ensures c.in-Err.ensures.err c.code-in-Err.ensures c.in-Err.ensures.why)

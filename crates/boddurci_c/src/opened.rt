@@ -1,0 +1,19 @@
+//! An open database with its programs.
+ghost use Rattle.boddurci_c.specs.Marks.{DifferOn, DifferOn-prop};
+
+use crate::base::Base;
+use crate::marks::Marks;
+use prog_registry::Registry;
+use sdbm_files::Image;
+use std::alloc::Global;
+
+/// An open database with its programs, and the numbers of the pages that may differ from those of its base: the database that was opened,
+/// or of which the last plan was made.
+#[derive(Drop)]
+pub struct Db {
+    pub image: Image<Global>,
+    pub registry: Registry<Global>,
+    pub marks: Marks,
+    pub base: Base,
+    pub ghost differ: { DifferOn marks base.database image } by { DifferOn-prop marks base.database image },
+}

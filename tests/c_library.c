@@ -1,24 +1,10 @@
 /* Calls of the library from C: every call and every status (calls), threads under a mutex (threads SECONDS), and each growth of memory
  * refused in turn (growths). tests/c_library builds and runs it. The last line says how much was looked at. */
-#include "boddurci.h"
+#include "c_library.h"
 #include <pthread.h>
-#include <stdio.h>
-#include <stdlib.h>
-#include <string.h>
 #include <time.h>
 
-#define BYTES(text) ((const uint8_t *)(text)), (sizeof(text) - 1)
-
-static unsigned long looked;
-
-#define EXPECT(what)                                                                                                               \
-    do {                                                                                                                           \
-        looked++;                                                                                                                  \
-        if (!(what)) {                                                                                                             \
-            fprintf(stderr, "c_library.c:%d: not so: %s\n", __LINE__, #what);                                                      \
-            exit(1);                                                                                                               \
-        }                                                                                                                          \
-    } while (0)
+unsigned long looked;
 
 /* ---- memory: the linker puts these in front of malloc and realloc */
 
@@ -69,20 +55,14 @@ static void assemble_counter(void)
     EXPECT(counter_length == 64);
 }
 
-static void open_empty(boddurci *db, uint32_t wide, uint32_t unsigned_keys)
+void open_empty(boddurci *db, uint32_t wide, uint32_t unsigned_keys)
 {
     uint8_t text[100];
     size_t length;
     EXPECT(boddurci_open(db, BODDURCI_NO_BYTES, BODDURCI_NO_BYTES, wide, unsigned_keys, text, sizeof text, &length) == BODDURCI_DONE);
 }
 
-/* The bytes of both files, which are to be freed. */
-struct files {
-    uint8_t *dir, *pag;
-    size_t dir_length, pag_length;
-};
-
-static struct files files_of(boddurci *db)
+struct files files_of(boddurci *db)
 {
     struct files files;
     uint8_t none[2];
@@ -95,13 +75,13 @@ static struct files files_of(boddurci *db)
     return files;
 }
 
-static int are_same(struct files a, struct files b)
+int are_same(struct files a, struct files b)
 {
     return a.dir_length == b.dir_length && a.pag_length == b.pag_length && memcmp(a.dir, b.dir, a.dir_length) == 0 &&
            memcmp(a.pag, b.pag, a.pag_length) == 0;
 }
 
-static void free_files(struct files files)
+void free_files(struct files files)
 {
     free(files.dir);
     free(files.pag);
@@ -475,151 +455,7 @@ static void test_many_tickets(void)
     boddurci_close(&model);
 }
 
-/* ---- plans of saves */
-
-static uint32_t number_at(const uint8_t *at)
-{
-    return at[0] | (uint32_t)at[1] << 8 | (uint32_t)at[2] << 16 | (uint32_t)at[3] << 24;
-}
-
-enum { PLAN_HEAD = 28, CHANGE_HEAD = 9 };
-
-/* Whether the old bytes of a change are those that stand in a file, where one past the end is zero. */
-static int is_old(const uint8_t *told, size_t offset, size_t size, const uint8_t *old, size_t old_length)
-{
-    for (size_t i = 0; i < size; i++)
-        if (told[i] != (offset + i < old_length ? old[offset + i] : 0))
-            return 0;
-    return 1;
-}
-
-/* One file of those that a plan makes of the old ones, which is to be freed. */
-static uint8_t *made_by(const uint8_t *plan, size_t length, int file, const uint8_t *old, size_t old_length, size_t *new_length)
-{
-    const uint8_t *at = plan + PLAN_HEAD;
-    *new_length = number_at(plan + 8 + 4 * file);
-    uint8_t *made = calloc(1, *new_length + old_length + 1);
-    memcpy(made, old, old_length);
-    memset(made + *new_length, 0, old_length);
-    EXPECT(number_at(plan + 16 + 4 * file) == old_length);
-    for (uint32_t left = number_at(plan + 24); left != 0; left--) {
-        size_t offset = number_at(at + 1), size = number_at(at + 5);
-        EXPECT(at[0] <= 1 && size != 0 && size <= 1024 && offset + size <= number_at(plan + 8 + 4 * at[0]));
-        if (at[0] == file) {
-            EXPECT(is_old(at + CHANGE_HEAD + size, offset, size, old, old_length));
-            memcpy(made + offset, at + CHANGE_HEAD, size);
-        }
-        at += CHANGE_HEAD + 2 * size;
-    }
-    EXPECT(at == plan + length && !memcmp(plan, "sdbmred2", 8));
-    return made;
-}
-
-/* The plan for old files of which so many pages are read. */
-static uint32_t plan_all(boddurci *db, struct files old, size_t count, size_t page, uint8_t *plan, size_t room, size_t *length)
-{
-    uint32_t *numbers = malloc((count + 1) * sizeof *numbers);
-    uint8_t *pages = calloc(count + 1, page);
-    memcpy(pages, old.pag, old.pag_length);
-    for (size_t i = 0; i < count; i++)
-        numbers[i] = (uint32_t)i;
-    uint32_t status = boddurci_plan(db, old.dir, old.dir_length, old.pag_length, numbers, count, pages, count * page, plan, room, length);
-    free(numbers);
-    free(pages);
-    return status;
-}
-
-static size_t changed_in(boddurci *db)
-{
-    uint32_t none;
-    size_t count;
-    EXPECT(boddurci_changed(db, &none, 0, &count) == (count == 0 ? BODDURCI_DONE : BODDURCI_SHORT_ROOM));
-    return count;
-}
-
-/* Whether the plan for the old files makes them those of a database, and how long it is. */
-static size_t plan_from(boddurci *db, struct files old, size_t page)
-{
-    uint8_t none[1];
-    size_t length, again;
-    struct files wanted = files_of(db), made;
-    size_t count = (old.pag_length > wanted.pag_length ? old.pag_length : wanted.pag_length) / page, changed = changed_in(db);
-    uint32_t status = plan_all(db, old, count, page, none, 0, &length);
-    EXPECT(status == (length == 0 ? BODDURCI_DONE : BODDURCI_SHORT_ROOM) && (length == 0) == are_same(old, wanted));
-    EXPECT(changed_in(db) == (length == 0 ? 0 : changed));
-    uint8_t *plan = malloc(length + 1);
-    plan[length] = 77;
-    if (length != 0) {
-        EXPECT(plan_all(db, old, count, page, plan, length - 1, &again) == BODDURCI_SHORT_ROOM && changed_in(db) == changed);
-        EXPECT(plan_all(db, old, count, page, plan, length, &again) == BODDURCI_DONE && again == length && changed_in(db) == 0);
-        made.pag = made_by(plan, length, 0, old.pag, old.pag_length, &made.pag_length);
-        made.dir = made_by(plan, length, 1, old.dir, old.dir_length, &made.dir_length);
-        EXPECT(are_same(made, wanted) && plan[length] == 77);
-        free_files(made);
-    }
-    free(plan);
-    free_files(wanted);
-    return length;
-}
-
-static void test_plans(uint32_t wide)
-{
-    enum { BLOCK = CHANGE_HEAD + 2 * 1024 };
-    boddurci db = BODDURCI_CLOSED;
-    size_t page = wide ? 8192 : 1024;
-    char key[16];
-    open_empty(&db, wide, 0);
-    struct files empty = files_of(&db);
-    EXPECT(plan_from(&db, empty, page) == 0);
-    for (int i = 0; i < 3000; i++)
-        EXPECT(boddurci_store(&db, (const uint8_t *)key, (size_t)snprintf(key, sizeof key, "%d", i), (const uint8_t *)&i, sizeof i, 1) ==
-               BODDURCI_DONE);
-    struct files full = files_of(&db);
-    size_t whole = plan_from(&db, empty, page);
-    EXPECT(whole > 3000 * 8 && plan_from(&db, full, page) == 0);
-    EXPECT(boddurci_store(&db, BYTES("7"), BYTES("another"), 1) == BODDURCI_DONE && changed_in(&db) == 1);
-    size_t one = plan_from(&db, full, page) - PLAN_HEAD;
-    EXPECT(one % BLOCK == 0 && one >= BLOCK && one <= BLOCK * page / 1024);
-    for (int i = 0; i < 3000; i++)
-        EXPECT(boddurci_delete(&db, (const uint8_t *)key, (size_t)snprintf(key, sizeof key, "%d", i)) == BODDURCI_DONE);
-    plan_from(&db, full, page);
-    plan_from(&db, empty, page);
-    free_files(empty);
-    free_files(full);
-    boddurci_close(&db);
-}
-
-/* Which pages count as changed, and plans that know of them or do not. */
-static void test_marks(void)
-{
-    static uint8_t pages[2048], plan[8192];
-    static const uint32_t some[] = {5, 0, 5};
-    uint32_t numbers[4] = {9, 9, 9, 9};
-    boddurci db = BODDURCI_CLOSED;
-    size_t count, length;
-    open_empty(&db, 0, 0);
-    EXPECT(changed_in(&db) == 0);
-    EXPECT(boddurci_delete(&db, BYTES("a")) == BODDURCI_MISSING && changed_in(&db) == 0);
-    EXPECT(boddurci_store(&db, BYTES("a"), BYTES("b"), 1) == BODDURCI_DONE && boddurci_store(&db, BYTES("b"), BYTES("b"), 1) == BODDURCI_DONE);
-    EXPECT(boddurci_changed(&db, numbers, 0, &count) == BODDURCI_SHORT_ROOM && count == 1 && numbers[0] == 9);
-    EXPECT(boddurci_changed(&db, numbers, 4, &count) == BODDURCI_DONE && count == 1 && numbers[0] == 0 && numbers[1] == 9);
-    length = 7;
-    EXPECT(boddurci_plan(&db, BODDURCI_NO_BYTES, 0, numbers, 0, BODDURCI_NO_BYTES, plan, sizeof plan, &length) == BODDURCI_STALE && length == 7);
-    EXPECT(boddurci_plan(&db, BODDURCI_NO_BYTES, 0, numbers, 1, pages, 1023, plan, sizeof plan, &length) == BODDURCI_STALE && length == 7);
-    EXPECT(boddurci_plan(&db, BODDURCI_NO_BYTES, 0, some, 1, pages, 1024, plan, sizeof plan, &length) == BODDURCI_STALE && changed_in(&db) == 1);
-    EXPECT(boddurci_plan(&db, BODDURCI_NO_BYTES, 0, some, 2, pages, 2048, plan, sizeof plan, &length) == BODDURCI_DONE && changed_in(&db) == 0);
-    EXPECT(length == PLAN_HEAD + CHANGE_HEAD + 2 * 1024);
-    EXPECT(boddurci_mark(&db, some, 3) == BODDURCI_DONE && changed_in(&db) == 2 && boddurci_mark(&db, some, 0) == BODDURCI_DONE);
-    EXPECT(boddurci_changed(&db, numbers, 4, &count) == BODDURCI_DONE && numbers[0] == 5 && numbers[1] == 0);
-    /* A page with garbage among its free bytes counts as changed from the opening on. */
-    struct files files = files_of(&db);
-    boddurci_close(&db);
-    files.pag[500] = 1;
-    EXPECT(boddurci_open(&db, files.dir, files.dir_length, files.pag, files.pag_length, 0, 0, pages, sizeof pages, &length) == BODDURCI_DONE);
-    EXPECT(boddurci_changed(&db, numbers, 4, &count) == BODDURCI_DONE && count == 1 && numbers[0] == 0);
-    free_files(files);
-    boddurci_close(&db);
-}
+/* ---- walks, files and texts */
 
 static void test_turns(void)
 {
@@ -784,6 +620,9 @@ static void test_threads(int seconds)
 
 enum { STEPS = 80 };
 
+/* How many refusals a call told. */
+static unsigned long told_growths;
+
 /* The plan of what changed, beside files that were empty. */
 static uint32_t plan_changed(boddurci *db, uint8_t *plan, size_t room)
 {
@@ -827,105 +666,127 @@ static uint32_t do_step(boddurci *db, boddurci_ticket *ticket, int step)
     case 55: return boddurci_finish(db, ticket, &end, &word);
     case 56: return boddurci_files(db, dir, sizeof dir, &length, pag, sizeof pag, &unit);
     case 57: return plan_changed(db, pag, sizeof pag);
-    case 60: return boddurci_mark(db, &many, 1);
     case 58: return boddurci_run(db, 0, (const uint8_t *)key, key_length, BODDURCI_NO_BYTES, 1, 900, 0, &end, &word);
     case 59: return boddurci_run(db, 0, (const uint8_t *)key, key_length, BODDURCI_NO_BYTES, 1, 900, 0, &end, &word);
+    case 60: return boddurci_mark(db, &many, 1);
     default: return boddurci_store(db, (const uint8_t *)key, key_length, value, sizeof value, 1);
     }
 }
 
+/* One step, in which the nth growth from the first step on may be refused: it is done all the same, or nothing is done. Then it is done
+ * again. Whether it was met is told. */
+static int refuse_in_step(boddurci *db, boddurci_ticket *ticket, int step, unsigned long nth, uint32_t expected)
+{
+    struct files before = {NULL, NULL, 0, 0}, after;
+    if (step > 0)
+        before = files_of(db);
+    refused = nth;
+    uint32_t status = do_step(db, ticket, step);
+    int was_met = growths >= nth;
+    refused = 0;
+    EXPECT(status == expected || (was_met && status == BODDURCI_NO_MEMORY));
+    if (status == BODDURCI_NO_MEMORY) {
+        told_growths++;
+        EXPECT(boddurci_is_open(db) == (step > 0));
+        if (step > 0) {
+            after = files_of(db);
+            EXPECT(are_same(before, after));
+            free_files(after);
+        }
+        EXPECT(do_step(db, ticket, step) == expected);
+    }
+    free_files(before);
+    return was_met;
+}
+
+/* All steps, with the nth growth refused, or none where it is 0. Whether it was met is told. */
+static int refuse_in_steps(unsigned long nth, uint32_t *expected, struct files *made)
+{
+    boddurci db = BODDURCI_CLOSED;
+    boddurci_ticket ticket = BODDURCI_FREE;
+    int was_met = 0;
+    growths = 0;
+    for (int step = 0; step < STEPS; step++)
+        if (nth == 0)
+            expected[step] = do_step(&db, &ticket, step);
+        else if (!was_met)
+            was_met = refuse_in_step(&db, &ticket, step, nth, expected[step]);
+        else
+            EXPECT(do_step(&db, &ticket, step) == expected[step]);
+    *made = files_of(&db);
+    boddurci_close(&db);
+    return was_met;
+}
+
+/* An opening of these files, with the nth growth refused. Whether it was met is told. */
+static int refuse_in_opening(unsigned long nth, struct files files)
+{
+    boddurci db = BODDURCI_CLOSED;
+    uint8_t text[100];
+    size_t length;
+    growths = 0;
+    refused = nth;
+    uint32_t status = boddurci_open(&db, files.dir, files.dir_length, files.pag, files.pag_length, 0, 0, text, sizeof text, &length);
+    int was_met = growths >= nth;
+    refused = 0;
+    EXPECT(status == BODDURCI_DONE || (status == BODDURCI_NO_MEMORY && !boddurci_is_open(&db) && was_met));
+    boddurci_close(&db);
+    return was_met;
+}
+
 static void test_growths(void)
 {
-    unsigned long most = 0, calls = 0;
-    struct files whole = {NULL, NULL, 0, 0};
     uint32_t expected[STEPS];
-    for (unsigned long nth = 0;; nth++) {
-        boddurci db = BODDURCI_CLOSED, other = BODDURCI_CLOSED;
-        boddurci_ticket ticket = BODDURCI_FREE;
-        uint8_t text[100];
-        size_t length;
-        int was_refused = 0;
-        growths = 0;
-        for (int step = 0; step < STEPS; step++) {
-            struct files before = {NULL, NULL, 0, 0};
-            refused = 0;
-            if (step > 0)
-                before = files_of(&db);
-            refused = nth;
-            uint32_t status = do_step(&db, &ticket, step);
-            if (nth != 0 && growths >= nth && !was_refused) {
-                /* The refusal fell into this step: it is done all the same, or nothing is done, and then it is done again. */
-                was_refused = 1;
-                refused = 0;
-                EXPECT(status == expected[step] || status == BODDURCI_NO_MEMORY);
-                if (status == BODDURCI_NO_MEMORY) {
-                    EXPECT(boddurci_is_open(&db) == (step > 0));
-                    if (step > 0) {
-                        struct files after = files_of(&db);
-                        EXPECT(are_same(before, after));
-                        free_files(after);
-                    }
-                    status = do_step(&db, &ticket, step);
-                    calls++;
-                }
-            }
-            if (nth == 0)
-                expected[step] = status;
-            EXPECT(status == expected[step] && status != BODDURCI_NO_MEMORY);
-            free_files(before);
-        }
-        refused = 0;
-        struct files files = files_of(&db);
-        if (nth == 0)
-            whole = files;
-        EXPECT(are_same(files, whole));
-        growths = 0;
-        refused = nth;
-        uint32_t status = boddurci_open(&other, files.dir, files.dir_length, files.pag, files.pag_length, 0, 0, text, sizeof text, &length);
-        EXPECT(status == BODDURCI_DONE || (status == BODDURCI_NO_MEMORY && !boddurci_is_open(&other) && growths >= nth));
-        int opening = nth != 0 && growths >= nth;
-        refused = 0;
-        boddurci_close(&other);
-        boddurci_close(&db);
-        if (nth != 0)
-            free_files(files);
-        if (nth != 0 && !was_refused && !opening)
-            break;
-        most = nth;
+    struct files whole, made;
+    unsigned long nth = 0;
+    int in_steps = 1, in_opening = 1;
+    refuse_in_steps(0, expected, &whole);
+    for (int step = 0; step < STEPS; step++)
+        EXPECT(expected[step] != BODDURCI_NO_MEMORY);
+    while (in_steps || in_opening) {
+        nth++;
+        in_steps = refuse_in_steps(nth, expected, &made);
+        EXPECT(are_same(made, whole));
+        in_opening = refuse_in_opening(nth, made);
+        free_files(made);
     }
     free_files(whole);
-    EXPECT(calls != 0);
-    printf("%lu growths refused in turn, %lu of them told\n", most, calls);
+    EXPECT(told_growths != 0);
+    printf("%lu growths refused in turn, %lu of them told\n", nth - 1, told_growths);
+}
+
+static void test_calls(void)
+{
+    test_closed();
+    test_unwritten();
+    for (uint32_t wide = 0; wide < 2; wide++)
+        for (uint32_t unsigned_keys = 0; unsigned_keys < 2; unsigned_keys++)
+            test_pairs(wide, unsigned_keys);
+    test_crowded();
+    test_too_long();
+    test_programs();
+    test_arguments();
+    test_tickets();
+    test_meanwhile();
+    test_many_tickets();
+    test_plans(0);
+    test_plans(1);
+    test_marks();
+    test_turns();
+    test_files();
+    test_texts();
 }
 
 int main(int argc, char **argv)
 {
     const char *what = argc > 1 ? argv[1] : "calls";
     assemble_counter();
-    if (strcmp(what, "threads") == 0) {
+    if (strcmp(what, "threads") == 0)
         test_threads(argc > 2 ? atoi(argv[2]) : 2);
-    } else if (strcmp(what, "growths") == 0) {
+    else if (strcmp(what, "growths") == 0)
         test_growths();
-    } else {
-        test_closed();
-        test_unwritten();
-        for (uint32_t wide = 0; wide < 2; wide++)
-            for (uint32_t unsigned_keys = 0; unsigned_keys < 2; unsigned_keys++)
-                test_pairs(wide, unsigned_keys);
-        test_crowded();
-        test_too_long();
-        test_programs();
-        test_arguments();
-        test_tickets();
-        test_meanwhile();
-        test_many_tickets();
-        test_plans(0);
-        test_plans(1);
-        test_marks();
-        test_turns();
-        test_files();
-        test_texts();
-    }
+    else
+        test_calls();
     printf("%lu answers as expected\n", looked);
     return 0;
 }

@@ -1,7 +1,7 @@
 -- Pairs listed one by one.
-use Rattle.std.proofs.Common.{◌≡◌, ℕ, ◌+◌, ◌<◌, nat_eq, List, [], ◌∷◌, ◌++◌, length, take, get_or, ap, ◌∙◌}
+use Rattle.std.proofs.Common.{◌≡◌, ℕ, ◌+◌, ◌<◌, nat_eq, List, [], ◌∷◌, ◌++◌, length, take, drop, get_or, ap, sym, ◌∙◌}
 use Rattle.std.proofs.lemmas.Grind.{flat_map-append}
-use Rattle.std.proofs.lemmas.List.{map_more}
+use Rattle.std.proofs.lemmas.List.{map_more, map-append, take-append-drop}
 use Rattle.std.proofs.lemmas.List.Elements.{filter-append}
 use Rattle.std.specs.List.{flat_map, starts_with}
 use Rattle.std.specs.Borrow.{Bor}
@@ -24,3 +24,14 @@ pub rows_more : {A : Type 0} (n : Notation A) (listing : Listing) (prefix : List
     → rows n listing prefix (pairs_lent (take (i + 1) lent)) ≡ rows n listing prefix (pairs_lent (take i lent)) ++ rows n listing prefix (pair_lent (get_or lent i d) ∷ [])
 rows_more n listing prefix lent i d h =
     ap (rows n listing prefix) (map_more pair_lent lent i d h) ∙ rows-append n listing prefix (pairs_lent (take i lent)) (pair_lent (get_or lent i d) ∷ [])
+
+-- the rows before a pair, its own, and those behind it
+pub rows_around : {A : Type 0} (n : Notation A) (listing : Listing) (prefix : List ℕ) (lent : List (Bor (List ℕ) × Bor (List ℕ))) (i : ℕ) (d : Bor (List ℕ) × Bor (List ℕ)) → i < length lent
+    → rows n listing prefix (pairs_lent lent)
+    ≡ (rows n listing prefix (pairs_lent (take i lent)) ++ rows n listing prefix (pair_lent (get_or lent i d) ∷ [])) ++ rows n listing prefix (pairs_lent (drop (i + 1) lent))
+rows_around n listing prefix lent i d h =
+    let rest = pairs_lent (drop (i + 1) lent) in
+    ap (λ (xs : List (Bor (List ℕ) × Bor (List ℕ))). rows n listing prefix (pairs_lent xs)) (sym (take-append-drop (i + 1) lent))
+    ∙ ap (rows n listing prefix) (map-append pair_lent (take (i + 1) lent) (drop (i + 1) lent))
+    ∙ rows-append n listing prefix (pairs_lent (take (i + 1) lent)) rest
+    ∙ ap (λ (xs : List ℕ). xs ++ rows n listing prefix rest) (rows_more n listing prefix lent i d h)

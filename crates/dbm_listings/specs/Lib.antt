@@ -4,3 +4,4 @@ pub mod List
 pub mod Keys
 pub mod Check
 pub mod Stats
+pub mod Streams

@@ -1,38 +1,37 @@
-//! The pairs whose keys begin with a prefix.
-ghost use Rattle.std.specs.Prelude.{◌≡◌, IfOk, IfErr, IsSomeAnd};
+//! What a listing reads: its prefix and its database.
+ghost use Rattle.std.specs.Prelude.{◌≡◌, Some, IfOk, IfErr};
 ghost use Rattle.dbm_reports.specs.Causes.{IsCaused};
-ghost use Rattle.dbm_reports.specs.Reports.{OnDatabase};
-ghost use Rattle.dbm_listings.specs.Listings.{Lists, listing_causes};
+ghost use Rattle.dbm_reports.specs.Databases.{IsOpened};
+ghost use Rattle.dbm_listings.specs.Listings.{listing_causes};
 ghost use Rattle.dbm_listings.specs.Rows.{prefix_asked};
 
-use crate::rows::{Listing, show_rows};
-use dbm_reports::{Given, Report, ReportFault, bad_words, open, printed};
+use dbm_reports::{Given, ReportFault, bad_words, open};
 use dbm_script::{Notation, read_bytes};
 use dbm_words::Form;
 use sdbm_addr::Bytes;
 use sdbm_files::Image;
 use std::alloc::{AllocError, Global};
 
-/// The pairs whose keys begin with a prefix, a row each. The prefix is read first.
+/// The prefix that a word asks, and then the database of the files.
 ///
 /// # Errors
 /// `BadHex`, or as text `BadText`, where the prefix is no bytes, and those of `open`.
-pub fn report_rows(
+pub fn open_asked(
     alloc: Global,
     notation: &Notation<Global>,
     given: &Given,
     form: Form,
     prefix: Option<&str>,
-    listing: Listing,
-) -> Result<Report, ReportFault>
-    ensures ok { IfOk result (λ report. IsSomeAnd (prefix_asked notation.now prefix.entry) (λ begin. OnDatabase form given.now (Lists notation.now listing begin report))) }
+) -> Result<(Bytes<Global>, Image<Global>), ReportFault>
+    ensures begin { IfOk result (λ asked. prefix_asked notation.now prefix.entry ≡ Some asked.0) }
+    ensures image { IfOk result (λ asked. IsOpened form given.now asked.1) }
     ensures fault { IfErr result (IsCaused (listing_causes notation.now form given.now prefix.entry)) }
 {
     let Some(begin) = read_prefix(alloc, notation, prefix)? else {
         return Err(bad_words(notation));
     };
     let image = open(alloc, given, form)?;
-    Ok(list(alloc, notation, &image, listing, begin.as_slice())?)
+    Ok((begin, image))
 }
 
 // The prefix that a word asks; without one it has no bytes.
@@ -47,19 +46,4 @@ fn read_prefix(
         None => Ok(Some(Bytes::new(Vec::new(alloc)))),
         Some(word) => read_bytes(alloc, notation, word.as_bytes()),
     }
-}
-
-// The pairs whose keys begin with a prefix, or their keys alone, a row each.
-fn list(
-    alloc: Global,
-    notation: &Notation<Global>,
-    image: &Image<Global>,
-    listing: Listing,
-    prefix: &[u8],
-) -> Result<Report, AllocError>
-    ensures { IfOk result (λ report. Lists notation.now listing prefix.now report image.now) }
-{
-    let pairs = image.lend_pairs()?;
-    let text = show_rows(alloc, notation, listing, prefix, pairs.as_slice())?;
-    Ok(printed(text))
 }

@@ -1,20 +1,22 @@
 //! `keys`: keys, sorted by their bytes.
-ghost use Rattle.std.specs.Prelude.{◌≡◌, IfOk, IfSome, IsNone, false};
+ghost use Rattle.std.specs.Prelude.{◌≡◌, IfOk, IfErr, IfSome, IsNone, false, is_some};
 ghost use Rattle.clap.specs.Words.{found_of, rows_of};
 ghost use Rattle.dbm_words.specs.CommandLine.{IsSubcommand};
 ghost use Rattle.dbm_words.specs.Given.{has_words};
+ghost use Rattle.dbm_reports.specs.Causes.{IsCaused};
+ghost use Rattle.dbm_reports.specs.Served.{IsPrinted, IsUnserved};
 ghost use Rattle.dbm_listings.specs.Keys as spec;
-ghost use Rattle.dbm_listings.specs.Keys.{KeysAsks};
+ghost use Rattle.dbm_listings.specs.Keys.{KeysAsks, keys_in};
 
-use crate::chosen::report_rows;
 use crate::rows::keys_listing;
+use crate::streamed::serve_rows;
 use clap::{ArgMatches, Command};
-use dbm_reports::{Given, Report, ReportFault, Subcommand};
+use dbm_reports::{Given, ReportFault, Served, Unserved};
 use dbm_script::Notation;
 use dbm_words::arguments::{base, null, prefix, text, timeout, unsigned, verbose, wide};
 use dbm_words::{Form, Named, NotationOptions, Words, form, has_flag, notation, subcommand, word};
 use std::alloc::{AllocError, Global};
-use std::io::Read;
+use std::io::Write;
 
 /// All keys, or those that begin with a prefix: with `null` as raw bytes, each ended by a zero byte.
 #[derive(Clone, Copy, Debug)]
@@ -55,6 +57,33 @@ impl<'a> Keys<'a> {
             ..Words::on(Some(self.base), self.form)
         }
     }
+
+    /// Serves it: writes its rows as they are made.
+    ///
+    /// # Errors
+    /// Those of `serve_rows`.
+    pub fn serve<W: Write>(
+        &self,
+        alloc: Global,
+        notation: &Notation<Global>,
+        given: &Given,
+        writer: &mut W,
+    ) -> Result<Served, Unserved<ReportFault>>
+        ensures ok { IfOk result (λ served. IsPrinted (keys_in notation.now self.now given.now).reports (W.contents writer.old) (W.contents writer.new) served.status served.database) }
+        ensures fault { IfErr result (IsUnserved (keys_in notation.now self.now given.now).reports (IsCaused (keys_in notation.now self.now given.now).causes) (W.contents writer.old) (W.contents writer.new)) }
+        ensures database { IfOk result (λ served. is_some served.database ≡ false) }
+    {
+        let listing = keys_listing(self.null);
+        serve_rows(
+            alloc,
+            notation,
+            given,
+            self.form,
+            self.prefix,
+            listing,
+            writer,
+        )
+    }
 }
 
 /// The subcommand `keys`, as `clap` is told it.
@@ -78,31 +107,4 @@ pub fn keys_command<'a>(alloc: Global) -> Result<Command<'a>, AllocError>
     let notes = "Prints each key in a line, in hex, or . for no bytes.\n\n\
          Example: dbm keys users --text --prefix user:";
     subcommand(alloc, "keys", about, notes, args)
-}
-
-impl Subcommand for Keys<'_> {
-    ghost use Rattle.std.specs.Prelude.{false};
-    ghost use Rattle.dbm_listings.specs.Keys.{keys_in};
-    ghost use Rattle.dbm_reports.specs.Causes.{IsCaused};
-
-    type Fault = ReportFault;
-
-    ghost reports = { λ keys n given input report. (keys_in n keys given).reports report };
-
-    ghost causes = { λ keys n given input fault. IsCaused (keys_in n keys given).causes fault };
-
-    ghost writes = { λ keys. false };
-
-    ghost reads = { λ keys. false };
-
-    fn report<R: Read>(
-        &self,
-        alloc: Global,
-        notation: &Notation<Global>,
-        given: &Given,
-        _reader: &mut R,
-    ) -> Result<Report, ReportFault> {
-        let listing = keys_listing(self.null);
-        report_rows(alloc, notation, given, self.form, self.prefix, listing)
-    }
 }

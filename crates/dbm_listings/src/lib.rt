@@ -8,6 +8,7 @@ mod list;
 mod rows;
 mod shown;
 mod stats;
+mod streamed;
 
 pub use check::{Check, check_command};
 pub use keys::{Keys, keys_command};

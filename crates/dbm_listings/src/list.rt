@@ -1,15 +1,17 @@
 //! `list`: pairs, sorted by the bytes of their keys.
-ghost use Rattle.std.specs.Prelude.{◌≡◌, IfOk, IfSome, IsNone, false};
+ghost use Rattle.std.specs.Prelude.{◌≡◌, IfOk, IfErr, IfSome, IsNone, false, is_some};
 ghost use Rattle.clap.specs.Words.{found_of, rows_of};
 ghost use Rattle.dbm_words.specs.CommandLine.{IsSubcommand};
 ghost use Rattle.dbm_words.specs.Given.{has_words};
+ghost use Rattle.dbm_reports.specs.Causes.{IsCaused};
+ghost use Rattle.dbm_reports.specs.Served.{IsPrinted, IsUnserved};
 ghost use Rattle.dbm_listings.specs.List as spec;
-ghost use Rattle.dbm_listings.specs.List.{ListAsks};
+ghost use Rattle.dbm_listings.specs.List.{ListAsks, list_in};
 
-use crate::chosen::report_rows;
 use crate::rows::pairs_listing;
+use crate::streamed::serve_rows;
 use clap::{ArgMatches, Command};
-use dbm_reports::{Given, Report, ReportFault, Subcommand};
+use dbm_reports::{Given, ReportFault, Served, Unserved};
 use dbm_script::Notation;
 use dbm_words::arguments::{
     base, json, layout, null, prefix, text, timeout, unsigned, verbose, wide,
@@ -18,7 +20,7 @@ use dbm_words::{
     Form, Named, NotationOptions, Words, aliased_subcommand, form, has_flag, notation, word,
 };
 use std::alloc::{AllocError, Global};
-use std::io::Read;
+use std::io::Write;
 
 /// All pairs, or those whose keys begin with a prefix: with `null` as raw bytes, each key and value ended by a zero byte, with
 /// `json` as objects.
@@ -62,6 +64,33 @@ impl<'a> List<'a> {
             ..Words::on(Some(self.base), self.form)
         }
     }
+
+    /// Serves it: writes its rows as they are made.
+    ///
+    /// # Errors
+    /// Those of `serve_rows`.
+    pub fn serve<W: Write>(
+        &self,
+        alloc: Global,
+        notation: &Notation<Global>,
+        given: &Given,
+        writer: &mut W,
+    ) -> Result<Served, Unserved<ReportFault>>
+        ensures ok { IfOk result (λ served. IsPrinted (list_in notation.now self.now given.now).reports (W.contents writer.old) (W.contents writer.new) served.status served.database) }
+        ensures fault { IfErr result (IsUnserved (list_in notation.now self.now given.now).reports (IsCaused (list_in notation.now self.now given.now).causes) (W.contents writer.old) (W.contents writer.new)) }
+        ensures database { IfOk result (λ served. is_some served.database ≡ false) }
+    {
+        let listing = pairs_listing(self.null, self.json);
+        serve_rows(
+            alloc,
+            notation,
+            given,
+            self.form,
+            self.prefix,
+            listing,
+            writer,
+        )
+    }
 }
 
 /// The subcommand `list`, as `clap` is told it.
@@ -90,31 +119,4 @@ pub fn list_command<'a>(alloc: Global) -> Result<Command<'a>, AllocError>
          looks like an end. A reader of a pipe may leave, as head does: that is no fault.\n\n\
          Example: dbm list users --text";
     aliased_subcommand(alloc, "list", "ls", about, notes, args)
-}
-
-impl Subcommand for List<'_> {
-    ghost use Rattle.std.specs.Prelude.{false};
-    ghost use Rattle.dbm_listings.specs.List.{list_in};
-    ghost use Rattle.dbm_reports.specs.Causes.{IsCaused};
-
-    type Fault = ReportFault;
-
-    ghost reports = { λ list n given input report. (list_in n list given).reports report };
-
-    ghost causes = { λ list n given input fault. IsCaused (list_in n list given).causes fault };
-
-    ghost writes = { λ list. false };
-
-    ghost reads = { λ list. false };
-
-    fn report<R: Read>(
-        &self,
-        alloc: Global,
-        notation: &Notation<Global>,
-        given: &Given,
-        _reader: &mut R,
-    ) -> Result<Report, ReportFault> {
-        let listing = pairs_listing(self.null, self.json);
-        report_rows(alloc, notation, given, self.form, self.prefix, listing)
-    }
 }

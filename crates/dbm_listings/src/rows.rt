@@ -1,5 +1,5 @@
 //! Pairs and keys in rows.
-ghost use Rattle.std.specs.Prelude.{◌≡◌, ◌++◌, ◌∷◌, [], IfOk, OnOk};
+ghost use Rattle.std.specs.Prelude.{◌≡◌, ◌++◌, ◌∷◌, ◌<◌, [], length, IfOk, OnOk, OnErr};
 ghost use Rattle.dbm_listings.specs.Rows.{key_line, keys_listing, pair_line, pair_object, pairs_listing, raw, row_of, rows};
 ghost use Rattle.sdbm_files.specs.Lent.{pair_lent, pairs_lent};
 ghost use Rattle.dbm_stats.specs.Json.{quoted};
@@ -67,8 +67,11 @@ pub fn show_rows<A: Allocator + Copy>(
     Ok(text)
 }
 
-// The row of a pair, where its key begins with a prefix.
-fn show_chosen<A: Allocator + Copy>(
+/// The row of a pair, where its key begins with a prefix.
+///
+/// # Errors
+/// `AllocError` where no memory is left for a row, which has a byte at least.
+pub fn show_chosen<A: Allocator + Copy>(
     alloc: A,
     notation: &Notation<A>,
     listing: Listing,
@@ -76,7 +79,8 @@ fn show_chosen<A: Allocator + Copy>(
     pair: &(&[u8], &[u8]),
     text: &mut Vec<u8, A>,
 ) -> Result<(), AllocError>
-    ensures { OnOk result (text.new.items ≡ text.old.items ++ rows notation.now listing prefix.now (pair_lent pair.now ∷ [])) }
+    ensures row { OnOk result (text.new.items ≡ text.old.items ++ rows notation.now listing prefix.now (pair_lent pair.now ∷ [])) }
+    ensures some { OnErr result (0 < length (rows notation.now listing prefix.now (pair_lent pair.now ∷ []))) }
 {
     let (key, value) = *pair;
     if !key.starts_with(prefix) {

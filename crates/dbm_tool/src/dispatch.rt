@@ -55,8 +55,8 @@ fn serve_in<T: Threads + Wait + Sync, R: Read, W: Write>(
         Wish::Batch(asked) => {
             outcome_of_batch(serve_batch(rt, alloc, n, asked, given, reader, writer))
         }
-        Wish::List(list) => outcome_of(serve(alloc, n, &list, given, reader, writer)),
-        Wish::Keys(keys) => outcome_of(serve(alloc, n, &keys, given, reader, writer)),
+        Wish::List(list) => outcome_of(list.serve(alloc, n, given, writer)),
+        Wish::Keys(keys) => outcome_of(keys.serve(alloc, n, given, writer)),
         Wish::Check(check) => outcome_of(serve(alloc, n, &check, given, reader, writer)),
         Wish::Stats(stats) => outcome_of(serve(alloc, n, &stats, given, reader, writer)),
         Wish::Script(script) => outcome_of(serve(alloc, n, &script, given, reader, writer)),

@@ -1,3 +1,4 @@
+use Rattle.std.proofs.Common.{refl}
 use Rattle.dbm_dumps.specs.Dump.{dump_in}
 use Rattle.dbm_dumps.specs.Load.{load_in}
 use Rattle.dbm_listings.specs.Check.{check_in}
@@ -34,10 +35,10 @@ pub returns-in-Run : goal.returns-in-Run
 returns-in-Run g c = rw (c.in-Run.is) (reported (run_in c.args.n.now c.in-Run.asked c.args.given.now) _ _ _ _ _ _ c.serve-in-Run.result c.outcome_of-in-Run.result c.outcome_of-in-Run.ensures c.serve-in-Run.ensures.ok c.serve-in-Run.ensures.fault c.serve-in-Run.ensures.database c.serve-in-Run.ensures.unread)
 
 pub returns-in-List : goal.returns-in-List
-returns-in-List g c = rw (c.in-List.is) (reported (list_in c.args.n.now c.in-List.list c.args.given.now) _ _ _ _ _ _ c.serve-in-List.result c.outcome_of-in-List.result c.outcome_of-in-List.ensures c.serve-in-List.ensures.ok c.serve-in-List.ensures.fault c.serve-in-List.ensures.database c.serve-in-List.ensures.unread)
+returns-in-List g c = rw (c.in-List.is) (reported (list_in c.args.n.now c.in-List.list c.args.given.now) _ _ _ _ _ _ c.serve-in-List.result c.outcome_of-in-List.result c.outcome_of-in-List.ensures c.serve-in-List.ensures.ok c.serve-in-List.ensures.fault c.serve-in-List.ensures.database (λ _. refl))
 
 pub returns-in-Keys : goal.returns-in-Keys
-returns-in-Keys g c = rw (c.in-Keys.is) (reported (keys_in c.args.n.now c.in-Keys.keys c.args.given.now) _ _ _ _ _ _ c.serve-in-Keys.result c.outcome_of-in-Keys.result c.outcome_of-in-Keys.ensures c.serve-in-Keys.ensures.ok c.serve-in-Keys.ensures.fault c.serve-in-Keys.ensures.database c.serve-in-Keys.ensures.unread)
+returns-in-Keys g c = rw (c.in-Keys.is) (reported (keys_in c.args.n.now c.in-Keys.keys c.args.given.now) _ _ _ _ _ _ c.serve-in-Keys.result c.outcome_of-in-Keys.result c.outcome_of-in-Keys.ensures c.serve-in-Keys.ensures.ok c.serve-in-Keys.ensures.fault c.serve-in-Keys.ensures.database (λ _. refl))
 
 pub returns-in-Check : goal.returns-in-Check
 returns-in-Check g c = rw (c.in-Check.is) (reported (check_in c.in-Check.check c.args.given.now) _ _ _ _ _ _ c.serve-in-Check.result c.outcome_of-in-Check.result c.outcome_of-in-Check.ensures c.serve-in-Check.ensures.ok c.serve-in-Check.ensures.fault c.serve-in-Check.ensures.database c.serve-in-Check.ensures.unread)

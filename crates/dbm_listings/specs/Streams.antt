@@ -1,0 +1,9 @@
+-- Rows of which the first were written.
+use Rattle.std.specs.Prelude.{◌≡◌, ℕ, ◌++◌, List, Option}
+use Rattle.std.specs.Io.KnownBytes.{Appends}
+
+-- the first bytes of a text were written, and a room has the rest
+pub record IsSplit (old new : Option (List ℕ)) (room text : List ℕ) : Type 0 where
+  pub written : List ℕ
+  pub appends : Appends old new written
+  pub together : text ≡ written ++ room

@@ -1,34 +1,12 @@
 /* Saves of a store that stays open in a process: the time of one with nothing changed, of one change and of a hundred. Each ends on the disk.
  * cc -O2 -DHAVE_GDBM .. benches/saves.c -lgdbm .. -o saves, with one -DHAVE_ for the store that is there (benches/run does it)
- * usage: saves FILE N ROUNDS   of a store of pairs 0 to N - 1 as benches/one.c makes them; prints three medians in microseconds */
-#include <stdint.h>
+ * usage: saves FILE N ROUNDS   of a store of pairs 0 to N - 1 of benches/pairs.h; prints three medians in microseconds */
+#include "pairs.h"
 #include <stdio.h>
 #include <stdlib.h>
-#include <string.h>
 #include <time.h>
 
-enum { KEY_BYTES = 16, VALUE_BYTES = 100, MOST_ROUNDS = 101 };
-
-static char key[KEY_BYTES], value[VALUE_BYTES];
-
-/* A number of 64 bits without a pattern: splitmix64. */
-static uint64_t mixed(uint64_t number)
-{
-    number += 0x9E3779B97F4A7C15u;
-    number = (number ^ number >> 30) * 0xBF58476D1CE4E5B9u;
-    number = (number ^ number >> 27) * 0x94D049BB133111EBu;
-    return number ^ number >> 31;
-}
-
-static void make(unsigned i, char with)
-{
-    for (unsigned half = 0; half < 2; half++) {
-        uint64_t number = mixed(2 * (uint64_t)i + half);
-        for (unsigned byte = 0; byte < 8; byte++)
-            key[8 * half + byte] = (char)(number >> 8 * byte);
-    }
-    memset(value, with, sizeof value);
-}
+enum { MOST_ROUNDS = 101 };
 
 /* Each store has an opening, one pair stored anew, and a save of all that was stored since the last; 0 is success. */
 #ifdef HAVE_BODDURCI

@@ -27,7 +27,7 @@ pub type Raw<A> = HashMap<usize, Vec<u8, A>, BuildHasherDefault<FoldHasher>, A>;
 pub struct Parsed<A: Allocator> {
     /// The pages that have pairs.
     pub pages: Numbered<A>,
-    /// The bytes of the pages that have others than their own. Those of a page that was not parsed are zeros.
+    /// The bytes of the pages that have others than their own, and of those that were not parsed, where these are not all zeros.
     pub raw: Raw<A>,
     /// How many pages were parsed.
     pub count: usize,

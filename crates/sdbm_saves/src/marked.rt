@@ -26,9 +26,9 @@ pub struct Marked<'a> {
     pub pages: &'a [u8],
 }
 
-/// The plan that makes the files those of a database which differs from them on these pages alone. Where the numbers ascend it is that of
-/// `plan_read`, and it costs what these pages and the directory cost. `None` where the files are those of the database already. It takes memory for the plan, and for a
-/// block.
+/// The plan that makes the files those of a database which differs from them on these pages alone. It costs what these pages and the
+/// directory cost. Where the numbers ascend it is that of `plan_read`. `None` where the files are those of the database already. It takes
+/// memory for the plan, and for a block.
 ///
 /// # Errors
 ///

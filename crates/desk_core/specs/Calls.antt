@@ -1,5 +1,5 @@
 -- What the calls of a desk do.
-use Rattle.std.specs.Prelude.{◌≡◌, ◌≢◌, ◌⊎◌, ℕ, ◌+◌, ◌<◌, ◌≤◌, Bool, true, false, List, [], ◌∷◌, ◌++◌, length, Option, Some, None, IsSome, is_some, slice_index_or}
+use Rattle.std.specs.Prelude.{◌≡◌, ◌≢◌, ◌⊎◌, ℕ, ◌+◌, ◌<◌, ◌≤◌, Bool, true, false, List, [], ◌∷◌, ◌++◌, length, Option, Some, None, IsSome, is_some, slice_index_or, ◌&&◌}
 use Rattle.std.specs.List.{list_any}
 use Rattle.std.specs.FinMap as map
 use Rattle.sdbm_addr.specs.Hash.{hash_of}
@@ -24,6 +24,8 @@ use Rattle.desk_core.specs.declared.AskFault.{AskFault}
 use Rattle.desk_core.specs.declared.AskFault.TheVariants as af
 use Rattle.desk_core.specs.declared.ConvertFault.{ConvertFault}
 use Rattle.desk_core.specs.declared.ConvertFault.TheVariants as cf
+use Rattle.desk_core.specs.declared.look.PutFault.{PutFault}
+use Rattle.desk_core.specs.declared.look.PutFault.TheVariants as pf
 use Rattle.desk_core.specs.declared.FinishFault.{FinishFault}
 use Rattle.desk_core.specs.declared.FinishFault.TheVariants as ff
 use Rattle.store_moves.specs.Works.{PageResult, works, key_of, IsRun}
@@ -210,3 +212,28 @@ IsStepFault s session command af.ArgTooLong = IsAskFault s command af.ArgTooLong
 IsStepFault s session command af.TrailFull = IsAskFault s command af.TrailFull
 IsStepFault s session command af.Busy = IsAskFault s command af.Busy ⊎ (MayAsk s command × ((is_held s command ≡ true) × WouldChange s session command))
 IsStepFault s session command af.NoMemory = MayAsk s command × (IsRun command ⊎ (is_held s command ≡ true → WouldChange s session command → ⊥))
+
+-- ---- looks
+
+-- what was asked is the page of its key as it stands, in a database with such pages whose keys hash so
+abbrev pub IsStill : {A : Type 0} → DeskState A → Open A → Type 0
+IsStill s o = IsAsked s o.session o.command o
+
+-- what it comes to may be put in: its page is as it was, and no ticket holds that where it changes
+pub record MayPut {A : Type 0} (s : DeskState A) (o : Open A) : Type 0 where
+  pub may : MayAsk s o.command
+  pub still : IsStill s o
+  pub free : (is_some (worked o).change && list_any (bars o.place.page Exclusive) s.holds) ≡ false
+
+-- what it comes to is a change of a page that a ticket holds
+abbrev pub IsInTheWay : {A : Type 0} → DeskState A → Open A → Type 0
+IsInTheWay s o = (is_some (worked o).change && list_any (bars o.place.page Exclusive) s.holds) ≡ true
+
+-- When each refusal comes: as of an ask; or the page is another; or it is still so, and a ticket holds it, or memory is wanted.
+abbrev pub IsPutFault : {A : Type 0} → DeskState A → Open A → PutFault → Type 0
+IsPutFault s o (pf.Refused af.PairTooLarge) = IsAskFault s o.command af.PairTooLarge
+IsPutFault s o (pf.Refused af.ArgTooLong) = IsAskFault s o.command af.ArgTooLong
+IsPutFault s o (pf.Refused af.TrailFull) = IsAskFault s o.command af.TrailFull
+IsPutFault s o (pf.Refused af.Busy) = IsAskFault s o.command af.Busy ⊎ (MayAsk s o.command × (IsStill s o × IsInTheWay s o))
+IsPutFault s o (pf.Refused af.NoMemory) = MayPut s o
+IsPutFault s o pf.Changed = MayAsk s o.command × ¬ (IsStill s o)

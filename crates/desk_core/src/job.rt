@@ -130,7 +130,10 @@ impl<A: Allocator> Job<A> {
 }
 
 // What a command that was asked comes to.
-fn work_asked<A: Allocator + Copy>(alloc: A, asked: &Open<A>) -> Result<Worked<A>, AllocError>
+pub(crate) fn work_asked<A: Allocator + Copy>(
+    alloc: A,
+    asked: &Open<A>,
+) -> Result<Worked<A>, AllocError>
     requires { IsJob asked.now }
     ensures worked { IfOk result (IsWorked (worked asked.now)) }
     ensures ends { OnOk result (HasEnd asked.now.page.pairs asked.now.session asked.now.command) }

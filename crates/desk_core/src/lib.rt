@@ -16,6 +16,7 @@ ghost use Rattle.desk_core.specs.Calls.{refusal_of};
 
 mod events;
 mod job;
+mod look;
 mod page_copy;
 mod step;
 
@@ -24,6 +25,7 @@ pub use hold_modes::Ticket;
 use hold_modes::{Hold, Holds};
 use job::Open;
 pub use job::{Done, Job};
+pub use look::{Look, PutFault, Seen};
 use page_copy::PageCopy;
 use sdbm_addr::Bytes;
 use sdbm_dir::Place;
@@ -31,6 +33,7 @@ use sdbm_files::Image;
 use slab::Slab;
 use std::alloc::{AllocError, Allocator};
 use std::marker::Model;
+pub use step::Stepped;
 use store_cmd::{Command, Entry, Reply, SizeFault, Trail, check};
 use store_moves::{key_in, put_in};
 

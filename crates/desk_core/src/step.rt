@@ -1,9 +1,10 @@
 //! Commands on a desk in one call, without a ticket.
-ghost use Rattle.std.specs.Prelude.{◌≡◌, cond, false, true, Some, IfOk, IfErr, OnOk, OnErr, is_some, ◌&&◌};
+ghost use Rattle.std.specs.Prelude.{◌≡◌, cond, false, true, Some, IfOk, IfErr, OnOk, OnErr, is_some, ◌&&◌, ℕ};
 ghost use Rattle.std.specs.List.{list_any};
 ghost use Rattle.hold_modes.specs.declared.modes.Hold.TheVariants.{Exclusive};
 ghost use Rattle.hold_modes.specs.Held.{bars};
 ghost use Rattle.store_cmd.specs.declared.Command.TheVariants.{Count};
+ghost use Rattle.store_cmd.specs.declared.Reply.TheVariants as replies;
 ghost use Rattle.store_cmd.specs.Command.{IsSmall};
 ghost use Rattle.sdbm_addr.specs.Database.{pairs_at};
 ghost use Rattle.store_moves.specs.Works.{HasKey, HasEnd, key_of};
@@ -19,6 +20,13 @@ use sdbm_dir::Place;
 use std::alloc::{AllocError, Allocator};
 use store_cmd::{Command, Entry, Reply};
 use store_moves::{Worked, is_run, put_in, ran, run_in_place, work_at};
+
+/// What a step leaves: its reply, twice.
+#[derive(Drop)]
+pub struct Stepped<A: Allocator> {
+    pub reply: Reply<A>,
+    pub copy: Reply<A>,
+}
 
 impl<A: Allocator + Copy> Desk<A> {
     /// Answers a session's command in one call, without a ticket.
@@ -37,6 +45,27 @@ impl<A: Allocator + Copy> Desk<A> {
         ensures returned { IfErr result (λ refused. refused.1 ≡ command) }
         ensures err { OnErr result (self.new ≡ self.old) }
     {
+        match self.step_twice(session, command) {
+            Ok(stepped) => Ok(stepped.reply),
+            Err(refused) => Err(refused),
+        }
+    }
+
+    /// Answers as `step` does, and gives the reply twice, so that whoever asked can keep one. Both are made before the desk changes.
+    ///
+    /// # Errors
+    /// Those of `step`, with the same left as it was.
+    pub fn step_twice(
+        &mut self,
+        session: u64,
+        command: Command<A>,
+    ) -> Result<Stepped<A>, (AskFault, Command<A>)>
+        ensures ok { IfOk result (λ stepped. Steps self.old session command stepped.reply self.new) }
+        ensures copy { IfOk result (λ stepped. stepped.copy ≡ stepped.reply) }
+        ensures refused { IfErr result (λ refused. IsStepFault self.old session command refused.0) }
+        ensures returned { IfErr result (λ refused. refused.1 ≡ command) }
+        ensures err { OnErr result (self.new ≡ self.old) }
+    {
         match self.may_ask(&command) {
             Ok(Some(wanted)) => self.step_on(session, command, wanted),
             Ok(None) => self.step_count(session, command),
@@ -49,15 +78,19 @@ impl<A: Allocator + Copy> Desk<A> {
         &mut self,
         session: u64,
         command: Command<A>,
-    ) -> Result<Reply<A>, (AskFault, Command<A>)>
+    ) -> Result<Stepped<A>, (AskFault, Command<A>)>
         requires may { MayAsk self.old command }
         requires counts { command ≡ Count }
-        ensures ok { IfOk result (λ reply. Steps self.old session command reply self.new) }
+        ensures ok { IfOk result (λ stepped. Steps self.old session command stepped.reply self.new) }
+        ensures copy { IfOk result (λ stepped. stepped.copy ≡ stepped.reply) }
         ensures refused { IfErr result (λ refused. IsStepFault self.old session command refused.0) }
         ensures returned { IfErr result (λ refused. refused.1 ≡ command) }
         ensures err { OnErr result (self.new ≡ self.old) }
     {
-        self.answer_count(session, command)
+        match self.answer_count(session, command) {
+            Ok(reply) => Ok(twice(reply)),
+            Err(refused) => Err(refused),
+        }
     }
 
     // The same for a command that has a key, on its page as it stands.
@@ -66,17 +99,18 @@ impl<A: Allocator + Copy> Desk<A> {
         session: u64,
         command: Command<A>,
         wanted: Wanted,
-    ) -> Result<Reply<A>, (AskFault, Command<A>)>
+    ) -> Result<Stepped<A>, (AskFault, Command<A>)>
         requires may { MayAsk self.old command }
         requires mode { first_hold command ≡ Some wanted.mode }
         requires place { IsPlaceOf self.old.database (key_of command) wanted.place }
-        ensures ok { IfOk result (λ reply. Steps self.old session command reply self.new) }
+        ensures ok { IfOk result (λ stepped. Steps self.old session command stepped.reply self.new) }
+        ensures copy { IfOk result (λ stepped. stepped.copy ≡ stepped.reply) }
         ensures refused { IfErr result (λ refused. IsStepFault self.old session command refused.0) }
         ensures returned { IfErr result (λ refused. refused.1 ≡ command) }
         ensures err { OnErr result (self.new ≡ self.old) }
     {
         match self.step_in_place(session, command, wanted.place) {
-            Ok(reply) => Ok(reply),
+            Ok(stepped) => Ok(stepped),
             Err(command) => self.step_by_plan(session, command, wanted),
         }
     }
@@ -88,10 +122,11 @@ impl<A: Allocator + Copy> Desk<A> {
         session: u64,
         command: Command<A>,
         place: Place,
-    ) -> Result<Reply<A>, Command<A>>
+    ) -> Result<Stepped<A>, Command<A>>
         requires may { MayAsk self.old command }
         requires place { IsPlaceOf self.old.database (key_of command) place }
-        ensures ok { IfOk result (λ reply. Steps self.old session command reply self.new) }
+        ensures ok { IfOk result (λ stepped. Steps self.old session command stepped.reply self.new) }
+        ensures copy { IfOk result (λ stepped. stepped.copy ≡ stepped.reply) }
         ensures returned { IfErr result (λ back. back ≡ command) }
         ensures err { OnErr result (self.new ≡ self.old) }
     {
@@ -112,7 +147,10 @@ impl<A: Allocator + Copy> Desk<A> {
             command,
             reply: ran(ended),
         });
-        Ok(ran(ended))
+        Ok(Stepped {
+            reply: ran(ended),
+            copy: ran(ended),
+        })
     }
 
     // The same for a command that has a key, by what is worked out first.
@@ -121,11 +159,12 @@ impl<A: Allocator + Copy> Desk<A> {
         session: u64,
         command: Command<A>,
         wanted: Wanted,
-    ) -> Result<Reply<A>, (AskFault, Command<A>)>
+    ) -> Result<Stepped<A>, (AskFault, Command<A>)>
         requires may { MayAsk self.old command }
         requires mode { first_hold command ≡ Some wanted.mode }
         requires place { IsPlaceOf self.old.database (key_of command) wanted.place }
-        ensures ok { IfOk result (λ reply. Steps self.old session command reply self.new) }
+        ensures ok { IfOk result (λ stepped. Steps self.old session command stepped.reply self.new) }
+        ensures copy { IfOk result (λ stepped. stepped.copy ≡ stepped.reply) }
         ensures refused { IfErr result (λ refused. IsStepFault self.old session command refused.0) }
         ensures returned { IfErr result (λ refused. refused.1 ≡ command) }
         ensures err { OnErr result (self.new ≡ self.old) }
@@ -138,7 +177,7 @@ impl<A: Allocator + Copy> Desk<A> {
             return Err((AskFault::Busy, command));
         }
         match self.put_step(session, command, place, worked) {
-            Ok(reply) => Ok(reply),
+            Ok(stepped) => Ok(stepped),
             Err((_, command)) => Err((AskFault::NoMemory, command)),
         }
     }
@@ -162,24 +201,29 @@ impl<A: Allocator + Copy> Desk<A> {
     }
 
     // Puts in what a command came to on its page, and adds its entry.
-    fn put_step(
+    pub(crate) fn put_step(
         &mut self,
         session: u64,
         command: Command<A>,
         place: Place,
         worked: Worked<A>,
-    ) -> Result<Reply<A>, (AllocError, Command<A>)>
+    ) -> Result<Stepped<A>, (AllocError, Command<A>)>
         requires may { MayAsk self.old command }
         requires keyed { HasKey command }
         requires place { IsPlaceOf self.old.database (key_of command) place }
         requires worked { IsWorked (works_there self.old session command place) worked }
         requires ends { HasEnd (pairs_at self.old.database place.page) session command }
         requires free { (is_some worked.change && list_any (bars place.page Exclusive) self.old.holds) ≡ false }
-        ensures ok { IfOk result (λ reply. Steps self.old session command reply self.new) }
+        ensures ok { IfOk result (λ stepped. Steps self.old session command stepped.reply self.new) }
+        ensures copy { IfOk result (λ stepped. stepped.copy ≡ stepped.reply) }
+        ensures reply { IfOk result (λ stepped. stepped.reply ≡ worked.reply) }
         ensures returned { IfErr result (λ refused. refused.1 ≡ command) }
         ensures err { OnErr result (self.new ≡ self.old) }
     {
         let Ok(copy) = worked.reply.try_clone(self.alloc) else {
+            return Err((AllocError, command));
+        };
+        let Ok(entered) = worked.reply.try_clone(self.alloc) else {
             return Err((AllocError, command));
         };
         let Ok(()) = self.trail.entries.reserve(self.tickets.len() + 1) else {
@@ -192,9 +236,9 @@ impl<A: Allocator + Copy> Desk<A> {
         self.trail.entries.push_reserved(Entry {
             session,
             command,
-            reply: copy,
+            reply: entered,
         });
-        Ok(reply)
+        Ok(Stepped { reply, copy })
     }
 
     // Why a command is refused for which no memory is left.
@@ -208,13 +252,28 @@ impl<A: Allocator + Copy> Desk<A> {
     }
 
     // Whether another ticket holds a page that is to be changed.
-    fn is_in_the_way(&self, page: u32, changes: bool) -> bool
+    pub(crate) fn is_in_the_way(&self, page: u32, changes: bool) -> bool
         ensures { result ≡ (changes && list_any (bars page Exclusive) self.now.holds) }
     {
         if !changes {
             return false;
         }
         self.holds.bars(page, Hold::Exclusive)
+    }
+}
+
+// A number of pairs as a reply, twice. It takes no memory.
+fn twice<A: Allocator>(reply: Reply<A>) -> Stepped<A>
+    requires { (n : ℕ) × (reply ≡ replies.Count n) }
+    ensures reply { result.reply ≡ reply }
+    ensures copy { result.copy ≡ reply }
+{
+    match reply {
+        Reply::Count(count) => Stepped {
+            reply: Reply::Count(count),
+            copy: Reply::Count(count),
+        },
+        _ => unreachable!(),
     }
 }
 

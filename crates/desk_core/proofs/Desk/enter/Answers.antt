@@ -1,4 +1,4 @@
-use Rattle.std.proofs.Common.{◌≡◌, ◌+◌, ◌≤◌, List, None, Option, is_some, ap, sym, ◌∙◌, subst, arith, rules}
+use Rattle.std.proofs.Common.{◌≡◌, ◌+◌, ◌≤◌, List, None, Option, is_some, ap, sym, ◌∙◌, subst, arith}
 use Rattle.std.specs.Prelude.{slice_index_or, count_by, vec_len, vec_capacity}
 use Rattle.slab.specs.Slab.{Slab, slab_len}
 use Rattle.desk_core.specs.declared.job.Open.{Open}

@@ -33,7 +33,7 @@ invariant_of-self-2 g c =
     let ends = subst (λ (x : DeskState g.row.A.Denot). HasEnd (pairs_at x.database c.args.place.page) c.args.session c.args.command) (sym c.self.view_is) c.requires.ends in
     let free = ap (λ (b : Bool). b && list_any (bars c.args.place.page Exclusive) s.holds) (ap (λ (x : Option PageChange). is_some x) (sym worked.change) ∙ some_mapped change_of c.args.worked.change)
     ∙ ap (λ (x : DeskState g.row.A.Denot). is_some c.args.worked.change && list_any (bars c.args.place.page Exclusive) x.holds) c.self.view_is ∙ c.requires.free in
-    let steps = stepped s c.args.session c.args.command c.args.place c.self.invariant.0 may c.requires.keyed leads ends c.args.worked.reply c.in-Ok.copy c.put_in.new.image c.reserve.new.self.items c.push_reserved.new.self.items worked.reply c.in-Ok.ensures free
+    let steps = stepped s c.args.session c.args.command c.args.place c.self.invariant.0 may c.requires.keyed leads ends c.args.worked.reply c.in-Ok-try_clone.entered c.put_in.new.image c.reserve.new.self.items c.push_reserved.new.self.items worked.reply c.in-Ok-try_clone.ensures free
     (c.in-Ok-put_in.ensures.ok ∙ ap (changed_by s.database c.args.place.page) worked.change) c.reserve.ensures.items c.push_reserved.ensures.items in
     let room : vec_len c.reserve.new.self + (slab_len c.self.inside.tickets + 1) ≤ vec_capacity c.reserve.new.self = search rules in
     (Steps-sound s _ c.args.session c.args.command c.args.worked.reply c.self.invariant.0 steps, omega (arith, c.push_reserved.ensures.len, c.push_reserved.ensures.capacity))
@@ -47,6 +47,6 @@ returns-clause-ok g c =
     let ends = subst (λ (x : DeskState g.row.A.Denot). HasEnd (pairs_at x.database c.args.place.page) c.args.session c.args.command) (sym c.self.view_is) c.requires.ends in
     let free = ap (λ (b : Bool). b && list_any (bars c.args.place.page Exclusive) s.holds) (ap (λ (x : Option PageChange). is_some x) (sym worked.change) ∙ some_mapped change_of c.args.worked.change)
     ∙ ap (λ (x : DeskState g.row.A.Denot). is_some c.args.worked.change && list_any (bars c.args.place.page Exclusive) x.holds) c.self.view_is ∙ c.requires.free in
-    let steps = stepped s c.args.session c.args.command c.args.place c.self.invariant.0 may c.requires.keyed leads ends c.args.worked.reply c.in-Ok.copy c.put_in.new.image c.reserve.new.self.items c.push_reserved.new.self.items worked.reply c.in-Ok.ensures free
+    let steps = stepped s c.args.session c.args.command c.args.place c.self.invariant.0 may c.requires.keyed leads ends c.args.worked.reply c.in-Ok-try_clone.entered c.put_in.new.image c.reserve.new.self.items c.push_reserved.new.self.items worked.reply c.in-Ok-try_clone.ensures free
     (c.in-Ok-put_in.ensures.ok ∙ ap (changed_by s.database c.args.place.page) worked.change) c.reserve.ensures.items c.push_reserved.ensures.items in
     rw (← c.self.view_is) steps

@@ -16,10 +16,10 @@ use Rattle.desk_core.proofs.Doing.{stepped_at_once}
 use Rattle.desk_core.proofs.Desk.step_in_place.Goals as goal
 
 -- the desk as it was, and the step on it
-abbrev state : (g : _) → goal.After-ran-2 g → DeskState g.row.A.Denot
+abbrev state : (g : _) → goal.After-ran-3 g → DeskState g.row.A.Denot
 state g c = record { database = c.self.inside.image; opening = c.self.inside.trail.opening.items; entries = c.self.inside.trail.entries.items; tickets = c.self.inside.tickets.slots; next = c.self.inside.tickets.vacant_key; holds = c.self.inside.holds; limit = c.self.inside.limit }
 
-steps : (g : _) (c : goal.After-ran-2 g) → Steps (state g c) c.args.session c.args.command c.ran-2.result (record (state g c) { database = c.run_in_place.new.image; entries = c.push_reserved.new.self.items })
+steps : (g : _) (c : goal.After-ran-3 g) → Steps (state g c) c.args.session c.args.command c.ran-2.result (record (state g c) { database = c.run_in_place.new.image; entries = c.push_reserved.new.self.items })
 steps g c =
     let s : DeskState g.row.A.Denot = state g c in
     let may = subst (λ (x : DeskState g.row.A.Denot). MayAsk x c.args.command) (sym c.self.view_is) c.requires.may in

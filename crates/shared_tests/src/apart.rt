@@ -1,7 +1,7 @@
 //! Sessions that make their calls each in a thread of its own.
 
 use crate::bench::Bench;
-use crate::calls::{begin, make};
+use crate::calls::{Came, begin, make, make_group};
 use crate::cases::Case;
 use crate::rolls::read_rolls;
 use std::alloc::{AllocError, Global};
@@ -16,14 +16,18 @@ use test_lines::{read_command, show_reply};
 // The most threads at once.
 const THREADS: usize = 8;
 
+// How many calls a group has.
+const GROUP: usize = 16;
+
 // Of how many calls each reply is shown.
 const FEW: usize = 8;
 
-// A session, its commands, and its replies, up to the first call that was refused, with why.
+// A session, its commands, whether it makes them in groups, and its replies, up to the first call that was refused, with why.
 #[derive(Drop)]
 struct Caller<'s, G: Gate> {
     session: Session<'s, Global, G>,
     commands: Vec<Command<Global>>,
+    grouped: bool,
     replies: Vec<Reply<Global>>,
     refused: Option<Refusal>,
 }
@@ -56,6 +60,44 @@ fn read_commands(alloc: Global, words: &str, place: u64) -> Option<Vec<Command<G
     }
 }
 
+// Makes all calls of a session, in groups.
+fn make_groups<R: Wait, G: Gate>(rt: &R, alloc: Global, caller: &mut Caller<'_, G>) {
+    let Caller {
+        session,
+        commands,
+        replies,
+        refused,
+        ..
+    } = caller;
+    for group in commands.as_slice().chunks(GROUP) {
+        match make_group(rt, alloc, session, group) {
+            Ok(outcomes) => note(outcomes, replies, refused),
+            Err(refusal) => {
+                *refused = Some(refusal);
+                return;
+            }
+        }
+    }
+}
+
+// Notes what came of the calls of a group.
+fn note(
+    outcomes: Vec<Came<Global>>,
+    replies: &mut Vec<Reply<Global>>,
+    refused: &mut Option<Refusal>,
+) {
+    for outcome in outcomes {
+        match outcome {
+            Ok(reply) => {
+                if replies.push(reply).is_err() {
+                    return;
+                }
+            }
+            Err(refusal) => *refused = Some(refusal),
+        }
+    }
+}
+
 // Makes all calls of a session.
 fn make_all<R: Wait, G: Gate>(rt: &R, caller: &mut Caller<'_, G>) {
     for command in caller.commands.iter() {
@@ -73,8 +115,18 @@ fn make_all<R: Wait, G: Gate>(rt: &R, caller: &mut Caller<'_, G>) {
     }
 }
 
-fn run_callers<R: Threads + Wait + Sync, G: Gate>(rt: &R, callers: &mut [Caller<'_, G>]) {
-    let share = move |_at: usize, caller: &mut Caller<'_, G>| make_all(rt, caller);
+fn run_callers<R: Threads + Wait + Sync, G: Gate>(
+    rt: &R,
+    alloc: Global,
+    callers: &mut [Caller<'_, G>],
+) {
+    let share = move |_at: usize, caller: &mut Caller<'_, G>| {
+        if caller.grouped {
+            make_groups(rt, alloc, caller)
+        } else {
+            make_all(rt, caller)
+        }
+    };
     thread::for_each_mut(rt, callers, THREADS, &share);
 }
 
@@ -119,10 +171,15 @@ impl<'h, R: Threads + Wait + Sync> Bench<'h, R, Global> {
         line: &str,
     ) -> Option<()> {
         let (count, words) = line.split_once(' ')?;
+        let (grouped, words) = match words.strip_prefix("grouped ") {
+            Some(words) => (true, words),
+            None => (false, words),
+        };
         for place in 0..count.parse::<u64>().ok()? {
             let caller = Caller {
                 session: begin(self.rt, store).ok()?,
                 commands: read_commands(self.global, words, place)?,
+                grouped,
                 replies: Vec::new(self.global),
                 refused: None,
             };
@@ -156,7 +213,7 @@ impl<'h, R: Threads + Wait + Sync> Bench<'h, R, Global> {
         for line in case.calls.lines() {
             self.add_callers(store, &mut callers, line)?;
         }
-        run_callers(self.rt, callers.as_mut_slice());
+        run_callers(self.rt, self.global, callers.as_mut_slice());
         self.end_callers(callers)
     }
 }

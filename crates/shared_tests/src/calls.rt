@@ -12,6 +12,34 @@ pub type Came<A> = Result<Reply<A>, Refusal>;
 /// What comes of closing a store.
 pub type CloseCame<A, G> = Result<Closed<A>, (CloseFault, Store<A, G>, Vec<Calls<A>, A>)>;
 
+/// What comes of the calls of a group, or why none was made.
+pub fn make_group<R: Wait, A: Allocator + Copy, G: Gate>(
+    rt: &R,
+    alloc: A,
+    session: &mut Session<'_, A, G>,
+    group: &[Command<A>],
+) -> Result<Vec<Came<A>, A>, Refusal> {
+    let mut calls = Vec::new(alloc);
+    for command in group {
+        let Ok(command) = command.try_clone(alloc) else {
+            return Err(Refusal::NoMemory);
+        };
+        match session.ready(command) {
+            Ok(ready) => {
+                let Ok(()) = calls.push(ready) else {
+                    return Err(Refusal::NoMemory);
+                };
+            }
+            Err((refusal, _)) => return Err(refusal),
+        }
+    }
+    let mut outcomes = Vec::new(alloc);
+    match session.call_all(rt, calls, &mut outcomes) {
+        Ok(()) => Ok(outcomes),
+        Err(_) => Err(Refusal::NoMemory),
+    }
+}
+
 /// A store over a database.
 pub fn open<A: Allocator + Copy, G: Gate>(
     alloc: A,

@@ -23,6 +23,8 @@ pub struct Case<'t> {
 fn read_manner(words: &str) -> Option<Manner> {
     match words {
         "free" => return Some(Manner::Free),
+        "passing" => return Some(Manner::Passing),
+        "first" => return Some(Manner::First),
         "refusing" => return Some(Manner::Refusing),
         "meeting" => return Some(Manner::Meeting),
         _ => {}

@@ -12,6 +12,8 @@ use store_shared::Gate;
 pub enum Manner {
     /// It works them.
     Free,
+    /// It wants none, so that sessions take no ticket.
+    Passing,
     /// It hands the first one back, as where memory is refused.
     Refusing,
     /// It keeps each of two sessions at work until the other is there too, and the first until the second has finished.
@@ -21,12 +23,16 @@ pub enum Manner {
     Keeping(u64),
     /// It keeps that job as long, and hands it back, as where memory is refused.
     Dropping(u64),
+    /// It wants the job of the first call alone, and keeps that at work for a while. The other calls wait until it is there, and take no
+    /// ticket.
+    First,
 }
 
-/// Whether session 0 began, how many jobs came to a gate, how many were finished, and how often it gave up waiting.
+/// How often a gate was asked whether it wants jobs, whether session 0 or the first job began, how many jobs came to a gate, how many were finished, and how often it gave up waiting.
 #[derive(Drop)]
 pub struct Watch {
     manner: Manner,
+    asked: AtomicU64,
     began: AtomicU64,
     came: AtomicU64,
     finished: AtomicU64,
@@ -44,6 +50,7 @@ impl Watch {
     pub fn new(manner: Manner) -> Self {
         Watch {
             manner,
+            asked: AtomicU64::new(0),
             began: AtomicU64::new(0),
             came: AtomicU64::new(0),
             finished: AtomicU64::new(0),
@@ -88,17 +95,37 @@ impl Watch {
             return false;
         }
         self.wait_for(&self.came, wanted);
+        self.linger();
+        true
+    }
+
+    // Stays for a while.
+    fn linger(&self) {
         for _ in 0..LINGERED {
             self.came.load(Ordering::SeqCst);
         }
-        true
+    }
+
+    // Whether a call is to come as a job.
+    fn wants_jobs(&self) -> bool {
+        match self.manner {
+            Manner::Passing => false,
+            Manner::First => {
+                if self.asked.fetch_add(1, Ordering::SeqCst) == 0 {
+                    return true;
+                }
+                self.wait_for(&self.began, 1);
+                false
+            }
+            _ => true,
+        }
     }
 
     // Notes that a session's job comes, and tells whether it is to be worked.
     fn comes(&self, session: u64) -> bool {
         let before = self.came.fetch_add(1, Ordering::SeqCst);
         match self.manner {
-            Manner::Free => true,
+            Manner::Free | Manner::Passing => true,
             Manner::Refusing => before > 0,
             Manner::Meeting => {
                 self.wait_for(&self.came, 2);
@@ -112,6 +139,11 @@ impl Watch {
                 true
             }
             Manner::Dropping(wanted) => !self.keeps(session, wanted),
+            Manner::First => {
+                self.began.fetch_add(1, Ordering::SeqCst);
+                self.linger();
+                true
+            }
         }
     }
 }
@@ -139,5 +171,9 @@ impl<'w> Gate for WatchedGate<'w> {
 
     fn after(&self, _session: u64) {
         self.watch.finished.fetch_add(1, Ordering::SeqCst);
+    }
+
+    fn wants_jobs(&self) -> bool {
+        self.watch.wants_jobs()
     }
 }

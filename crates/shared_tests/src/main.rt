@@ -8,7 +8,7 @@
 //! | `WHO` | `turns`: the sessions make their calls in turn; `lean`: so too, in memory that runs out; `apart`: each in a thread of its own |
 //! | `FROM` | the store is opened over an `empty` database, or over the one that was `kept` of the last that was closed |
 //! | `LIMIT` | how many entries the trail may have |
-//! | `GATE` | `free` works the jobs, `refusing` hands the first one back, and `meeting` has two sessions at work at once; `keeping COUNT` keeps the first job of session 0 at work until so many jobs came and others wait for its page, and `dropping COUNT` then hands it back |
+//! | `GATE` | `free` works the jobs, and in `apart` is none; `passing` wants none, so that calls take no ticket; `refusing` hands the first one back, and `meeting` has two sessions at work at once; `keeping COUNT` keeps the first job of session 0 at work until so many jobs came and others wait for its page, and `dropping COUNT` then hands it back; `first` wants the job of the first call alone, and keeps it at work for a while |
 //!
 //! The lines that follow make calls, up to `end`.
 //!
@@ -17,9 +17,12 @@
 //! | `sessions COUNT` | how many there are after so many more, or why no more are made |
 //! | `SESSION COMMAND` | the reply, or why the call is refused |
 //! | `watch SESSION COMMAND` | the reply; the session asks again after each call that is refused for want of memory |
+//! | `elsewhere SESSION COMMAND` | the reply to a call that a session of another store, whose pages are large, has made ready, or why it is refused |
+//! | `group SESSION COMMAND / COMMAND / ..` | what came of each of these calls, which are made at once, or why none was made |
 //! | `COUNT calls COMMAND / COMMAND / ..` | in `apart`, of each of so many sessions: its replies, or how many of many, and why one was refused, behind which it makes no more |
 //! | `COUNT times CALLS COMMAND` | the same of so many calls of one command |
 //! | `COUNT rolls SEED KEYS CALLS` | the same of so many random calls on so many keys |
+//! | `COUNT grouped ..` | the same of each of these, 16 calls at once |
 //!
 //! `end` ends the sessions, in their order, and tells the number of each that made calls, and how many. Their calls are put behind
 //! those in hand, which have places from 0 on. The lines that follow close the store; without them it is let go.

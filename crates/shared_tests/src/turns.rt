@@ -1,13 +1,15 @@
 //! Sessions that make their calls in turn.
 
 use crate::bench::{Bench, MOST_TIMES, STEP, more_text};
-use crate::calls::{Came, begin, make};
+use crate::calls::{Came, begin, make, make_group};
 use crate::cases::Case;
+use sdbm_addr::{KeyBytes, PageSize};
+use sdbm_files::Image;
 use std::alloc::{Allocator, Global};
 use std::fmt::Write;
 use std::sync::Wait;
 use store_cmd::{Command, Refusal};
-use store_shared::{Gate, Session, SessionFault, Store};
+use store_shared::{Gate, NoGate, Session, SessionFault, Store};
 use test_lines::{read_command, show_reply};
 
 // The sessions on a store, and what one of them asks while another's calls are refused.
@@ -17,12 +19,33 @@ struct Table<'s, A: Allocator, G: Gate> {
     watched: Option<(usize, Command<A>)>,
 }
 
+// The commands of a group, parted by slashes.
+fn read_group<A: Allocator + Copy>(alloc: A, words: &str) -> Option<Vec<Command<A>, A>> {
+    let mut commands = Vec::new(alloc);
+    for command in words.split(" / ") {
+        commands.push(read_command(alloc, command)?).ok()?;
+    }
+    Some(commands)
+}
+
 // What comes of a call, as text.
 fn came_text<A: Allocator>(global: Global, came: &Came<A>) -> Option<String> {
     let mut text = String::new(global);
     match came {
         Ok(reply) => show_reply(&mut text, reply).ok()?,
         Err(refusal) => write!(text, "refused {refusal:?}").ok()?,
+    }
+    Some(text)
+}
+
+// What comes of the calls of a group, as text.
+fn outcomes_text<A: Allocator>(global: Global, outcomes: &[Came<A>]) -> Option<String> {
+    let mut text = String::new(global);
+    for (at, came) in outcomes.iter().enumerate() {
+        if at > 0 {
+            text.push_str(" / ").ok()?;
+        }
+        text.push_str(came_text(global, came)?.as_str()).ok()?;
     }
     Some(text)
 }
@@ -96,6 +119,58 @@ impl<'s, A: Allocator + Copy, G: Gate> Table<'s, A, G> {
         None
     }
 
+    // Makes the calls of a group, in a heap with more memory each time, until they are made. What the one who watches is answered has
+    // to stay the same up to then.
+    fn answer_group<R: Wait>(
+        &mut self,
+        bench: &Bench<'_, R, A>,
+        number: usize,
+        group: &[Command<A>],
+    ) -> Option<String> {
+        let before = self.seen(bench)?;
+        for times in 0..MOST_TIMES {
+            let session = self.sessions.get_mut(number)?;
+            let blocks = bench.take_memory(STEP * times).ok()?;
+            let made = make_group(bench.rt, bench.alloc, session, group);
+            drop(blocks);
+            match made {
+                Ok(outcomes) => {
+                    let text = outcomes_text(bench.global, outcomes.as_slice())?;
+                    return format!(in bench.global; "{text}{}", more_text(times)).ok();
+                }
+                Err(Refusal::NoMemory) => {}
+                Err(refusal) => return format!(in bench.global; "refused {refusal:?}").ok(),
+            }
+            let seen = self.seen(bench)?;
+            if seen != before {
+                return format!(in bench.global; "{seen} is seen after a refusal").ok();
+            }
+        }
+        None
+    }
+
+    // Makes a call that a session of another store, whose pages are large, has made ready.
+    fn answer_elsewhere<R: Wait>(
+        &mut self,
+        bench: &Bench<'_, R, A>,
+        number: usize,
+        command: Command<A>,
+    ) -> Option<String> {
+        let image = Image::empty(bench.alloc, KeyBytes::Signed, PageSize::Wide);
+        let Ok(store) = Store::open(bench.alloc, image, 0, NoGate) else {
+            return None;
+        };
+        let Ok(ready) = begin(bench.rt, &store).ok()?.ready(command) else {
+            return None;
+        };
+        let mut calls = Vec::new(bench.alloc);
+        calls.push(ready).ok()?;
+        let mut outcomes = Vec::new(bench.alloc);
+        let session = self.sessions.get_mut(number)?;
+        session.call_all(bench.rt, calls, &mut outcomes).ok()?;
+        outcomes_text(bench.global, outcomes.as_slice())
+    }
+
     // Makes so many sessions more, with no memory in the heap, and tells how many there are then.
     fn answer_sessions<R: Wait>(
         &mut self,
@@ -124,6 +199,15 @@ impl<'s, A: Allocator + Copy, G: Gate> Table<'s, A, G> {
             "watch" => {
                 self.watched = Some(read_call(bench.alloc, rest)?);
                 self.seen(bench)
+            }
+            "elsewhere" => {
+                let (number, command) = read_call(bench.alloc, rest)?;
+                self.answer_elsewhere(bench, number, command)
+            }
+            "group" => {
+                let (number, words) = rest.split_once(' ')?;
+                let group = read_group(bench.alloc, words)?;
+                self.answer_group(bench, number.parse::<usize>().ok()?, group.as_slice())
             }
             _ => {
                 let (number, command) = read_call(bench.alloc, line)?;

@@ -1,3 +1,5 @@
 pub mod Shared
+pub mod Passing
+pub mod Groups
 pub mod Closed
 pub mod FaultText

@@ -49,6 +49,10 @@ pub record CallsState (A : Type 0) : Type 0 where
 abbrev pub calls_left : {A : Type 0} → SessionState A → CallsState A
 calls_left s = record { number = s.number; calls = s.calls }
 
+-- a session as its parts
+abbrev pub session_of : {A : Type 0} → ℕ → PageSize → List (Entry A) → SessionState A
+session_of number size calls = record { number = number; size = size; calls = calls }
+
 -- a session's call that was answered, as it stands in a trail
 abbrev pub entry_of : {A : Type 0} → ℕ → Command A → Reply A → Entry A
 entry_of session command reply = record { session = session; command = command; reply = reply }

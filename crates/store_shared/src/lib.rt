@@ -1,13 +1,17 @@
-//! A store that threads share: sessions ask one desk under a lock, work with no lock held, and leave one legal history, in which each
-//! session finds its own calls.
+//! A store that threads share: sessions call one desk under a lock, run long programs with no lock held, and leave one legal history, in
+//! which each session finds its own calls.
 #![tactic(auto)]
 
 mod close;
 mod fault_text;
+mod grouping;
+mod passing;
+mod ready;
 mod serving;
 mod session;
 mod store;
 
 pub use close::CloseFault;
+pub use ready::Ready;
 pub use session::{Calls, Session};
 pub use store::{Closed, Gate, NoGate, SessionFault, Store};

@@ -1,4 +1,4 @@
-//! How the desk serves a call of a session. A call takes the lock twice: to ask, and to commit what was worked.
+//! How the desk serves a call of a session. A call by ticket takes the lock twice: to ask, and to commit what was worked.
 ghost use Rattle.std.specs.Prelude.{◌≡◌, ◌≢◌, IfOk, IfErr, OnOk, ℕ};
 ghost use Rattle.store_cmd.specs.declared.Command.TheVariants as commands;
 ghost use Rattle.store_cmd.specs.declared.Reply.TheVariants as replies;
@@ -37,7 +37,7 @@ enum Tried<A: Allocator> {
 }
 
 /// Asks a session's command, works it and commits it.
-pub(crate) fn answer<R: Wait, A: Allocator + Copy, G: Gate>(
+pub(crate) fn by_ticket<R: Wait, A: Allocator + Copy, G: Gate>(
     rt: &R,
     store: &Store<A, G>,
     alloc: A,
@@ -107,7 +107,7 @@ fn ask_on<A: Allocator + Copy>(desk: &mut Desk<A>, session: u64, command: Comman
 }
 
 // Why a call is refused whose ask is.
-fn refusal_of(fault: AskFault) -> Refusal
+pub(crate) fn refusal_of(fault: AskFault) -> Refusal
     ensures { IsNotForSize result }
 {
     match fault {
@@ -148,7 +148,7 @@ fn serve<R: Wait, A: Allocator + Copy, G: Gate>(
 }
 
 // Waits until a ticket may have been closed, which is noted under the lock.
-fn wait<'s, R: Wait, A: Allocator + Copy, G: Gate>(
+pub(crate) fn wait<'s, R: Wait, A: Allocator + Copy, G: Gate>(
     rt: &R,
     store: &'s Store<A, G>,
     core: MutexGuard<'s, Core<A>>,

@@ -5,11 +5,15 @@ ghost use Rattle.store_cmd.specs.Command.{IsSmall};
 ghost use Rattle.store_cmd.specs.declared.Command.{Command};
 ghost use Rattle.store_cmd.specs.declared.Command.TheVariants as commands;
 ghost use Rattle.store_shared.specs.Shared.{calls_left, with_call, IsReplyTo, IsNotForSize, IsRefusal};
+ghost use Rattle.store_shared.specs.Groups.{AreAnswered};
 
-use crate::serving::{Served, answer};
+use crate::grouping::{Maker, make_all};
+use crate::passing::answer;
+use crate::ready::{Ready, test_size};
+use crate::serving::Served;
 use crate::store::{Gate, Store};
 use sdbm_addr::{Bytes, Mode, PageSize};
-use std::alloc::Allocator;
+use std::alloc::{AllocError, Allocator};
 use std::marker::Model;
 use std::sync::Wait;
 use store_cmd::{Command, Entry, Program, Refusal, Reply, SizeFault, check_pair, check_run};
@@ -64,14 +68,15 @@ impl<A: Allocator> Calls<A> {
     }
 }
 
-/// Each call asks the desk, works what was asked with no lock held, and commits what came of it; where the desk is busy, it waits.
-/// What is answered is added to the calls. A call that is refused commits nothing, gives its ticket back and adds nothing.
+/// A short call is one step of the desk, in one hold of the lock. The run of a long program is worked with no lock held. Where another
+/// session holds the page, a call waits. What is answered is added to the calls. A call that is refused commits nothing, keeps no ticket
+/// and adds nothing.
 ///
 /// # Errors
 /// Of every call: `TrailFull` where the trail has as many entries and open tickets as it may have. `NoMemory` where memory is
-/// refused for copies of what is lent, for the ticket, the reply or the new pages, or for the session's own entry, which is taken
+/// refused for copies of what is lent, for a ticket, the reply or the new pages, or for the session's own entry, which is taken
 /// before the desk commits. `Strayed` where the desk does not know the session's ticket as its own: no call here brings that about,
-/// and a test says so. Of `store` and `run` alone: `PairTooLarge`, and of `run` alone `ArgTooLong`; they are told first.
+/// and a test says so. Of `store`, `run`, `ready` and `call_all` alone: `PairTooLarge`, and `ArgTooLong` of a run; they are told first.
 impl<'a, A: Allocator + Copy, G: Gate> Session<'a, A, G> {
     // A session that has made no calls.
     pub(crate) fn new(store: &'a Store<A, G>, alloc: A, size: PageSize, number: u64) -> Self
@@ -201,6 +206,65 @@ impl<'a, A: Allocator + Copy, G: Gate> Session<'a, A, G> {
         )
     }
 
+    /// How large the pages of the store are, and so the largest pair.
+    pub fn page_size(&self) -> PageSize
+        ensures { result ≡ self.now.size }
+    {
+        self.size
+    }
+
+    /// Makes a command ready to be called with others by `call_all`: its size is tested, and the session's own copy of it is made.
+    ///
+    /// # Errors
+    /// `PairTooLarge` and `ArgTooLong` as of `store` and `run`, and else `NoMemory`. The command comes back.
+    pub fn ready(&self, command: Command<A>) -> Result<Ready<A>, (Refusal, Command<A>)>
+        ensures ok { IfOk result (λ ready. ready ≡ command) }
+        ensures small { OnOk result (IsSmall self.now.size command) }
+        ensures refused { IfErr result (λ refused. IsRefusal self.now.size command refused.0) }
+        ensures returned { IfErr result (λ refused. refused.1 ≡ command) }
+    {
+        if let Err(refusal) = test_size(&command, self.size) {
+            return Err((refusal, command));
+        }
+        match Ready::of(self.alloc, command) {
+            Ok(ready) => Ok(ready),
+            Err(command) => Err((Refusal::NoMemory, command)),
+        }
+    }
+
+    /// Makes calls in their order, each as by itself, and adds what came of each to the outcomes: its reply, or why it was refused. One
+    /// that is refused commits nothing, and the next is made all the same. Calls that take no ticket are made in one hold of the lock, so
+    /// they cost less than one by one; others wait meanwhile, so give it a few tens at once.
+    ///
+    /// # Errors
+    /// The error where no memory is left for the session's own entries or for the outcomes. No call is made then, and all come back.
+    pub fn call_all<R: Wait>(
+        &mut self,
+        rt: &R,
+        calls: Vec<Ready<A>, A>,
+        outcomes: &mut Vec<Result<Reply<A>, Refusal>, A>,
+    ) -> Result<(), (AllocError, Vec<Ready<A>, A>)>
+        ensures ok { OnOk result (AreAnswered self.old calls.items outcomes.old.items self.new outcomes.new.items) }
+        ensures returned { IfErr result (λ refused. refused.1.items ≡ calls.items) }
+        ensures kept { OnErr result (outcomes.new.items ≡ outcomes.old.items) }
+        ensures err { OnErr result (self.new ≡ self.old) }
+    {
+        let Ok(()) = self.calls.reserve(calls.len()) else {
+            return Err((AllocError, calls));
+        };
+        let Ok(()) = outcomes.reserve(calls.len()) else {
+            return Err((AllocError, calls));
+        };
+        let maker = Maker {
+            alloc: self.alloc,
+            session: self.number,
+            size: self.size,
+        };
+        let entries = &mut self.calls;
+        make_all(rt, self.store, maker, calls.into_iter(), entries, outcomes);
+        Ok(())
+    }
+
     /// The number of pairs: `Count`. It waits for the lock alone.
     pub fn count<R: Wait>(&mut self, rt: &R) -> Result<Reply<A>, Refusal>
         ensures ok { IfOk result (λ reply. self.new ≡ with_call self.old commands.Count reply) }
@@ -221,7 +285,12 @@ impl<'a, A: Allocator + Copy, G: Gate> Session<'a, A, G> {
         let Ok(()) = self.calls.reserve(1) else {
             return Err(Refusal::NoMemory);
         };
-        let Served { reply, entry } = answer(rt, self.store, self.alloc, self.number, command)?;
+        let Ok(ready) = Ready::of(self.alloc, command) else {
+            return Err(Refusal::NoMemory);
+        };
+        let store = self.store;
+        let jobs = store.gate.wants_jobs();
+        let Served { reply, entry } = answer(rt, store, self.alloc, self.number, jobs, ready)?;
         self.calls.push_reserved(entry);
         Ok(reply)
     }

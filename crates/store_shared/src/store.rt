@@ -34,9 +34,15 @@ pub trait Gate: Sync + Drop {
 
     /// Is called once a session's job was finished, and not for a count or for what was refused.
     fn after(&self, session: u64);
+
+    /// Whether each command about a key is to come as a job. Where it is not, a session may answer one without, and `work` and `after`
+    /// are not called for that. It is asked with no lock held.
+    fn wants_jobs(&self) -> bool {
+        true
+    }
 }
 
-/// The gate that only works.
+/// The gate that only works, and wants no jobs.
 #[derive(Clone, Copy, Debug)]
 pub struct NoGate;
 
@@ -53,6 +59,10 @@ impl Gate for NoGate {
     }
 
     fn after(&self, _session: u64) {}
+
+    fn wants_jobs(&self) -> bool {
+        false
+    }
 }
 
 /// What stands under the lock.
@@ -61,7 +71,7 @@ pub(crate) struct Core<A: Allocator> {
     pub(crate) desk: Desk<A>,
     // how many sessions were made
     sessions: u64,
-    // somebody waits for the desk to change
+    // somebody waits for a ticket to be closed
     pub(crate) waited_for: bool,
 }
 

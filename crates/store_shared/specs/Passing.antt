@@ -1,0 +1,33 @@
+-- What comes of calls that take no ticket.
+use Rattle.std.specs.Prelude.{◌≡◌, ℕ, Ok, Err}
+use Rattle.store_cmd.specs.declared.Command.{Command}
+use Rattle.desk_core.specs.declared.step.Stepped.{Stepped}
+use Rattle.store_shared.specs.declared.passing.TriedStep.{TriedStep}
+use Rattle.store_shared.specs.declared.passing.TriedStep.TheVariants.{Ended, Busy}
+use Rattle.store_shared.specs.declared.passing.Looking.{Looking}
+use Rattle.store_shared.specs.declared.passing.Looking.TheVariants as looking
+use Rattle.store_shared.specs.declared.passing.Passing.{Passing}
+use Rattle.store_shared.specs.declared.passing.Passing.TheVariants as passing
+use Rattle.store_shared.specs.Shared.{IsReplyTo, IsNotForSize}
+
+-- a reply to this command of this session, twice
+pub record IsStepped {A : Type 0} (session : ℕ) (command : Command A) (stepped : Stepped A) : Type 0 where
+  pub reply : IsReplyTo session command stepped.reply
+  pub copy : stepped.copy ≡ stepped.reply
+
+-- what a step comes to: a reply, or it is refused for no size, or the command comes back
+abbrev pub IsTriedStep : {A : Type 0} → ℕ → Command A → TriedStep A → Type 0
+IsTriedStep session command (Ended (Ok stepped)) = IsStepped session command stepped
+IsTriedStep session command (Ended (Err refusal)) = IsNotForSize refusal
+IsTriedStep session command (Busy refused) = refused ≡ command
+
+-- what a look comes to: this command of this session is looked up, or refused for no size, or it comes back
+abbrev pub IsLooked : {A : Type 0} → ℕ → Command A → Looking A → Type 0
+IsLooked session command (looking.Looked look) = (look.session ≡ session) × (look.command ≡ command)
+IsLooked session command (looking.Refused refusal) = IsNotForSize refusal
+IsLooked session command (looking.Barred refused) = refused ≡ command
+
+-- what a call without a ticket comes to: a reply, or the command comes back
+abbrev pub IsPassed : {A : Type 0} → ℕ → Command A → Passing A → Type 0
+IsPassed session command (passing.Passed stepped) = IsStepped session command stepped
+IsPassed session command (passing.Barred refused) = refused ≡ command

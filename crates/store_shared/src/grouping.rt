@@ -1,0 +1,127 @@
+//! Calls in a group: those that take no ticket are made in one hold of the lock, one after another.
+ghost use Rattle.std.specs.Prelude.{◌≡◌, ◌≤◌, ◌+◌, IfOk, IfErr, OnOk, length, vec_len, vec_capacity};
+ghost use Rattle.std.specs.Vec.Iter.{into_iter_items};
+ghost use Rattle.store_cmd.specs.Command.{IsSmall};
+ghost use Rattle.store_shared.specs.Shared.{entry_of, session_of, IsReplyTo, IsRefusal};
+ghost use Rattle.store_shared.specs.Groups.{AreAnswered, IsNoted};
+
+use crate::passing::{Stepping, answer, is_long, kept, step_in};
+use crate::ready::{Ready, test_size};
+use crate::serving::Served;
+use crate::store::{Core, Gate, Store};
+use sdbm_addr::PageSize;
+use std::alloc::Allocator;
+use std::sync::{MutexGuard, Wait};
+use std::vec::IntoIter;
+use store_cmd::{Entry, Refusal, Reply};
+
+/// Who makes calls: a session with this number, in a store with pages of this size.
+#[derive(Clone, Copy)]
+pub(crate) struct Maker<A> {
+    pub(crate) alloc: A,
+    pub(crate) session: u64,
+    pub(crate) size: PageSize,
+}
+
+// What came of a call, and the lock, where it is still held.
+#[derive(Drop)]
+struct Made<'s, A: Allocator> {
+    held: Option<MutexGuard<'s, Core<A>>>,
+    ended: Result<Served<A>, Refusal>,
+}
+
+/// Makes the calls of a session in their order, adds an entry for each that is answered, and tells what came of each.
+pub(crate) fn make_all<R: Wait, A: Allocator + Copy, G: Gate>(
+    rt: &R,
+    store: &Store<A, G>,
+    maker: Maker<A>,
+    calls: IntoIter<Ready<A>, A>,
+    entries: &mut Vec<Entry<A>, A>,
+    outcomes: &mut Vec<Result<Reply<A>, Refusal>, A>,
+)
+    requires entries { length (into_iter_items calls) + vec_len entries.old ≤ vec_capacity entries.old }
+    requires outcomes { length (into_iter_items calls) + vec_len outcomes.old ≤ vec_capacity outcomes.old }
+    ensures { AreAnswered (session_of maker.session maker.size entries.old.items) (into_iter_items calls) outcomes.old.items (session_of maker.session maker.size entries.new.items) outcomes.new.items }
+{
+    let jobs = store.gate.wants_jobs();
+    let mut held = None;
+    for ready in calls {
+        let Made { held: still, ended } = make(rt, store, maker, jobs, held, ready);
+        held = still;
+        note(ended, entries, outcomes);
+    }
+}
+
+// Makes a call, in the hold of the lock that there is, where one step answers it.
+fn make<'s, R: Wait, A: Allocator + Copy, G: Gate>(
+    rt: &R,
+    store: &'s Store<A, G>,
+    maker: Maker<A>,
+    jobs: bool,
+    held: Option<MutexGuard<'s, Core<A>>>,
+    ready: Ready<A>,
+) -> Made<'s, A>
+    ensures small { OnOk result.ended (IsSmall maker.size ready) }
+    ensures reply { IfOk result.ended (λ served. IsReplyTo maker.session ready served.reply) }
+    ensures entry { IfOk result.ended (λ served. served.entry ≡ entry_of maker.session ready served.reply) }
+    ensures refused { IfErr result.ended (IsRefusal maker.size ready) }
+{
+    if let Err(refusal) = test_size(&ready.command, maker.size) {
+        return Made {
+            held,
+            ended: Err(refusal),
+        };
+    }
+    if jobs || is_long(&ready.command) {
+        drop(held);
+        let ended = answer(rt, store, maker.alloc, maker.session, jobs, ready);
+        return Made { held: None, ended };
+    }
+    let Ready { command, own } = ready;
+    let Stepping { core, ended } = step_in(
+        rt,
+        store,
+        hold(rt, store, held),
+        maker.session,
+        command,
+    );
+    Made {
+        held: Some(core),
+        ended: kept(maker.session, own, ended),
+    }
+}
+
+// The lock, which is taken where it is not held.
+fn hold<'s, R: Wait, A: Allocator + Copy, G: Gate>(
+    rt: &R,
+    store: &'s Store<A, G>,
+    held: Option<MutexGuard<'s, Core<A>>>,
+) -> MutexGuard<'s, Core<A>> {
+    match held {
+        Some(core) => core,
+        None => store.core.lock(rt),
+    }
+}
+
+// Adds the entry of a call that was answered, and its outcome. Their places are there.
+fn note<A: Allocator>(
+    ended: Result<Served<A>, Refusal>,
+    entries: &mut Vec<Entry<A>, A>,
+    outcomes: &mut Vec<Result<Reply<A>, Refusal>, A>,
+)
+    requires entries { vec_len entries.old + 1 ≤ vec_capacity entries.old }
+    requires outcomes { vec_len outcomes.old + 1 ≤ vec_capacity outcomes.old }
+    ensures noted { IsNoted ended entries.old.items entries.new.items outcomes.old.items outcomes.new.items }
+    ensures entries { vec_len entries.new ≤ vec_len entries.old + 1 }
+    ensures entries_room { vec_capacity entries.new ≡ vec_capacity entries.old }
+    ensures outcomes { vec_len outcomes.new ≤ vec_len outcomes.old + 1 }
+    ensures outcomes_room { vec_capacity outcomes.new ≡ vec_capacity outcomes.old }
+{
+    match ended {
+        Ok(Served { reply, entry }) => {
+            entries.push_reserved(entry);
+            outcomes.push_reserved(Ok(reply));
+        }
+        Err(refusal) => outcomes.push_reserved(Err(refusal)),
+    }
+}

@@ -1,0 +1,255 @@
+//! Calls that take no ticket. A command that is soon done is one step of the desk, in one hold of the lock. A long program is worked with
+//! no lock held, on the page of its key as it was, and put in where that is still so; where it is not, the call takes a ticket.
+ghost use Rattle.std.specs.Prelude.{◌≡◌, IfOk, IfErr, true};
+ghost use Rattle.store_moves.specs.Works.{HasKey, IsRun};
+ghost use Rattle.store_shared.specs.Shared.{entry_of, IsReplyTo, IsNotForSize};
+ghost use Rattle.store_shared.specs.Passing.{IsStepped, IsPassed, IsLooked, IsTriedStep};
+
+use crate::ready::Ready;
+use crate::serving::{Served, by_ticket, refusal_of, wait};
+use crate::store::{Core, Gate, Store};
+use desk_core::{AskFault, Desk, Look, PutFault, Seen, Stepped};
+use std::alloc::Allocator;
+use std::sync::{MutexGuard, Wait};
+use store_cmd::{Command, Entry, Refusal};
+
+// The most units of a program that runs while the lock is held. Up to there a ticket would keep the lock for longer than the run does.
+const SHORT_PROGRAM: usize = 256;
+
+/// What came of a step, and the lock in whose hold it was made.
+#[derive(Drop)]
+pub(crate) struct Stepping<'s, A: Allocator> {
+    pub(crate) core: MutexGuard<'s, Core<A>>,
+    pub(crate) ended: Result<Stepped<A>, Refusal>,
+}
+
+// What comes of a step that is tried: an end, or the desk is busy, and the command comes back.
+#[derive(Drop)]
+enum TriedStep<A: Allocator> {
+    Ended(Result<Stepped<A>, Refusal>),
+    Busy(Command<A>),
+}
+
+// What comes of a look: it is there, or its call is refused, or that wants a ticket and the command comes back.
+#[derive(Drop)]
+enum Looking<A: Allocator> {
+    Looked(Look<A>),
+    Refused(Refusal),
+    Barred(Command<A>),
+}
+
+// What comes of a call without a ticket: its reply, or it wants one and the command comes back.
+#[derive(Drop)]
+enum Passing<A: Allocator> {
+    Passed(Stepped<A>),
+    Barred(Command<A>),
+}
+
+/// Answers a session's command on the shortest way, by a ticket where the store's gate wants jobs.
+pub(crate) fn answer<R: Wait, A: Allocator + Copy, G: Gate>(
+    rt: &R,
+    store: &Store<A, G>,
+    alloc: A,
+    session: u64,
+    jobs: bool,
+    ready: Ready<A>,
+) -> Result<Served<A>, Refusal>
+    ensures reply { IfOk result (λ served. IsReplyTo session ready served.reply) }
+    ensures entry { IfOk result (λ served. served.entry ≡ entry_of session ready served.reply) }
+    ensures refused { IfErr result IsNotForSize }
+{
+    if jobs {
+        return by_ticket(rt, store, alloc, session, ready.into_command());
+    }
+    if is_long(&ready.command) {
+        return by_look(rt, store, alloc, session, ready);
+    }
+    by_step(rt, store, session, ready)
+}
+
+/// Whether a command runs a program that is better not run while the lock is held.
+pub(crate) fn is_long<A: Allocator>(command: &Command<A>) -> bool
+    ensures { result ≡ true → IsRun command.now }
+{
+    match command {
+        Command::Run { prog, .. } => prog.verified().code().units() > SHORT_PROGRAM,
+        _ => false,
+    }
+}
+
+// Answers a command in one hold of the lock, in which nobody holds its page.
+fn by_step<R: Wait, A: Allocator + Copy, G: Gate>(
+    rt: &R,
+    store: &Store<A, G>,
+    session: u64,
+    ready: Ready<A>,
+) -> Result<Served<A>, Refusal>
+    ensures reply { IfOk result (λ served. IsReplyTo session ready served.reply) }
+    ensures entry { IfOk result (λ served. served.entry ≡ entry_of session ready served.reply) }
+    ensures refused { IfErr result IsNotForSize }
+{
+    let Ready { command, own } = ready;
+    let Stepping { ended, .. } = step_in(rt, store, store.core.lock(rt), session, command);
+    kept(session, own, ended)
+}
+
+/// What a session is served that keeps this command, of what came of a step.
+pub(crate) fn kept<A: Allocator>(
+    session: u64,
+    command: Command<A>,
+    ended: Result<Stepped<A>, Refusal>,
+) -> Result<Served<A>, Refusal>
+    requires stepped { IfOk ended (IsStepped session command) }
+    requires refused { IfErr ended IsNotForSize }
+    ensures reply { IfOk result (λ served. IsReplyTo session command served.reply) }
+    ensures entry { IfOk result (λ served. served.entry ≡ entry_of session command served.reply) }
+    ensures refused { IfErr result IsNotForSize }
+{
+    match ended {
+        Ok(stepped) => Ok(served(session, command, stepped)),
+        Err(refusal) => Err(refusal),
+    }
+}
+
+// The reply to who asked, and the entry with a copy of it.
+fn served<A: Allocator>(session: u64, command: Command<A>, stepped: Stepped<A>) -> Served<A>
+    requires { stepped.copy ≡ stepped.reply }
+    ensures reply { result.reply ≡ stepped.reply }
+    ensures entry { result.entry ≡ entry_of session command stepped.reply }
+{
+    let Stepped { reply, copy } = stepped;
+    Served {
+        reply,
+        entry: Entry {
+            session,
+            command,
+            reply: copy,
+        },
+    }
+}
+
+/// Steps the desk in a hold of the lock, and waits as long as the desk is busy. The lock comes back as it was handed on.
+pub(crate) fn step_in<'s, R: Wait, A: Allocator + Copy, G: Gate>(
+    rt: &R,
+    store: &'s Store<A, G>,
+    core: MutexGuard<'s, Core<A>>,
+    session: u64,
+    command: Command<A>,
+) -> Stepping<'s, A>
+    ensures ok { IfOk result.ended (IsStepped session command) }
+    ensures refused { IfErr result.ended IsNotForSize }
+{
+    let mut command = command;
+    let mut core = core;
+    for _ in rt.forever() {
+        match step_on(&mut core.desk, session, command) {
+            TriedStep::Ended(ended) => return Stepping { core, ended },
+            TriedStep::Busy(refused) => command = refused,
+        }
+        core = wait(rt, store, core);
+    }
+    unreachable!()
+}
+
+// Steps a desk.
+fn step_on<A: Allocator + Copy>(
+    desk: &mut Desk<A>,
+    session: u64,
+    command: Command<A>,
+) -> TriedStep<A>
+    ensures { IsTriedStep session command result }
+{
+    match desk.step_twice(session, command) {
+        Ok(stepped) => TriedStep::Ended(Ok(stepped)),
+        Err((AskFault::Busy, refused)) => TriedStep::Busy(refused),
+        Err((fault, _)) => TriedStep::Ended(Err(refusal_of(fault))),
+    }
+}
+
+// Answers a command in two short holds of the lock, and works it between them; or by a ticket, where its page is held or has changed
+// meanwhile.
+fn by_look<R: Wait, A: Allocator + Copy, G: Gate>(
+    rt: &R,
+    store: &Store<A, G>,
+    alloc: A,
+    session: u64,
+    ready: Ready<A>,
+) -> Result<Served<A>, Refusal>
+    requires keyed { HasKey ready }
+    ensures reply { IfOk result (λ served. IsReplyTo session ready served.reply) }
+    ensures entry { IfOk result (λ served. served.entry ≡ entry_of session ready served.reply) }
+    ensures refused { IfErr result IsNotForSize }
+{
+    let Ready { command, own } = ready;
+    match pass(rt, store, session, command)? {
+        Passing::Passed(stepped) => Ok(served(session, own, stepped)),
+        Passing::Barred(command) => by_ticket(rt, store, alloc, session, command),
+    }
+}
+
+// Looks a command up, works it, and puts it in.
+fn pass<R: Wait, A: Allocator + Copy, G: Gate>(
+    rt: &R,
+    store: &Store<A, G>,
+    session: u64,
+    command: Command<A>,
+) -> Result<Passing<A>, Refusal>
+    requires keyed { HasKey command }
+    ensures ok { IfOk result (IsPassed session command) }
+    ensures refused { IfErr result IsNotForSize }
+{
+    match look(rt, store, session, command) {
+        Looking::Looked(look) => work(rt, store, look),
+        Looking::Refused(refusal) => Err(refusal),
+        Looking::Barred(command) => Ok(Passing::Barred(command)),
+    }
+}
+
+// Looks a command up, in a hold of the lock.
+fn look<R: Wait, A: Allocator + Copy, G: Gate>(
+    rt: &R,
+    store: &Store<A, G>,
+    session: u64,
+    command: Command<A>,
+) -> Looking<A>
+    requires keyed { HasKey command }
+    ensures { IsLooked session command result }
+{
+    let core = store.core.lock(rt);
+    match core.desk.look(session, command) {
+        Ok(look) => Looking::Looked(look),
+        Err((AskFault::Busy, refused)) => Looking::Barred(refused),
+        Err((fault, _)) => Looking::Refused(refusal_of(fault)),
+    }
+}
+
+// Works a look with no lock held, and puts in what comes of it.
+fn work<R: Wait, A: Allocator + Copy, G: Gate>(
+    rt: &R,
+    store: &Store<A, G>,
+    look: Look<A>,
+) -> Result<Passing<A>, Refusal>
+    ensures ok { IfOk result (IsPassed look.session look.command) }
+    ensures refused { IfErr result IsNotForSize }
+{
+    match look.work() {
+        Ok(seen) => {
+            let mut core = store.core.lock(rt);
+            put_on(&mut core.desk, seen)
+        }
+        Err(_) => Err(Refusal::NoMemory),
+    }
+}
+
+// Puts in on a desk what was worked.
+fn put_on<A: Allocator + Copy>(desk: &mut Desk<A>, seen: Seen<A>) -> Result<Passing<A>, Refusal>
+    ensures ok { IfOk result (IsPassed seen.session seen.command) }
+    ensures refused { IfErr result IsNotForSize }
+{
+    match desk.put(seen) {
+        Ok(stepped) => Ok(Passing::Passed(stepped)),
+        Err((PutFault::Changed, command)) => Ok(Passing::Barred(command)),
+        Err((PutFault::Refused(AskFault::Busy), command)) => Ok(Passing::Barred(command)),
+        Err((PutFault::Refused(fault), _)) => Err(refusal_of(fault)),
+    }
+}

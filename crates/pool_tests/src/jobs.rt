@@ -85,6 +85,18 @@ impl<'a> Pool<'a> {
         Some(self.tasks.len())
     }
 
+    /// Puts so many tasks behind those that wait, told the times from 0 on.
+    pub fn wait_often(&mut self, count: u64, words: &[&str]) -> Option<usize> {
+        let [key, prog, arg, blank] = words else {
+            return None;
+        };
+        for now in 0..count {
+            let now = format!(in self.alloc; "{now}").ok()?;
+            self.wait(&[*key, *prog, *arg, *blank, now.as_str()])?;
+        }
+        Some(self.tasks.len())
+    }
+
     /// Lets workers do the tasks that wait. None waits behind that. The memory for what `keep` is to take is there then.
     pub fn run<R: Threads + Wait + Sync>(&mut self, rt: &R, workers: usize) -> Option<Outcome> {
         self.calls.reserve(workers).ok()?;

@@ -9,10 +9,11 @@ use store_shared::Gate;
 // How often a thread looks before it gives up.
 const TURNS: u64 = 1_000_000_000;
 
-/// Where sessions meet at work: how many have to, how many jobs came, how often session 1 was done, and who waited in vain.
+/// Where sessions meet at work: how many have to, whether they pass by instead, how many jobs came, how often session 1 was done, and who waited in vain.
 #[derive(Drop)]
 pub struct Meeting {
     wanted: AtomicU64,
+    passed: AtomicU64,
     came: AtomicU64,
     done: AtomicU64,
     vain: AtomicU64,
@@ -22,14 +23,21 @@ impl Meeting {
     pub fn new() -> Self {
         Meeting {
             wanted: AtomicU64::new(0),
+            passed: AtomicU64::new(0),
             came: AtomicU64::new(0),
             done: AtomicU64::new(0),
             vain: AtomicU64::new(0),
         }
     }
 
-    /// From now on so many sessions have to meet, or none. Nobody came so far.
+    /// From now on no session comes.
+    pub fn pass(&self) {
+        self.passed.store(1, Ordering::SeqCst);
+    }
+
+    /// From now on so many sessions have to meet, or none. Nobody came so far, and all come.
     pub fn want(&self, wanted: u64) {
+        self.passed.store(0, Ordering::SeqCst);
         for count in [&self.came, &self.done, &self.vain] {
             count.store(0, Ordering::SeqCst);
         }
@@ -91,5 +99,9 @@ impl<'a> Gate for MeetingGate<'a> {
         if session == 1 {
             self.meeting.done.fetch_add(1, Ordering::SeqCst);
         }
+    }
+
+    fn wants_jobs(&self) -> bool {
+        self.meeting.passed.load(Ordering::SeqCst) == 0
     }
 }

@@ -110,6 +110,12 @@ fn show_words<R: Threads + Wait + Sync>(
             let count = pool.wait(words.as_slice())?;
             write!(out, "tasks {count}").ok()
         }
+        "tasks" => {
+            let (count, rest) = rest.split_once(' ')?;
+            let words: Vec<&str> = rest.split(' ').collect(pool.alloc).ok()?;
+            let count = pool.wait_often(count.parse::<u64>().ok()?, words.as_slice())?;
+            write!(out, "tasks {count}").ok()
+        }
         "jobs" => show_jobs(rt, pool, out, rest),
         "meet" => {
             pool.meeting.want(rest.parse::<u64>().ok()?);
@@ -129,6 +135,10 @@ fn show_word<R: Wait>(rt: &R, pool: &mut Pool<'_>, out: &mut String, kind: &str)
         }
         "close" => show_close(pool, out),
         "order" => show_order(pool, out),
+        "pass" => {
+            pool.meeting.pass();
+            out.push_str("pass").ok()
+        }
         "met" => {
             let (came, vain) = pool.meeting.counts();
             write!(out, "came {came}, in vain {vain}").ok()

@@ -1,8 +1,8 @@
 -- Replies are taken from lists in turn.
 use Rattle.std.proofs.Common.{subst, inl, inr, ◌≡◌, ◌∙◌, sym, ap, ◌∷◌, [], length, ◌<◌, ◌+◌, ℕ, ◌++◌, arith, List, refl, eq-eqb}
-use Rattle.std.specs.Vec.Iter.{into_iter_items, into_iter_len, into_iter_steps}
+use Rattle.std.specs.Vec.Iter.{into_iter_items, into_iter_steps}
 use Rattle.std.specs.declared.vec.IntoIter.{IntoIter}
-use Rattle.std.specs.Prelude.{Option, Some, None, map, ◌%◌, ◌==◌, ◌≢◌, take, set, slice_index_or}
+use Rattle.std.specs.Prelude.{Option, Some, map, ◌%◌, ◌==◌, ◌≢◌, take, set, slice_index_or}
 use Rattle.std.proofs.lemmas.List.{map-append, append-nil, append_assoc, length-append, length-take-le, nil_from_length, get_or-set_same, get_or-set_other}
 use Rattle.std.proofs.lemmas.Nat.{mod_below}
 use Rattle.std.proofs.lemmas.Bool.{cases_eq, eqb-true, false_from_ne_true}
@@ -80,12 +80,6 @@ taken_some {X} {Y} {S} view k at taken all lists whole d same some more long bef
     taken_not_all view k taken all lists whole d some (omega arith) long before (ap (λ n. view (slice_index_or lists (n % k) d)) same ∙ none)
 
 -- ---- what the next of a list is
-
-pub next_none : {X Z : Type 0} (old : IntoIter X Z) (r : Option X) (new : IntoIter X Z) → r ≡ None → into_iter_steps old r new → into_iter_items old ≡ []
-next_none {X} {Z} old r new is step =
-    let none : (into_iter_len old ≡ 0) × (into_iter_len new ≡ 0) = subst (λ o. into_iter_steps old o new) is step in
-    let all : into_iter_len old ≡ length (into_iter_items old) = old.rest.ok.0 in
-    nil_from_length (into_iter_items old) (omega arith)
 
 pub next_some : {X Z : Type 0} (old : IntoIter X Z) (r : Option X) (new : IntoIter X Z) (x : X) → r ≡ Some x → into_iter_steps old r new → into_iter_items old ≡ x ∷ into_iter_items new
 next_some {X} {Z} old r new x is step = (subst (λ o. into_iter_steps old o new) is step).0

@@ -14,17 +14,9 @@ use Rattle.store_cmd.specs.declared.Refusal.{Refusal}
 use Rattle.store_shared.specs.Shared.{SessionState, with_call}
 use Rattle.worker_pool.specs.declared.task.Task.{Task}
 use Rattle.worker_pool.specs.Tasks.{run_of, IsTried}
+use Rattle.worker_pool.specs.Groups.{HasTried}
 use Rattle.worker_pool.specs.Shares.{at_places, ran_of, runs_of, replies_of, AreRuns, HasWorked, IsCalled, IsFirstRefused, IsUnused, first_with}
 use Rattle.worker_pool.proofs.ShareLemmas.{places_nil, places_over, places_round, places_same, others_between, others_before}
-
--- A worker's tasks below a place were tried, and none from there on.
-pub record HasTried {A : Type 0} (programs : List Accepted) (tasks : List (Task A)) (k w at : ℕ) (s : SessionState A) (replies : List (Reply A)) (first : Option (ℕ × Refusal)) : Type 0 where
-  pub refusals : ℕ → Option Refusal
-  pub ahead : (place : ℕ) → at ≤ place → refusals place ≡ None
-  pub tried : (place : ℕ) (task : Task A) → slice_get tasks place ≡ Some task → place < at → place % k ≡ w → IsTried s.size (run_of programs task) (refusals place)
-  pub runs : AreRuns programs (ran_of k w refusals (take at tasks)) s.number s.calls
-  pub replied : replies_of s.calls ≡ replies
-  pub first_is : IsFirstRefused (length tasks) k w refusals first
 
 abbrev mine : ℕ → ℕ → (ℕ → Option Refusal) → ℕ → Bool
 mine k w refusals at = at % k == w && is_none (refusals at)

@@ -2,3 +2,4 @@ pub mod Tasks
 pub mod Shares
 pub mod Pool
 pub mod FaultText
+pub mod Groups

@@ -10,6 +10,8 @@ use Rattle.store_cmd.specs.declared.Command.{Command}
 use Rattle.store_cmd.specs.declared.Command.TheVariants as commands
 use Rattle.store_cmd.specs.declared.Refusal.{Refusal}
 use Rattle.store_cmd.specs.declared.Refusal.TheVariants as refusals
+use Rattle.store_cmd.specs.declared.SizeFault.{SizeFault}
+use Rattle.store_cmd.specs.declared.SizeFault.TheVariants as sizes
 use Rattle.store_shared.specs.Shared.{IsRefusal}
 use Rattle.worker_pool.specs.declared.task.Task.{Task}
 
@@ -43,3 +45,8 @@ IsTaskRefusal size command refusal = IsRefusal size command refusal ⊎ (refusal
 abbrev pub IsTried : {A : Type 0} → PageSize → Command A → Option Refusal → Type 0
 IsTried size command None = IsSmall size command
 IsTried size command (Some refusal) = IsTaskRefusal size command refusal
+
+-- the refusal for a size
+abbrev pub IsRefusalFor : SizeFault → Refusal → Type 0
+IsRefusalFor sizes.PairTooLarge refusal = refusal ≡ refusals.PairTooLarge
+IsRefusalFor sizes.ArgTooLong refusal = refusal ≡ refusals.ArgTooLong

@@ -4,6 +4,7 @@
 mod crew;
 mod fault_text;
 mod gather;
+mod group;
 mod pool;
 mod share;
 mod task;

@@ -1,16 +1,25 @@
 //! What a worker does.
-ghost use Rattle.std.specs.Prelude.{◌≡◌, ◌<◌, IfOk, IfErr, IfNone, OnOk, OnErr, OnSome, length};
-ghost use Rattle.store_cmd.specs.Command.{IsSmall};
-ghost use Rattle.store_shared.specs.Shared.{with_call};
-ghost use Rattle.worker_pool.specs.Tasks.{run_of, code_of, IsKnown, AreKnown, IsTaskRefusal, IsTried};
-ghost use Rattle.worker_pool.specs.Shares.{first_with, HasWorked, IsCalled, IsUnused};
+ghost use Rattle.std.specs.Prelude.{◌≡◌, ◌<◌, ◌≤◌, ◌+◌, ◌%◌, length, vec_len, vec_capacity};
+ghost use Rattle.std.specs.Vec.Iter.{into_iter_items};
+ghost use Rattle.worker_pool.specs.Tasks.{AreKnown};
+ghost use Rattle.worker_pool.specs.Shares.{first_with, HasWorked, IsUnused};
+ghost use Rattle.worker_pool.specs.Groups.{HasTried, HasCalled, IsTaken, IsProgress};
 
+use crate::group::{call_group, place_after};
 use crate::task::Task;
-use prog_registry::{ProgId, Registry};
-use std::alloc::{AllocError, Allocator};
-use std::sync::{Arc, Wait};
-use store_cmd::{Program, Refusal, Reply};
+use prog_registry::Registry;
+use std::alloc::Allocator;
+use std::sync::Wait;
+use std::vec::IntoIter;
+use store_cmd::{Refusal, Reply};
 use store_shared::{Gate, Session};
+
+// Where a worker goes on, if any task of its own is left, and the first task that it was refused, with why.
+#[derive(Clone, Copy)]
+struct Progress {
+    next: Option<usize>,
+    first: Option<(usize, Refusal)>,
+}
 
 /// Does a worker's share of the tasks, one in so many from its own number on, in their order. A task that is refused is left out; the
 /// first such comes back by its place, with why.
@@ -32,14 +41,96 @@ pub(crate) fn do_share<R: Wait, A: Allocator + Copy, G: Gate>(
     let mut first = None;
     let mut at = worker;
     while at < tasks.len() {
-        let refusal = do_task(rt, registry, &tasks[at], session, replies);
-        first = earlier(first, at, refusal);
-        if workers >= tasks.len() - at {
+        let progress = do_group(rt, registry, tasks, at, workers, session, replies, first);
+        first = progress.first;
+        let Some(next) = progress.next else {
             return first;
-        }
-        at += workers;
+        };
+        at = next;
     }
     first
+}
+
+// Does the worker's tasks of a group, from one of its own on.
+fn do_group<R: Wait, A: Allocator + Copy, G: Gate>(
+    rt: &R,
+    registry: &Registry<A>,
+    tasks: &[Task<A>],
+    at: usize,
+    workers: usize,
+    session: &mut Session<'_, A, G>,
+    replies: &mut Vec<Reply<A>, A>,
+    first: Option<(usize, Refusal)>,
+) -> Progress
+    requires known { AreKnown registry.now.programs tasks.now }
+    requires within { at < length tasks.now }
+    requires some { 0 < workers }
+    requires tried { HasTried registry.now.programs tasks.now workers (at % workers) at session.old replies.old.items first }
+    ensures progress { IsProgress registry.now.programs tasks.now workers (at % workers) at session.new replies.new.items result }
+    ensures size { session.new.size ≡ session.old.size }
+{
+    match call_group(rt, registry, tasks, at, workers, session, replies) {
+        Ok(outcomes) => take_all(
+            registry, tasks, at, workers, session, outcomes, replies, first,
+        ),
+        Err(refusal) => Progress {
+            next: place_after(tasks, at, workers),
+            first: earlier(first, at, Some(refusal)),
+        },
+    }
+}
+
+// Takes what came of calls that were made, for the tasks from a place on.
+fn take_all<A: Allocator + Copy, G: Gate>(
+    registry: &Registry<A>,
+    tasks: &[Task<A>],
+    at: usize,
+    workers: usize,
+    session: &Session<'_, A, G>,
+    outcomes: IntoIter<Result<Reply<A>, Refusal>, A>,
+    replies: &mut Vec<Reply<A>, A>,
+    first: Option<(usize, Refusal)>,
+) -> Progress
+    requires within { at < length tasks.now }
+    requires some { 0 < workers }
+    requires any { 0 < length (into_iter_items outcomes) }
+    requires room { length (into_iter_items outcomes) + vec_len replies.old ≤ vec_capacity replies.old }
+    requires called { HasCalled registry.now.programs tasks.now workers (at % workers) at (into_iter_items outcomes) session.now replies.old.items first }
+    ensures { IsProgress registry.now.programs tasks.now workers (at % workers) at session.now replies.new.items result }
+{
+    let mut first = first;
+    let mut at = at;
+    for outcome in outcomes {
+        let refusal = take(outcome, replies);
+        first = earlier(first, at, refusal);
+        let Some(next) = place_after(tasks, at, workers) else {
+            return Progress { next: None, first };
+        };
+        at = next;
+    }
+    Progress {
+        next: Some(at),
+        first,
+    }
+}
+
+// Adds the reply of a call to the replies, where it was answered. Its place is there.
+fn take<A: Allocator>(
+    outcome: Result<Reply<A>, Refusal>,
+    replies: &mut Vec<Reply<A>, A>,
+) -> Option<Refusal>
+    requires { vec_len replies.old + 1 ≤ vec_capacity replies.old }
+    ensures taken { IsTaken outcome replies.old.items replies.new.items result }
+    ensures len { vec_len replies.new ≤ vec_len replies.old + 1 }
+    ensures room { vec_capacity replies.new ≡ vec_capacity replies.old }
+{
+    match outcome {
+        Ok(reply) => {
+            replies.push_reserved(reply);
+            None
+        }
+        Err(refusal) => Some(refusal),
+    }
 }
 
 // The first task that was refused, of what was known before and of a task behind that.
@@ -57,63 +148,4 @@ fn earlier(
         Some(refusal) => Some((at, refusal)),
         None => None,
     }
-}
-
-// Runs a task and adds its reply, or tells why it was refused. The place of the reply is taken before the task is run.
-fn do_task<R: Wait, A: Allocator + Copy, G: Gate>(
-    rt: &R,
-    registry: &Registry<A>,
-    task: &Task<A>,
-    session: &mut Session<'_, A, G>,
-    replies: &mut Vec<Reply<A>, A>,
-) -> Option<Refusal>
-    requires known { IsKnown registry.now.programs task.now }
-    ensures tried { IsTried session.old.size (run_of registry.now.programs task.entry.now) result }
-    ensures some { OnSome result ((session.new ≡ session.old) × (replies.new.items ≡ replies.old.items)) }
-    ensures none { IfNone result (IsCalled (run_of registry.now.programs task.entry.now) session.old replies.old.items session.new replies.new.items) }
-{
-    let Ok(()) = replies.reserve(1) else {
-        return Some(Refusal::NoMemory);
-    };
-    match run_task(rt, registry, task, session) {
-        Ok(reply) => {
-            replies.push_reserved(reply);
-            None
-        }
-        Err(refusal) => Some(refusal),
-    }
-}
-
-// Runs a task.
-fn run_task<R: Wait, A: Allocator + Copy, G: Gate>(
-    rt: &R,
-    registry: &Registry<A>,
-    task: &Task<A>,
-    session: &mut Session<'_, A, G>,
-) -> Result<Reply<A>, Refusal>
-    requires known { IsKnown registry.now.programs task.now }
-    ensures ok { IfOk result (λ reply. session.new ≡ with_call session.old (run_of registry.now.programs task.entry.now) reply) }
-    ensures small { OnOk result (IsSmall session.old.size (run_of registry.now.programs task.entry.now)) }
-    ensures refused { IfErr result (IsTaskRefusal session.old.size (run_of registry.now.programs task.entry.now)) }
-    ensures err { OnErr result (session.new ≡ session.old) }
-{
-    let Ok(prog) = program_of(registry, task.prog) else {
-        return Err(Refusal::NoMemory);
-    };
-    let (key, arg) = (task.key.as_slice(), task.arg.as_slice());
-    session.run(rt, key, &prog, arg, task.blank, task.now)
-}
-
-// The program of a number that was given, with one owner more, or the error where it has as many as can be counted.
-fn program_of<A: Allocator + Copy>(
-    registry: &Registry<A>,
-    id: ProgId,
-) -> Result<Program<A>, AllocError>
-    requires { id.0 < length registry.now.programs }
-    ensures { IfOk result (λ program. program ≡ code_of registry.now.programs id.0) }
-{
-    let Some(program) = registry.get(id) else {
-        unreachable!()
-    };
-    Ok(Program::new(Arc::try_clone(program)?))
 }

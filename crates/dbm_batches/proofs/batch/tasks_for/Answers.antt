@@ -1,6 +1,7 @@
 use Rattle.std.proofs.Common.{◌≡◌, ◌∷◌, length, ap, arith}
 use Rattle.std.specs.Vec.Iter.{into_iter_items}
-use Rattle.worker_pool.proofs.GatherLemmas.{moved, moved_all, next_none}
+use Rattle.store_shared.proofs.Groups.{next_none}
+use Rattle.worker_pool.proofs.GatherLemmas.{moved, moved_all}
 use Rattle.dbm_batches.specs.Batches.{task_for}
 use Rattle.dbm_batches.proofs.batch.tasks_for.Goals as goal
 

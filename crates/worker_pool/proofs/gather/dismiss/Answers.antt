@@ -2,7 +2,8 @@ use Rattle.std.proofs.Common.{◌≡◌, ◌∷◌, length, ap, arith}
 use Rattle.std.specs.Prelude.{map}
 use Rattle.std.specs.Vec.Iter.{into_iter_items}
 use Rattle.store_shared.specs.Shared.{calls_left}
-use Rattle.worker_pool.proofs.GatherLemmas.{moved_view, moved, moved_all, next_none}
+use Rattle.store_shared.proofs.Groups.{next_none}
+use Rattle.worker_pool.proofs.GatherLemmas.{moved_view, moved, moved_all}
 use Rattle.worker_pool.proofs.gather.dismiss.Goals as goal
 
 pub loop-worker-preserved : goal.loop-worker-preserved

@@ -3,7 +3,8 @@ use Rattle.std.specs.Prelude.{◌%◌, set, slice_index_or}
 use Rattle.std.specs.Vec.Iter.{into_iter_items}
 use Rattle.std.proofs.lemmas.List.{get_or_default, length_push}
 use Rattle.std.proofs.lemmas.Nat.{mod_below}
-use Rattle.worker_pool.proofs.GatherLemmas.{AreTaken, taken_none, taken_next, taken_some, taken_all, next_none, next_some}
+use Rattle.store_shared.proofs.Groups.{next_none}
+use Rattle.worker_pool.proofs.GatherLemmas.{AreTaken, taken_none, taken_next, taken_some, taken_all, next_some}
 use Rattle.worker_pool.proofs.gather.gather.Goals as goal
 
 pub loop-at-init : goal.loop-at-init

@@ -1,6 +1,6 @@
 use Rattle.std.proofs.Common.{◌≡◌, ◌-◌, length}
 use Rattle.std.specs.Prelude.{◌%◌}
-use Rattle.worker_pool.proofs.TriedLemmas.{HasTried}
+use Rattle.worker_pool.specs.Groups.{HasTried}
 use Rattle.worker_pool.proofs.share.do_share.Given as goal
 
 abbrev pub invariant-loop-at : goal.invariant-loop-at

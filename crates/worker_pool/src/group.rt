@@ -1,0 +1,203 @@
+//! Groups: runs of a worker's own tasks that are called together.
+ghost use Rattle.std.specs.Prelude.{◌≡◌, ◌<◌, ◌≤◌, ◌+◌, IfOk, IfErr, OnErr, Some, length, vec_len, vec_capacity};
+ghost use Rattle.std.specs.List.{slice_get};
+ghost use Rattle.std.specs.Vec.Iter.{into_iter_items};
+ghost use Rattle.worker_pool.specs.Tasks.{run_of, code_of, IsKnown, AreKnown, IsTaskRefusal, IsRefusalFor};
+ghost use Rattle.worker_pool.specs.Groups.{AreRunsFrom, IsAhead, IsNext, place_behind};
+
+use crate::task::Task;
+use prog_registry::{ProgId, Registry};
+use std::alloc::{AllocError, Allocator};
+use std::sync::{Arc, Wait};
+use std::vec::IntoIter;
+use store_cmd::{Command, Program, Refusal, Reply, SizeFault, check_run};
+use store_shared::{Gate, Ready, Session};
+
+/// The most calls of a group. With fewer, four workers lose more by the lock that changes hands; for as many short runs it is held some 30
+/// microseconds.
+const GROUP: usize = 128;
+
+/// Calls the runs of a worker's tasks from a place on, of so many workers, as many as a group has, and tells what came of each. Places
+/// for all replies are taken before that. Where the task at that place cannot be made ready it says why, and calls nothing.
+pub(crate) fn call_group<R: Wait, A: Allocator + Copy, G: Gate>(
+    rt: &R,
+    registry: &Registry<A>,
+    tasks: &[Task<A>],
+    at: usize,
+    workers: usize,
+    session: &mut Session<'_, A, G>,
+    replies: &mut Vec<Reply<A>, A>,
+) -> Result<IntoIter<Result<Reply<A>, Refusal>, A>, Refusal>
+    requires known { AreKnown registry.now.programs tasks.now }
+    requires within { at < length tasks.now }
+    requires some { 0 < workers }
+    ensures ahead { IfOk result (λ outcomes. IsAhead registry.now.programs tasks.entry.now workers at session.old (into_iter_items outcomes) session.new) }
+    ensures some { IfOk result (λ outcomes. 0 < length (into_iter_items outcomes)) }
+    ensures room { IfOk result (λ outcomes. length (into_iter_items outcomes) + vec_len replies.new ≤ vec_capacity replies.new) }
+    ensures refused { IfErr result (λ refusal. (task : Task A) → slice_get tasks.entry.now at ≡ Some task → IsTaskRefusal session.old.size (run_of registry.now.programs task) refusal) }
+    ensures err { OnErr result (session.new ≡ session.old) }
+    ensures replies { replies.new.items ≡ replies.old.items }
+{
+    let alloc = *replies.allocator();
+    let calls = ready_group(alloc, registry, tasks, at, workers, session)?;
+    let Ok(()) = replies.reserve(calls.len()) else {
+        return Err(Refusal::NoMemory);
+    };
+    let mut outcomes = Vec::new(alloc);
+    match session.call_all(rt, calls, &mut outcomes) {
+        Ok(()) => Ok(outcomes.into_iter()),
+        Err(_) => Err(Refusal::NoMemory),
+    }
+}
+
+// The runs of tasks from a place on, made ready, up to the first that cannot be, or why the one at that place cannot.
+fn ready_group<A: Allocator + Copy, G: Gate>(
+    alloc: A,
+    registry: &Registry<A>,
+    tasks: &[Task<A>],
+    at: usize,
+    workers: usize,
+    session: &Session<'_, A, G>,
+) -> Result<Vec<Ready<A>, A>, Refusal>
+    requires known { AreKnown registry.now.programs tasks.now }
+    requires within { at < length tasks.now }
+    requires some { 0 < workers }
+    ensures runs { IfOk result (λ calls. AreRunsFrom registry.now.programs tasks.entry.now workers at calls.items) }
+    ensures some { IfOk result (λ calls. 0 < length calls.items) }
+    ensures refused { IfErr result (λ refusal. (task : Task A) → slice_get tasks.entry.now at ≡ Some task → IsTaskRefusal session.now.size (run_of registry.now.programs task) refusal) }
+{
+    match ready_task(alloc, registry, &tasks[at], session) {
+        Ok(ready) => {
+            let mut calls = Vec::new(alloc);
+            let Ok(()) = calls.push(ready) else {
+                return Err(Refusal::NoMemory);
+            };
+            Ok(ready_more(alloc, registry, tasks, at, workers, session, calls))
+        }
+        Err(refusal) => Err(refusal),
+    }
+}
+
+// The same with those that follow, up to the first that cannot be made ready.
+fn ready_more<A: Allocator + Copy, G: Gate>(
+    alloc: A,
+    registry: &Registry<A>,
+    tasks: &[Task<A>],
+    at: usize,
+    workers: usize,
+    session: &Session<'_, A, G>,
+    calls: Vec<Ready<A>, A>,
+) -> Vec<Ready<A>, A>
+    requires known { AreKnown registry.now.programs tasks.now }
+    requires within { at < length tasks.now }
+    requires some { 0 < workers }
+    requires runs { AreRunsFrom registry.now.programs tasks.now workers at calls.items }
+    requires one { place_behind workers at calls.items ≡ at + workers }
+    requires any { 0 < length calls.items }
+    ensures runs { AreRunsFrom registry.now.programs tasks.entry.now workers at result.items }
+    ensures any { 0 < length result.items }
+{
+    let mut calls = calls;
+    let mut last = at;
+    while calls.len() < GROUP {
+        let Some(next) = place_after(tasks, last, workers) else {
+            return calls;
+        };
+        let Ok(ready) = ready_task(alloc, registry, &tasks[next], session) else {
+            return calls;
+        };
+        let Ok(()) = calls.push(ready) else {
+            return calls;
+        };
+        last = next;
+    }
+    calls
+}
+
+/// The worker's place behind one of its own, if there is one.
+pub(crate) fn place_after<A: Allocator>(
+    tasks: &[Task<A>],
+    at: usize,
+    workers: usize,
+) -> Option<usize>
+    requires { at < length tasks.now }
+    ensures { IsNext (length tasks.now) at workers result }
+{
+    if workers >= tasks.len() - at {
+        return None;
+    }
+    Some(at + workers)
+}
+
+// The run of a task, made ready. Its size is tested before anything is copied.
+fn ready_task<A: Allocator + Copy, G: Gate>(
+    alloc: A,
+    registry: &Registry<A>,
+    task: &Task<A>,
+    session: &Session<'_, A, G>,
+) -> Result<Ready<A>, Refusal>
+    requires known { IsKnown registry.now.programs task.now }
+    ensures ok { IfOk result (λ ready. ready ≡ run_of registry.now.programs task.entry.now) }
+    ensures refused { IfErr result (IsTaskRefusal session.now.size (run_of registry.now.programs task.entry.now)) }
+{
+    if let Err(fault) = check_run(
+        task.key.as_slice(),
+        task.arg.as_slice(),
+        task.blank,
+        session.page_size(),
+    ) {
+        return Err(refusal_for(fault));
+    }
+    let Ok(command) = command_of(alloc, registry, task) else {
+        return Err(Refusal::NoMemory);
+    };
+    match session.ready(command) {
+        Ok(ready) => Ok(ready),
+        Err((refusal, _)) => Err(refusal),
+    }
+}
+
+// The refusal of a run for its size.
+fn refusal_for(fault: SizeFault) -> Refusal
+    ensures { IsRefusalFor fault result }
+{
+    match fault {
+        SizeFault::PairTooLarge => Refusal::PairTooLarge,
+        SizeFault::ArgTooLong => Refusal::ArgTooLong,
+    }
+}
+
+// The command of a task.
+fn command_of<A: Allocator + Copy>(
+    alloc: A,
+    registry: &Registry<A>,
+    task: &Task<A>,
+) -> Result<Command<A>, AllocError>
+    requires { IsKnown registry.now.programs task.now }
+    ensures { IfOk result (λ command. command ≡ run_of registry.now.programs task.entry.now) }
+{
+    let key = task.key.try_clone(alloc)?;
+    let prog = program_of(registry, task.prog)?;
+    let arg = task.arg.try_clone(alloc)?;
+    Ok(Command::Run {
+        key,
+        prog,
+        arg,
+        blank: task.blank,
+        now: task.now,
+    })
+}
+
+// The program of a number that was given, with one owner more, or the error where it has as many as can be counted.
+fn program_of<A: Allocator + Copy>(
+    registry: &Registry<A>,
+    id: ProgId,
+) -> Result<Program<A>, AllocError>
+    requires { id.0 < length registry.now.programs }
+    ensures { IfOk result (λ program. program ≡ code_of registry.now.programs id.0) }
+{
+    let Some(program) = registry.get(id) else {
+        unreachable!()
+    };
+    Ok(Program::new(Arc::try_clone(program)?))
+}

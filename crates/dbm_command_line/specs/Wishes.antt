@@ -21,7 +21,7 @@ use Rattle.dbm_pairs.specs.Store.{StoreAsks}
 use Rattle.dbm_programs.specs.Asm.{AsmAsks}
 use Rattle.dbm_programs.specs.Disasm.{DisasmAsks}
 use Rattle.dbm_programs.specs.Verify.{VerifyAsks}
-use Rattle.dbm_runs.specs.Batch.{BatchAsks}
+use Rattle.dbm_runs.specs.Batch.{BatchAsks, each_core}
 use Rattle.dbm_runs.specs.Run.{RunAsks}
 use Rattle.dbm_scripts.specs.Script.{ScriptAsks}
 use Rattle.dbm_scripts.specs.Widen.{WidenAsks}
@@ -129,6 +129,16 @@ abbrev pub asks_clock : Wish → Bool
 asks_clock (wish.Script script) = script.clock
 asks_clock (wish.Batch batch) = batch.clock
 asks_clock _ = false
+
+-- it wants as many workers as there are cores
+abbrev pub asks_cores : Wish → Bool
+asks_cores (wish.Batch batch) = bytes_eq batch.workers.now each_core
+asks_cores _ = false
+
+-- the wish that says how many
+abbrev pub with_workers : Bor Text → Wish → Wish
+with_workers workers (wish.Batch batch) = wish.Batch (record batch { workers = workers })
+with_workers workers other = other
 
 -- the wish whose lines are told this time
 abbrev pub with_clock : TimeOfDay → Wish → Wish

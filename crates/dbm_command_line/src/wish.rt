@@ -1,12 +1,12 @@
 //! What a command line can ask.
 ghost use Rattle.std.specs.Prelude.{◌≡◌, option_map};
-ghost use Rattle.dbm_command_line.specs.Wishes.{asks_clock, base_of, file_of, notation_of, time_asked, with_clock, with_time, writes_files};
+ghost use Rattle.dbm_command_line.specs.Wishes.{asks_clock, asks_cores, base_of, file_of, notation_of, time_asked, with_clock, with_time, with_workers, writes_files};
 
 use dbm_dumps::{Dump, Load};
 use dbm_listings::{Check, Keys, List, Stats};
 use dbm_pairs::{Delete, Fetch, Rename, Store};
 use dbm_programs::{Asm, Disasm, Verify};
-use dbm_runs::{Batch, Run};
+use dbm_runs::{Batch, EACH_CORE, Run};
 use dbm_script::TimeOfDay;
 use dbm_scripts::{Script, Widen};
 use dbm_sessions::Session;
@@ -163,6 +163,26 @@ impl<'a> Wish<'a> {
                 time: Some(time),
                 ..batch
             }),
+            other => other,
+        }
+    }
+
+    /// Whether it wants as many workers as there are cores.
+    pub fn asks_cores(&self) -> bool
+        ensures { result ≡ asks_cores self.now }
+    {
+        match *self {
+            Wish::Batch(batch) => batch.workers == EACH_CORE,
+            _ => false,
+        }
+    }
+
+    /// The same wish, but a batch has so many workers as this word says.
+    pub fn with_workers(self, workers: &'a str) -> Wish<'a>
+        ensures { result ≡ with_workers workers.entry self.entry }
+    {
+        match self {
+            Wish::Batch(batch) => Wish::Batch(Batch { workers, ..batch }),
             other => other,
         }
     }

@@ -1,21 +1,23 @@
 //! The words of `batch`: a program runs on the records of many keys, by workers side by side.
-ghost use Rattle.std.specs.Prelude.{◌≡◌, IfOk, IfSome, IsNone, false};
-ghost use Rattle.clap.specs.Words.{found_of, rows_of};
+ghost use Rattle.std.specs.Prelude.{◌≡◌, IfOk, IfSome, IsNone, codes, false};
+ghost use Rattle.clap.specs.Words.{found_of, new_rule, rows_of, rule_of};
 ghost use Rattle.dbm_words.specs.CommandLine.{IsSubcommand};
 ghost use Rattle.dbm_words.specs.Given.{has_words};
 ghost use Rattle.dbm_runs.specs.Batch as spec;
 ghost use Rattle.dbm_runs.specs.Batch.{BatchAsks};
 
-use clap::{ArgMatches, Command};
+use clap::{Arg, ArgMatches, Command};
 use dbm_script::TimeOfDay;
 use dbm_words::arguments::{
-    base, file, flag, image, layout, must_exist, required_word, text, timeout, unsigned, verbose,
-    wide,
+    base, file, flag, image, layout, must_exist, text, timeout, unsigned, verbose, wide,
 };
 use dbm_words::{
     Form, NotationOptions, Numbers, Words, form, has_flag, notation, subcommand, word,
 };
 use std::alloc::{AllocError, Global};
+
+/// The word for as many workers as there are cores.
+pub const EACH_CORE: &str = "cores";
 
 /// A program is to be run on the records of many keys by so many workers, each run as a line on standard input says: the program
 /// of a text, or with `image` that of an image.
@@ -44,7 +46,7 @@ impl<'a> Batch<'a> {
             form: form(matches),
             notation: notation(matches),
             file: word(matches, "FILE")?,
-            workers: word(matches, "WORKERS")?,
+            workers: workers_in(matches),
             image: has_flag(matches, "image"),
             clock: has_flag(matches, "clock"),
             time: None,
@@ -65,6 +67,26 @@ impl<'a> Batch<'a> {
     }
 }
 
+// How many workers the words say, or that there are to be as many as there are cores.
+fn workers_in<'a>(matches: &ArgMatches<'a>) -> &'a str
+    ensures { result.now ≡ spec.workers_in (rows_of (found_of matches.now)) }
+{
+    match word(matches, "WORKERS") {
+        Some(workers) => workers,
+        None => EACH_CORE,
+    }
+}
+
+// The word for that, which may be left out.
+fn workers_word<'a>(alloc: Global) -> Arg<'a>
+    ensures rule { rule_of result ≡ new_rule (codes "WORKERS") }
+    ensures local { result.global ≡ false }
+{
+    let help =
+        "How many workers share the tasks, each in a thread of its own where one can be made, or cores: one for each core, as where no word stands";
+    Arg::new(alloc, "WORKERS").help(help)
+}
+
 /// The subcommand `batch`, as `clap` is told it.
 ///
 /// # Errors
@@ -77,11 +99,7 @@ pub fn batch_command<'a>(alloc: Global) -> Result<Command<'a>, AllocError>
     let args = vec![in alloc;
         base(alloc),
         file(alloc, "The program as text, one instruction a line"),
-        required_word(
-            alloc,
-            "WORKERS",
-            "How many workers share the tasks, each in a thread of its own where one can be made"
-        ),
+        workers_word(alloc),
         image(alloc),
         flag(alloc, "clock", clock),
         text(alloc),
@@ -99,6 +117,6 @@ pub fn batch_command<'a>(alloc: Global) -> Result<Command<'a>, AllocError>
          missing, or crowded (there is no room for a new record). Nothing is printed or written where a line is no\n\
          task, the program is not accepted, or a task is refused; the fault is then bad line N, Verify(FAULT), or\n\
          Refused(N, FAULT) with the task's number from 0 on.\n\n\
-         Example: printf '6162 . 8 now\\n6364 . 8 now\\n' | dbm batch users counter.s 2 --clock";
+         Example: printf '6162 . 8 now\\n6364 . 8 now\\n' | dbm batch users counter.s --clock";
     subcommand(alloc, "batch", about, notes, args)
 }

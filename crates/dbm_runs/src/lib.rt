@@ -5,6 +5,6 @@ mod batch;
 mod run;
 mod running;
 
-pub use batch::{Batch, batch_command};
+pub use batch::{Batch, EACH_CORE, batch_command};
 pub use run::{Run, run_command, run_words};
 pub use running::{database_and_image, run_image};

@@ -28,6 +28,7 @@ use quick::{may_be_quick, print_quick, refusal_in, serve_quick};
 use request::{given_of, place_asked, told_of, work_asked, work_of};
 use sdbm_saves::{FoundRead, ReadFiles};
 use serve::serve;
+use std::alloc::{AllocError, Global};
 use std::fs::File;
 use std::io::{ErrorKind, Read, Write};
 use std::process::ExitCode;
@@ -35,7 +36,7 @@ use std::rt::{Files, Runtime};
 use std::sync::Wait;
 use std::thread::Threads;
 use std::time::Duration;
-use std::{env, fs, io};
+use std::{env, fs, io, thread};
 
 fn main(rt: HostRuntime) -> ExitCode {
     let _standard = hold_standard(&rt);
@@ -221,10 +222,40 @@ fn serve_timed<R: Runtime<File = File> + AllocGlobal + Threads + Wait + Sync, I:
 ) -> Result<Ending, ServeFault> {
     let Some(unit) = wish.time_asked() else {
         let wish = with_lines_timed(rt, wish)?;
-        return serve_peeked(rt, wish, taking, taken, reader);
+        return serve_staffed(rt, wish, taking, taken, reader);
     };
     let time = read_clock(rt, rt.alloc(), unit)?;
     serve_peeked(rt, wish.with_time(time.as_str()), taking, taken, reader)
+}
+
+// Serves a wish on its files, which were taken, with as many workers as there are cores where it asks that.
+fn serve_staffed<R: Runtime<File = File> + AllocGlobal + Threads + Wait + Sync, I: Read>(
+    rt: &R,
+    wish: Wish<'_>,
+    taking: Taking<'_>,
+    taken: Taken,
+    reader: &mut Kept<I>,
+) -> Result<Ending, ServeFault> {
+    if !wish.asks_cores() {
+        return serve_peeked(rt, wish, taking, taken, reader);
+    }
+    let workers = cores_text(rt, rt.alloc())?;
+    serve_peeked(
+        rt,
+        wish.with_workers(workers.as_str()),
+        taking,
+        taken,
+        reader,
+    )
+}
+
+// How many cores this process may use, in decimal; one where the system does not tell.
+fn cores_text<R: Threads>(rt: &R, alloc: Global) -> Result<String, AllocError> {
+    let cores = match thread::available_parallelism(rt) {
+        Ok(cores) => cores.get(),
+        Err(_) => 1,
+    };
+    format!(in alloc; "{cores}")
 }
 
 // Serves a wish on the page of its key where its files were taken so and that page tells what comes of it, and else on all of them.

@@ -11,6 +11,13 @@ use std::thread::Threads;
 use store_cmd::{Command, Program};
 use store_shared::{Calls, NoGate, Session, Store};
 
+/// How a session makes its calls.
+#[derive(Clone, Copy)]
+pub enum Manner {
+    OneByOne,
+    Grouped,
+}
+
 /// A call on a key of 8 bytes.
 #[derive(Drop)]
 pub enum Call {
@@ -18,6 +25,9 @@ pub enum Call {
     Store,
     Run(Program<Global>),
 }
+
+// How many calls a group has.
+const GROUP: usize = 32;
 
 // The most threads at once.
 const THREADS: usize = 4;
@@ -89,6 +99,26 @@ fn make<R: Wait>(rt: &R, caller: &mut Caller<'_>, count: usize) {
     }
 }
 
+// Makes so many calls in groups, but for those that fill none.
+fn make_groups<R: Wait>(rt: &R, alloc: Global, caller: &mut Caller<'_>, count: usize) {
+    for _ in 0..count / GROUP {
+        if make_group(rt, alloc, caller).is_none() {
+            return;
+        }
+    }
+}
+
+// Makes the calls of a group.
+fn make_group<R: Wait>(rt: &R, alloc: Global, caller: &mut Caller<'_>) -> Option<()> {
+    let mut calls = Vec::with_capacity(alloc, GROUP).ok()?;
+    for _ in 0..GROUP {
+        let command = command(alloc, &caller.call, caller.key).ok()?;
+        calls.push(caller.session.ready(command).ok()?).ok()?;
+    }
+    let mut outcomes = Vec::new(alloc);
+    caller.session.call_all(rt, calls, &mut outcomes).ok()
+}
+
 // The calls that sessions have made, each in a thread of its own and on its key.
 fn all_calls<R: Threads + Wait + Sync>(
     rt: &R,
@@ -96,6 +126,7 @@ fn all_calls<R: Threads + Wait + Sync>(
     store: &Store<Global, NoGate>,
     keys: &[&'static [u8]],
     call: &Call,
+    manner: Manner,
     each: usize,
 ) -> Option<Vec<Calls<Global>>> {
     let mut callers = Vec::new(alloc);
@@ -107,7 +138,10 @@ fn all_calls<R: Threads + Wait + Sync>(
         };
         callers.push(caller).ok()?;
     }
-    let share = move |_at: usize, caller: &mut Caller<'_>| make(rt, caller, each);
+    let share = move |_at: usize, caller: &mut Caller<'_>| match manner {
+        Manner::OneByOne => make(rt, caller, each),
+        Manner::Grouped => make_groups(rt, alloc, caller, each),
+    };
     thread::for_each_mut(rt, callers.as_mut_slice(), THREADS, &share);
     let mut handed = Vec::new(alloc);
     for caller in callers {
@@ -124,13 +158,14 @@ pub fn by_sessions<R: Threads + Wait + Sync>(
     image: Image<Global>,
     keys: &[&'static [u8]],
     call: &Call,
+    manner: Manner,
     count: usize,
 ) -> Option<usize> {
     let Ok(store) = Store::open(alloc, image, count, NoGate) else {
         return None;
     };
     let each = count.checked_div(keys.len())?;
-    let handed = all_calls(rt, alloc, &store, keys, call, each)?;
+    let handed = all_calls(rt, alloc, &store, keys, call, manner, each)?;
     match store.close(handed) {
         Ok(closed) => Some(closed.trail.entries.len()),
         Err(_) => None,

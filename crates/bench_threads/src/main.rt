@@ -8,6 +8,8 @@
 //! | `one CALL COUNT` | one session |
 //! | `apart CALL COUNT` | four sessions in four threads, each on a page of its own |
 //! | `together CALL COUNT` | four sessions in four threads on one key |
+//! | `grouped CALL COUNT` | one session, 32 calls at once |
+//! | `crowd CALL COUNT` | four sessions in four threads, each on a page of its own, 32 calls at once |
 //!
 //! A call is `fetch`, `store`, `run`, which adds 1 to a record of 8 bytes, or `long`, which runs a program of 4,000 instructions. The
 //! answer has the number of entries that the trail has in the end. With `time` before it, a line's answer also has the calls a

@@ -1,6 +1,6 @@
 //! Measurements, and what is said of them.
 
-use crate::calls::{Call, by_desk, by_sessions};
+use crate::calls::{Call, Manner, by_desk, by_sessions};
 use crate::programs::{KEYS, counter, four_pages, long};
 use std::alloc::Global;
 use std::io;
@@ -16,6 +16,8 @@ enum Callers {
     One,
     Apart,
     Together,
+    Grouped,
+    Crowd,
 }
 
 /// What is asked to be measured.
@@ -32,6 +34,8 @@ fn read_callers(word: &str) -> Option<Callers> {
         "one" => Some(Callers::One),
         "apart" => Some(Callers::Apart),
         "together" => Some(Callers::Together),
+        "grouped" => Some(Callers::Grouped),
+        "crowd" => Some(Callers::Crowd),
         _ => None,
     }
 }
@@ -64,12 +68,16 @@ fn read_measurement(alloc: Global, line: &str) -> Option<Measurement> {
 fn measure<R: Threads + Wait + Sync>(rt: &R, alloc: Global, asked: &Measurement) -> Option<usize> {
     let image = four_pages(alloc)?;
     let call = &asked.call;
-    match asked.callers {
-        Callers::Desk => by_desk(alloc, image, call, asked.count),
-        Callers::One => by_sessions(rt, alloc, image, &KEYS[..1], call, asked.count),
-        Callers::Apart => by_sessions(rt, alloc, image, &KEYS, call, asked.count),
-        Callers::Together => by_sessions(rt, alloc, image, &[KEYS[0]; 4], call, asked.count),
-    }
+    let same = [KEYS[0]; 4];
+    let (keys, manner): (&[&'static [u8]], Manner) = match asked.callers {
+        Callers::Desk => return by_desk(alloc, image, call, asked.count),
+        Callers::One => (&KEYS[..1], Manner::OneByOne),
+        Callers::Apart => (&KEYS, Manner::OneByOne),
+        Callers::Together => (&same, Manner::OneByOne),
+        Callers::Grouped => (&KEYS[..1], Manner::Grouped),
+        Callers::Crowd => (&KEYS, Manner::Grouped),
+    };
+    by_sessions(rt, alloc, image, keys, call, manner, asked.count)
 }
 
 /// The answer to a line.

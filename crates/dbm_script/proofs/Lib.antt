@@ -6,3 +6,4 @@ pub mod RunsAsked
 pub mod SpelledLines
 pub mod SpelledExamples
 pub mod LinesStay
+pub mod DigitLemmas

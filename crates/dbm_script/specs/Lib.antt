@@ -8,3 +8,4 @@ pub mod Answers
 pub mod Tasks
 pub mod Images
 pub mod Script
+pub mod Digits

@@ -3,6 +3,7 @@
 
 mod answers;
 mod commands;
+mod digits;
 mod fault;
 mod images;
 mod lines;

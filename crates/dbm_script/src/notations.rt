@@ -2,8 +2,8 @@
 ghost use Rattle.std.specs.Prelude.{◌≡◌, ◌++◌, IfOk, OnOk};
 ghost use Rattle.dbm_script.specs.Notation.{bytes_of, hex_bytes, hex_shown, reads_hex, shown, value_shown};
 
+use crate::digits::decode;
 use byte_text::{Layout, read_text, show_by, show_text};
-use hex::FromHexError;
 use sdbm_addr::Bytes;
 use std::alloc::{AllocError, Allocator};
 
@@ -66,10 +66,9 @@ pub(crate) fn read_hex<A: Allocator + Copy>(
     if text == b".".as_slice() {
         return Ok(Some(Bytes::new(Vec::new(alloc))));
     }
-    match hex::decode(alloc, text) {
-        Ok(bytes) => Ok(Some(Bytes::new(bytes))),
-        Err(FromHexError::OutOfMemory) => Err(AllocError),
-        Err(_) => Ok(None),
+    match decode(alloc, text)? {
+        Some(bytes) => Ok(Some(Bytes::new(bytes))),
+        None => Ok(None),
     }
 }
 

@@ -1,0 +1,69 @@
+//! Hex of either case, read by a table.
+ghost use Rattle.std.specs.Prelude.{◌≡◌, ◌*◌, IfOk, true, false, Ok, None, length, ℕ, Vec};
+ghost use Rattle.std.specs.Option.{option_map};
+ghost use Rattle.dbm_script.specs.Digits.{are_values, value_read};
+ghost use Rattle.std.specs.Result.{result_ok};
+ghost use Rattle.hex.specs.Hex.{decode_of, decode_pairs, hex_digit_value};
+
+use std::alloc::{AllocError, Allocator};
+
+// The value of each digit, and more than 15 for what is none.
+const VALUES: [u8; 256] =
+    *b"\xff\xff\xff\xff\xff\xff\xff\xff\xff\xff\xff\xff\xff\xff\xff\xff\xff\xff\xff\xff\xff\xff\xff\xff\xff\xff\xff\xff\xff\xff\xff\xff\
+    \xff\xff\xff\xff\xff\xff\xff\xff\xff\xff\xff\xff\xff\xff\xff\xff\x00\x01\x02\x03\x04\x05\x06\x07\x08\x09\xff\xff\xff\xff\xff\xff\
+    \xff\x0a\x0b\x0c\x0d\x0e\x0f\xff\xff\xff\xff\xff\xff\xff\xff\xff\xff\xff\xff\xff\xff\xff\xff\xff\xff\xff\xff\xff\xff\xff\xff\xff\
+    \xff\x0a\x0b\x0c\x0d\x0e\x0f\xff\xff\xff\xff\xff\xff\xff\xff\xff\xff\xff\xff\xff\xff\xff\xff\xff\xff\xff\xff\xff\xff\xff\xff\xff\
+    \xff\xff\xff\xff\xff\xff\xff\xff\xff\xff\xff\xff\xff\xff\xff\xff\xff\xff\xff\xff\xff\xff\xff\xff\xff\xff\xff\xff\xff\xff\xff\xff\
+    \xff\xff\xff\xff\xff\xff\xff\xff\xff\xff\xff\xff\xff\xff\xff\xff\xff\xff\xff\xff\xff\xff\xff\xff\xff\xff\xff\xff\xff\xff\xff\xff\
+    \xff\xff\xff\xff\xff\xff\xff\xff\xff\xff\xff\xff\xff\xff\xff\xff\xff\xff\xff\xff\xff\xff\xff\xff\xff\xff\xff\xff\xff\xff\xff\xff\
+    \xff\xff\xff\xff\xff\xff\xff\xff\xff\xff\xff\xff\xff\xff\xff\xff\xff\xff\xff\xff\xff\xff\xff\xff\xff\xff\xff\xff\xff\xff\xff\xff";
+
+/// The bytes of a text in hex of either case, or none where it is no such text: what `hex::decode` answers, without a branch for each kind
+/// of digit, which in a key comes at random.
+///
+/// # Errors
+/// `AllocError` where there is no memory for the bytes.
+pub(crate) fn decode<A: Allocator>(alloc: A, text: &[u8]) -> Result<Option<Vec<u8, A>>, AllocError>
+    ensures { IfOk result (λ bytes. option_map (λ (v : Vec ℕ A). v.items) bytes ≡ result_ok (decode_of text.now)) }
+{
+    if text.len() % 2 != 0 {
+        return Ok(None);
+    }
+    let mut bytes = vec![in alloc; 0u8; text.len() / 2]?;
+    if !decode_into(text, bytes.as_mut_slice()) {
+        return Ok(None);
+    }
+    Ok(Some(bytes))
+}
+
+// Whether a text is the hex of as many bytes as there is room for. Then they are written.
+fn decode_into(text: &[u8], out: &mut [u8]) -> bool
+    requires { length text.now ≡ 2 * length out.old }
+    ensures bytes { result ≡ true → decode_pairs 0 text.now ≡ Ok out.new }
+    ensures none { result ≡ false → result_ok (decode_pairs 0 text.now) ≡ None }
+{
+    'bytes: for i in 0..out.len() {
+        let high = value(text[2 * i]);
+        let low = value(text[2 * i + 1]);
+        if high > 15 || low > 15 {
+            return false;
+        }
+        out[i] = high * 16 + low;
+    }
+    true
+}
+
+// The value of a digit, or more than 15.
+fn value(digit: u8) -> u8
+    ensures { value_read result ≡ hex_digit_value digit }
+{
+    look_up(&VALUES, digit)
+}
+
+// What a table of values has for a digit.
+fn look_up(table: &[u8; 256], digit: u8) -> u8
+    requires { are_values table.now 0 ≡ true }
+    ensures { value_read result ≡ hex_digit_value digit }
+{
+    table[usize::from(digit)]
+}

@@ -8,7 +8,7 @@ use std::alloc::{AllocError, Global};
 use std::sync::Wait;
 use std::thread;
 use std::thread::Threads;
-use store_cmd::{Command, Program};
+use store_cmd::{Command, Program, SharedCommand};
 use store_shared::{Calls, NoGate, Session, Store};
 
 /// How a session makes its calls.
@@ -34,7 +34,14 @@ const THREADS: usize = 4;
 
 const VALUE: [u8; 8] = [7, 0, 0, 0, 0, 0, 0, 0];
 
-fn command(alloc: Global, call: &Call, key: &[u8]) -> Result<Command<Global>, AllocError> {
+fn command(alloc: Global, call: &Call, key: &[u8]) -> Result<SharedCommand<Global>, AllocError> {
+    match SharedCommand::new(alloc, command_on(alloc, call, key)?) {
+        Ok(command) => Ok(command),
+        Err(_) => Err(AllocError),
+    }
+}
+
+fn command_on(alloc: Global, call: &Call, key: &[u8]) -> Result<Command<Global>, AllocError> {
     let key = Bytes::from_slice(alloc, key)?;
     match call {
         Call::Fetch => Ok(Command::Fetch { key }),
@@ -112,8 +119,9 @@ fn make_groups<R: Wait>(rt: &R, alloc: Global, caller: &mut Caller<'_>, count: u
 fn make_group<R: Wait>(rt: &R, alloc: Global, caller: &mut Caller<'_>) -> Option<()> {
     let mut calls = Vec::with_capacity(alloc, GROUP).ok()?;
     for _ in 0..GROUP {
-        let command = command(alloc, &caller.call, caller.key).ok()?;
-        calls.push(caller.session.ready(command).ok()?).ok()?;
+        calls
+            .push(command(alloc, &caller.call, caller.key).ok()?)
+            .ok()?;
     }
     let mut outcomes = Vec::new(alloc);
     caller.session.call_all(rt, calls, &mut outcomes).ok()

@@ -14,11 +14,15 @@
 //! A call is `fetch`, `store`, `run`, which adds 1 to a record of 8 bytes, or `long`, which runs a program of 4,000 instructions. The
 //! answer has the number of entries that the trail has in the end. With `time` before it, a line's answer also has the calls a
 //! second and the nanoseconds of a call; so standard input without that word gives the same answers each time.
+//!
+//! `turn PAIRS CALLS` opens a store over so many pairs, lets 16 sessions make so many fetches, and closes it. It tells how many pairs and
+//! entries there were, and with `time` before it the microseconds to open and to close.
 #![tactic(auto)]
 
 mod calls;
 mod measuring;
 mod programs;
+mod turning;
 
 use measuring::show_line;
 use std::io;

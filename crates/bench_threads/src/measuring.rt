@@ -2,6 +2,7 @@
 
 use crate::calls::{Call, Manner, by_desk, by_sessions};
 use crate::programs::{KEYS, counter, four_pages, long};
+use crate::turning::{Turn, make_turn};
 use std::alloc::Global;
 use std::io;
 use std::rt::Clock;
@@ -80,6 +81,37 @@ fn measure<R: Threads + Wait + Sync>(rt: &R, alloc: Global, asked: &Measurement)
     by_sessions(rt, alloc, image, keys, call, manner, asked.count)
 }
 
+// The answer to a line that asks for a turn.
+fn show_turn<R: Clock + Wait>(
+    rt: &R,
+    alloc: Global,
+    timed: bool,
+    words: &str,
+) -> io::Result<String> {
+    let Some((count, calls)) = read_turn(words) else {
+        return Ok(String::from_str(alloc, "a line that cannot be read")?);
+    };
+    let Some(turn) = make_turn(rt, alloc, count, calls)? else {
+        return Ok(String::from_str(alloc, "a call was refused")?);
+    };
+    let Turn {
+        pairs,
+        entries,
+        open,
+        close,
+    } = turn;
+    if !timed {
+        return Ok(format!(in alloc; "turn {words}: {pairs} pairs, {entries} entries")?);
+    }
+    Ok(format!(in alloc; "turn {words}: {pairs} pairs, {entries} entries, {open} us to open, {close} us to close")?)
+}
+
+// How many pairs and calls a turn has.
+fn read_turn(words: &str) -> Option<(usize, usize)> {
+    let (count, calls) = words.split_once(' ')?;
+    Some((count.parse::<usize>().ok()?, calls.parse::<usize>().ok()?))
+}
+
 /// The answer to a line.
 pub fn show_line<R: Clock + Threads + Wait + Sync>(
     rt: &R,
@@ -90,6 +122,9 @@ pub fn show_line<R: Clock + Threads + Wait + Sync>(
         Some(rest) => (true, rest),
         None => (false, text),
     };
+    if let Some(words) = rest.strip_prefix("turn ") {
+        return show_turn(rt, alloc, timed, words);
+    }
     let Some(asked) = read_measurement(alloc, rest) else {
         return Ok(String::from_str(alloc, "a line that cannot be read")?);
     };

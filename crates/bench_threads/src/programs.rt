@@ -7,7 +7,7 @@ use sdbm_addr::{Bytes, KeyBytes, Mode, PageSize};
 use sdbm_files::Image;
 use std::alloc::{AllocError, Global};
 use std::sync::Arc;
-use store_cmd::{Command, Program};
+use store_cmd::{Command, Program, SharedCommand};
 
 /// The keys that are called, each on a page of its own.
 pub const KEYS: [&[u8]; 4] = [b"a", b"b", b"c", b"d"];
@@ -55,21 +55,41 @@ pub fn long(alloc: Global) -> Option<Program<Global>> {
     accepted(alloc, text.as_str())
 }
 
-// Stores so many zeros for each of these keys.
+// Stores so many zeros for a key.
+fn insert(alloc: Global, desk: &mut Desk<Global>, key: &[u8], len: usize) -> Option<()> {
+    let key = Bytes::from_slice(alloc, key).ok()?;
+    let value = Bytes::new(vec![in alloc; 0u8; len].ok()?);
+    let command = Command::Store {
+        key,
+        value,
+        mode: Mode::Insert,
+    };
+    let command = SharedCommand::new(alloc, command).ok()?;
+    match desk.step(0, command) {
+        Ok(_) => Some(()),
+        Err(_) => None,
+    }
+}
+
+// The same for each of these keys.
 fn fill(alloc: Global, desk: &mut Desk<Global>, keys: &[&[u8]], len: usize) -> Option<()> {
     for key in keys {
-        let key = Bytes::from_slice(alloc, key).ok()?;
-        let value = Bytes::new(vec![in alloc; 0u8; len].ok()?);
-        let command = Command::Store {
-            key,
-            value,
-            mode: Mode::Insert,
-        };
-        let Ok(_) = desk.step(0, command) else {
-            return None;
-        };
+        insert(alloc, desk, key, len)?;
     }
     Some(())
+}
+
+/// A database of so many pairs, with keys and values of 8 bytes.
+pub fn many_pairs(alloc: Global, count: usize) -> Option<Image<Global>> {
+    let image = Image::empty(alloc, KeyBytes::Signed, PageSize::Small);
+    let Ok(mut desk) = Desk::open(alloc, image, count) else {
+        return None;
+    };
+    for at in 0..count {
+        let key = format!(in alloc; "{at:08}").ok()?;
+        insert(alloc, &mut desk, key.as_bytes(), 8)?;
+    }
+    Some(desk.into_parts().0)
 }
 
 /// A database of four pages, each with a record of 8 zeros and one of 600.

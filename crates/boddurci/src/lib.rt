@@ -7,7 +7,7 @@
 //! 2. [`assemble`] and [`verify`] make a [`Program`] of a text. What is accepted is safe on each record and argument, and ends.
 //! 3. [`Store::open`] puts a lock round the database, and [`Store::session`] gives each thread a [`Session`] of its own.
 //! 4. `fetch`, `store`, `delete`, `count` and `run` of a session are one step each, whatever the other threads do. Many at once cost less
-//!    by [`Session::call_all`]. A [`Gate`] lets you look on or stand between; [`NoGate`] does neither, and is faster.
+//!    by [`Session::call_all`], which takes [`SharedCommand`]s. A [`Gate`] lets you look on or stand between; [`NoGate`] does neither, and is faster.
 //! 5. [`Session::into_calls`] ends a session, and [`Store::close`] takes the calls of all and gives the database back, with a log of every
 //!    answered call in the order in which they happened.
 //! 6. [`Image::write`] writes both files into two [`Sink`]s.
@@ -25,8 +25,10 @@ pub use desk_core::{Done, Job};
 pub use prog_registry::{ProgId, RegFault, Registry};
 pub use sdbm_addr::{Bytes, KeyBytes, Mode, PageSize};
 pub use sdbm_files::{Image, MemSink, OpenFault, Sink, SinkFault, WriteFault, widen};
-pub use store_cmd::{Command, Entry, Program, Refusal, Reply, SizeFault, Trail};
+pub use store_cmd::{
+    Command, KeptEntry, Opening, Program, Refusal, Reply, SharedCommand, SizeFault, Trail,
+};
 pub use store_shared::{
-    Calls, CloseFault, Closed, Gate, NoGate, Ready, Session, SessionFault, Store,
+    Calls, CloseFault, Closed, Gate, NoGate, Session, SessionFault, Store,
 };
 pub use worker_pool::{Answers, PoolFault, Task, run_jobs};

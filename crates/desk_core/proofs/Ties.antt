@@ -21,6 +21,7 @@ use Rattle.sdbm_split.specs.Planned.{PageChange}
 use Rattle.store_cmd.specs.declared.Command.{Command}
 use Rattle.store_cmd.specs.declared.Command.TheVariants.{Fetch, Store, Delete, Run, Count}
 use Rattle.store_cmd.specs.declared.Reply.{Reply}
+use Rattle.store_cmd.specs.declared.Entry.{Entry}
 use Rattle.desk_core.specs.declared.job.Open.{Open}
 use Rattle.store_moves.specs.Works.{PageResult, works, HasKey, key_of, HasEnd}
 use Rattle.desk_core.specs.Jobs.{worked}
@@ -180,3 +181,7 @@ some_mapped f (Some x) = refl
 pub unchanged_by : (db : Database) (n : ℕ) (o : Option PageChange) → is_some o ≡ false → changed_by db n o ≡ db
 unchanged_by db n None e = refl
 unchanged_by db n (Some change) e = absurd (cc)
+
+-- an entry that was added, by what it is
+pub entered : {A : Type 0} (before after : List (Entry A)) (e e' : Entry A) → after ≡ before ++ e ∷ [] → e ≡ e' → after ≡ before ++ e' ∷ []
+entered {A} before after e e' added is = added ∙ ap (λ (x : Entry A). before ++ x ∷ []) is

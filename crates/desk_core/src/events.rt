@@ -9,13 +9,13 @@ use hold_modes::Ticket;
 use std::alloc::{AllocError, Allocator};
 use std::collections::HashMap;
 use std::hash::{BuildHasherDefault, FoldHasher};
-use store_cmd::{Command, Reply};
+use store_cmd::{Reply, SharedCommand};
 
 /// What is done with a desk.
 #[derive(Drop)]
 pub enum Event<A: Allocator> {
     /// A session asks a command.
-    Ask(u64, Command<A>),
+    Ask(u64, SharedCommand<A>),
     /// The job in hand under a ticket is worked.
     Work(Ticket),
     /// A ticket's hold is made exclusive.
@@ -111,18 +111,18 @@ impl<A: Allocator + Copy> Desk<A> {
         }
     }
 
-    // Asks a copy of a command, and takes the job in hand.
+    // Asks a command, and takes the job in hand.
     fn ask_in_hand(
         &mut self,
         hands: &mut ByTicket<A>,
         session: u64,
-        command: &Command<A>,
+        command: &SharedCommand<A>,
     ) -> Outcome<A>
         requires { 1 ≤ spare hands.old }
         ensures does { OnAsk self.old (get nat_eq hands.old) session command.now result self.new (get nat_eq hands.new) }
         ensures spare { spare hands.old ≤ spare hands.new + 1 }
     {
-        match self.ask_copy(session, command) {
+        match self.ask_shared(session, command) {
             Ok(Asked::Job(job)) => {
                 let ticket = job.ticket();
                 put(hands, ticket, InHand::Job(job));
@@ -133,17 +133,17 @@ impl<A: Allocator + Copy> Desk<A> {
         }
     }
 
-    // Asks a copy of a command. It is copied only where nothing but memory may refuse it.
-    fn ask_copy(&mut self, session: u64, command: &Command<A>) -> Result<Asked<A>, AskFault>
+    // Asks a command, with one owner more.
+    fn ask_shared(&mut self, session: u64, command: &SharedCommand<A>) -> Result<Asked<A>, AskFault>
         ensures ok { IfOk result (λ asked. Asks self.old session command.now asked self.new) }
         ensures refused { IfErr result (λ fault. IsAskFault self.old command.now fault) }
         ensures err { OnErr result (self.new ≡ self.old) }
     {
         let wanted = self.may_ask(command)?;
-        let Ok(copy) = command.try_clone(self.alloc) else {
+        let Ok(own) = command.try_clone() else {
             return Err(AskFault::NoMemory);
         };
-        match self.admit(session, copy, wanted) {
+        match self.admit(session, own, wanted) {
             Ok(asked) => Ok(asked),
             Err((fault, _)) => Err(fault),
         }

@@ -12,7 +12,7 @@ use sdbm_dir::Place;
 use sdbm_split::Plan;
 use std::alloc::{AllocError, Allocator};
 use std::marker::Model;
-use store_cmd::{Command, Reply};
+use store_cmd::{Reply, SharedCommand};
 use store_moves::{Worked, work_on};
 
 /// What stands under an open ticket: who asked what, the place to which the key leads in a database whose keys hash so, and the
@@ -20,7 +20,7 @@ use store_moves::{Worked, work_on};
 #[derive(Drop)]
 pub(crate) struct Open<A: Allocator> {
     pub session: u64,
-    pub command: Command<A>,
+    pub command: SharedCommand<A>,
     pub place: Place,
     pub kind: KeyBytes,
     pub page: PageCopy<A>,
@@ -145,7 +145,7 @@ pub(crate) fn work_asked<A: Allocator + Copy>(
         asked.kind,
         asked.page.page_size(),
         asked.session,
-        &asked.command,
+        asked.command.command(),
     )
 }
 

@@ -7,7 +7,7 @@ ghost use Rattle.std.specs.FinMap as map;
 ghost use Rattle.std.specs.List.{list_any};
 ghost use Rattle.slab.specs.Slab.{HasRoomFor, slab_len};
 ghost use Rattle.hold_modes.specs.Held.{bars, is_of, obeys_rule};
-ghost use Rattle.sdbm_addr.specs.Database.{map_of};
+ghost use Rattle.sdbm_addr.specs.Database.{IsDatabase, map_of};
 ghost use Rattle.store_cmd.specs.declared.Command.TheVariants.{Count};
 ghost use Rattle.store_moves.specs.Works.{key_of};
 ghost use Rattle.store_moves.specs.Leads.{IsPlaceOf};
@@ -34,7 +34,7 @@ use slab::Slab;
 use std::alloc::{AllocError, Allocator};
 use std::marker::Model;
 pub use step::Stepped;
-use store_cmd::{Command, Entry, Reply, SizeFault, Trail, check};
+use store_cmd::{Command, KeptEntry, Opening, Reply, SharedCommand, SizeFault, Trail, check};
 use store_moves::{key_in, put_in};
 
 /// The core of a store, seen as its database, the opening and the entries of its trail, what is open under each ticket, the ticket
@@ -60,9 +60,9 @@ impl<A: Allocator> Model for Desk<A> {
 
     ghost coded = { Prim.hlevel (codes, coded_database) };
 
-    ghost view = { λ a. record { database = a.image; opening = a.trail.opening.items; entries = a.trail.entries.items; tickets = a.tickets.slots; next = a.tickets.vacant_key; holds = a.holds; limit = a.limit } };
+    ghost view = { λ a. record { database = a.image; opening = a.trail.opening; entries = a.trail.entries.items; tickets = a.tickets.slots; next = a.tickets.vacant_key; holds = a.holds; limit = a.limit } };
 
-    ghost invariant = { λ a. IsSound (record { database = a.image; opening = a.trail.opening.items; entries = a.trail.entries.items; tickets = a.tickets.slots; next = a.tickets.vacant_key; holds = a.holds; limit = a.limit })
+    ghost invariant = { λ a. IsSound (record { database = a.image; opening = a.trail.opening; entries = a.trail.entries.items; tickets = a.tickets.slots; next = a.tickets.vacant_key; holds = a.holds; limit = a.limit })
         × (vec_len a.trail.entries + slab_len a.tickets ≤ vec_capacity a.trail.entries) };
 }
 
@@ -118,13 +118,6 @@ pub enum Asked<A: Allocator> {
     Answered(Reply<A>),
 }
 
-/// What a command leaves that was committed: its reply, and the command, which its ticket had.
-#[derive(Drop)]
-pub struct Settled<A: Allocator> {
-    pub reply: Reply<A>,
-    pub command: Command<A>,
-}
-
 /// What a command wants that is about a key: the page of its place, and how to hold it at first.
 #[derive(Clone, Copy)]
 pub(crate) struct Wanted {
@@ -144,7 +137,7 @@ impl<A: Allocator + Copy> Desk<A> {
         ensures sound { IfOk result (λ desk. IsSound desk) }
         ensures returned { IfErr result (λ refused. refused.1 ≡ image) }
     {
-        let Ok(opening) = image.pairs() else {
+        let Ok(opening) = opening_of(alloc, &image) else {
             return Err((AllocError, image));
         };
         Ok(Desk {
@@ -168,8 +161,8 @@ impl<A: Allocator + Copy> Desk<A> {
     pub fn ask(
         &mut self,
         session: u64,
-        command: Command<A>,
-    ) -> Result<Asked<A>, (AskFault, Command<A>)>
+        command: SharedCommand<A>,
+    ) -> Result<Asked<A>, (AskFault, SharedCommand<A>)>
         ensures ok { IfOk result (λ asked. Asks self.old session command asked self.new) }
         ensures refused { IfErr result (λ refused. IsAskFault self.old command refused.0) }
         ensures returned { IfErr result (λ refused. refused.1 ≡ command) }
@@ -182,12 +175,13 @@ impl<A: Allocator + Copy> Desk<A> {
     }
 
     // What a command wants that may be asked, or why it may not, but for memory.
-    fn may_ask(&self, command: &Command<A>) -> Result<Option<Wanted>, AskFault>
+    fn may_ask(&self, command: &SharedCommand<A>) -> Result<Option<Wanted>, AskFault>
         ensures ok { OnOk result (MayAsk self.now command.now) }
         ensures wanted { IfOk result (IsWanted self.now command.now) }
         ensures refused { IfErr result (λ fault. IsAskFault self.now command.now fault) }
         ensures told { IfErr result (λ fault. fault ≢ AskFault.NoMemory) }
     {
+        let command = command.command();
         if let Err(fault) = check(command, self.image.page_size()) {
             return Err(ask_fault(fault));
         }
@@ -208,9 +202,9 @@ impl<A: Allocator + Copy> Desk<A> {
     fn admit(
         &mut self,
         session: u64,
-        command: Command<A>,
+        command: SharedCommand<A>,
         wanted: Option<Wanted>,
-    ) -> Result<Asked<A>, (AskFault, Command<A>)>
+    ) -> Result<Asked<A>, (AskFault, SharedCommand<A>)>
         requires may { MayAsk self.old command }
         requires wanted { IsWanted self.old command wanted }
         ensures ok { IfOk result (λ asked. Asks self.old session command asked self.new) }
@@ -231,9 +225,9 @@ impl<A: Allocator + Copy> Desk<A> {
     fn take(
         &mut self,
         session: u64,
-        command: Command<A>,
+        command: SharedCommand<A>,
         wanted: Wanted,
-    ) -> Result<Asked<A>, (AskFault, Command<A>)>
+    ) -> Result<Asked<A>, (AskFault, SharedCommand<A>)>
         requires may { MayAsk self.old command }
         requires mode { first_hold command ≡ Some wanted.mode }
         requires place { IsPlaceOf self.old.database (key_of command) wanted.place }
@@ -242,7 +236,7 @@ impl<A: Allocator + Copy> Desk<A> {
         ensures returned { IfErr result (λ refused. refused.1 ≡ command) }
         ensures err { OnErr result (self.new ≡ self.old) }
     {
-        let Ok(own) = self.copy_asked(session, &command, wanted.place) else {
+        let Ok(own) = self.asked_of(session, &command, wanted.place) else {
             return Err((AskFault::NoMemory, command));
         };
         let Ok(page) = own.page.try_clone() else {
@@ -266,11 +260,11 @@ impl<A: Allocator + Copy> Desk<A> {
         }))
     }
 
-    // What stands under a ticket for a command, of which a copy is made.
-    fn copy_asked(
+    // What stands under a ticket for a command. That has one owner more then.
+    fn asked_of(
         &self,
         session: u64,
-        command: &Command<A>,
+        command: &SharedCommand<A>,
         place: Place,
     ) -> Result<Open<A>, AllocError>
         requires { IsPlaceOf self.now.database (key_of command.now) place }
@@ -278,7 +272,7 @@ impl<A: Allocator + Copy> Desk<A> {
         ensures place { IfOk result (λ own. own.place ≡ place) }
     {
         let page = PageCopy::of(&self.image, place.page)?;
-        let command = command.try_clone(self.alloc)?;
+        let command = command.try_clone()?;
         Ok(Open {
             session,
             command,
@@ -313,8 +307,8 @@ impl<A: Allocator + Copy> Desk<A> {
     fn answer_count(
         &mut self,
         session: u64,
-        command: Command<A>,
-    ) -> Result<Reply<A>, (AskFault, Command<A>)>
+        command: SharedCommand<A>,
+    ) -> Result<Reply<A>, (AskFault, SharedCommand<A>)>
         requires may { MayAsk self.old command }
         requires counts { command ≡ Count }
         ensures ok { IfOk result (λ reply. Counts self.old session reply self.new) }
@@ -326,11 +320,8 @@ impl<A: Allocator + Copy> Desk<A> {
             return Err((AskFault::NoMemory, command));
         };
         let counted = self.image.count();
-        self.trail.entries.push_reserved(Entry {
-            session,
-            command: Command::Count,
-            reply: Reply::Count(counted),
-        });
+        let entry = KeptEntry::new(session, command, Reply::Count(counted));
+        self.trail.entries.push_reserved(entry);
         Ok(Reply::Count(counted))
     }
 
@@ -383,23 +374,6 @@ impl<A: Allocator + Copy> Desk<A> {
         ensures returned { IfErr result (λ refused. refused.1 ≡ done) }
         ensures err { OnErr result (self.new ≡ self.old) }
     {
-        match self.settle(done) {
-            Ok(settled) => Ok(settled.reply),
-            Err(refused) => Err(refused),
-        }
-    }
-
-    /// Commits as `finish` does, and gives the command back beside the reply, so that whoever asked can keep it without a copy.
-    ///
-    /// # Errors
-    /// Those of `finish`, with the same left as it was.
-    pub fn settle(&mut self, done: Done<A>) -> Result<Settled<A>, (FinishFault, Done<A>)>
-        ensures ok { IfOk result (λ settled. Finishes self.old done settled.reply self.new) }
-        ensures command { IfOk result (λ settled. settled.command ≡ done.asked.command) }
-        ensures refused { IfErr result (λ refused. IsFinishFault self.old done refused.0) }
-        ensures returned { IfErr result (λ refused. refused.1 ≡ done) }
-        ensures err { OnErr result (self.new ≡ self.old) }
-    {
         let ticket = done.ticket();
         let Some(own) = self.tickets.get(ticket.0) else {
             return Err((FinishFault::NoTicket, done));
@@ -417,10 +391,9 @@ impl<A: Allocator + Copy> Desk<A> {
     }
 
     // Installs what was worked under an open ticket, adds its entry, and closes the ticket.
-    fn commit(&mut self, done: Done<A>) -> Result<Settled<A>, (FinishFault, Done<A>)>
+    fn commit(&mut self, done: Done<A>) -> Result<Reply<A>, (FinishFault, Done<A>)>
         requires { MayFinish self.old done }
-        ensures ok { IfOk result (λ settled. Finishes self.old done settled.reply self.new) }
-        ensures command { IfOk result (λ settled. settled.command ≡ done.asked.command) }
+        ensures ok { IfOk result (λ reply. Finishes self.old done reply self.new) }
         ensures refused { IfErr result (λ refused. IsFinishFault self.old done refused.0) }
         ensures returned { IfErr result (λ refused. refused.1 ≡ done) }
         ensures err { OnErr result (self.new ≡ self.old) }
@@ -447,17 +420,11 @@ impl<A: Allocator + Copy> Desk<A> {
             command,
             ..
         } = asked;
-        let own = self.tickets.remove(ticket.0);
-        self.trail.entries.push_reserved(Entry {
-            session,
-            command,
-            reply: copy,
-        });
+        let _own = self.tickets.remove(ticket.0);
+        let entry = KeptEntry::new(session, command, copy);
+        self.trail.entries.push_reserved(entry);
         self.holds.release(ticket);
-        Ok(Settled {
-            reply,
-            command: own.command,
-        })
+        Ok(reply)
     }
 
     /// The pairs of the map, sorted by the bytes of their keys.
@@ -479,7 +446,7 @@ impl<A: Allocator + Copy> Desk<A> {
 
     /// What the desk began with, and what was answered since.
     pub fn trail(&self) -> &Trail<A>
-        ensures opening { result.now.opening.items ≡ self.now.opening }
+        ensures opening { result.now.opening ≡ self.now.opening }
         ensures entries { result.now.entries.items ≡ self.now.entries }
         ensures sound { IsSound self.now }
     {
@@ -489,12 +456,24 @@ impl<A: Allocator + Copy> Desk<A> {
     /// The database and the trail. Open tickets vanish.
     pub fn into_parts(self) -> (Image<A>, Trail<A>)
         ensures image { result.0 ≡ self.database }
-        ensures opening { result.1.opening.items ≡ self.opening }
+        ensures opening { result.1.opening ≡ self.opening }
         ensures entries { result.1.entries.items ≡ self.entries }
         ensures sound { IsSound self }
     {
         let Desk { image, trail, .. } = self;
         (image, trail)
+    }
+}
+
+// The pairs of a database, sorted by the bytes of their keys.
+fn opening_of<A: Allocator + Copy>(alloc: A, image: &Image<A>) -> Result<Opening<A>, AllocError>
+    ensures opening { IfOk result (λ opening. opening ≡ map.entries (map_of image.now)) }
+    ensures database { IsDatabase image.now }
+{
+    let pairs = image.pairs()?;
+    match Opening::new(alloc, pairs) {
+        Ok(opening) => Ok(opening),
+        Err(_) => Err(AllocError),
     }
 }
 
@@ -523,7 +502,7 @@ fn ask_fault(fault: SizeFault) -> AskFault
 
 // Takes all the memory that one more ticket needs, and its hold.
 fn make_room<A: Allocator + Copy>(
-    entries: &mut Vec<Entry<A>, A>,
+    entries: &mut Vec<KeptEntry<A>, A>,
     tickets: &mut Slab<Open<A>, A>,
     holds: &mut Holds<A>,
     page: u32,

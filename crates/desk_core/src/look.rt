@@ -13,7 +13,7 @@ use crate::{AskFault, Desk};
 use sdbm_dir::Place;
 use std::alloc::{AllocError, Allocator};
 use std::marker::Model;
-use store_cmd::Command;
+use store_cmd::SharedCommand;
 use store_moves::Worked;
 
 /// A command that was looked up, to be worked without the desk, seen as what would stand under its ticket. It has none: it holds no page
@@ -105,7 +105,11 @@ impl<A: Allocator + Copy> Desk<A> {
     ///
     /// # Errors
     /// Those of `ask`; `NoMemory` only where the page has as many owners as can be counted. The command comes back.
-    pub fn look(&self, session: u64, command: Command<A>) -> Result<Look<A>, (AskFault, Command<A>)>
+    pub fn look(
+        &self,
+        session: u64,
+        command: SharedCommand<A>,
+    ) -> Result<Look<A>, (AskFault, SharedCommand<A>)>
         requires keyed { HasKey command }
         ensures may { OnOk result (MayAsk self.now command) }
         ensures ok { IfOk result (λ look. IsAsked self.now session command look) }
@@ -123,9 +127,9 @@ impl<A: Allocator + Copy> Desk<A> {
     fn look_at(
         &self,
         session: u64,
-        command: Command<A>,
+        command: SharedCommand<A>,
         place: Place,
-    ) -> Result<Look<A>, (AskFault, Command<A>)>
+    ) -> Result<Look<A>, (AskFault, SharedCommand<A>)>
         requires keyed { HasKey command }
         requires may { MayAsk self.now command }
         requires place { IsPlaceOf self.now.database (key_of command) place }
@@ -157,7 +161,7 @@ impl<A: Allocator + Copy> Desk<A> {
     /// `Refused` as `ask` is, exactly where that says so but for memory. Then `Changed` exactly where the page of its key is another, or
     /// is in a database with other pages or whose keys hash otherwise. Then `Refused` for `Busy` exactly where it comes to a change of a
     /// page that a ticket holds, and else for `NoMemory`. The desk is then as it was, and the command comes back.
-    pub fn put(&mut self, seen: Seen<A>) -> Result<Stepped<A>, (PutFault, Command<A>)>
+    pub fn put(&mut self, seen: Seen<A>) -> Result<Stepped<A>, (PutFault, SharedCommand<A>)>
         ensures ok { IfOk result (λ stepped. Steps self.old seen.session seen.command stepped.reply self.new) }
         ensures reply { IfOk result (λ stepped. stepped.reply ≡ (worked seen).reply) }
         ensures copy { IfOk result (λ stepped. stepped.copy ≡ stepped.reply) }

@@ -18,7 +18,7 @@ use crate::{AskFault, Desk, Wanted};
 use hold_modes::Hold;
 use sdbm_dir::Place;
 use std::alloc::{AllocError, Allocator};
-use store_cmd::{Command, Entry, Reply};
+use store_cmd::{Command, KeptEntry, Reply, SharedCommand};
 use store_moves::{Worked, is_run, put_in, ran, run_in_place, work_at};
 
 /// What a step leaves: its reply, twice.
@@ -38,8 +38,8 @@ impl<A: Allocator + Copy> Desk<A> {
     pub fn step(
         &mut self,
         session: u64,
-        command: Command<A>,
-    ) -> Result<Reply<A>, (AskFault, Command<A>)>
+        command: SharedCommand<A>,
+    ) -> Result<Reply<A>, (AskFault, SharedCommand<A>)>
         ensures ok { IfOk result (λ reply. Steps self.old session command reply self.new) }
         ensures refused { IfErr result (λ refused. IsStepFault self.old session command refused.0) }
         ensures returned { IfErr result (λ refused. refused.1 ≡ command) }
@@ -58,8 +58,8 @@ impl<A: Allocator + Copy> Desk<A> {
     pub fn step_twice(
         &mut self,
         session: u64,
-        command: Command<A>,
-    ) -> Result<Stepped<A>, (AskFault, Command<A>)>
+        command: SharedCommand<A>,
+    ) -> Result<Stepped<A>, (AskFault, SharedCommand<A>)>
         ensures ok { IfOk result (λ stepped. Steps self.old session command stepped.reply self.new) }
         ensures copy { IfOk result (λ stepped. stepped.copy ≡ stepped.reply) }
         ensures refused { IfErr result (λ refused. IsStepFault self.old session command refused.0) }
@@ -77,8 +77,8 @@ impl<A: Allocator + Copy> Desk<A> {
     fn step_count(
         &mut self,
         session: u64,
-        command: Command<A>,
-    ) -> Result<Stepped<A>, (AskFault, Command<A>)>
+        command: SharedCommand<A>,
+    ) -> Result<Stepped<A>, (AskFault, SharedCommand<A>)>
         requires may { MayAsk self.old command }
         requires counts { command ≡ Count }
         ensures ok { IfOk result (λ stepped. Steps self.old session command stepped.reply self.new) }
@@ -97,9 +97,9 @@ impl<A: Allocator + Copy> Desk<A> {
     fn step_on(
         &mut self,
         session: u64,
-        command: Command<A>,
+        command: SharedCommand<A>,
         wanted: Wanted,
-    ) -> Result<Stepped<A>, (AskFault, Command<A>)>
+    ) -> Result<Stepped<A>, (AskFault, SharedCommand<A>)>
         requires may { MayAsk self.old command }
         requires mode { first_hold command ≡ Some wanted.mode }
         requires place { IsPlaceOf self.old.database (key_of command) wanted.place }
@@ -120,9 +120,9 @@ impl<A: Allocator + Copy> Desk<A> {
     fn step_in_place(
         &mut self,
         session: u64,
-        command: Command<A>,
+        command: SharedCommand<A>,
         place: Place,
-    ) -> Result<Stepped<A>, Command<A>>
+    ) -> Result<Stepped<A>, SharedCommand<A>>
         requires may { MayAsk self.old command }
         requires place { IsPlaceOf self.old.database (key_of command) place }
         ensures ok { IfOk result (λ stepped. Steps self.old session command stepped.reply self.new) }
@@ -130,7 +130,7 @@ impl<A: Allocator + Copy> Desk<A> {
         ensures returned { IfErr result (λ back. back ≡ command) }
         ensures err { OnErr result (self.new ≡ self.old) }
     {
-        if !is_run(&command) {
+        if !is_run(command.command()) {
             return Err(command);
         }
         if self.is_in_the_way(place.page, true) {
@@ -139,14 +139,11 @@ impl<A: Allocator + Copy> Desk<A> {
         let Ok(()) = self.trail.entries.reserve(self.tickets.len() + 1) else {
             return Err(command);
         };
-        let Some(ended) = run_in_place(&mut self.image, place, session, &command) else {
+        let Some(ended) = run_in_place(&mut self.image, place, session, command.command()) else {
             return Err(command);
         };
-        self.trail.entries.push_reserved(Entry {
-            session,
-            command,
-            reply: ran(ended),
-        });
+        let entry = KeptEntry::new(session, command, ran(ended));
+        self.trail.entries.push_reserved(entry);
         Ok(Stepped {
             reply: ran(ended),
             copy: ran(ended),
@@ -157,9 +154,9 @@ impl<A: Allocator + Copy> Desk<A> {
     fn step_by_plan(
         &mut self,
         session: u64,
-        command: Command<A>,
+        command: SharedCommand<A>,
         wanted: Wanted,
-    ) -> Result<Stepped<A>, (AskFault, Command<A>)>
+    ) -> Result<Stepped<A>, (AskFault, SharedCommand<A>)>
         requires may { MayAsk self.old command }
         requires mode { first_hold command ≡ Some wanted.mode }
         requires place { IsPlaceOf self.old.database (key_of command) wanted.place }
@@ -186,7 +183,7 @@ impl<A: Allocator + Copy> Desk<A> {
     fn work_there(
         &self,
         session: u64,
-        command: &Command<A>,
+        command: &SharedCommand<A>,
         place: Place,
     ) -> Result<Worked<A>, AllocError>
         requires keyed { HasKey command.now }
@@ -197,17 +194,17 @@ impl<A: Allocator + Copy> Desk<A> {
         ensures err { OnErr result (takes_memory (works_there self.now session command.now place).reply ≡ true) }
         ensures sound { IsSound self.now }
     {
-        work_at(self.alloc, &self.image, place, session, command)
+        work_at(self.alloc, &self.image, place, session, command.command())
     }
 
     // Puts in what a command came to on its page, and adds its entry.
     pub(crate) fn put_step(
         &mut self,
         session: u64,
-        command: Command<A>,
+        command: SharedCommand<A>,
         place: Place,
         worked: Worked<A>,
-    ) -> Result<Stepped<A>, (AllocError, Command<A>)>
+    ) -> Result<Stepped<A>, (AllocError, SharedCommand<A>)>
         requires may { MayAsk self.old command }
         requires keyed { HasKey command }
         requires place { IsPlaceOf self.old.database (key_of command) place }
@@ -233,11 +230,8 @@ impl<A: Allocator + Copy> Desk<A> {
         let Ok(()) = put_in(&mut self.image, place, change) else {
             return Err((AllocError, command));
         };
-        self.trail.entries.push_reserved(Entry {
-            session,
-            command,
-            reply: entered,
-        });
+        let entry = KeptEntry::new(session, command, entered);
+        self.trail.entries.push_reserved(entry);
         Ok(Stepped { reply, copy })
     }
 
@@ -278,10 +272,10 @@ fn twice<A: Allocator>(reply: Reply<A>) -> Stepped<A>
 }
 
 // Whether a command takes memory only where it changes its page. A program runs before it is known whether it does.
-fn is_change<A: Allocator>(command: &Command<A>) -> bool
+fn is_change<A: Allocator>(command: &SharedCommand<A>) -> bool
     ensures { result ≡ worked.is_change command.now }
 {
-    match command {
+    match command.command() {
         Command::Store { .. } => true,
         Command::Delete { .. } => true,
         _ => false,

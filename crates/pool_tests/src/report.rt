@@ -4,13 +4,13 @@ use crate::jobs::{Outcome, Pool};
 use std::alloc::{AllocError, Global};
 use std::sync::Wait;
 use std::thread::Threads;
-use store_cmd::{Command, Entry};
+use store_cmd::{Command, KeptEntry};
 use store_shared::Calls;
 use test_lines::show_reply;
 
 // The time that a call was told.
-fn show_time(out: &mut String, entry: &Entry<Global>) -> Result<(), AllocError> {
-    match &entry.command {
+fn show_time(out: &mut String, entry: &KeptEntry<Global>) -> Result<(), AllocError> {
+    match entry.command() {
         Command::Run { now, .. } => write!(out, " {now}"),
         _ => out.push_str(" no run"),
     }
@@ -83,7 +83,7 @@ fn show_order(pool: &Pool<'_>, out: &mut String) -> Option<()> {
     let closed = pool.closed.as_ref()?;
     out.push_str("order").ok()?;
     for entry in &closed.trail.entries {
-        write!(out, " {}", entry.session).ok()?;
+        write!(out, " {}", entry.session()).ok()?;
     }
     Some(())
 }

@@ -72,8 +72,8 @@ fn make_groups<R: Wait, G: Gate>(rt: &R, alloc: Global, caller: &mut Caller<'_, 
     for group in commands.as_slice().chunks(GROUP) {
         match make_group(rt, alloc, session, group) {
             Ok(outcomes) => note(outcomes, replies, refused),
-            Err(refusal) => {
-                *refused = Some(refusal);
+            Err(_) => {
+                *refused = Some(Refusal::NoMemory);
                 return;
             }
         }
@@ -158,7 +158,7 @@ fn are_kept(replies: &[Reply<Global>], calls: &Calls<Global>) -> bool {
     let same = replies
         .iter()
         .zip(entries)
-        .all(|(reply, entry)| entry.reply == *reply);
+        .all(|(reply, entry)| *entry.reply() == *reply);
     same && replies.len() == entries.len()
 }
 

@@ -1,9 +1,9 @@
 //! Calls of a store and of its sessions, each alone.
 
 use sdbm_files::Image;
-use std::alloc::Allocator;
+use std::alloc::{AllocError, Allocator};
 use std::sync::Wait;
-use store_cmd::{Command, Refusal, Reply};
+use store_cmd::{Command, Refusal, Reply, SharedCommand};
 use store_shared::{Calls, CloseFault, Closed, Gate, Session, SessionFault, Store};
 
 /// What comes of a session's call.
@@ -12,31 +12,24 @@ pub type Came<A> = Result<Reply<A>, Refusal>;
 /// What comes of closing a store.
 pub type CloseCame<A, G> = Result<Closed<A>, (CloseFault, Store<A, G>, Vec<Calls<A>, A>)>;
 
-/// What comes of the calls of a group, or why none was made.
+/// What comes of the calls of a group, or that there was no memory to make any.
 pub fn make_group<R: Wait, A: Allocator + Copy, G: Gate>(
     rt: &R,
     alloc: A,
     session: &mut Session<'_, A, G>,
     group: &[Command<A>],
-) -> Result<Vec<Came<A>, A>, Refusal> {
+) -> Result<Vec<Came<A>, A>, AllocError> {
     let mut calls = Vec::new(alloc);
     for command in group {
-        let Ok(command) = command.try_clone(alloc) else {
-            return Err(Refusal::NoMemory);
+        let Ok(command) = SharedCommand::new(alloc, command.try_clone(alloc)?) else {
+            return Err(AllocError);
         };
-        match session.ready(command) {
-            Ok(ready) => {
-                let Ok(()) = calls.push(ready) else {
-                    return Err(Refusal::NoMemory);
-                };
-            }
-            Err((refusal, _)) => return Err(refusal),
-        }
+        calls.push(command)?;
     }
     let mut outcomes = Vec::new(alloc);
     match session.call_all(rt, calls, &mut outcomes) {
         Ok(()) => Ok(outcomes),
-        Err(_) => Err(Refusal::NoMemory),
+        Err((error, _calls)) => Err(error),
     }
 }
 

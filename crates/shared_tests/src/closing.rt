@@ -58,7 +58,7 @@ impl<'h, R, A: Allocator + Copy> Bench<'h, R, A> {
     // Keeps what a closed store leaves. What else was in hand is let go.
     fn keep(&mut self, closed: Closed<A>) -> Result<(), AllocError> {
         let Closed { image, trail } = closed;
-        let (entries, pairs) = (trail.entries.len(), trail.opening.len());
+        let (entries, pairs) = (trail.entries.len(), trail.opening.as_slice().len());
         write!(self.out, "closed: {entries} entries behind {pairs} pairs")?;
         let plain = is_as_plain(self.global, self.alloc, &trail, &image)?;
         self.out.push_str(if plain {
@@ -101,7 +101,7 @@ impl<'h, R, A: Allocator + Copy> Bench<'h, R, A> {
     fn order_text(&self) -> Option<String> {
         let mut text = String::from_str(self.global, "order").ok()?;
         for entry in self.trail.as_ref()?.entries.iter() {
-            write!(text, " {}", entry.session).ok()?;
+            write!(text, " {}", entry.session()).ok()?;
         }
         Some(text)
     }

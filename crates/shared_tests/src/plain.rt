@@ -3,7 +3,7 @@
 use sdbm_addr::{Bytes, Mode};
 use sdbm_files::Image;
 use std::alloc::{AllocError, Allocator, Global};
-use store_cmd::{Command, Entry, Reply, Trail};
+use store_cmd::{Command, KeptEntry, Reply, Trail};
 
 // How many keys of up to two bytes there are.
 const KEYS: usize = 65793;
@@ -117,9 +117,9 @@ impl<A: Allocator + Copy> Plain<A> {
     }
 
     // Whether it answers all entries as a trail does.
-    fn plays(&mut self, entries: &[Entry<A>]) -> Result<bool, AllocError> {
+    fn plays(&mut self, entries: &[KeptEntry<A>]) -> Result<bool, AllocError> {
         for entry in entries {
-            if self.answer(&entry.command)? != entry.reply {
+            if self.answer(entry.command())? != *entry.reply() {
                 return Ok(false);
             }
         }
@@ -146,7 +146,7 @@ pub fn is_as_plain<A: Allocator + Copy>(
 ) -> Result<bool, AllocError> {
     let pairs = image.pairs()?;
     let mut plain = Plain::empty(global, alloc)?;
-    for (key, value) in trail.opening.iter() {
+    for (key, value) in trail.opening.as_slice() {
         let value = Vec::from_slice(global, value.as_slice())?;
         plain.give(key.as_slice(), Some(value));
     }

@@ -3,13 +3,11 @@
 use crate::bench::{Bench, MOST_TIMES, STEP, more_text};
 use crate::calls::{Came, begin, make, make_group};
 use crate::cases::Case;
-use sdbm_addr::{KeyBytes, PageSize};
-use sdbm_files::Image;
 use std::alloc::{Allocator, Global};
 use std::fmt::Write;
 use std::sync::Wait;
 use store_cmd::{Command, Refusal};
-use store_shared::{Gate, NoGate, Session, SessionFault, Store};
+use store_shared::{Gate, Session, SessionFault, Store};
 use test_lines::{read_command, show_reply};
 
 // The sessions on a store, and what one of them asks while another's calls are refused.
@@ -138,8 +136,7 @@ impl<'s, A: Allocator + Copy, G: Gate> Table<'s, A, G> {
                     let text = outcomes_text(bench.global, outcomes.as_slice())?;
                     return format!(in bench.global; "{text}{}", more_text(times)).ok();
                 }
-                Err(Refusal::NoMemory) => {}
-                Err(refusal) => return format!(in bench.global; "refused {refusal:?}").ok(),
+                Err(_) => {}
             }
             let seen = self.seen(bench)?;
             if seen != before {
@@ -147,28 +144,6 @@ impl<'s, A: Allocator + Copy, G: Gate> Table<'s, A, G> {
             }
         }
         None
-    }
-
-    // Makes a call that a session of another store, whose pages are large, has made ready.
-    fn answer_elsewhere<R: Wait>(
-        &mut self,
-        bench: &Bench<'_, R, A>,
-        number: usize,
-        command: Command<A>,
-    ) -> Option<String> {
-        let image = Image::empty(bench.alloc, KeyBytes::Signed, PageSize::Wide);
-        let Ok(store) = Store::open(bench.alloc, image, 0, NoGate) else {
-            return None;
-        };
-        let Ok(ready) = begin(bench.rt, &store).ok()?.ready(command) else {
-            return None;
-        };
-        let mut calls = Vec::new(bench.alloc);
-        calls.push(ready).ok()?;
-        let mut outcomes = Vec::new(bench.alloc);
-        let session = self.sessions.get_mut(number)?;
-        session.call_all(bench.rt, calls, &mut outcomes).ok()?;
-        outcomes_text(bench.global, outcomes.as_slice())
     }
 
     // Makes so many sessions more, with no memory in the heap, and tells how many there are then.
@@ -199,10 +174,6 @@ impl<'s, A: Allocator + Copy, G: Gate> Table<'s, A, G> {
             "watch" => {
                 self.watched = Some(read_call(bench.alloc, rest)?);
                 self.seen(bench)
-            }
-            "elsewhere" => {
-                let (number, command) = read_call(bench.alloc, rest)?;
-                self.answer_elsewhere(bench, number, command)
             }
             "group" => {
                 let (number, words) = rest.split_once(' ')?;

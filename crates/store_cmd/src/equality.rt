@@ -1,9 +1,9 @@
-//! Whether commands and entries are the same.
+//! Whether commands are the same.
 ghost use Rattle.std.specs.Prelude.{◌≡◌, ◌↔◌, IsTrue};
 ghost use Rattle.store_cmd.specs.declared.Command.TheVariants.{Fetch, Store, Delete, Run, Count};
 
+use crate::Command;
 use crate::program::Program;
-use crate::{Command, Entry};
 use sdbm_addr::{Bytes, Mode};
 use std::alloc::Allocator;
 
@@ -112,20 +112,5 @@ impl<A: Allocator> Command<A> {
             Command::Count => true,
             _ => false,
         }
-    }
-}
-
-impl<A: Allocator> Entry<A> {
-    /// Whether session, command and reply are the same. No memory is taken.
-    pub fn equals(&self, other: &Self) -> bool
-        ensures { IsTrue result ↔ (self.now ≡ other.now) }
-    {
-        if self.session != other.session {
-            return false;
-        }
-        if !self.command.equals(&other.command) {
-            return false;
-        }
-        self.reply == other.reply
     }
 }

@@ -9,10 +9,14 @@ ghost use Rattle.store_cmd.specs.declared.SizeFault.TheVariants as SizeFault;
 ghost use Rattle.store_cmd.specs.Command.{IsSmall, IsSizeFault, FitsBlank, IsRunFault};
 
 mod equality;
+mod opening;
 mod program;
+mod shared;
 
+pub use opening::Opening;
 pub use program::Program;
-use sdbm_addr::{Bytes, Mode, PageSize, clone_pairs};
+use sdbm_addr::{Bytes, Mode, PageSize};
+pub use shared::{KeptEntry, SharedCommand};
 use std::alloc::{AllocError, Allocator};
 
 /// What a session asks of the store.
@@ -95,9 +99,8 @@ pub enum Refusal {
     Strayed,
 }
 
-/// A command that was answered.
+/// A command that was answered. A trail has it as a `KeptEntry`.
 #[derive(Drop)]
-#[derive_where(PartialEq)]
 pub struct Entry<A: Allocator> {
     pub session: u64,
     pub command: Command<A>,
@@ -107,8 +110,8 @@ pub struct Entry<A: Allocator> {
 /// What the store began with, sorted by the bytes of the keys, and what was answered since.
 #[derive(Drop)]
 pub struct Trail<A: Allocator> {
-    pub opening: Vec<(Bytes<A>, Bytes<A>), A>,
-    pub entries: Vec<Entry<A>, A>,
+    pub opening: Opening<A>,
+    pub entries: Vec<KeptEntry<A>, A>,
 }
 
 /// Tests a command's size, for a database of pages of this size: `PairTooLarge` where the key has more bytes together with the
@@ -229,27 +232,14 @@ impl<A: Allocator + Copy> Reply<A> {
     }
 }
 
-impl<A: Allocator + Copy> Entry<A> {
-    /// An equal entry, or the error where no memory is left for it.
-    pub fn try_clone(&self, alloc: A) -> Result<Self, AllocError>
-        ensures { IfOk result (λ copy. copy ≡ self.now) }
-    {
-        Ok(Entry {
-            session: self.session,
-            command: self.command.try_clone(alloc)?,
-            reply: self.reply.try_clone(alloc)?,
-        })
-    }
-}
-
 impl<A: Allocator + Copy> Trail<A> {
     /// An equal trail, or the error where no memory is left for it.
     pub fn try_clone(&self, alloc: A) -> Result<Self, AllocError>
-        ensures opening { IfOk result (λ copy. copy.opening.items ≡ self.now.opening.items) }
+        ensures opening { IfOk result (λ copy. copy.opening ≡ self.now.opening) }
         ensures entries { IfOk result (λ copy. copy.entries.items ≡ self.now.entries.items) }
     {
         Ok(Trail {
-            opening: clone_pairs(alloc, self.opening.as_slice())?,
+            opening: self.opening.try_clone()?,
             entries: clone_entries(alloc, self.entries.as_slice())?,
         })
     }
@@ -271,8 +261,8 @@ fn clone_both<A: Allocator + Copy>(
 // Equal entries, in the same order.
 fn clone_entries<A: Allocator + Copy>(
     alloc: A,
-    entries: &[Entry<A>],
-) -> Result<Vec<Entry<A>, A>, AllocError>
+    entries: &[KeptEntry<A>],
+) -> Result<Vec<KeptEntry<A>, A>, AllocError>
     ensures { IfOk result (λ copy. copy.items ≡ entries.now) }
 {
     let mut copy = Vec::new(alloc);

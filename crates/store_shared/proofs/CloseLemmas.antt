@@ -18,7 +18,7 @@ use Rattle.desk_core.specs.Desk.{DeskState}
 use Rattle.store_shared.specs.declared.close.CloseFault.{CloseFault}
 use Rattle.store_shared.specs.declared.close.CloseFault.TheVariants.{Stranger, Double, Missing, Torn, Opening}
 use Rattle.store_shared.specs.Shared.{Opened, CallsState}
-use Rattle.store_shared.specs.Closed.{calls_of, numbers_of, is_among, AreOwn, IsFirstStrange, IsCloseFault}
+use Rattle.store_shared.specs.Closed.{calls_of, numbers_of, is_among, AreOwn, IsFirstStrange, IsFirstApart, IsCloseFault}
 
 among_numbers : {A : Type 0} (n : ℕ) (handed : List (CallsState A)) → list_any (nat_eq n) (numbers_of handed) ≡ is_among n handed
 among_numbers n [] = refl
@@ -107,3 +107,11 @@ strange_fault s made opened handed (Double n) h = h
 strange_fault s made opened handed (Missing n) h = absurd h.strange
 strange_fault s made opened handed (Torn n) h = absurd h.strange
 strange_fault s made opened handed Opening h = absurd h.strange
+
+-- a session that is missing or torn, where all numbers are its own, is a fault of closing
+pub apart_fault : {A : Type 0} (s : DeskState A) (made : ℕ) (opened : Opened) (handed : List (CallsState A)) (fault : CloseFault) → AreOwn made handed → IsFirstApart s.entries handed fault → IsCloseFault s made opened handed fault
+apart_fault s made opened handed (Stranger n) own h = absurd h
+apart_fault s made opened handed (Double n) own h = absurd h
+apart_fault s made opened handed (Missing n) own h = (own, h)
+apart_fault s made opened handed (Torn n) own h = (own, h)
+apart_fault s made opened handed Opening own h = absurd h

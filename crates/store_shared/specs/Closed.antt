@@ -1,5 +1,5 @@
 -- When the calls that are handed in close a store, and why they don't.
-use Rattle.std.specs.Prelude.{◌≡◌, ◌≢◌, ℕ, ◌<◌, ◌≤◌, ◌==◌, nat_eq, Bool, true, false, List, map, take, Some}
+use Rattle.std.specs.Prelude.{◌≡◌, ◌≢◌, ℕ, ◌+◌, ◌<◌, ◌≤◌, ◌==◌, nat_eq, Bool, true, false, List, length, map, take, Some, slice_index_or}
 use Rattle.std.specs.List.{All, IsDistinct, filter, list_any, slice_get}
 use Rattle.store_cmd.specs.declared.Entry.{Entry}
 use Rattle.desk_core.specs.Desk.{DeskState}
@@ -68,6 +68,33 @@ pub record IsFirstTorn {A : Type 0} (entries : List (Entry A)) (handed : List (C
   pub agree : All (Agrees entries) (take at handed)
   pub session_is : calls.number ≡ session
   pub torn : calls_of calls.number entries ≢ calls.calls
+
+-- the first session that is missing, or whose calls are torn
+abbrev pub IsFirstApart : {A : Type 0} → List (Entry A) → List (CallsState A) → CloseFault → Type 0
+IsFirstApart entries handed (Stranger n) = ⊥
+IsFirstApart entries handed (Double n) = ⊥
+IsFirstApart entries handed (Missing n) = IsFirstMissing entries handed n
+IsFirstApart entries handed (Torn n) = Covers entries handed × IsFirstTorn entries handed n
+IsFirstApart entries handed Opening = ⊥
+
+-- those of their number among entries are so many of the calls, the first
+pub record IsFollowed {A : Type 0} (entries : List (Entry A)) (calls : CallsState A) (count : ℕ) : Type 0 where
+  pub within : count ≤ length calls.calls
+  pub same : calls_of calls.number entries ≡ take count calls.calls
+
+-- the same of all that are handed in, each with its own count
+abbrev pub AreFollowed : {A : Type 0} → List (Entry A) → List (CallsState A) → List ℕ → Type 0
+AreFollowed {A} entries handed counts = (k : ℕ) (d : CallsState A) → k < length handed → IsFollowed entries (slice_index_or handed k d) (slice_index_or counts k 0)
+
+-- of those below a place each has as many calls as are counted
+abbrev pub AreWhole : {A : Type 0} → List (CallsState A) → List ℕ → ℕ → Type 0
+AreWhole {A} handed counts n = (k : ℕ) (d : CallsState A) → k < n → slice_index_or counts k 0 ≡ length (slice_index_or handed k d).calls
+
+-- an entry is the next call of a session, behind so many
+pub record IsNext {A : Type 0} (calls : CallsState A) (count : ℕ) (entry : Entry A) (next : ℕ) : Type 0 where
+  pub next_is : next ≡ count + 1
+  pub session_is : entry.session ≡ calls.number
+  pub here : slice_get calls.calls count ≡ Some entry
 
 -- a desk began with these pairs, and has such keys and pages
 pub record IsStartedSo {A : Type 0} (s : DeskState A) (opened : Opened) : Type 0 where

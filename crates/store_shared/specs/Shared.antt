@@ -16,7 +16,6 @@ use Rattle.store_cmd.specs.Command.{IsSmall, FitsPair, FitsArgument}
 use Rattle.desk_core.specs.declared.Asked.{Asked}
 use Rattle.desk_core.specs.declared.Asked.TheVariants as asked
 use Rattle.desk_core.specs.declared.job.Open.{Open}
-use Rattle.desk_core.specs.declared.Settled.{Settled}
 use Rattle.store_shared.specs.declared.serving.Closing.{Closing}
 use Rattle.store_shared.specs.declared.serving.Closing.TheVariants.{Commit, GiveUp}
 use Rattle.store_shared.specs.declared.serving.Tried.{Tried}
@@ -100,10 +99,10 @@ IsTried session command (Ended (Err refusal)) = IsNotForSize refusal
 IsTried session command (Busy refused) = refused ≡ command
 
 -- What closing a ticket comes to on a desk: what was worked is committed, or the ticket is given up, if it is still open.
-abbrev pub ClosesTicket : {A : Type 0} → Closing A → DeskState A → Option (Settled A) → DeskState A → Type 0
+abbrev pub ClosesTicket : {A : Type 0} → Closing A → DeskState A → Option (Reply A) → DeskState A → Type 0
 ClosesTicket (Commit done) s None s' = ⊥
-ClosesTicket (Commit done) s (Some settled) s' = Finishes s done settled.reply s' × (settled.command ≡ done.asked.command)
-ClosesTicket (GiveUp ticket) s settled s' = Abandons s ticket.0 s' ⊎ ((ticket_of s ticket.0 ≡ None) × (s' ≡ s))
+ClosesTicket (Commit done) s (Some reply) s' = Finishes s done reply s'
+ClosesTicket (GiveUp ticket) s reply s' = Abandons s ticket.0 s' ⊎ ((ticket_of s ticket.0 ≡ None) × (s' ≡ s))
 
 -- Why a call is refused: for a size exactly where that is too large, and for that of the pair before that of the argument.
 abbrev pub IsRefusal : {A : Type 0} → PageSize → Command A → Refusal → Type 0

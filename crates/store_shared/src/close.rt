@@ -2,13 +2,14 @@
 ghost use Rattle.std.specs.Prelude.{◌≡◌, ◌↔◌, IsTrue, IfNone, IfSome, Some};
 ghost use Rattle.std.specs.List.{All, slice_get};
 ghost use Rattle.store_shared.specs.Shared.{Opened};
-ghost use Rattle.store_shared.specs.Closed.{is_among, Agrees, AreOwn, Covers, IsFirstStrange, IsFirstMissing, IsFirstTorn, IsCloseFault, MayClose, IsStartedSo};
+ghost use Rattle.store_shared.specs.Closed.{is_among, Agrees, AreOwn, Covers, AreDistinct, IsFirstApart, IsFirstStrange, IsFirstMissing, IsFirstTorn, IsCloseFault, MayClose, IsStartedSo};
 
+use crate::one_pass::all_agree;
 use crate::session::Calls;
 use desk_core::Desk;
 use sdbm_addr::{Bytes, KeyBytes, PageSize};
 use std::alloc::Allocator;
-use store_cmd::Entry;
+use store_cmd::KeptEntry;
 
 /// Why a store is not closed. They are tested in this order, the first two together.
 #[derive(Clone, Copy, Debug, PartialEq, Eq)]
@@ -27,6 +28,7 @@ pub enum CloseFault {
 
 /// Why these calls do not close a store with this desk and so many sessions, which was opened so.
 pub(crate) fn close_fault<A: Allocator + Copy>(
+    alloc: A,
     desk: &Desk<A>,
     made: u64,
     kind: KeyBytes,
@@ -41,16 +43,38 @@ pub(crate) fn close_fault<A: Allocator + Copy>(
     if let Some(fault) = first_strange(handed, made) {
         return Some(fault);
     }
-    if let Some(session) = first_missing(entries, handed) {
-        return Some(CloseFault::Missing(session));
-    }
-    if let Some(session) = first_torn(entries, handed) {
-        return Some(CloseFault::Torn(session));
+    if let Some(fault) = first_apart(alloc, made, entries, handed) {
+        return Some(fault);
     }
     if !has_started_so(desk, kind, size, opening) {
         return Some(CloseFault::Opening);
     }
     None
+}
+
+// The first session that is missing, or whose calls are torn. Only where there may be one the list is gone through for each entry, and
+// the entries for each in the list.
+fn first_apart<A: Allocator + Copy>(
+    alloc: A,
+    made: u64,
+    entries: &[KeptEntry<A>],
+    handed: &[Calls<A>],
+) -> Option<CloseFault>
+    requires { AreDistinct handed.now }
+    ensures covers { IfNone result (Covers entries.now handed.now) }
+    ensures agree { IfNone result (All (Agrees entries.now) handed.now) }
+    ensures some { IfSome result (IsFirstApart entries.now handed.now) }
+{
+    if all_agree(alloc, made, entries, handed) {
+        return None;
+    }
+    if let Some(session) = first_missing(entries, handed) {
+        return Some(CloseFault::Missing(session));
+    }
+    match first_torn(entries, handed) {
+        Some(session) => Some(CloseFault::Torn(session)),
+        None => None,
+    }
 }
 
 // Whether one of them has the number.
@@ -80,13 +104,13 @@ fn first_strange<A: Allocator>(handed: &[Calls<A>], made: u64) -> Option<CloseFa
 
 // The session of the first entry that is not among them.
 #[tactic(auto, using(crate::proofs::CloseLemmas::Here))]
-fn first_missing<A: Allocator>(entries: &[Entry<A>], handed: &[Calls<A>]) -> Option<u64>
+fn first_missing<A: Allocator>(entries: &[KeptEntry<A>], handed: &[Calls<A>]) -> Option<u64>
     ensures none { IfNone result (Covers entries.now handed.now) }
     ensures some { IfSome result (IsFirstMissing entries.now handed.now) }
 {
     for entry in entries {
-        if !is_among(entry.session, handed) {
-            return Some(entry.session);
+        if !is_among(entry.session(), handed) {
+            return Some(entry.session());
         }
     }
     None
@@ -94,7 +118,7 @@ fn first_missing<A: Allocator>(entries: &[Entry<A>], handed: &[Calls<A>]) -> Opt
 
 // The number of the first whose calls are not those of the trail.
 #[tactic(auto, using(crate::proofs::CloseLemmas::Here))]
-fn first_torn<A: Allocator>(entries: &[Entry<A>], handed: &[Calls<A>]) -> Option<u64>
+fn first_torn<A: Allocator>(entries: &[KeptEntry<A>], handed: &[Calls<A>]) -> Option<u64>
     ensures none { IfNone result (All (Agrees entries.now) handed.now) }
     ensures some { IfSome result (IsFirstTorn entries.now handed.now) }
 {
@@ -107,14 +131,14 @@ fn first_torn<A: Allocator>(entries: &[Entry<A>], handed: &[Calls<A>]) -> Option
 }
 
 // Whether the calls are those of their number among the entries.
-fn agrees<A: Allocator>(entries: &[Entry<A>], calls: &Calls<A>) -> bool
+fn agrees<A: Allocator>(entries: &[KeptEntry<A>], calls: &Calls<A>) -> bool
     ensures { IsTrue result ↔ Agrees entries.now calls.now }
 {
     let number = calls.number();
     let made = calls.entries();
     let mut at = 0;
     for entry in entries {
-        if entry.session != number {
+        if entry.session() != number {
             continue;
         }
         if !is_at(made, at, entry) {
@@ -126,7 +150,7 @@ fn agrees<A: Allocator>(entries: &[Entry<A>], calls: &Calls<A>) -> bool
 }
 
 // Whether this entry stands at a place.
-fn is_at<A: Allocator>(made: &[Entry<A>], at: usize, entry: &Entry<A>) -> bool
+fn is_at<A: Allocator>(made: &[KeptEntry<A>], at: usize, entry: &KeptEntry<A>) -> bool
     ensures { IsTrue result ↔ (slice_get made.now at ≡ Some entry.now) }
 {
     let Some(other) = made.get(at) else {

@@ -2,18 +2,17 @@
 ghost use Rattle.std.specs.Prelude.{◌≡◌, ◌≤◌, ◌+◌, IfOk, IfErr, OnOk, length, vec_len, vec_capacity};
 ghost use Rattle.std.specs.Vec.Iter.{into_iter_items};
 ghost use Rattle.store_cmd.specs.Command.{IsSmall};
-ghost use Rattle.store_shared.specs.Shared.{entry_of, session_of, IsReplyTo, IsRefusal};
+ghost use Rattle.store_shared.specs.Shared.{entry_of, session_of, IsReplyTo, IsNotForSize, IsRefusal};
 ghost use Rattle.store_shared.specs.Groups.{AreAnswered, IsNoted};
 
 use crate::passing::{Stepping, answer, is_long, kept, step_in};
-use crate::ready::{Ready, test_size};
-use crate::serving::Served;
+use crate::serving::{Served, another_owner};
 use crate::store::{Core, Gate, Store};
 use sdbm_addr::PageSize;
 use std::alloc::Allocator;
 use std::sync::{MutexGuard, Wait};
 use std::vec::IntoIter;
-use store_cmd::{Entry, Refusal, Reply};
+use store_cmd::{Command, KeptEntry, Refusal, Reply, SharedCommand, SizeFault, check};
 
 /// Who makes calls: a session with this number, in a store with pages of this size.
 #[derive(Clone, Copy)]
@@ -35,8 +34,8 @@ pub(crate) fn make_all<R: Wait, A: Allocator + Copy, G: Gate>(
     rt: &R,
     store: &Store<A, G>,
     maker: Maker<A>,
-    calls: IntoIter<Ready<A>, A>,
-    entries: &mut Vec<Entry<A>, A>,
+    calls: IntoIter<SharedCommand<A>, A>,
+    entries: &mut Vec<KeptEntry<A>, A>,
     outcomes: &mut Vec<Result<Reply<A>, Refusal>, A>,
 )
     requires entries { length (into_iter_items calls) + vec_len entries.old ≤ vec_capacity entries.old }
@@ -45,8 +44,8 @@ pub(crate) fn make_all<R: Wait, A: Allocator + Copy, G: Gate>(
 {
     let jobs = store.gate.wants_jobs();
     let mut held = None;
-    for ready in calls {
-        let Made { held: still, ended } = make(rt, store, maker, jobs, held, ready);
+    for command in calls {
+        let Made { held: still, ended } = make(rt, store, maker, jobs, held, command);
         held = still;
         note(ended, entries, outcomes);
     }
@@ -59,35 +58,64 @@ fn make<'s, R: Wait, A: Allocator + Copy, G: Gate>(
     maker: Maker<A>,
     jobs: bool,
     held: Option<MutexGuard<'s, Core<A>>>,
-    ready: Ready<A>,
+    command: SharedCommand<A>,
 ) -> Made<'s, A>
-    ensures small { OnOk result.ended (IsSmall maker.size ready) }
-    ensures reply { IfOk result.ended (λ served. IsReplyTo maker.session ready served.reply) }
-    ensures entry { IfOk result.ended (λ served. served.entry ≡ entry_of maker.session ready served.reply) }
-    ensures refused { IfErr result.ended (IsRefusal maker.size ready) }
+    ensures small { OnOk result.ended (IsSmall maker.size command) }
+    ensures reply { IfOk result.ended (λ served. IsReplyTo maker.session command served.reply) }
+    ensures entry { IfOk result.ended (λ served. served.entry ≡ entry_of maker.session command served.reply) }
+    ensures refused { IfErr result.ended (IsRefusal maker.size command) }
 {
-    if let Err(refusal) = test_size(&ready.command, maker.size) {
+    if let Err(refusal) = test_size(command.command(), maker.size) {
         return Made {
             held,
             ended: Err(refusal),
         };
     }
-    if jobs || is_long(&ready.command) {
+    if jobs || is_long(command.command()) {
         drop(held);
-        let ended = answer(rt, store, maker.alloc, maker.session, jobs, ready);
+        let ended = answer(rt, store, maker.alloc, maker.session, jobs, command);
         return Made { held: None, ended };
     }
-    let Ready { command, own } = ready;
-    let Stepping { core, ended } = step_in(
-        rt,
-        store,
-        hold(rt, store, held),
-        maker.session,
-        command,
-    );
+    make_by_step(rt, store, maker.session, held, command)
+}
+
+// The same for a call that one step answers.
+fn make_by_step<'s, R: Wait, A: Allocator + Copy, G: Gate>(
+    rt: &R,
+    store: &'s Store<A, G>,
+    session: u64,
+    held: Option<MutexGuard<'s, Core<A>>>,
+    command: SharedCommand<A>,
+) -> Made<'s, A>
+    ensures reply { IfOk result.ended (λ served. IsReplyTo session command served.reply) }
+    ensures entry { IfOk result.ended (λ served. served.entry ≡ entry_of session command served.reply) }
+    ensures refused { IfErr result.ended IsNotForSize }
+{
+    let own = match another_owner(&command) {
+        Ok(own) => own,
+        Err(refusal) => {
+            return Made {
+                held,
+                ended: Err(refusal),
+            };
+        }
+    };
+    let Stepping { core, ended } = step_in(rt, store, hold(rt, store, held), session, command);
     Made {
         held: Some(core),
-        ended: kept(maker.session, own, ended),
+        ended: kept(session, own, ended),
+    }
+}
+
+// Why a command is refused for its size by a store with pages of this size.
+fn test_size<A: Allocator>(command: &Command<A>, size: PageSize) -> Result<(), Refusal>
+    ensures small { OnOk result (IsSmall size command.now) }
+    ensures refused { IfErr result (IsRefusal size command.now) }
+{
+    match check(command, size) {
+        Ok(()) => Ok(()),
+        Err(SizeFault::PairTooLarge) => Err(Refusal::PairTooLarge),
+        Err(SizeFault::ArgTooLong) => Err(Refusal::ArgTooLong),
     }
 }
 
@@ -106,7 +134,7 @@ fn hold<'s, R: Wait, A: Allocator + Copy, G: Gate>(
 // Adds the entry of a call that was answered, and its outcome. Their places are there.
 fn note<A: Allocator>(
     ended: Result<Served<A>, Refusal>,
-    entries: &mut Vec<Entry<A>, A>,
+    entries: &mut Vec<KeptEntry<A>, A>,
     outcomes: &mut Vec<Result<Reply<A>, Refusal>, A>,
 )
     requires entries { vec_len entries.old + 1 ≤ vec_capacity entries.old }

@@ -5,13 +5,12 @@
 mod close;
 mod fault_text;
 mod grouping;
+mod one_pass;
 mod passing;
-mod ready;
 mod serving;
 mod session;
 mod store;
 
 pub use close::CloseFault;
-pub use ready::Ready;
 pub use session::{Calls, Session};
 pub use store::{Closed, Gate, NoGate, SessionFault, Store};

@@ -5,13 +5,12 @@ ghost use Rattle.store_moves.specs.Works.{HasKey, IsRun};
 ghost use Rattle.store_shared.specs.Shared.{entry_of, IsReplyTo, IsNotForSize};
 ghost use Rattle.store_shared.specs.Passing.{IsStepped, IsPassed, IsLooked, IsTriedStep};
 
-use crate::ready::Ready;
-use crate::serving::{Served, by_ticket, refusal_of, wait};
+use crate::serving::{Served, another_owner, by_ticket, refusal_of, wait};
 use crate::store::{Core, Gate, Store};
 use desk_core::{AskFault, Desk, Look, PutFault, Seen, Stepped};
 use std::alloc::Allocator;
 use std::sync::{MutexGuard, Wait};
-use store_cmd::{Command, Entry, Refusal};
+use store_cmd::{Command, KeptEntry, Refusal, SharedCommand};
 
 // The most units of a program that runs while the lock is held. Up to there a ticket would keep the lock for longer than the run does.
 const SHORT_PROGRAM: usize = 256;
@@ -27,7 +26,7 @@ pub(crate) struct Stepping<'s, A: Allocator> {
 #[derive(Drop)]
 enum TriedStep<A: Allocator> {
     Ended(Result<Stepped<A>, Refusal>),
-    Busy(Command<A>),
+    Busy(SharedCommand<A>),
 }
 
 // What comes of a look: it is there, or its call is refused, or that wants a ticket and the command comes back.
@@ -35,14 +34,14 @@ enum TriedStep<A: Allocator> {
 enum Looking<A: Allocator> {
     Looked(Look<A>),
     Refused(Refusal),
-    Barred(Command<A>),
+    Barred(SharedCommand<A>),
 }
 
 // What comes of a call without a ticket: its reply, or it wants one and the command comes back.
 #[derive(Drop)]
 enum Passing<A: Allocator> {
     Passed(Stepped<A>),
-    Barred(Command<A>),
+    Barred(SharedCommand<A>),
 }
 
 /// Answers a session's command on the shortest way, by a ticket where the store's gate wants jobs.
@@ -52,19 +51,19 @@ pub(crate) fn answer<R: Wait, A: Allocator + Copy, G: Gate>(
     alloc: A,
     session: u64,
     jobs: bool,
-    ready: Ready<A>,
+    command: SharedCommand<A>,
 ) -> Result<Served<A>, Refusal>
-    ensures reply { IfOk result (λ served. IsReplyTo session ready served.reply) }
-    ensures entry { IfOk result (λ served. served.entry ≡ entry_of session ready served.reply) }
+    ensures reply { IfOk result (λ served. IsReplyTo session command served.reply) }
+    ensures entry { IfOk result (λ served. served.entry ≡ entry_of session command served.reply) }
     ensures refused { IfErr result IsNotForSize }
 {
     if jobs {
-        return by_ticket(rt, store, alloc, session, ready.into_command());
+        return by_ticket(rt, store, alloc, session, command);
     }
-    if is_long(&ready.command) {
-        return by_look(rt, store, alloc, session, ready);
+    if is_long(command.command()) {
+        return by_look(rt, store, alloc, session, command);
     }
-    by_step(rt, store, session, ready)
+    by_step(rt, store, session, command)
 }
 
 /// Whether a command runs a program that is better not run while the lock is held.
@@ -82,13 +81,13 @@ fn by_step<R: Wait, A: Allocator + Copy, G: Gate>(
     rt: &R,
     store: &Store<A, G>,
     session: u64,
-    ready: Ready<A>,
+    command: SharedCommand<A>,
 ) -> Result<Served<A>, Refusal>
-    ensures reply { IfOk result (λ served. IsReplyTo session ready served.reply) }
-    ensures entry { IfOk result (λ served. served.entry ≡ entry_of session ready served.reply) }
+    ensures reply { IfOk result (λ served. IsReplyTo session command served.reply) }
+    ensures entry { IfOk result (λ served. served.entry ≡ entry_of session command served.reply) }
     ensures refused { IfErr result IsNotForSize }
 {
-    let Ready { command, own } = ready;
+    let own = another_owner(&command)?;
     let Stepping { ended, .. } = step_in(rt, store, store.core.lock(rt), session, command);
     kept(session, own, ended)
 }
@@ -96,7 +95,7 @@ fn by_step<R: Wait, A: Allocator + Copy, G: Gate>(
 /// What a session is served that keeps this command, of what came of a step.
 pub(crate) fn kept<A: Allocator>(
     session: u64,
-    command: Command<A>,
+    command: SharedCommand<A>,
     ended: Result<Stepped<A>, Refusal>,
 ) -> Result<Served<A>, Refusal>
     requires stepped { IfOk ended (IsStepped session command) }
@@ -112,7 +111,7 @@ pub(crate) fn kept<A: Allocator>(
 }
 
 // The reply to who asked, and the entry with a copy of it.
-fn served<A: Allocator>(session: u64, command: Command<A>, stepped: Stepped<A>) -> Served<A>
+fn served<A: Allocator>(session: u64, command: SharedCommand<A>, stepped: Stepped<A>) -> Served<A>
     requires { stepped.copy ≡ stepped.reply }
     ensures reply { result.reply ≡ stepped.reply }
     ensures entry { result.entry ≡ entry_of session command stepped.reply }
@@ -120,11 +119,7 @@ fn served<A: Allocator>(session: u64, command: Command<A>, stepped: Stepped<A>) 
     let Stepped { reply, copy } = stepped;
     Served {
         reply,
-        entry: Entry {
-            session,
-            command,
-            reply: copy,
-        },
+        entry: KeptEntry::new(session, command, copy),
     }
 }
 
@@ -134,7 +129,7 @@ pub(crate) fn step_in<'s, R: Wait, A: Allocator + Copy, G: Gate>(
     store: &'s Store<A, G>,
     core: MutexGuard<'s, Core<A>>,
     session: u64,
-    command: Command<A>,
+    command: SharedCommand<A>,
 ) -> Stepping<'s, A>
     ensures ok { IfOk result.ended (IsStepped session command) }
     ensures refused { IfErr result.ended IsNotForSize }
@@ -155,7 +150,7 @@ pub(crate) fn step_in<'s, R: Wait, A: Allocator + Copy, G: Gate>(
 fn step_on<A: Allocator + Copy>(
     desk: &mut Desk<A>,
     session: u64,
-    command: Command<A>,
+    command: SharedCommand<A>,
 ) -> TriedStep<A>
     ensures { IsTriedStep session command result }
 {
@@ -173,14 +168,14 @@ fn by_look<R: Wait, A: Allocator + Copy, G: Gate>(
     store: &Store<A, G>,
     alloc: A,
     session: u64,
-    ready: Ready<A>,
+    command: SharedCommand<A>,
 ) -> Result<Served<A>, Refusal>
-    requires keyed { HasKey ready }
-    ensures reply { IfOk result (λ served. IsReplyTo session ready served.reply) }
-    ensures entry { IfOk result (λ served. served.entry ≡ entry_of session ready served.reply) }
+    requires keyed { HasKey command }
+    ensures reply { IfOk result (λ served. IsReplyTo session command served.reply) }
+    ensures entry { IfOk result (λ served. served.entry ≡ entry_of session command served.reply) }
     ensures refused { IfErr result IsNotForSize }
 {
-    let Ready { command, own } = ready;
+    let own = another_owner(&command)?;
     match pass(rt, store, session, command)? {
         Passing::Passed(stepped) => Ok(served(session, own, stepped)),
         Passing::Barred(command) => by_ticket(rt, store, alloc, session, command),
@@ -192,7 +187,7 @@ fn pass<R: Wait, A: Allocator + Copy, G: Gate>(
     rt: &R,
     store: &Store<A, G>,
     session: u64,
-    command: Command<A>,
+    command: SharedCommand<A>,
 ) -> Result<Passing<A>, Refusal>
     requires keyed { HasKey command }
     ensures ok { IfOk result (IsPassed session command) }
@@ -210,7 +205,7 @@ fn look<R: Wait, A: Allocator + Copy, G: Gate>(
     rt: &R,
     store: &Store<A, G>,
     session: u64,
-    command: Command<A>,
+    command: SharedCommand<A>,
 ) -> Looking<A>
     requires keyed { HasKey command }
     ensures { IsLooked session command result }

@@ -1,6 +1,5 @@
 //! How the desk serves a call of a session. A call by ticket takes the lock twice: to ask, and to commit what was worked.
 ghost use Rattle.std.specs.Prelude.{◌≡◌, ◌≢◌, IfOk, IfErr, OnOk, ℕ};
-ghost use Rattle.store_cmd.specs.declared.Command.TheVariants as commands;
 ghost use Rattle.store_cmd.specs.declared.Reply.TheVariants as replies;
 ghost use Rattle.desk_core.specs.declared.ConvertFault.TheVariants as faults;
 ghost use Rattle.desk_core.specs.Desk.{DeskState};
@@ -9,17 +8,17 @@ ghost use Rattle.store_moves.specs.Works.{HasEnd};
 ghost use Rattle.store_shared.specs.Shared.{entry_of, ClosesTicket, IsReplyTo, IsAskedFor, IsNotForSize, IsTried};
 
 use crate::store::{Core, Gate, Store};
-use desk_core::{AskFault, Asked, ConvertFault, Desk, Done, FinishFault, Job, Settled, Ticket};
+use desk_core::{AskFault, Asked, ConvertFault, Desk, Done, FinishFault, Job, Ticket};
 use std::alloc::Allocator;
 use std::mem;
 use std::sync::{MutexGuard, Wait};
-use store_cmd::{Command, Entry, Refusal, Reply};
+use store_cmd::{KeptEntry, Refusal, Reply, SharedCommand};
 
 /// A call that was answered: its reply, and its entry with a copy of that.
 #[derive(Drop)]
 pub(crate) struct Served<A: Allocator> {
     pub(crate) reply: Reply<A>,
-    pub(crate) entry: Entry<A>,
+    pub(crate) entry: KeptEntry<A>,
 }
 
 /// What becomes of a ticket: what was worked under it is committed, or it is given up.
@@ -33,7 +32,7 @@ pub(crate) enum Closing<A: Allocator> {
 #[derive(Drop)]
 enum Tried<A: Allocator> {
     Ended(Result<Asked<A>, Refusal>),
-    Busy(Command<A>),
+    Busy(SharedCommand<A>),
 }
 
 /// Asks a session's command, works it and commits it.
@@ -42,32 +41,42 @@ pub(crate) fn by_ticket<R: Wait, A: Allocator + Copy, G: Gate>(
     store: &Store<A, G>,
     alloc: A,
     session: u64,
-    command: Command<A>,
+    command: SharedCommand<A>,
 ) -> Result<Served<A>, Refusal>
     ensures reply { IfOk result (λ served. IsReplyTo session command served.reply) }
     ensures entry { IfOk result (λ served. served.entry ≡ entry_of session command served.reply) }
     ensures refused { IfErr result IsNotForSize }
 {
+    let own = another_owner(&command)?;
     match ask(rt, store, session, command)? {
-        Asked::Job(job) => serve(rt, store, alloc, session, job),
-        Asked::Answered(reply) => Ok(counted(session, reply)),
+        Asked::Job(job) => serve(rt, store, alloc, session, own, job),
+        Asked::Answered(reply) => Ok(counted(session, own, reply)),
+    }
+}
+
+/// One owner of a command more, for who keeps its call.
+pub(crate) fn another_owner<A: Allocator>(
+    command: &SharedCommand<A>,
+) -> Result<SharedCommand<A>, Refusal>
+    ensures ok { IfOk result (λ own. own ≡ command.now) }
+    ensures refused { IfErr result IsNotForSize }
+{
+    match command.try_clone() {
+        Ok(own) => Ok(own),
+        Err(_) => Err(Refusal::NoMemory),
     }
 }
 
 // A count that was answered. It takes no memory.
-fn counted<A: Allocator>(session: u64, reply: Reply<A>) -> Served<A>
+fn counted<A: Allocator>(session: u64, command: SharedCommand<A>, reply: Reply<A>) -> Served<A>
     requires { (n : ℕ) × (reply ≡ replies.Count n) }
     ensures reply { result.reply ≡ reply }
-    ensures entry { result.entry ≡ entry_of session commands.Count reply }
+    ensures entry { result.entry ≡ entry_of session command reply }
 {
     match reply {
         Reply::Count(count) => Served {
             reply: Reply::Count(count),
-            entry: Entry {
-                session,
-                command: Command::Count,
-                reply: Reply::Count(count),
-            },
+            entry: KeptEntry::new(session, command, Reply::Count(count)),
         },
         _ => unreachable!(),
     }
@@ -78,7 +87,7 @@ fn ask<R: Wait, A: Allocator + Copy, G: Gate>(
     rt: &R,
     store: &Store<A, G>,
     session: u64,
-    command: Command<A>,
+    command: SharedCommand<A>,
 ) -> Result<Asked<A>, Refusal>
     ensures ok { IfOk result (λ asked. IsAskedFor session command asked) }
     ensures refused { IfErr result IsNotForSize }
@@ -96,7 +105,11 @@ fn ask<R: Wait, A: Allocator + Copy, G: Gate>(
 }
 
 // Asks a desk.
-fn ask_on<A: Allocator + Copy>(desk: &mut Desk<A>, session: u64, command: Command<A>) -> Tried<A>
+fn ask_on<A: Allocator + Copy>(
+    desk: &mut Desk<A>,
+    session: u64,
+    command: SharedCommand<A>,
+) -> Tried<A>
     ensures { IsTried session command result }
 {
     match desk.ask(session, command) {
@@ -117,16 +130,17 @@ pub(crate) fn refusal_of(fault: AskFault) -> Refusal
     }
 }
 
-// Works a job with no lock held, and commits what comes of it.
+// Works the job of a command with no lock held, and commits what comes of it.
 fn serve<R: Wait, A: Allocator + Copy, G: Gate>(
     rt: &R,
     store: &Store<A, G>,
     alloc: A,
     session: u64,
+    command: SharedCommand<A>,
     job: Job<A>,
 ) -> Result<Served<A>, Refusal>
     ensures reply { IfOk result (λ served. served.reply ≡ (worked job.asked).reply) }
-    ensures entry { IfOk result (λ served. served.entry ≡ entry_of session job.asked.command served.reply) }
+    ensures entry { IfOk result (λ served. served.entry ≡ entry_of session command served.reply) }
     ensures ends { OnOk result (HasEnd job.asked.page.pairs job.asked.session job.asked.command) }
     ensures refused { IfErr result IsNotForSize }
 {
@@ -137,13 +151,9 @@ fn serve<R: Wait, A: Allocator + Copy, G: Gate>(
     let Ok(copy) = done.reply().try_clone(alloc) else {
         return Err(give_up(rt, store, ticket, Refusal::NoMemory));
     };
-    let Settled { reply, command } = finish(rt, store, done)?;
+    let reply = finish(rt, store, done)?;
     store.gate.after(session);
-    let entry = Entry {
-        session,
-        command,
-        reply: copy,
-    };
+    let entry = KeptEntry::new(session, command, copy);
     Ok(Served { reply, entry })
 }
 
@@ -163,14 +173,13 @@ fn finish<R: Wait, A: Allocator + Copy, G: Gate>(
     rt: &R,
     store: &Store<A, G>,
     done: Done<A>,
-) -> Result<Settled<A>, Refusal>
-    ensures ok { IfOk result (λ settled. settled.reply ≡ (worked done.asked).reply) }
-    ensures command { IfOk result (λ settled. settled.command ≡ done.asked.command) }
+) -> Result<Reply<A>, Refusal>
+    ensures ok { IfOk result (λ reply. reply ≡ (worked done.asked).reply) }
     ensures refused { IfErr result IsNotForSize }
 {
     let ticket = done.ticket();
     match commit(rt, store, done) {
-        Ok(settled) => Ok(settled),
+        Ok(reply) => Ok(reply),
         Err(fault) => Err(take_back(rt, store, ticket, fault)),
     }
 }
@@ -196,13 +205,12 @@ fn commit<R: Wait, A: Allocator + Copy, G: Gate>(
     rt: &R,
     store: &Store<A, G>,
     done: Done<A>,
-) -> Result<Settled<A>, FinishFault>
-    ensures ok { IfOk result (λ settled. settled.reply ≡ (worked done.asked).reply) }
-    ensures command { IfOk result (λ settled. settled.command ≡ done.asked.command) }
+) -> Result<Reply<A>, FinishFault>
+    ensures ok { IfOk result (λ reply. reply ≡ (worked done.asked).reply) }
 {
     let core = lock_to_commit(rt, store, &done)?;
     match close_ticket(store, core, Closing::Commit(done)) {
-        Ok(Some(settled)) => Ok(settled),
+        Ok(Some(reply)) => Ok(reply),
         Ok(None) => unreachable!(),
         Err(fault) => Err(fault),
     }
@@ -266,8 +274,8 @@ fn close_ticket<'s, A: Allocator + Copy, G: Gate>(
     store: &'s Store<A, G>,
     core: MutexGuard<'s, Core<A>>,
     closing: Closing<A>,
-) -> Result<Option<Settled<A>>, FinishFault>
-    ensures { IfOk result (λ settled. (before : DeskState A) × ((after : DeskState A) × ClosesTicket closing before settled after)) }
+) -> Result<Option<Reply<A>>, FinishFault>
+    ensures { IfOk result (λ reply. (before : DeskState A) × ((after : DeskState A) × ClosesTicket closing before reply after)) }
 {
     let mut core = core;
     let closed = close_on(&mut core.desk, closing);
@@ -283,12 +291,12 @@ fn close_ticket<'s, A: Allocator + Copy, G: Gate>(
 fn close_on<A: Allocator + Copy>(
     desk: &mut Desk<A>,
     closing: Closing<A>,
-) -> Result<Option<Settled<A>>, FinishFault>
-    ensures { IfOk result (λ settled. ClosesTicket closing desk.old settled desk.new) }
+) -> Result<Option<Reply<A>>, FinishFault>
+    ensures { IfOk result (λ reply. ClosesTicket closing desk.old reply desk.new) }
 {
     match closing {
-        Closing::Commit(done) => match desk.settle(done) {
-            Ok(settled) => Ok(Some(settled)),
+        Closing::Commit(done) => match desk.finish(done) {
+            Ok(reply) => Ok(Some(reply)),
             Err((fault, _)) => Err(fault),
         },
         Closing::GiveUp(ticket) => {

@@ -9,14 +9,15 @@ ghost use Rattle.store_shared.specs.Groups.{AreAnswered};
 
 use crate::grouping::{Maker, make_all};
 use crate::passing::answer;
-use crate::ready::{Ready, test_size};
 use crate::serving::Served;
 use crate::store::{Gate, Store};
 use sdbm_addr::{Bytes, Mode, PageSize};
 use std::alloc::{AllocError, Allocator};
 use std::marker::Model;
 use std::sync::Wait;
-use store_cmd::{Command, Entry, Program, Refusal, Reply, SizeFault, check_pair, check_run};
+use store_cmd::{
+    Command, KeptEntry, Program, Refusal, Reply, SharedCommand, SizeFault, check_pair, check_run,
+};
 
 /// One of those who share a store, seen as its number, the page size of the store, and its calls that were answered, in order. Its
 /// calls have to be handed in when the store is closed: where one that was answered is let go, the store never closes.
@@ -26,7 +27,7 @@ pub struct Session<'a, A: Allocator, G: Gate> {
     alloc: A,
     number: u64,
     size: PageSize,
-    calls: Vec<Entry<A>, A>,
+    calls: Vec<KeptEntry<A>, A>,
 }
 
 impl<'a, A: Allocator, G: Gate> Model for Session<'a, A, G> {
@@ -41,7 +42,7 @@ impl<'a, A: Allocator, G: Gate> Model for Session<'a, A, G> {
 #[derive(Drop)]
 pub struct Calls<A: Allocator> {
     number: u64,
-    calls: Vec<Entry<A>, A>,
+    calls: Vec<KeptEntry<A>, A>,
 }
 
 impl<A: Allocator> Model for Calls<A> {
@@ -61,7 +62,7 @@ impl<A: Allocator> Calls<A> {
     }
 
     /// Its calls that were answered, in order.
-    pub fn entries(&self) -> &[Entry<A>]
+    pub fn entries(&self) -> &[KeptEntry<A>]
         ensures { result.now ≡ self.now.calls }
     {
         self.calls.as_slice()
@@ -74,9 +75,10 @@ impl<A: Allocator> Calls<A> {
 ///
 /// # Errors
 /// Of every call: `TrailFull` where the trail has as many entries and open tickets as it may have. `NoMemory` where memory is
-/// refused for copies of what is lent, for a ticket, the reply or the new pages, or for the session's own entry, which is taken
-/// before the desk commits. `Strayed` where the desk does not know the session's ticket as its own: no call here brings that about,
-/// and a test says so. Of `store`, `run`, `ready` and `call_all` alone: `PairTooLarge`, and `ArgTooLong` of a run; they are told first.
+/// refused for copies of what is lent and the command that trail and session own, which come before the desk is asked; for a ticket, the
+/// reply or the new pages; or for the session's own entry, which is taken before the desk commits; also where a command has as many
+/// owners as can be counted. `Strayed` where the desk does not know the session's ticket as its own: no call here brings that about,
+/// and a test says so. Of `store`, `run` and `call_all` alone: `PairTooLarge`, and `ArgTooLong` of a run; they are told first.
 impl<'a, A: Allocator + Copy, G: Gate> Session<'a, A, G> {
     // A session that has made no calls.
     pub(crate) fn new(store: &'a Store<A, G>, alloc: A, size: PageSize, number: u64) -> Self
@@ -213,37 +215,19 @@ impl<'a, A: Allocator + Copy, G: Gate> Session<'a, A, G> {
         self.size
     }
 
-    /// Makes a command ready to be called with others by `call_all`: its size is tested, and the session's own copy of it is made.
-    ///
-    /// # Errors
-    /// `PairTooLarge` and `ArgTooLong` as of `store` and `run`, and else `NoMemory`. The command comes back.
-    pub fn ready(&self, command: Command<A>) -> Result<Ready<A>, (Refusal, Command<A>)>
-        ensures ok { IfOk result (λ ready. ready ≡ command) }
-        ensures small { OnOk result (IsSmall self.now.size command) }
-        ensures refused { IfErr result (λ refused. IsRefusal self.now.size command refused.0) }
-        ensures returned { IfErr result (λ refused. refused.1 ≡ command) }
-    {
-        if let Err(refusal) = test_size(&command, self.size) {
-            return Err((refusal, command));
-        }
-        match Ready::of(self.alloc, command) {
-            Ok(ready) => Ok(ready),
-            Err(command) => Err((Refusal::NoMemory, command)),
-        }
-    }
-
-    /// Makes calls in their order, each as by itself, and adds what came of each to the outcomes: its reply, or why it was refused. One
-    /// that is refused commits nothing, and the next is made all the same. Calls that take no ticket are made in one hold of the lock, so
-    /// they cost less than one by one; others wait meanwhile, so give it a few tens at once.
+    /// Makes calls in their order, each as by itself, and adds what came of each to the outcomes: its reply, or why it was refused. The
+    /// session and the trail own a command that was answered together. One that is refused commits nothing, and the next is made all the
+    /// same. Calls that take no ticket are made in one hold of the lock, so they cost less than one by one; others wait meanwhile, so give
+    /// it a few tens at once.
     ///
     /// # Errors
     /// The error where no memory is left for the session's own entries or for the outcomes. No call is made then, and all come back.
     pub fn call_all<R: Wait>(
         &mut self,
         rt: &R,
-        calls: Vec<Ready<A>, A>,
+        calls: Vec<SharedCommand<A>, A>,
         outcomes: &mut Vec<Result<Reply<A>, Refusal>, A>,
-    ) -> Result<(), (AllocError, Vec<Ready<A>, A>)>
+    ) -> Result<(), (AllocError, Vec<SharedCommand<A>, A>)>
         ensures ok { OnOk result (AreAnswered self.old calls.items outcomes.old.items self.new outcomes.new.items) }
         ensures returned { IfErr result (λ refused. refused.1.items ≡ calls.items) }
         ensures kept { OnErr result (outcomes.new.items ≡ outcomes.old.items) }
@@ -285,12 +269,12 @@ impl<'a, A: Allocator + Copy, G: Gate> Session<'a, A, G> {
         let Ok(()) = self.calls.reserve(1) else {
             return Err(Refusal::NoMemory);
         };
-        let Ok(ready) = Ready::of(self.alloc, command) else {
+        let Ok(command) = SharedCommand::new(self.alloc, command) else {
             return Err(Refusal::NoMemory);
         };
         let store = self.store;
         let jobs = store.gate.wants_jobs();
-        let Served { reply, entry } = answer(rt, store, self.alloc, self.number, jobs, ready)?;
+        let Served { reply, entry } = answer(rt, store, self.alloc, self.number, jobs, command)?;
         self.calls.push_reserved(entry);
         Ok(reply)
     }

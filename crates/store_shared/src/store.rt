@@ -11,12 +11,12 @@ ghost use Rattle.store_shared.specs.Closed.{Agrees, AreDistinct, Covers, IsRefus
 use crate::close::{CloseFault, close_fault};
 use crate::session::{Calls, Session};
 use desk_core::{Desk, Done, Job};
-use sdbm_addr::{Bytes, KeyBytes, PageSize, clone_pairs};
+use sdbm_addr::{Bytes, KeyBytes, PageSize};
 use sdbm_files::Image;
 use std::alloc::{AllocError, Allocator};
 use std::marker::Model;
 use std::sync::{Condvar, Mutex, Wait};
-use store_cmd::Trail;
+use store_cmd::{Opening, Trail};
 
 /// The most sessions of a store.
 const SESSION_LIMIT: u64 = 4096;
@@ -82,7 +82,7 @@ pub struct Store<A: Allocator, G: Gate> {
     pub(crate) gate: G,
     kind: KeyBytes,
     size: PageSize,
-    opening: Vec<(Bytes<A>, Bytes<A>), A>,
+    opening: Opening<A>,
     pub(crate) core: Mutex<Core<A>>,
     pub(crate) changed: Condvar,
 }
@@ -92,7 +92,7 @@ impl<A: Allocator, G: Gate> Model for Store<A, G> {
 
     ghost Value = { Opened };
 
-    ghost view = { λ a. record { kind = a.kind; size = a.size; opening = a.opening.items } };
+    ghost view = { λ a. record { kind = a.kind; size = a.size; opening = a.opening } };
 }
 
 /// Why no session is made.
@@ -114,7 +114,7 @@ impl<A: Allocator + Copy, G: Gate> Store<A, G> {
     /// waits for nobody.
     ///
     /// # Errors
-    /// The error where no memory is left for two copies of all pairs, with image and gate as they were.
+    /// The error where no memory is left for a copy of all pairs in a block of their own, with image and gate as they were.
     pub fn open(
         alloc: A,
         image: Image<A>,
@@ -131,7 +131,7 @@ impl<A: Allocator + Copy, G: Gate> Store<A, G> {
             Ok(desk) => desk,
             Err((error, image)) => return Err((error, image, gate)),
         };
-        let Ok(opening) = clone_pairs(alloc, desk.trail().opening.as_slice()) else {
+        let Ok(opening) = desk.trail().opening.try_clone() else {
             let (image, _trail) = desk.into_parts();
             return Err((AllocError, image, gate));
         };
@@ -175,7 +175,9 @@ impl<A: Allocator + Copy, G: Gate> Store<A, G> {
     }
 
     /// Takes the database and the trail out, where the calls that are handed in are those that the trail has. Every session is gone
-    /// by then, since each of them borrows the store. It takes no memory, and time in the entries times the sessions.
+    /// by then, since each of them borrows the store. It takes time in the entries, in the pairs of the opening and in the square of the
+    /// sessions, and memory for two numbers a session. Where that is refused, or the store does not close, it takes time in the entries
+    /// times the sessions.
     ///
     /// # Errors
     /// `Stranger` or `Double`, whichever is first in the list: a number that no session of this store has, or one that stood in the
@@ -186,7 +188,7 @@ impl<A: Allocator + Copy, G: Gate> Store<A, G> {
         self,
         calls: Vec<Calls<A>, A>,
     ) -> Result<Closed<A>, (CloseFault, Self, Vec<Calls<A>, A>)>
-        ensures opening { IfOk result (λ closed. closed.trail.opening.items ≡ self.opening) }
+        ensures opening { IfOk result (λ closed. closed.trail.opening ≡ self.opening) }
         ensures legal { IfOk result (λ closed. History self.size self.kind (map.from_entries {R = key_cmp} self.opening) closed.trail.entries.items (map_of closed.image)) }
         ensures kind { IfOk result (λ closed. closed.image.kind ≡ self.kind) }
         ensures size { IfOk result (λ closed. closed.image.size ≡ self.size) }
@@ -208,6 +210,7 @@ impl<A: Allocator + Copy, G: Gate> Store<A, G> {
         } = self;
         let core = core.into_inner();
         let fault = close_fault(
+            alloc,
             &core.desk,
             core.sessions,
             kind,

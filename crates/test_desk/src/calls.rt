@@ -5,14 +5,14 @@ use desk_core::{
     AskFault, Asked, ConvertFault, Desk, Done, FinishFault, Job, NoTicket, Outcome, Ticket,
 };
 use std::alloc::Allocator;
-use store_cmd::{Command, Reply};
+use store_cmd::{Reply, SharedCommand};
 
 /// A call of a desk.
 #[derive(Drop)]
 pub enum Call<A: Allocator> {
-    Step(u64, Command<A>),
+    Step(u64, SharedCommand<A>),
     /// The hand for the job, the session and the command.
-    Ask(usize, u64, Command<A>),
+    Ask(usize, u64, SharedCommand<A>),
     Work(usize),
     Convert(Ticket),
     Finish(usize),
@@ -56,16 +56,16 @@ pub fn lacks_memory<A: Allocator>(outcome: &Outcome<A>) -> bool {
 fn step<A: Allocator + Copy>(
     desk: &mut Desk<A>,
     session: u64,
-    command: Command<A>,
-) -> Result<Reply<A>, (AskFault, Command<A>)> {
+    command: SharedCommand<A>,
+) -> Result<Reply<A>, (AskFault, SharedCommand<A>)> {
     desk.step(session, command)
 }
 
 fn ask<A: Allocator + Copy>(
     desk: &mut Desk<A>,
     session: u64,
-    command: Command<A>,
-) -> Result<Asked<A>, (AskFault, Command<A>)> {
+    command: SharedCommand<A>,
+) -> Result<Asked<A>, (AskFault, SharedCommand<A>)> {
     desk.ask(session, command)
 }
 
@@ -94,7 +94,7 @@ fn abandon<A: Allocator + Copy>(desk: &mut Desk<A>, ticket: Ticket) -> Result<()
 fn come_of_step<A: Allocator + Copy>(
     desk: &mut Desk<A>,
     session: u64,
-    command: Command<A>,
+    command: SharedCommand<A>,
 ) -> Came<A> {
     match step(desk, session, command) {
         Ok(reply) => Came::of(Outcome::Answered(reply)),
@@ -109,7 +109,7 @@ fn come_of_ask<A: Allocator + Copy>(
     hands: &mut Hands<A>,
     hand: usize,
     session: u64,
-    command: Command<A>,
+    command: SharedCommand<A>,
 ) -> Came<A> {
     match ask(desk, session, command) {
         Ok(Asked::Job(job)) => {

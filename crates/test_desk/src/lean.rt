@@ -7,7 +7,7 @@ use desk_core::{Desk, Outcome};
 use sdbm_files::Image;
 use std::alloc::{AllocError, Allocator, Global};
 use std::fmt::Write;
-use store_cmd::Command;
+use store_cmd::SharedCommand;
 use test_lines::{fill, show_command, show_pairs};
 
 const MOST_TIMES: usize = 4000;
@@ -18,10 +18,10 @@ fn show_asked<A: Allocator>(
     global: Global,
     out: &mut String,
     session: u64,
-    command: &Command<A>,
+    command: &SharedCommand<A>,
 ) -> Result<(), AllocError> {
     write!(out, "{session} ")?;
-    show_command(global, out, command)
+    show_command(global, out, command.command())
 }
 
 // A call as text.

@@ -3,7 +3,7 @@
 use crate::calls::Call;
 use desk_core::{Event, Ticket};
 use std::alloc::{Allocator, Global};
-use store_cmd::Command;
+use store_cmd::SharedCommand;
 use test_lines::read_command;
 
 fn read_ticket(word: &str) -> Option<Ticket> {
@@ -11,10 +11,11 @@ fn read_ticket(word: &str) -> Option<Ticket> {
 }
 
 // A session and its command.
-fn read_asked<A: Allocator + Copy>(alloc: A, words: &str) -> Option<(u64, Command<A>)> {
+fn read_asked<A: Allocator + Copy>(alloc: A, words: &str) -> Option<(u64, SharedCommand<A>)> {
     let (session, command) = words.split_once(' ')?;
     let session = session.parse::<u64>().ok()?;
-    Some((session, read_command(alloc, command)?))
+    let command = read_command(alloc, command)?;
+    Some((session, SharedCommand::new(alloc, command).ok()?))
 }
 
 // A hand, a session and its command.

@@ -55,7 +55,7 @@ fn reopen<A: Allocator + Copy>(bench: &mut Bench<A>, limit: &str) -> Option<Stri
 
 fn close<A: Allocator + Copy>(bench: &mut Bench<A>) -> Option<String> {
     let (image, trail) = bench.desk.take()?.into_parts();
-    let opening = trail.opening.len();
+    let opening = trail.opening.as_slice().len();
     let entries = trail.entries.len();
     bench.image = Some(image);
     bench.trail = Some(trail);

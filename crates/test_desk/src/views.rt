@@ -5,7 +5,7 @@ use sdbm_files::{Image, MemSink};
 use sdbm_page::Page;
 use std::alloc::{AllocError, Allocator, Global};
 use std::fmt::Write;
-use store_cmd::{Entry, Trail};
+use store_cmd::{KeptEntry, Trail};
 use test_lines::{show_bytes, show_command, show_file, show_pairs, show_reply};
 
 /// Writes what comes of a call or of an event.
@@ -38,12 +38,12 @@ pub fn show_done<A: Allocator>(out: &mut String, done: &Done<A>) -> Result<(), A
 fn show_entry<A: Allocator>(
     global: Global,
     out: &mut String,
-    entry: &Entry<A>,
+    entry: &KeptEntry<A>,
 ) -> Result<(), AllocError> {
-    write!(out, " / {} ", entry.session)?;
-    show_command(global, out, &entry.command)?;
+    write!(out, " / {} ", entry.session())?;
+    show_command(global, out, entry.command())?;
     out.push_str(": ")?;
-    show_reply(out, &entry.reply)
+    show_reply(out, entry.reply())
 }
 
 /// Writes a trail.

@@ -2,7 +2,7 @@
 
 use sdbm_addr::Bytes;
 use std::alloc::Allocator;
-use store_cmd::{Entry, Trail};
+use store_cmd::{KeptEntry, Trail};
 
 // Whether pairs are the same, in the same order.
 fn same_pairs<A: Allocator>(a: &[(Bytes<A>, Bytes<A>)], b: &[(Bytes<A>, Bytes<A>)]) -> bool {
@@ -17,9 +17,12 @@ fn same_pairs<A: Allocator>(a: &[(Bytes<A>, Bytes<A>)], b: &[(Bytes<A>, Bytes<A>
     true
 }
 
-// Whether two entries are the same, and so are their commands and replies.
-fn same_entry<A: Allocator>(a: &Entry<A>, b: &Entry<A>) -> bool {
-    a == b && a.command == b.command && a.reply == b.reply
+// Whether two entries are the same, and so are their sessions, commands and replies.
+fn same_entry<A: Allocator>(a: &KeptEntry<A>, b: &KeptEntry<A>) -> bool {
+    a.equals(b)
+        && a.session() == b.session()
+        && a.command() == b.command()
+        && a.reply() == b.reply()
 }
 
 /// Whether two trails are the same.

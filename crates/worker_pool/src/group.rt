@@ -10,8 +10,8 @@ use prog_registry::{ProgId, Registry};
 use std::alloc::{AllocError, Allocator};
 use std::sync::{Arc, Wait};
 use std::vec::IntoIter;
-use store_cmd::{Command, Program, Refusal, Reply, SizeFault, check_run};
-use store_shared::{Gate, Ready, Session};
+use store_cmd::{Command, Program, Refusal, Reply, SharedCommand, SizeFault, check_run};
+use store_shared::{Gate, Session};
 
 /// The most calls of a group. With fewer, four workers lose more by the lock that changes hands; for as many short runs it is held some 30
 /// microseconds.
@@ -58,7 +58,7 @@ fn ready_group<A: Allocator + Copy, G: Gate>(
     at: usize,
     workers: usize,
     session: &Session<'_, A, G>,
-) -> Result<Vec<Ready<A>, A>, Refusal>
+) -> Result<Vec<SharedCommand<A>, A>, Refusal>
     requires known { AreKnown registry.now.programs tasks.now }
     requires within { at < length tasks.now }
     requires some { 0 < workers }
@@ -86,8 +86,8 @@ fn ready_more<A: Allocator + Copy, G: Gate>(
     at: usize,
     workers: usize,
     session: &Session<'_, A, G>,
-    calls: Vec<Ready<A>, A>,
-) -> Vec<Ready<A>, A>
+    calls: Vec<SharedCommand<A>, A>,
+) -> Vec<SharedCommand<A>, A>
     requires known { AreKnown registry.now.programs tasks.now }
     requires within { at < length tasks.now }
     requires some { 0 < workers }
@@ -135,7 +135,7 @@ fn ready_task<A: Allocator + Copy, G: Gate>(
     registry: &Registry<A>,
     task: &Task<A>,
     session: &Session<'_, A, G>,
-) -> Result<Ready<A>, Refusal>
+) -> Result<SharedCommand<A>, Refusal>
     requires known { IsKnown registry.now.programs task.now }
     ensures ok { IfOk result (λ ready. ready ≡ run_of registry.now.programs task.entry.now) }
     ensures refused { IfErr result (IsTaskRefusal session.now.size (run_of registry.now.programs task.entry.now)) }
@@ -148,12 +148,9 @@ fn ready_task<A: Allocator + Copy, G: Gate>(
     ) {
         return Err(refusal_for(fault));
     }
-    let Ok(command) = command_of(alloc, registry, task) else {
-        return Err(Refusal::NoMemory);
-    };
-    match session.ready(command) {
-        Ok(ready) => Ok(ready),
-        Err((refusal, _)) => Err(refusal),
+    match command_of(alloc, registry, task) {
+        Ok(command) => Ok(command),
+        Err(_) => Err(Refusal::NoMemory),
     }
 }
 
@@ -172,20 +169,24 @@ fn command_of<A: Allocator + Copy>(
     alloc: A,
     registry: &Registry<A>,
     task: &Task<A>,
-) -> Result<Command<A>, AllocError>
+) -> Result<SharedCommand<A>, AllocError>
     requires { IsKnown registry.now.programs task.now }
     ensures { IfOk result (λ command. command ≡ run_of registry.now.programs task.entry.now) }
 {
     let key = task.key.try_clone(alloc)?;
     let prog = program_of(registry, task.prog)?;
     let arg = task.arg.try_clone(alloc)?;
-    Ok(Command::Run {
+    let command = Command::Run {
         key,
         prog,
         arg,
         blank: task.blank,
         now: task.now,
-    })
+    };
+    match SharedCommand::new(alloc, command) {
+        Ok(command) => Ok(command),
+        Err(_) => Err(AllocError),
+    }
 }
 
 // The program of a number that was given, with one owner more, or the error where it has as many as can be counted.

@@ -3,7 +3,7 @@
 use crate::random::values::{Value, bytes_of, is_value, value_of};
 use sdbm_addr::{Bytes, Mode};
 use std::alloc::{AllocError, Global};
-use store_cmd::{Command, Program, Reply};
+use store_cmd::{Command, Program, Reply, SharedCommand};
 
 /// The keys, sorted by their bytes, and their hashes. Some part at their first bits, `0000` and `0808` at the tenth, and `003f`,
 /// `0100` and `3f` not before.
@@ -97,8 +97,7 @@ fn make_run(
     })
 }
 
-/// The command.
-pub fn command_of(
+fn command_of(
     alloc: Global,
     programs: &[Program<Global>],
     ask: Ask,
@@ -114,6 +113,18 @@ pub fn command_of(
         }),
         Ask::Run(run) => make_run(alloc, programs, run),
         Ask::Count => Ok(Command::Count),
+    }
+}
+
+/// The command, with one owner.
+pub fn shared_of(
+    alloc: Global,
+    programs: &[Program<Global>],
+    ask: Ask,
+) -> Result<SharedCommand<Global>, AllocError> {
+    match SharedCommand::new(alloc, command_of(alloc, programs, ask)?) {
+        Ok(command) => Ok(command),
+        Err(_) => Err(AllocError),
     }
 }
 

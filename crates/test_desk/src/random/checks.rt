@@ -5,7 +5,7 @@ use crate::random::model::Answered;
 use crate::random::values::{Value, is_value};
 use sdbm_addr::Bytes;
 use std::alloc::Global;
-use store_cmd::{Entry, Program};
+use store_cmd::{KeptEntry, Program};
 
 fn is_pair(pair: &(Bytes<Global>, Bytes<Global>), key: usize, value: Value) -> bool {
     pair.0.as_slice() == key_of(key) && is_value(pair.1.as_slice(), value)
@@ -25,15 +25,15 @@ pub fn are_pairs(pairs: &[(Bytes<Global>, Bytes<Global>)], values: &[Option<Valu
     rest.next().is_none()
 }
 
-fn is_entry(entry: &Entry<Global>, programs: &[Program<Global>], own: &Answered) -> bool {
-    entry.session == own.session
-        && is_asked(&entry.command, programs, own.ask)
-        && said_by(&entry.reply) == own.told
+fn is_entry(entry: &KeptEntry<Global>, programs: &[Program<Global>], own: &Answered) -> bool {
+    entry.session() == own.session
+        && is_asked(entry.command(), programs, own.ask)
+        && said_by(entry.reply()) == own.told
 }
 
 /// Whether the entries of a trail are those of the model.
 pub fn are_entries(
-    entries: &[Entry<Global>],
+    entries: &[KeptEntry<Global>],
     programs: &[Program<Global>],
     own: &[Answered],
 ) -> bool {

@@ -1,6 +1,6 @@
 //! Events and outcomes that own no memory.
 
-use crate::random::asks::{Ask, Told, command_of, said_by};
+use crate::random::asks::{Ask, Told, said_by, shared_of};
 use desk_core::{AskFault, ConvertFault, Event, FinishFault, Outcome, Ticket};
 use std::alloc::{AllocError, Global};
 use store_cmd::Program;
@@ -39,7 +39,7 @@ pub fn event_of(
     does: Does,
 ) -> Result<Event<Global>, AllocError> {
     match does {
-        Does::Ask(session, ask) => Ok(Event::Ask(session, command_of(alloc, programs, ask)?)),
+        Does::Ask(session, ask) => Ok(Event::Ask(session, shared_of(alloc, programs, ask)?)),
         Does::Work(ticket) => Ok(Event::Work(Ticket(ticket))),
         Does::Convert(ticket) => Ok(Event::Convert(Ticket(ticket))),
         Does::Finish(ticket) => Ok(Event::Finish(Ticket(ticket))),

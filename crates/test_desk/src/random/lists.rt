@@ -1,6 +1,6 @@
 //! Lists of events on a desk and on the model.
 
-use crate::random::asks::{Ask, command_of, said_by};
+use crate::random::asks::{Ask, said_by, shared_of};
 use crate::random::checks::{are_entries, are_pairs};
 use crate::random::comes::{Comes, Does, come_of, event_of};
 use crate::random::dice::{Dice, any_ask, any_event};
@@ -10,7 +10,7 @@ use desk_core::{Desk, Event, Outcome};
 use sdbm_addr::{KeyBytes, PageSize};
 use sdbm_files::Image;
 use std::alloc::{AllocError, Global};
-use store_cmd::{Command, Program, Trail};
+use store_cmd::{Program, SharedCommand, Trail};
 
 // How many steps stand behind a list.
 const STEPS: usize = 5;
@@ -30,7 +30,7 @@ fn play(
     desk.play(events)
 }
 
-fn step(desk: &mut Desk<Global>, session: u64, command: Command<Global>) -> Comes {
+fn step(desk: &mut Desk<Global>, session: u64, command: SharedCommand<Global>) -> Comes {
     match desk.step(session, command) {
         Ok(reply) => Comes::Answered(said_by(&reply)),
         Err((fault, _command)) => Comes::AskRefused(fault),
@@ -93,7 +93,7 @@ fn step_both(
     session: u64,
     ask: Ask,
 ) -> Result<Option<String>, AllocError> {
-    let got = step(desk, session, command_of(alloc, programs, ask)?);
+    let got = step(desk, session, shared_of(alloc, programs, ask)?);
     let want = model.steps(session, ask)?;
     if got != want {
         return Ok(Some(format!(in alloc; "step {ask:?}: {got:?}, not {want:?}")?));

@@ -27,7 +27,7 @@ returns-then-is_err-clause-err g c = let same : c.convert.new.self ≡ c.self.in
 
 pub invariant_of-self-2 : goal.invariant_of-self-2
 invariant_of-self-2 g c =
-    let s : DeskState g.row.A.Denot = record { database = c.self.inside.image; opening = c.self.inside.trail.opening.items; entries = c.self.inside.trail.entries.items; tickets = c.self.inside.tickets.slots; next = c.self.inside.tickets.vacant_key; holds = c.self.inside.holds; limit = c.self.inside.limit } in
+    let s : DeskState g.row.A.Denot = record { database = c.self.inside.image; opening = c.self.inside.trail.opening; entries = c.self.inside.trail.entries.items; tickets = c.self.inside.tickets.slots; next = c.self.inside.tickets.vacant_key; holds = c.self.inside.holds; limit = c.self.inside.limit } in
     let there : IsSome (slice_index_or c.self.inside.tickets.slots c.args.ticket.0 None) = c.if-not-contains.ensures.0 refl in
     let upd : is_updating c.args.ticket c.self.inside.holds ≡ true = search rules in
     let alone : is_shared c.args.ticket c.self.inside.holds ≡ false = search rules in

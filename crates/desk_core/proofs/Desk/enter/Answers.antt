@@ -12,13 +12,13 @@ use Rattle.desk_core.proofs.Desk.enter.Goals as goal
 pub make_room-requires-clause-ticket : goal.make_room-requires-clause-ticket
 make_room-requires-clause-ticket g c =
     let t = c.vacant_key.result in
-    let s : DeskState g.row.A.Denot = record { database = c.self.inside.image; opening = c.self.inside.trail.opening.items; entries = c.self.inside.trail.entries.items; tickets = c.self.inside.tickets.slots; next = c.self.inside.tickets.vacant_key; holds = c.self.inside.holds; limit = c.self.inside.limit } in
+    let s : DeskState g.row.A.Denot = record { database = c.self.inside.image; opening = c.self.inside.trail.opening; entries = c.self.inside.trail.entries.items; tickets = c.self.inside.tickets.slots; next = c.self.inside.tickets.vacant_key; holds = c.self.inside.holds; limit = c.self.inside.limit } in
     let fresh : slice_index_or s.tickets t None ≡ None = c.vacant_key.ensures.vacant in
     none_held (record { 0 = t }) s.holds (free_ticket s t c.self.invariant.0 fresh)
 
 pub make_room-requires-clause-free : goal.make_room-requires-clause-free
 make_room-requires-clause-free g c =
-    let s : DeskState g.row.A.Denot = record { database = c.self.inside.image; opening = c.self.inside.trail.opening.items; entries = c.self.inside.trail.entries.items; tickets = c.self.inside.tickets.slots; next = c.self.inside.tickets.vacant_key; holds = c.self.inside.holds; limit = c.self.inside.limit } in
+    let s : DeskState g.row.A.Denot = record { database = c.self.inside.image; opening = c.self.inside.trail.opening; entries = c.self.inside.trail.entries.items; tickets = c.self.inside.tickets.slots; next = c.self.inside.tickets.vacant_key; holds = c.self.inside.holds; limit = c.self.inside.limit } in
     let may = subst (λ (x : DeskState g.row.A.Denot). MayAsk x c.args.own.command) (sym c.self.view_is) c.requires.may in
     let asked = subst (λ (x : DeskState g.row.A.Denot). IsAsked x c.args.own.session c.args.own.command c.args.own) (sym c.self.view_is) c.requires.asked in
     free_for s c.args.own.command c.args.own.place c.args.mode c.self.invariant.0 may c.requires.mode asked.place
@@ -26,7 +26,7 @@ make_room-requires-clause-free g c =
 pub invariant_of-self-2 : goal.invariant_of-self-2
 invariant_of-self-2 g c =
     let t = c.vacant_key.result in
-    let s : DeskState g.row.A.Denot = record { database = c.self.inside.image; opening = c.self.inside.trail.opening.items; entries = c.self.inside.trail.entries.items; tickets = c.self.inside.tickets.slots; next = c.self.inside.tickets.vacant_key; holds = c.self.inside.holds; limit = c.self.inside.limit } in
+    let s : DeskState g.row.A.Denot = record { database = c.self.inside.image; opening = c.self.inside.trail.opening; entries = c.self.inside.trail.entries.items; tickets = c.self.inside.tickets.slots; next = c.self.inside.tickets.vacant_key; holds = c.self.inside.holds; limit = c.self.inside.limit } in
     let may = subst (λ (x : DeskState g.row.A.Denot). MayAsk x c.args.own.command) (sym c.self.view_is) c.requires.may in
     let asked = subst (λ (x : DeskState g.row.A.Denot). IsAsked x c.args.own.session c.args.own.command c.args.own) (sym c.self.view_is) c.requires.asked in
     let fresh : slice_index_or s.tickets t None ≡ None = c.vacant_key.ensures.vacant in
@@ -41,7 +41,7 @@ invariant_of-self-2 g c =
 pub returns-clause-ok : goal.returns-clause-ok
 returns-clause-ok g c =
     let t = c.vacant_key.result in
-    let s : DeskState g.row.A.Denot = record { database = c.self.inside.image; opening = c.self.inside.trail.opening.items; entries = c.self.inside.trail.entries.items; tickets = c.self.inside.tickets.slots; next = c.self.inside.tickets.vacant_key; holds = c.self.inside.holds; limit = c.self.inside.limit } in
+    let s : DeskState g.row.A.Denot = record { database = c.self.inside.image; opening = c.self.inside.trail.opening; entries = c.self.inside.trail.entries.items; tickets = c.self.inside.tickets.slots; next = c.self.inside.tickets.vacant_key; holds = c.self.inside.holds; limit = c.self.inside.limit } in
     let fresh : slice_index_or s.tickets t None ≡ None = c.vacant_key.ensures.vacant in
     let same = ap (λ (x : Slab (Open g.row.A.Denot)). x.slots) c.make_room.ensures.rest_kept in
     let next = c.vacant_key.ensures.value in

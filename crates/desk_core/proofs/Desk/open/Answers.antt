@@ -7,11 +7,11 @@ pub invariant_of-result : goal.invariant_of-result
 invariant_of-result g c =
     let closed = ap (count_by is_some) c.new-2.ensures.empty in (
       StartsWith-sound c.args.image c.args.limit _ c.in-Ok.ensures.database
-          (record { database = refl; opening = c.in-Ok.ensures.pairs; entries = c.new.ensures.items; tickets = c.new-2.ensures.empty; next = c.new-2.ensures.first_key; holds = c.new-3.ensures; limit_is = refl }),
+          (record { database = refl; opening = c.in-Ok.ensures.opening; entries = c.new.ensures.items; tickets = c.new-2.ensures.empty; next = c.new-2.ensures.first_key; holds = c.new-3.ensures; limit_is = refl }),
       omega arith,
     )
 
 pub returns-clause-sound : goal.returns-clause-sound
 returns-clause-sound g c =
     StartsWith-sound c.args.image c.args.limit _ c.in-Ok.ensures.database
-    (record { database = refl; opening = c.in-Ok.ensures.pairs; entries = c.new.ensures.items; tickets = c.new-2.ensures.empty; next = c.new-2.ensures.first_key; holds = c.new-3.ensures; limit_is = refl })
+    (record { database = refl; opening = c.in-Ok.ensures.opening; entries = c.new.ensures.items; tickets = c.new-2.ensures.empty; next = c.new-2.ensures.first_key; holds = c.new-3.ensures; limit_is = refl })

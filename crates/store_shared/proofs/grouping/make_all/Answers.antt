@@ -5,10 +5,10 @@ use Rattle.store_shared.specs.Shared.{session_of}
 use Rattle.store_shared.proofs.Groups.{SoFar, so_far_none, so_far_noted, so_far_all, next_none}
 use Rattle.store_shared.proofs.grouping.make_all.Goals as goal
 
-pub loop-ready-init : goal.loop-ready-init
-loop-ready-init g c =
+pub loop-command-init : goal.loop-command-init
+loop-command-init g c =
     let calls = c.args.calls in
-    let same = sym c.into_iter-ready-iterator.ensures.into_iter_gives in
+    let same = sym c.into_iter-command-iterator.ensures.into_iter_gives in
     record {
       next = tt;
       ends = tt;
@@ -18,14 +18,14 @@ loop-ready-init g c =
           (so_far_none (session_of c.args.maker.session c.args.maker.size c.args.entries.now.items) (into_iter_items calls) c.args.outcomes.now.items);
     }
 
-pub loop-ready-preserved : goal.loop-ready-preserved
-loop-ready-preserved g c =
-    let left = into_iter_items c.loop-ready.ready-iterator in
+pub loop-command-preserved : goal.loop-command-preserved
+loop-command-preserved g c =
+    let left = into_iter_items c.loop-command.command-iterator in
     let rest = into_iter_items c.next.new.self in
-    let step : left ≡ c.in-Some.ready ∷ rest = c.in-Some.ensures.steps.0 in
-    let long : length left ≡ length (c.in-Some.ready ∷ rest) = ap length step in
-    let near = c.loop-ready.invariant.entries_room in
-    let far = c.loop-ready.invariant.outcomes_room in
+    let step : left ≡ c.in-Some.command ∷ rest = c.in-Some.ensures.steps.0 in
+    let long : length left ≡ length (c.in-Some.command ∷ rest) = ap length step in
+    let near = c.loop-command.invariant.entries_room in
+    let far = c.loop-command.invariant.outcomes_room in
     let one = c.note.ensures.entries in
     let other = c.note.ensures.outcomes in
     let same = c.note.ensures.entries_room in
@@ -35,11 +35,11 @@ loop-ready-preserved g c =
       ends = tt;
       entries_room = omega arith;
       outcomes_room = omega arith;
-      made = so_far_noted c.args.maker.session c.args.maker.size c.args.entries.now.items c.loop-ready.entries.items c.note.new.entries.items (into_iter_items c.args.calls) left rest c.args.outcomes.now.items c.loop-ready.outcomes.items c.note.new.outcomes.items c.in-Some.ready c.make-still.result.ended
-          c.make-still.ensures.small c.make-still.ensures.reply c.make-still.ensures.entry c.make-still.ensures.refused step c.note.ensures.noted c.loop-ready.invariant.made;
+      made = so_far_noted c.args.maker.session c.args.maker.size c.args.entries.now.items c.loop-command.entries.items c.note.new.entries.items (into_iter_items c.args.calls) left rest c.args.outcomes.now.items c.loop-command.outcomes.items c.note.new.outcomes.items c.in-Some.command c.make-still.result.ended
+          c.make-still.ensures.small c.make-still.ensures.reply c.make-still.ensures.entry c.make-still.ensures.refused step c.note.ensures.noted c.loop-command.invariant.made;
     }
 
 pub returns : goal.returns
 returns g c =
-    so_far_all (session_of c.args.maker.session c.args.maker.size c.args.entries.now.items) (session_of c.args.maker.session c.args.maker.size c.loop-ready.entries.items) (into_iter_items c.args.calls) (into_iter_items c.loop-ready.ready-iterator) c.args.outcomes.now.items c.loop-ready.outcomes.items c.loop-ready.invariant.made
-    (next_none c.loop-ready.ready-iterator c.next.result c.next.new.self c.in-None.is c.next.ensures.steps)
+    so_far_all (session_of c.args.maker.session c.args.maker.size c.args.entries.now.items) (session_of c.args.maker.session c.args.maker.size c.loop-command.entries.items) (into_iter_items c.args.calls) (into_iter_items c.loop-command.command-iterator) c.args.outcomes.now.items c.loop-command.outcomes.items c.loop-command.invariant.made
+    (next_none c.loop-command.command-iterator c.next.result c.next.new.self c.in-None.is c.next.ensures.steps)

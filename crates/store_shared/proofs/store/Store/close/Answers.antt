@@ -9,7 +9,7 @@ returns-in-Some-clause-fault g c =
     let kind = c.self.inside.kind in
     let size = c.self.inside.size in
     let handed = subst (λ hs. IsCloseFault core.desk core.sessions (record { kind = kind; size = size; opening = c.as_slice.result.now }) hs c.in-Some.fault) c.as_slice-2.ensures.value c.in-Some.ensures.some in
-    rw (← c.self.view_is) (core.desk, (core.sessions, subst (λ pairs. IsCloseFault core.desk core.sessions (record { kind = kind; size = size; opening = pairs }) c.args.calls.items c.in-Some.fault) c.as_slice.ensures.value handed))
+    rw (← c.self.view_is) (core.desk, (core.sessions, subst (λ pairs. IsCloseFault core.desk core.sessions (record { kind = kind; size = size; opening = pairs }) c.args.calls.items c.in-Some.fault) c.as_slice.ensures handed))
 
 pub returns-clause-agree : goal.returns-clause-agree
 returns-clause-agree g c =

@@ -5,7 +5,7 @@ use Rattle.hold_modes.specs.Held.{exclusive_in, held_by}
 use Rattle.desk_core.specs.declared.job.Open.{Open}
 use Rattle.desk_core.specs.Desk.{DeskState, ticket_of, the_ticket}
 use Rattle.desk_core.specs.Calls.{is_exclusive}
-use Rattle.desk_core.proofs.Desk.settle.Goals as goal
+use Rattle.desk_core.proofs.Desk.finish.Goals as goal
 
 -- what stands under a ticket, and whether it holds alone, in a state of another name
 own_is : {A : Type 0} (s s' : DeskState A) (t u : ℕ) (o : Option (Open A)) → s ≡ s' → t ≡ u → o ≡ slice_index_or s.tickets t None → ticket_of s' u ≡ o

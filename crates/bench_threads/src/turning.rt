@@ -1,0 +1,72 @@
+//! Stores that are opened over many pairs, called, and closed.
+
+use crate::programs::{KEYS, many_pairs};
+use std::alloc::Global;
+use std::io;
+use std::rt::Clock;
+use std::sync::Wait;
+use std::time::Instant;
+use store_shared::{Calls, NoGate, Store};
+
+// How many sessions call a store.
+const SESSIONS: usize = 16;
+
+/// How many pairs a store was opened with, how many entries it was closed with, and how many microseconds it took to open and to close it.
+#[derive(Clone, Copy)]
+pub struct Turn {
+    pub pairs: usize,
+    pub entries: usize,
+    pub open: u128,
+    pub close: u128,
+}
+
+// What sessions leave that fetch a key so many times each.
+fn fetches<R: Wait>(
+    rt: &R,
+    alloc: Global,
+    store: &Store<Global, NoGate>,
+    each: usize,
+) -> Option<Vec<Calls<Global>>> {
+    let mut handed = Vec::new(alloc);
+    for _ in 0..SESSIONS {
+        let mut session = store.session(rt).ok()?;
+        for _ in 0..each {
+            session.fetch(rt, KEYS[0]).ok()?;
+        }
+        handed.push(session.into_calls()).ok()?;
+    }
+    Some(handed)
+}
+
+/// Opens a store over so many pairs, makes so many calls by 16 sessions, and closes it.
+pub fn make_turn<R: Clock + Wait>(
+    rt: &R,
+    alloc: Global,
+    count: usize,
+    calls: usize,
+) -> io::Result<Option<Turn>> {
+    let Some(image) = many_pairs(alloc, count) else {
+        return Ok(None);
+    };
+    let begun = Instant::now(rt)?;
+    let Ok(store) = Store::open(alloc, image, calls, NoGate) else {
+        return Ok(None);
+    };
+    let open = begun.elapsed(rt)?.as_micros();
+    let pairs = store.opening().len();
+    let Some(handed) = fetches(rt, alloc, &store, calls / SESSIONS) else {
+        return Ok(None);
+    };
+    let ending = Instant::now(rt)?;
+    let Ok(closed) = store.close(handed) else {
+        return Ok(None);
+    };
+    let close = ending.elapsed(rt)?.as_micros();
+    let entries = closed.trail.entries.len();
+    Ok(Some(Turn {
+        pairs,
+        entries,
+        open,
+        close,
+    }))
+}

@@ -1,0 +1,54 @@
+//! The pairs with which a store was opened.
+ghost use Rattle.std.specs.Prelude.{◌≡◌, IfOk, IfErr};
+
+use sdbm_addr::Bytes;
+use std::alloc::{AllocError, Allocator};
+use std::marker::Model;
+use std::sync::Arc;
+
+/// Pairs that are only read, seen as their list. A further owner takes no memory, and the pairs go with the last one.
+#[derive(Drop)]
+pub struct Opening<A: Allocator> {
+    owned: Arc<Vec<(Bytes<A>, Bytes<A>), A>, A>,
+}
+
+impl<A: Allocator> Model for Opening<A> {
+    ghost use Rattle.std.specs.Prelude.{List};
+    ghost use Rattle.std.specs.Arc.{arc_value};
+    ghost use Rattle.sdbm_addr.specs.Pairs.{Pair};
+
+    ghost Value = { List Pair };
+
+    ghost view = { λ a. (arc_value a.owned).items };
+}
+
+impl<A: Allocator> Opening<A> {
+    /// Pairs with one owner. Where no memory is left for that, the pairs come back.
+    pub fn new(
+        alloc: A,
+        pairs: Vec<(Bytes<A>, Bytes<A>), A>,
+    ) -> Result<Self, Vec<(Bytes<A>, Bytes<A>), A>>
+        ensures ok { IfOk result (λ opening. opening ≡ pairs.items) }
+        ensures returned { IfErr result (λ refused. refused.items ≡ pairs.items) }
+    {
+        match Arc::new(alloc, pairs) {
+            Ok(owned) => Ok(Opening { owned }),
+            Err(refused) => Err(refused.value),
+        }
+    }
+
+    /// The pairs, in their order.
+    pub fn as_slice(&self) -> &[(Bytes<A>, Bytes<A>)]
+        ensures { result.now ≡ self.now }
+    {
+        (*self.owned).as_slice()
+    }
+
+    /// One owner more, or the error where there are as many as can be counted. It takes no memory.
+    pub fn try_clone(&self) -> Result<Self, AllocError>
+        ensures { IfOk result (λ copy. copy ≡ self.now) }
+    {
+        let owned = Arc::try_clone(&self.owned)?;
+        Ok(Opening { owned })
+    }
+}

@@ -1,0 +1,133 @@
+//! Commands with several owners, and entries with such a command.
+ghost use Rattle.std.specs.Prelude.{◌≡◌, ◌↔◌, IsTrue, IfOk, IfErr};
+
+use crate::{Command, Reply};
+use std::alloc::{AllocError, Allocator};
+use std::marker::Model;
+use std::sync::Arc;
+
+/// A command that is only read, seen as the command. A further owner takes no memory, and the command goes with the last one.
+#[derive(Drop)]
+pub struct SharedCommand<A: Allocator> {
+    owned: Arc<Command<A>, A>,
+}
+
+impl<A: Allocator> Model for SharedCommand<A> {
+    ghost use Rattle.std.specs.Arc.{arc_value};
+    ghost use Rattle.store_cmd.specs.declared.Command.{Command};
+
+    ghost Value = { Command A };
+
+    ghost view = { λ a. arc_value a.owned };
+}
+
+impl<A: Allocator> SharedCommand<A> {
+    /// A command with one owner. Where no memory is left for it, the command comes back.
+    pub fn new(alloc: A, command: Command<A>) -> Result<Self, Command<A>>
+        ensures ok { IfOk result (λ shared. shared ≡ command) }
+        ensures returned { IfErr result (λ refused. refused ≡ command) }
+    {
+        match Arc::new(alloc, command) {
+            Ok(owned) => Ok(SharedCommand { owned }),
+            Err(refused) => Err(refused.value),
+        }
+    }
+
+    /// The command.
+    pub fn command(&self) -> &Command<A>
+        ensures { result.now ≡ self.now }
+    {
+        &*self.owned
+    }
+
+    /// Whether two owners have the same command. It takes no memory.
+    pub fn equals(&self, other: &Self) -> bool
+        ensures { IsTrue result ↔ (self.now ≡ other.now) }
+    {
+        self.command().equals(other.command())
+    }
+
+    /// One owner more, or the error where there are as many as can be counted. It takes no memory.
+    pub fn try_clone(&self) -> Result<Self, AllocError>
+        ensures { IfOk result (λ copy. copy ≡ self.now) }
+    {
+        let owned = Arc::try_clone(&self.owned)?;
+        Ok(SharedCommand { owned })
+    }
+}
+
+/// An answered command as a trail and its session keep it, seen as the entry. They own the command together.
+#[derive(Drop)]
+pub struct KeptEntry<A: Allocator> {
+    session: u64,
+    command: SharedCommand<A>,
+    reply: Reply<A>,
+}
+
+impl<A: Allocator> Model for KeptEntry<A> {
+    ghost use Rattle.store_cmd.specs.declared.Entry.{Entry};
+
+    ghost Value = { Entry A };
+
+    ghost view = { λ a. record { session = a.session; command = a.command; reply = a.reply } };
+}
+
+impl<A: Allocator> KeptEntry<A> {
+    /// A session's command with its reply.
+    pub fn new(session: u64, command: SharedCommand<A>, reply: Reply<A>) -> Self
+        ensures { result ≡ record { session = session; command = command; reply = reply } }
+    {
+        KeptEntry {
+            session,
+            command,
+            reply,
+        }
+    }
+
+    /// The number of the session.
+    pub fn session(&self) -> u64
+        ensures { result ≡ self.now.session }
+    {
+        self.session
+    }
+
+    /// The command.
+    pub fn command(&self) -> &Command<A>
+        ensures { result.now ≡ self.now.command }
+    {
+        self.command.command()
+    }
+
+    /// Its reply.
+    pub fn reply(&self) -> &Reply<A>
+        ensures { result.now ≡ self.now.reply }
+    {
+        &self.reply
+    }
+
+    /// Whether session, command and reply are the same. No memory is taken.
+    pub fn equals(&self, other: &Self) -> bool
+        ensures { IsTrue result ↔ (self.now ≡ other.now) }
+    {
+        if self.session != other.session {
+            return false;
+        }
+        if !self.command.equals(&other.command) {
+            return false;
+        }
+        self.reply == other.reply
+    }
+
+    /// An equal entry, whose command has one owner more, or the error where no memory is left for its reply.
+    pub fn try_clone(&self, alloc: A) -> Result<Self, AllocError>
+    where
+        A: Copy,
+        ensures { IfOk result (λ copy. copy ≡ self.now) }
+    {
+        Ok(KeptEntry {
+            session: self.session,
+            command: self.command.try_clone()?,
+            reply: self.reply.try_clone(alloc)?,
+        })
+    }
+}

@@ -12,7 +12,8 @@ after. Threads may share it; a signal handler that comes in the midst of a call 
 opened it: there each call but `close` is an error, and nothing is saved.
 
 It stands on the shared object that `./dbm --build-library` makes: the file that BODDURCI_LIBRARY names, else libboddurci.so beside this
-file, in out/boddurci of the repository, or where the system finds it.
+file, in out/boddurci of the repository, or where the system finds it. It calls that by ctypes; where the extension `_boddurci` is built
+(`pip install bindings/python`), fetch, store, delete and run go by it, several times as fast, and do the same.
 """
 
 import ctypes
@@ -133,6 +134,7 @@ def _bind():
         "run": (quick, u32, [at, u32, text, size, text, size, u32, size, u64, at, at]),
         "first": (quick, u32, [at, at]),
         "next": (quick, u32, [at, at, at, size, at, at, size, at]),
+        "version": (quick, text, []),
     }
     for name, (library, result, arguments) in kinds.items():
         call = getattr(library, f"boddurci_{name}", None)
@@ -150,11 +152,12 @@ def _error(status):
 
 
 def _bytes(value):
-    if isinstance(value, bytes):
+    if type(value) is bytes:
         return value
     if isinstance(value, str):
         return value.encode("utf-8")
-    if isinstance(value, (bytearray, memoryview)):
+    # A class that stands on bytes may tell another length than it has.
+    if isinstance(value, (bytes, bytearray, memoryview)):
         return bytes(value)
     raise TypeError(f"keys and values are bytes or str, not {type(value).__name__}")
 
@@ -196,8 +199,8 @@ def _opened(name, flags, timeout):
             raise _of_fault(fault, name)
 
 
-class Database(MutableMapping):
-    """A database that is open: a mapping from bytes to bytes. `open` makes it."""
+class _Database(MutableMapping):
+    """All that a database does. Where there is an extension it makes the plain calls, and leaves the others to these methods."""
 
     _base = _inherited = _process = None
     # Whether it is saved when it is closed: not before it is all there.
@@ -224,7 +227,7 @@ class Database(MutableMapping):
         self._value = (self._room.at, _VALUE_MOST, self._at["_length"])
 
     def _set_locks(self):
-        self._lock, self._saving, self._alone = threading.RLock(), threading.RLock(), threading.RLock()
+        self._lock, self._saving, self._alone = _new_lock(), threading.RLock(), threading.RLock()
         self._beside = self._alone
 
     def _leave_to_parent(self):
@@ -457,6 +460,38 @@ class Database(MutableMapping):
         except Exception as fault:
             warnings.warn(f"what was not saved is lost: {fault}", ResourceWarning, source=self)
             self._let_go()
+
+
+# What the extension and this file agree on.
+_FORM = 1
+
+
+def _of_extension():
+    """The extension's classes of databases and locks, where it is built for the library that is here, and no other interpreter of the
+    process has taken it."""
+    try:
+        import _boddurci
+    except ImportError:
+        return None
+    if getattr(_boddurci, "FORM", None) != _FORM or _boddurci.VERSION.split(".")[0] != _call.version().decode().split(".")[0]:
+        return None
+    addresses = {name: ctypes.cast(getattr(_call, name), ctypes.c_void_p).value for name in ("fetch", "store", "delete", "run")}
+    return _boddurci.bind(addresses, _Database, Program, Ran, time)
+
+
+_extension = _of_extension()
+_plain_calls, _Lock = ((_extension[0],), _extension[1]) if _extension else ((), None)
+
+
+def _new_lock():
+    """The lock of a database, of which the extension knows whether somebody has it."""
+    return _Lock(threading.RLock()) if _Lock else threading.RLock()
+
+
+class Database(*_plain_calls, _Database):
+    """A database that is open: a mapping from bytes to bytes. `open` makes it."""
+
+    __slots__ = ()
 
 
 # Those that are open, for a child to leave them to its parent.

@@ -1,5 +1,6 @@
 """Tests of boddurci.py: a mapping in files, programs, threads, the cases of CPython's own tests of dbm modules, and a random run of calls
-beside a dict. BODDURCI_LIBRARY names the shared object; BODDURCI_CALLS, how many random calls there are (100,000 where it is not set)."""
+beside a dict. BODDURCI_LIBRARY names the shared object; BODDURCI_CALLS, how many random calls there are (100,000 where it is not set);
+BODDURCI_WAY, whether calls go by "ctypes", or by the "extension", which has to be there then: else they go by what is there."""
 
 import dbm
 import errno
@@ -19,6 +20,9 @@ import time
 import unittest
 
 sys.path.insert(0, str(pathlib.Path(__file__).resolve().parent))
+WAY = os.environ.get("BODDURCI_WAY")
+if WAY == "ctypes":
+    sys.modules["_boddurci"] = None
 import boddurci
 
 TOP = pathlib.Path(__file__).resolve().parent.parent.parent
@@ -37,6 +41,21 @@ class InFolder(unittest.TestCase):
 
 
 class Mapping(InFolder):
+    @unittest.skipUnless(WAY, "any way")
+    def test_way(self):
+        self.assertEqual("extension" if boddurci._extension else "ctypes", WAY)
+
+    def test_lengths(self):
+        """A class of bytes that tells another length reads nothing behind them."""
+
+        class Long(bytes):
+            def __len__(self):
+                return 1000
+
+        with boddurci.open(self.base, "c") as db:
+            db[Long(b"key")] = Long(b"value")
+            self.assertEqual((db.items(), db[Long(b"key")]), ([(b"key", b"value")], b"value"))
+
     def test_pairs(self):
         with boddurci.open(self.base, "c") as db:
             db[b"ab"] = b"xyz"
@@ -420,7 +439,7 @@ os.wait()
 """
         for words in ([], ["del"]):
             words = [sys.executable, "-c", script, self.base, *words]
-            env = {**os.environ, "PYTHONPATH": str(TOP / "bindings/python")}
+            env = {**os.environ, "PYTHONPATH": os.pathsep.join(sys.path)}
             subprocess.run(words, env=env, check=True, timeout=60)
             with boddurci.open(self.base, wait=False) as db:
                 self.assertEqual(db[b"a"], b"new")

@@ -1,9 +1,10 @@
-"""How long calls from Python take: N stores, fetches and increments of 16-byte keys and 8-byte values, by boddurci, by dbm.gnu where this
-Python has it, and by sqlite3. BODDURCI_LIBRARY names the shared object.
+"""How long calls from Python take: N stores, fetches and increments of 16-byte keys and 8-byte values, by boddurci with ctypes and with its
+extension, by the modules of dbm that this Python has, and by sqlite3. BODDURCI_LIBRARY names the shared object.
 
 usage: bench.py N [ROUNDS]     prints the nanoseconds of the processor of each, the least of the rounds, in which all take turns
 """
 
+import importlib
 import os
 import pathlib
 import sqlite3
@@ -12,14 +13,28 @@ import tempfile
 import time
 
 sys.path.insert(0, str(pathlib.Path(__file__).resolve().parent))
-import boddurci
-
-try:
-    import dbm.gnu as gnu
-except ImportError:
-    gnu = None
-
 TOP = pathlib.Path(__file__).resolve().parent.parent.parent
+
+
+def module(name):
+    """A module, or None where this Python has none."""
+    try:
+        return importlib.import_module(name)
+    except ImportError:
+        return None
+
+
+def ours():
+    """boddurci by ctypes alone, and by its extension, where that is built."""
+    sys.modules["_boddurci"] = None
+    by_ctypes = importlib.import_module("boddurci")
+    del sys.modules["_boddurci"], sys.modules["boddurci"]
+    quick = importlib.import_module("boddurci")
+    return by_ctypes, quick if quick._extension else None
+
+
+BY_CTYPES, QUICK = ours()
+OTHERS = {"dbm.gnu": (module("dbm.gnu"), "nf"), "dbm.ndbm": (module("dbm.ndbm"), "n"), "dbm.dumb": (module("dbm.dumb"), "n")}
 
 
 class Plain:
@@ -81,9 +96,12 @@ def measured(store, keys):
 
 
 def stores(folder):
-    yield "boddurci", Counting(boddurci.open(folder / "ours", "n"))
-    if gnu:
-        yield "dbm.gnu", Plain(gnu.open(str(folder / "gnu"), "nf"))
+    yield "boddurci, ctypes", Counting(BY_CTYPES.open(folder / "ctypes", "n"))
+    if QUICK:
+        yield "boddurci, extension", Counting(QUICK.open(folder / "extension", "n"))
+    for name, (other, flags) in OTHERS.items():
+        if other:
+            yield name, Plain(other.open(str(folder / name), flags))
     yield "sqlite3", Plain(Sqlite(folder / "sqlite"))
 
 
@@ -95,10 +113,11 @@ def main():
         with tempfile.TemporaryDirectory(dir="/dev/shm" if os.access("/dev/shm", os.W_OK) else None) as name:
             for kind, store in stores(pathlib.Path(name)):
                 found.setdefault(kind, []).append(measured(store, keys))
+    print(f"{'':20} {'store':>9} {'fetch':>9} {'increment':>9}")
     for kind, times in found.items():
-        print(kind, *(round(min(it) / count * 1e9) for it in zip(*times)))
-    if not gnu:
-        print("bench.py: this Python has no dbm.gnu")
+        print(f"{kind:20}", *(f"{min(it) / count * 1e9:9.0f}" for it in zip(*times)))
+    for kind in ([] if QUICK else ["extension"]) + [name for name, (other, _) in OTHERS.items() if not other]:
+        print(f"bench.py: this Python has no {kind}")
 
 
 if __name__ == "__main__":

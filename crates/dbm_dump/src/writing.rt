@@ -51,7 +51,7 @@ fn plain_dump(
 {
     let mut text = plain_header(alloc, kind, size, pairs.len())?;
     for pair in pairs {
-        show_pair(alloc, pair.0.as_slice(), pair.1.as_slice(), &mut text)?;
+        show_pair(pair.0.as_slice(), pair.1.as_slice(), &mut text)?;
     }
     text.extend_from_slice(b"end\n")?;
     Ok(text)
@@ -104,13 +104,13 @@ fn show_number(number: usize, text: &mut Vec<u8>) -> Result<(), AllocError>
 }
 
 // The line of a pair behind a text.
-fn show_pair(alloc: Global, key: &[u8], value: &[u8], text: &mut Vec<u8>) -> Result<(), AllocError>
+fn show_pair(key: &[u8], value: &[u8], text: &mut Vec<u8>) -> Result<(), AllocError>
     ensures text { OnOk result (text.new.items ≡ text.old.items ++ pair_line (key.now, value.now)) }
     ensures bytes { AreBytes (key.now, value.now) }
 {
-    show_bytes(alloc, &Notation::Hex, key, text)?;
+    show_bytes(&Notation::Hex, key, text)?;
     text.push(b' ')?;
-    show_bytes(alloc, &Notation::Hex, value, text)?;
+    show_bytes(&Notation::Hex, value, text)?;
     Ok(text.push(b'\n')?)
 }
 

@@ -104,7 +104,7 @@ fn show_row<A: Allocator + Copy>(
         Listing::Pairs => show_line(alloc, notation, key, value, text),
         Listing::RawPairs => show_raw_pair(key, value, text),
         Listing::Objects => show_object(alloc, notation, key, value, text),
-        Listing::Keys => show_key(alloc, notation, key, text),
+        Listing::Keys => show_key(notation, key, text),
         Listing::RawKeys => show_raw(key, text),
     }
 }
@@ -119,22 +119,21 @@ fn show_line<A: Allocator + Copy>(
 ) -> Result<(), AllocError>
     ensures { OnOk result (text.new.items ≡ text.old.items ++ pair_line notation.now (key.now, value.now)) }
 {
-    show_bytes(alloc, notation, key, text)?;
+    show_bytes(notation, key, text)?;
     text.push(b' ')?;
     show_value(alloc, notation, value, text)?;
     Ok(text.push(b'\n')?)
 }
 
 // A key in a line.
-fn show_key<A: Allocator + Copy>(
-    alloc: A,
+fn show_key<A: Allocator>(
     notation: &Notation<A>,
     key: &[u8],
     text: &mut Vec<u8, A>,
 ) -> Result<(), AllocError>
     ensures { OnOk result (text.new.items ≡ text.old.items ++ key_line notation.now key.now) }
 {
-    show_bytes(alloc, notation, key, text)?;
+    show_bytes(notation, key, text)?;
     Ok(text.push(b'\n')?)
 }
 
@@ -185,7 +184,7 @@ fn show_quoted_bytes<A: Allocator + Copy>(
     ensures { OnOk result (text.new.items ≡ text.old.items ++ quoted (shown notation.now bytes.now)) }
 {
     let mut word = Vec::new(alloc);
-    show_bytes(alloc, notation, bytes, &mut word)?;
+    show_bytes(notation, bytes, &mut word)?;
     show_string(word.as_slice(), text)
 }
 

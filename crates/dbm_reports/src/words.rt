@@ -21,6 +21,6 @@ pub fn word_asked(
         return word.as_bytes().to_vec(alloc);
     }
     let mut text = Vec::new(alloc);
-    show_bytes(alloc, notation, word.as_bytes(), &mut text)?;
+    show_bytes(notation, word.as_bytes(), &mut text)?;
     Ok(text)
 }

@@ -7,3 +7,4 @@ pub mod SpelledLines
 pub mod SpelledExamples
 pub mod LinesStay
 pub mod DigitLemmas
+pub mod WrittenHex

@@ -1,9 +1,9 @@
-//! Hex of either case, read by a table.
-ghost use Rattle.std.specs.Prelude.{◌≡◌, ◌*◌, IfOk, true, false, Ok, None, length, ℕ, Vec};
+//! Hex, read and written by tables.
+ghost use Rattle.std.specs.Prelude.{◌≡◌, ◌+◌, ◌*◌, ◌≤◌, ◌++◌, IfOk, OnOk, true, false, Ok, None, length, ℕ, Vec, vec_len, vec_capacity};
 ghost use Rattle.std.specs.Option.{option_map};
 ghost use Rattle.dbm_script.specs.Digits.{are_values, value_read};
 ghost use Rattle.std.specs.Result.{result_ok};
-ghost use Rattle.hex.specs.Hex.{decode_of, decode_pairs, hex_digit_value};
+ghost use Rattle.hex.specs.Hex.{decode_of, decode_pairs, encode_lower, encode_with, hex_digit_value};
 
 use std::alloc::{AllocError, Allocator};
 
@@ -66,4 +66,33 @@ fn look_up(table: &[u8; 256], digit: u8) -> u8
     ensures { value_read result ≡ hex_digit_value digit }
 {
     table[usize::from(digit)]
+}
+
+// The digits, with lower-case letters.
+const DIGITS: [u8; 16] = *b"0123456789abcdef";
+
+/// Writes bytes after a text, in lower-case hex.
+///
+/// # Errors
+/// `AllocError` where there is no memory for them. The text is as it was then.
+pub(crate) fn encode<A: Allocator>(bytes: &[u8], text: &mut Vec<u8, A>) -> Result<(), AllocError>
+    ensures ok { OnOk result (text.new.items ≡ text.old.items ++ encode_lower bytes.now) }
+{
+    let Some(long) = bytes.len().checked_mul(2) else {
+        return Err(AllocError);
+    };
+    text.reserve(long)?;
+    write_with(&DIGITS, bytes, text);
+    Ok(())
+}
+
+// Writes each byte as two digits of a table after a text that has room for them.
+fn write_with<A: Allocator>(table: &[u8; 16], bytes: &[u8], text: &mut Vec<u8, A>)
+    requires room { vec_len text.old + 2 * length bytes.now ≤ vec_capacity text.old }
+    ensures { text.new.items ≡ text.old.items ++ encode_with table.now bytes.now }
+{
+    for byte in bytes {
+        text.push_reserved(table[usize::from(*byte / 16)]);
+        text.push_reserved(table[usize::from(*byte % 16)]);
+    }
 }

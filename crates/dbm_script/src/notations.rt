@@ -2,7 +2,7 @@
 ghost use Rattle.std.specs.Prelude.{◌≡◌, ◌++◌, IfOk, OnOk};
 ghost use Rattle.dbm_script.specs.Notation.{bytes_of, hex_bytes, hex_shown, reads_hex, shown, value_shown};
 
-use crate::digits::decode;
+use crate::digits::{decode, encode};
 use byte_text::{Layout, read_text, show_by, show_text};
 use sdbm_addr::Bytes;
 use std::alloc::{AllocError, Allocator};
@@ -76,8 +76,7 @@ pub(crate) fn read_hex<A: Allocator + Copy>(
 ///
 /// # Errors
 /// `AllocError` where there is no memory for them. The text is of no use then.
-pub fn show_bytes<A: Allocator + Copy>(
-    alloc: A,
+pub fn show_bytes<A: Allocator>(
     notation: &Notation<A>,
     bytes: &[u8],
     text: &mut Vec<u8, A>,
@@ -85,7 +84,7 @@ pub fn show_bytes<A: Allocator + Copy>(
     ensures { OnOk result (text.new.items ≡ text.old.items ++ shown notation.now bytes.now) }
 {
     match notation {
-        Notation::Hex => show_hex(alloc, bytes, text),
+        Notation::Hex => show_hex(bytes, text),
         Notation::Text | Notation::Layout(_) => show_text(bytes, text),
     }
 }
@@ -103,22 +102,17 @@ pub fn show_value<A: Allocator + Copy>(
     ensures { OnOk result (text.new.items ≡ text.old.items ++ value_shown notation.now bytes.now) }
 {
     match notation {
-        Notation::Hex => show_hex(alloc, bytes, text),
+        Notation::Hex => show_hex(bytes, text),
         Notation::Text => show_text(bytes, text),
         Notation::Layout(layout) => show_by(alloc, layout, bytes, text),
     }
 }
 
-fn show_hex<A: Allocator + Copy>(
-    alloc: A,
-    bytes: &[u8],
-    text: &mut Vec<u8, A>,
-) -> Result<(), AllocError>
+fn show_hex<A: Allocator>(bytes: &[u8], text: &mut Vec<u8, A>) -> Result<(), AllocError>
     ensures { OnOk result (text.new.items ≡ text.old.items ++ hex_shown bytes.now) }
 {
     if bytes.is_empty() {
         return text.extend_from_slice(b".");
     }
-    let hex = hex::encode(alloc, bytes)?;
-    text.extend_from_slice(hex.as_bytes())
+    encode(bytes, text)
 }

@@ -103,7 +103,9 @@ fn show_turn<R: Clock + Wait>(
     if !timed {
         return Ok(format!(in alloc; "turn {words}: {pairs} pairs, {entries} entries")?);
     }
-    Ok(format!(in alloc; "turn {words}: {pairs} pairs, {entries} entries, {open} us to open, {close} us to close")?)
+    Ok(format!(in alloc;
+        "turn {words}: {pairs} pairs, {entries} entries, {open} us to open, {close} us to close"
+    )?)
 }
 
 // How many pairs and calls a turn has.

@@ -28,7 +28,5 @@ pub use sdbm_files::{Image, MemSink, OpenFault, Sink, SinkFault, WriteFault, wid
 pub use store_cmd::{
     Command, KeptEntry, Opening, Program, Refusal, Reply, SharedCommand, SizeFault, Trail,
 };
-pub use store_shared::{
-    Calls, CloseFault, Closed, Gate, NoGate, Session, SessionFault, Store,
-};
+pub use store_shared::{Calls, CloseFault, Closed, Gate, NoGate, Session, SessionFault, Store};
 pub use worker_pool::{Answers, PoolFault, Task, run_jobs};

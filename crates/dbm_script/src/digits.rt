@@ -74,7 +74,7 @@ const DIGITS: [u8; 16] = *b"0123456789abcdef";
 /// Writes bytes after a text, in lower-case hex.
 ///
 /// # Errors
-/// `AllocError` where there is no memory for them. The text is as it was then.
+/// `AllocError` where there is no memory for them. The text is of no use then.
 pub(crate) fn encode<A: Allocator>(bytes: &[u8], text: &mut Vec<u8, A>) -> Result<(), AllocError>
     ensures ok { OnOk result (text.new.items ≡ text.old.items ++ encode_lower bytes.now) }
 {

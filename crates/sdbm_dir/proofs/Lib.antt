@@ -1,3 +1,4 @@
 pub mod BitmapLemmas
+pub mod WalkLemmas
 pub mod FileLemmas
 mod Examples

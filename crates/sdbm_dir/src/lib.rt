@@ -2,7 +2,7 @@
 //! (Yigit, sdbm 1990: sdbm.c, `getpage`).
 #![tactic(auto)]
 
-ghost use Rattle.std.specs.Prelude.{◌≡◌, ◌≢◌, ◌<◌, ◌≤◌, ◌^◌, ◌-◌, ◌%◌, OnOk, OnErr, IfOk, IfErr, Ok};
+ghost use Rattle.std.specs.Prelude.{◌≡◌, ◌≢◌, ℕ, ◌<◌, ◌≤◌, ◌^◌, ◌-◌, ◌%◌, true, false, OnOk, OnErr, IfOk, IfErr, Ok};
 ghost use Rattle.std.specs.FinSet as set;
 ghost use Rattle.sdbm_addr.specs.Directory.{Splits, IsDirectory, IsDepth, hash_prefix, word_number, page_of};
 ghost use Rattle.sdbm_addr.specs.DirectoryFile.{SpellsDirectory, AreDirectoryBytes};
@@ -11,10 +11,12 @@ ghost use Rattle.sdbm_dir.specs.Faults.{AreFaultless, IsDirFault, SpellsNoDirect
 
 mod bitmap;
 mod fault_text;
+mod fours;
 
 use bitmap::{
     BLOCK_BYTES, end_of, has_deep_bit, has_orphan_bit, is_set, used_blocks, whole_blocks,
 };
+use fours::{MOST_FOURS, bit_of_fours, count_of, fours_of};
 use sdbm_addr::{child, mask};
 use std::alloc::{AllocError, Allocator};
 use std::marker::Model;
@@ -47,6 +49,10 @@ pub struct Place {
 #[derive(Drop)]
 pub struct Dir<A: Allocator> {
     bits: Vec<u8, A>,
+    // About how many bits are set.
+    count: u32,
+    // The depth near which most places lie, in fours of letters. A search begins there, and ends at the same place whatever this is.
+    fours: u8,
 }
 
 impl<A: Allocator> Model for Dir<A> {
@@ -70,6 +76,8 @@ impl<A: Allocator> Dir<A> {
     {
         Dir {
             bits: Vec::new(alloc),
+            count: 0,
+            fours: 0,
         }
     }
 
@@ -94,8 +102,13 @@ impl<A: Allocator> Dir<A> {
         if has_orphan_bit(bytes, end) {
             return Err(DirFault::DirOrphan);
         }
+        let count = count_of(&bytes[..end]);
         match whole_blocks(alloc, &bytes[..end]) {
-            Ok(bits) => Ok(Dir { bits }),
+            Ok(bits) => Ok(Dir {
+                bits,
+                count,
+                fours: fours_of(count),
+            }),
             Err(_) => Err(DirFault::NoMemory),
         }
     }
@@ -144,6 +157,8 @@ impl<A: Allocator> Dir<A> {
     {
         let byte = bit as usize / 8;
         self.bits[byte] |= 1 << (bit % 8);
+        self.count = self.count.wrapping_add(1);
+        self.fours = fours_of(self.count);
     }
 
     /// The place to which a hash leads: its shortest prefix, from the lowest bit on, that is not split. The prefix is the
@@ -156,12 +171,77 @@ impl<A: Allocator> Dir<A> {
         ensures bit { result.bit ≡ word_number (hash_prefix result.depth hash) }
         ensures directory { IsDirectory self.now.splits }
     {
-        let mut bit = 0;
-        let mut depth = 0u8;
+        let fours = self.fours.min(MOST_FOURS);
+        let bit = bit_of_fours(hash, fours);
+        let depth = 4 * fours;
+        if self.is_split(bit) {
+            let next = child(bit, (hash >> depth) & 1 == 1);
+            return self.place_below(hash, depth + 1, next);
+        }
+        self.place_above(hash, depth, bit)
+    }
+}
+
+// How a place is found from a prefix of any length, whose bit is known.
+impl<A: Allocator> Dir<A> {
+    // The place to which a hash leads, where all shorter prefixes are split.
+    fn place_below(&self, hash: u32, depth: u8, bit: u32) -> Place
+        requires number { bit ≡ word_number (hash_prefix depth hash) }
+        requires shallow { depth ≤ 31 }
+        requires above { (k : ℕ) → k < depth → set.contains self.now.splits (hash_prefix k hash) ≡ true }
+        requires directory { IsDirectory self.now.splits }
+        ensures depth { IsDepth self.now.splits hash result.depth }
+        ensures shallow { result.depth ≤ 31 }
+        ensures page { result.page ≡ page_of self.now.splits hash }
+        ensures low_bits { result.page ≡ hash % 2 ^ result.depth }
+        ensures bit { result.bit ≡ word_number (hash_prefix result.depth hash) }
+    {
+        let mut bit = bit;
+        let mut depth = depth;
         while self.is_split(bit) {
             bit = child(bit, (hash >> depth) & 1 == 1);
             depth += 1;
         }
+        self.place_at(hash, depth, bit)
+    }
+
+    // The same, where that prefix is not split.
+    fn place_above(&self, hash: u32, depth: u8, bit: u32) -> Place
+        requires number { bit ≡ word_number (hash_prefix depth hash) }
+        requires shallow { depth ≤ 31 }
+        requires unsplit { set.contains self.now.splits (hash_prefix depth hash) ≡ false }
+        requires directory { IsDirectory self.now.splits }
+        ensures depth { IsDepth self.now.splits hash result.depth }
+        ensures shallow { result.depth ≤ 31 }
+        ensures page { result.page ≡ page_of self.now.splits hash }
+        ensures low_bits { result.page ≡ hash % 2 ^ result.depth }
+        ensures bit { result.bit ≡ word_number (hash_prefix result.depth hash) }
+    {
+        let mut bit = bit;
+        let mut depth = depth;
+        while depth > 0 {
+            let parent = (bit - 1) / 2;
+            if self.is_split(parent) {
+                return self.place_at(hash, depth, bit);
+            }
+            bit = parent;
+            depth -= 1;
+        }
+        self.place_at(hash, depth, bit)
+    }
+
+    // The place to which a hash leads, whose depth and bit these are.
+    fn place_at(&self, hash: u32, depth: u8, bit: u32) -> Place
+        requires depth { IsDepth self.now.splits hash depth }
+        requires shallow { depth ≤ 31 }
+        requires number { bit ≡ word_number (hash_prefix depth hash) }
+        requires directory { IsDirectory self.now.splits }
+        ensures depth { IsDepth self.now.splits hash result.depth }
+        ensures shallow { result.depth ≤ 31 }
+        ensures page { result.page ≡ page_of self.now.splits hash }
+        ensures low_bits { result.page ≡ hash % 2 ^ result.depth }
+        ensures bit { result.bit ≡ word_number (hash_prefix result.depth hash) }
+    {
         Place {
             page: hash & mask(depth),
             depth,

@@ -72,7 +72,7 @@ fn weight(kind: KeyBytes, byte: u8) -> u32
     ensures { result ≡ byte_weight kind byte }
 {
     match kind {
-        KeyBytes::Signed if byte >= 128 => byte as u32 + 0xFFFF_FF00,
-        _ => byte as u32,
+        KeyBytes::Signed => i32::from(byte.cast_signed()).cast_unsigned(),
+        KeyBytes::Unsigned => byte as u32,
     }
 }

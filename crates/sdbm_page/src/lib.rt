@@ -16,15 +16,18 @@ ghost use Rattle.sdbm_page.specs.declared.PageFault.TheVariants.{NoMemory};
 mod edits;
 mod fault_text;
 mod fields;
+mod held;
 mod keys;
 mod layout;
 mod noted;
 mod shared;
+mod small;
 mod sorted;
 mod tails;
 
 use edits::{clear, put_pair, take_pair};
 use fields::{end_at, key_in, key_start, number_at, value_in, value_start};
+use held::Held;
 use keys::has_distinct_keys;
 use layout::{Layout, layout_of};
 use sdbm_addr::PageSize;
@@ -59,18 +62,19 @@ pub fn spells_empty(bytes: &[u8], size: PageSize) -> bool
 #[derive(Drop)]
 pub struct Page<A: Allocator> {
     size: PageSize,
-    bytes: Vec<u8, A>,
+    bytes: Held<A>,
 }
 
 impl<A: Allocator> Model for Page<A> {
     ghost use Rattle.sdbm_addr.specs.Pairs.{Content};
     ghost use Rattle.sdbm_page.specs.Fields.{pairs_in, IsOwn};
+    ghost use Rattle.sdbm_page.specs.Held.{held_items};
 
     ghost Value = { Content };
 
-    ghost view = { λ a. record { size = a.size; pairs = pairs_in a.size a.bytes.items } };
+    ghost view = { λ a. record { size = a.size; pairs = pairs_in a.size (held_items a.bytes) } };
 
-    ghost invariant = { λ a. IsOwn a.size a.bytes.items };
+    ghost invariant = { λ a. IsOwn a.size (held_items a.bytes) };
 }
 
 impl<A: Allocator> Page<A> {
@@ -79,7 +83,7 @@ impl<A: Allocator> Page<A> {
         ensures size { IfOk result (λ page. page.size ≡ size) }
         ensures pairs { IfOk result (λ page. page.pairs ≡ []) }
     {
-        let bytes = vec![in alloc; 0u8; size.bytes()]?;
+        let bytes = Held::zeros(alloc, size)?;
         Ok(Page { size, bytes })
     }
 
@@ -158,7 +162,7 @@ impl<A: Allocator> Page<A> {
         ensures value { result.now ≡ value_at self.old.pairs i }
     {
         let (start, end) = self.value_range(i);
-        self.bytes.slice_mut(start..end)
+        self.bytes.slice_mut(start, end)
     }
 
     /// Where a pair with a key stands, whose value is the one that a look-up finds, or none where the key is absent.
@@ -215,7 +219,7 @@ impl<A: Allocator> Page<A> {
         requires layout { IsLayout size bytes.now layout.count layout.low }
         ensures { IfOk result (λ page. page ≡ record { size = size; pairs = pairs_in size bytes.now }) }
     {
-        let mut copy = Vec::from_slice(alloc, bytes)?;
+        let mut copy = Held::from_slice(alloc, bytes, size)?;
         clear(copy.as_mut_slice(), 4 * layout.count + 2, layout.low);
         Ok(Page { size, bytes: copy })
     }
@@ -323,8 +327,7 @@ impl<A: Allocator + Copy> Page<A> {
     pub fn try_clone(&self) -> Result<Self, AllocError>
         ensures { IfOk result (λ copy. copy ≡ self.now) }
     {
-        let alloc = *self.bytes.allocator();
-        let bytes = Vec::from_slice(alloc, self.bytes.as_slice())?;
+        let bytes = self.bytes.try_clone()?;
         Ok(Page {
             size: self.size,
             bytes,

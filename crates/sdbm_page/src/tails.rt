@@ -1,5 +1,5 @@
 //! The last eight bytes of a key, by which most others are told from it at once.
-ghost use Rattle.std.specs.Prelude.{◌≡◌, ◌≤◌, length, slice_range, IfSome};
+ghost use Rattle.std.specs.Prelude.{◌≡◌, ◌<◌, ◌≤◌, ℕ, length, slice_index, slice_range, IfSome};
 ghost use Rattle.std.specs.Str.{bytes_eq};
 ghost use Rattle.sdbm_page.specs.Tails.{IsTail};
 
@@ -18,6 +18,7 @@ pub fn tail_of(key: &[u8]) -> Option<u64>
 /// Whether the bytes from a place to another are those of a key, whose last eight read as `tail`.
 pub fn is_key(bytes: &[u8], start: usize, end: usize, key: &[u8], tail: u64) -> bool
     requires tail { IsTail key.now tail }
+    requires typed { (k : ℕ) → slice_index key.now k < 256 }
     requires order { start ≤ end }
     requires inside { end ≤ length bytes.now }
     ensures { result ≡ bytes_eq (slice_range bytes.now start end) key.now }
@@ -28,5 +29,8 @@ pub fn is_key(bytes: &[u8], start: usize, end: usize, key: &[u8], tail: u64) -> 
     if LittleEndian::read_u64(&bytes[end - 8..end]) != tail {
         return false;
     }
-    &bytes[start..end] == key
+    if key.len() > 16 {
+        return &bytes[start..end] == key;
+    }
+    LittleEndian::read_u64(&bytes[start..start + 8]) == LittleEndian::read_u64(&key[..8])
 }

@@ -12,6 +12,9 @@ key_start-requires g c =
     let index = (lent_inside _ _ _ c.loop-i.i (holds _ _ _ c.self.view_is c.self.invariant) (omega arith) c.as_slice-bytes.ensures.value).index in
     omega arith
 
+pub is_key-requires-clause-typed : goal.is_key-requires-clause-typed
+is_key-requires-clause-typed g c = λ k. omega (arith, c.type_inv.key k)
+
 pub is_key-requires-clause-order : goal.is_key-requires-clause-order
 is_key-requires-clause-order g c =
     rw (c.key_start.ensures, c.loop-i.invariant.1) (lent_inside _ _ _ c.loop-i.i (holds _ _ _ c.self.view_is c.self.invariant) (omega arith) c.as_slice-bytes.ensures.value).key_fits

@@ -1,0 +1,92 @@
+//! Where the bytes of a page lie: those of a small page in the page itself, so that who has found the page waits for no other memory
+//! before it reads them; those of a wide one in memory of their own.
+ghost use Rattle.std.specs.Prelude.{◌≡◌, ◌≤◌, length, replicate, slice_range, IfOk};
+ghost use Rattle.std.specs.Borrow.{sem};
+ghost use Rattle.sdbm_addr.specs.Pairs.{page_bytes};
+ghost use Rattle.sdbm_page.specs.Held.{held_items};
+
+use crate::small::SmallBytes;
+use sdbm_addr::PageSize;
+use std::alloc::{AllocError, Allocator};
+
+/// The bytes of a page.
+#[derive(Drop)]
+pub enum Held<A: Allocator> {
+    /// Those of a small page.
+    Small(SmallBytes),
+    /// Those of a wide one.
+    Wide(Vec<u8, A>),
+}
+
+impl<A: Allocator> Held<A> {
+    ghost use Rattle.sdbm_page.specs.HeldLends.{held_lends_all, held_lends_part};
+
+    /// Zeros, as many as a page of a size has.
+    pub fn zeros(alloc: A, size: PageSize) -> Result<Self, AllocError>
+        ensures { IfOk result (λ held. held_items held ≡ replicate (page_bytes size) 0) }
+    {
+        match size {
+            PageSize::Small => Ok(Held::Small(SmallBytes { bytes: [0; 1024] })),
+            PageSize::Wide => Ok(Held::Wide(vec![in alloc; 0u8; 8192]?)),
+        }
+    }
+
+    /// A copy of bytes, as many as a page of a size has.
+    pub fn from_slice(alloc: A, bytes: &[u8], size: PageSize) -> Result<Self, AllocError>
+        requires { length bytes.now ≡ page_bytes size }
+        ensures { IfOk result (λ held. held_items held ≡ bytes.now) }
+    {
+        match size {
+            PageSize::Small => {
+                let mut small = SmallBytes { bytes: [0; 1024] };
+                small.bytes.as_mut_slice().copy_from_slice(bytes);
+                Ok(Held::Small(small))
+            }
+            PageSize::Wide => Ok(Held::Wide(Vec::from_slice(alloc, bytes)?)),
+        }
+    }
+
+    /// The bytes.
+    pub fn as_slice(&self) -> &[u8]
+        ensures value { result.now ≡ held_items self.now }
+    {
+        match self {
+            Held::Small(small) => small.bytes.as_slice(),
+            Held::Wide(vec) => vec.as_slice(),
+        }
+    }
+
+    /// The bytes, for writing.
+    pub fn as_mut_slice(&mut self) -> &mut [u8]
+        ensures* writes_back { sem 𝓛 (held_lends_all A.row A.Allocator self.entry result) }
+        ensures value { result.now ≡ held_items self.old }
+    {
+        let all = self.as_slice().len();
+        self.slice_mut(0, all)
+    }
+
+    /// The bytes from a place to another, for writing.
+    pub fn slice_mut(&mut self, start: usize, end: usize) -> &mut [u8]
+        requires order { start ≤ end }
+        requires inside { end ≤ length (held_items self.old) }
+        ensures* writes_back { sem 𝓛 (held_lends_part A.row A.Allocator self.entry start result) }
+        ensures value { result.now ≡ slice_range (held_items self.old) start end }
+    {
+        match self {
+            Held::Small(small) => small.part_mut(start, end),
+            Held::Wide(vec) => vec.slice_mut(start..end),
+        }
+    }
+}
+
+impl<A: Allocator + Copy> Held<A> {
+    /// The same bytes, or the error where no memory is left for them.
+    pub fn try_clone(&self) -> Result<Self, AllocError>
+        ensures { IfOk result (λ copy. held_items copy ≡ held_items self.now) }
+    {
+        match self {
+            Held::Small(small) => Ok(Held::Small(*small)),
+            Held::Wide(vec) => Ok(Held::Wide(Vec::from_slice(*vec.allocator(), vec.as_slice())?)),
+        }
+    }
+}

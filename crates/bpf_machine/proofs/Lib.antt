@@ -4,7 +4,7 @@ pub mod Chains
 pub mod Sums
 pub mod Writing
 pub mod Accesses
-pub mod Classes
 pub mod Loading
 pub mod Copying
 pub mod Turning
+pub mod Stepping

@@ -1,5 +1,5 @@
 -- The operands that a conditional jump tests.
-use Rattle.std.specs.Prelude.{ℕ, ◌%◌}
+use Rattle.std.specs.Prelude.{◌%◌}
 use Rattle.std.specs.Int.{w64, cast_unsigned}
 use Rattle.bpf_insn.specs.declared.insn.Width.{Width}
 use Rattle.bpf_insn.specs.declared.insn.Operand.{Operand}

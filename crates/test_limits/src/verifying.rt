@@ -51,7 +51,7 @@ fn each_growth_refused(rt: HostRuntime) -> Result<(), Fail> {
     Err(Fail::from("no heap is large enough"))
 }
 
-// What nothing reaches has no state. All of them would take 2 MB. Each unit takes 8 bytes for its own, 16
+// What nothing reaches has no state. All of them would take 2 MB. Each unit takes 8 bytes for its own, 8
 // for its ready form and 24 for where its state would be: an `Option`'s tag, a box, and the allocator in the box.
 #[test]
 fn unreached_units_take_little(rt: HostRuntime) -> Result<(), Fail> {
@@ -63,7 +63,7 @@ fn unreached_units_take_little(rt: HostRuntime) -> Result<(), Fail> {
         return Err(Fail::from("it is refused"));
     };
     assert_eq!(rt; verified.code().len(), 4096usize);
-    assert!(rt; heap.used().saturating_sub(before) < 199_000);
+    assert!(rt; heap.used().saturating_sub(before) < 166_000);
     Ok(())
 }
 

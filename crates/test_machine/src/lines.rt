@@ -21,8 +21,8 @@ pub struct Input {
     pub argument: Vec<u8>,
 }
 
-// Bytes, with zeros behind them.
-fn read_bytes(alloc: Global, word: &str) -> Option<Vec<u8>> {
+/// Bytes, with zeros behind them.
+pub fn read_bytes(alloc: Global, word: &str) -> Option<Vec<u8>> {
     let (digits, zeros) = match word.split_once('+') {
         Some((digits, zeros)) => (digits, zeros.parse::<u16>().ok()?),
         None => (word, 0),

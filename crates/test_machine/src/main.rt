@@ -12,6 +12,8 @@
 //! | `verdict TEXT` | `accepted`, or why the text is refused |
 //! | `MACHINE counter ROUNDS` | of so many runs of a program that adds 1 to a record of 8 bytes, the steps and a sum of what they gave; `MACHINE` is `run` or `run_checked` |
 //! | `MACHINE line LENGTH ROUNDS` | the same of a straight line of so many instructions, from 4 on, arithmetic on two registers |
+//! | `MACHINE image RECORD ARGUMENT IMAGE ROUNDS` | the same of an image that is accepted; each run begins with that record |
+//! | `verify ..` | the same of as many verdicts on such a program, whose units are told as steps |
 //! | `time MACHINE ..` | the same, with the instructions a second, and the nanoseconds of a run |
 //! | `transfer OPERATION WIDTH RANGE RANGE` | the range of the results |
 //! | `refine TEST WIDTH EDGE RANGE RANGE` | both ranges on that edge of a conditional jump, or `never` |
@@ -30,8 +32,8 @@
 //! assembler.
 //!
 //! The first 112 images were answered by an independent machine that tests everything, the 402 behind
-//! them by an independent implementation of what a run of an accepted program means. The texts were
-//! worked out by hand from the rules of a step, and so were the examples, whose steps an interpreter of
+//! them by an independent implementation of what a run of an accepted program means. The last 51 texts
+//! were answered by a model in Python, the others worked out by hand from the rules of a step, and so were the examples, whose steps an interpreter of
 //! its own counted. The first 48 lines of `transfer`, 56 of `refine`, 18 of `known` and 4 of `join` have the
 //! answers of an independent implementation of the rules, and the others those of a second one, which
 //! agrees with it on these; 15 lines, as far as the helpers, were worked out by hand. The last 83 lines
@@ -92,7 +94,7 @@ fn answer<R: Files + Clock + AllocGlobal>(rt: &R, line: &str) -> io::Result<Stri
     let (word, rest) = line.split_once(' ').unwrap_or((line, ""));
     match word {
         "file" | "example" => answer_example(rt, word, rest),
-        "run" | "run_checked" | "time" => show_measurement(rt, rt.alloc(), line),
+        "run" | "run_checked" | "verify" | "time" => show_measurement(rt, rt.alloc(), line),
         _ => Ok(answer_alone(rt.alloc(), word, rest, line)?),
     }
 }

@@ -14,7 +14,7 @@
 //! | `MACHINE line LENGTH ROUNDS` | the same of a straight line of so many instructions, from 4 on, arithmetic on two registers |
 //! | `MACHINE image RECORD ARGUMENT IMAGE ROUNDS` | the same of an image that is accepted; each run begins with that record |
 //! | `verify ..` | the same of as many verdicts on such a program, whose units are told as steps |
-//! | `time MACHINE ..` | the same, with the instructions a second, and the nanoseconds of a run |
+//! | `time LINE` | the same of such a line, with the instructions or units a second, and the nanoseconds of a run or a verdict |
 //! | `transfer OPERATION WIDTH RANGE RANGE` | the range of the results |
 //! | `refine TEST WIDTH EDGE RANGE RANGE` | both ranges on that edge of a conditional jump, or `never` |
 //! | `of RANGE` | what is known of a number of the range |

@@ -8,7 +8,7 @@ ghost use Rattle.bpf_explain.specs.Lines.{lines_up_to, place_of};
 use crate::lines::{Line, lines_below, lines_to};
 use bpf_asm::disassemble;
 use bpf_insn::Code;
-use bpf_verify::{Refused, States, Verified, VerifyFault};
+use bpf_verify::{Examined, Refused, States, VerifyFault};
 use std::alloc::{AllocError, Allocator, Global};
 
 /// What is told of a program: its instructions, each with what the verifier knows before it, and what is wrong with the last of
@@ -28,13 +28,13 @@ pub struct Explanation<A: Allocator = Global> {
 /// `AllocError` where no memory is left.
 pub fn explain_accepted<A: Allocator + Copy>(
     alloc: A,
-    verified: &Verified<A>,
+    examined: &Examined<A>,
 ) -> Result<Explanation<A>, AllocError>
-    ensures lines { IfOk result (λ e. e.lines.items ≡ lines_up_to verified.now.code verified.now.states None) }
+    ensures lines { IfOk result (λ e. e.lines.items ≡ lines_up_to examined.now.code examined.now.states None) }
     ensures fault { IfOk result (λ e. e.fault ≡ None) }
-    ensures hold { HoldAlways verified.now.code verified.now.states }
+    ensures hold { HoldAlways examined.now.code examined.now.states }
 {
-    explained(alloc, verified.code(), verified.states(), None)
+    explained(alloc, examined.code(), examined.states(), None)
 }
 
 /// The instructions of a refused program up to the one at fault, each with the state that the verifier had of it, and the fault.

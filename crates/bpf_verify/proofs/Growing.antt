@@ -9,12 +9,11 @@ use Rattle.bpf_insn.specs.declared.insn.Insn.{Insn}
 use Rattle.bpf_insn.specs.Code.{fetch, slots, unit_count, units_of}
 use Rattle.bpf_helpers.specs.Machine.{Config, effect, exit_code, arrives, step, ended}
 use Rattle.bpf_verify.specs.declared.state.State.{State}
-use Rattle.bpf_verify.specs.declared.state.Edges.{Edges}
 use Rattle.bpf_verify.specs.States.{States, state_at, Fits, IsConfig}
-use Rattle.bpf_verify.specs.Steps.{Sound, Flows, FitsSome, distance_of}
+use Rattle.bpf_verify.specs.Steps.{Edges, Sound, Flows, FitsSome, distance_of}
 use Rattle.bpf_verify.specs.Structure.{IsBuilt}
 use Rattle.bpf_verify.specs.Verified.{FitsAt, GoesOn, Consistent}
-use Rattle.bpf_verify.specs.Visits.{AreStates, Joins, Follows, Grows, Adds, Arrived, ConsistentAt}
+use Rattle.bpf_verify.specs.Visits.{AreStates, Joins, Follows, Grows, Adds, Arrived, ConsistentAt, TakenAt}
 use Rattle.bpf_verify.proofs.Built.{can_flow, next_begins, jump_begins, distance_forward}
 use Rattle.bpf_verify.proofs.Configs.{keeps_config}
 use Rattle.bpf_verify.proofs.Jumping.{natural}
@@ -24,7 +23,7 @@ get_same [] i s h = absurd (omega arith)
 get_same (x ∷ xs) zero s h = refl
 get_same (x ∷ xs) (suc i) s h = get_same xs i s (omega arith)
 
-get_other : (xs : States) (i j : ℕ) (o : Option State) → (j ≡ i → ⊥) → state_at (slice_set xs i o) j ≡ state_at xs j
+pub get_other : (xs : States) (i j : ℕ) (o : Option State) → (j ≡ i → ⊥) → state_at (slice_set xs i o) j ≡ state_at xs j
 get_other [] i j o ne = refl
 get_other (x ∷ xs) zero zero o ne = absurd (ne refl)
 get_other (x ∷ xs) zero (suc j) o ne = refl
@@ -139,7 +138,7 @@ visits code old mid new at i s e known here sound g h next jump = λ c place fit
     (sound c fits.config f)
 
 -- the instruction at a unit is taken, and what is known on its edges is added
-pub visited : (code : List Insn) (old mid new : States) (at n to : ℕ) (i : Insn) (s : State) (e : Edges)
+visited : (code : List Insn) (old mid new : States) (at n to : ℕ) (i : Insn) (s : State) (e : Edges)
     → IsBuilt code → fetch code at ≡ Some i → state_at old at ≡ Some s → AreStates code old → Flows i s e
     → n ≡ units_of i → ((k : ℕ) → distance_of i ≡ pos k → to ≡ at + 1 + k)
     → Follows old mid (at + n) e.next → Follows mid new to e.jump
@@ -158,6 +157,9 @@ visited code old mid new at n to i s e built here known are flows units far firs
           (λ d config p f. lands_edge code old mid at (at + n) e.next d later begins are first config (p ∙ ap (λ x. at + x) (sym units)) f)
           (λ d j config leads p f. lands_edge code mid new at to e.jump d further target g.are second config (p ∙ sym (far j leads)) f),
     )
+
+pub taken_adds : (code : List Insn) (old new : States) (at : ℕ) (i : Insn) (s : State) → IsBuilt code → fetch code at ≡ Some i → state_at old at ≡ Some s → AreStates code old → TakenAt i s old new at → Adds code old new at × ConsistentAt code new at
+taken_adds code old new at i s built here known are t = visited code old t.taken.settles.between new at (units_of i) t.to i s t.taken.edges built here known are t.taken.flows refl t.far t.taken.settles.first t.taken.settles.second
 
 state_within : (states : States) (u : ℕ) (s : State) → state_at states u ≡ Some s → u < length states
 state_within [] u s e = let f : ⊥ = cc in absurd f

@@ -18,10 +18,9 @@ use Rattle.bpf_helpers.specs.Machine.{Config, register, operand, effect, exit_co
 use Rattle.bpf_range.specs.declared.known.Known.{Known}
 use Rattle.bpf_range.specs.Sets.{Contains}
 use Rattle.bpf_verify.specs.declared.state.State.{State}
-use Rattle.bpf_verify.specs.declared.state.Edges.{Edges}
 use Rattle.bpf_verify.specs.Kinds.{IsNumber}
 use Rattle.bpf_verify.specs.States.{Fits}
-use Rattle.bpf_verify.specs.Steps.{Sound, Flows, Lands, FitsSome}
+use Rattle.bpf_verify.specs.Steps.{Edges, Sound, Flows, Lands, FitsSome}
 use Rattle.bpf_verify.specs.Tested.{tested}
 use Rattle.bpf_verify.proofs.Memories.{same_fits}
 

@@ -11,7 +11,8 @@ use Rattle.bpf_range.specs.declared.values.Range.{Range}
 use Rattle.bpf_range.specs.declared.kinds.Kind.{Kind}
 use Rattle.bpf_range.specs.Sets.{In}
 use Rattle.bpf_verify.specs.declared.state.State.{State}
-use Rattle.bpf_verify.specs.declared.state.Edges.{Edges}
+use Rattle.bpf_verify.specs.declared.state.Way.{Way}
+use Rattle.bpf_verify.specs.declared.state.Way.TheVariants as way
 use Rattle.bpf_verify.specs.Kinds.{HoldsKind, IsPointer, Between, KindKeeps}
 use Rattle.bpf_verify.specs.States.{Fits, IsConfig}
 
@@ -44,7 +45,35 @@ IsAccess (StoreImm n b off k) = ⊤
 IsAccess (Store n b off s) = ⊤
 IsAccess i = ⊥
 
+-- all but conditional jumps
+abbrev pub IsPlain : Insn → Type 0
+IsPlain (Branch t w d s off) = ⊥
+IsPlain i = ⊤
+
 -- ---- edges
+
+-- the ways that go on to the next instruction, and those that jump
+abbrev pub GoesNext : Way → Type 0
+GoesNext way.Next = ⊤
+GoesNext way.Both = ⊤
+GoesNext w = ⊥
+
+abbrev pub GoesJump : Way → Type 0
+GoesJump way.Jump = ⊤
+GoesJump way.Both = ⊤
+GoesJump w = ⊥
+
+-- What is known on the edge to the next instruction, and on that of the jump: nothing on one that is never taken.
+pub record Edges : Type 0 where
+  pub next : Option State
+  pub jump : Option State
+
+-- The edges of a way: what is known where it goes on alone, or on both, the second that of the jump.
+abbrev pub edges_of : Way → State → State → Edges
+edges_of way.End s t = record { next = None; jump = None }
+edges_of way.Next s t = record { next = Some s; jump = None }
+edges_of way.Jump s t = record { next = None; jump = Some s }
+edges_of way.Both s t = record { next = Some s; jump = Some t }
 
 -- From each configuration that fits s the instruction goes on to the next one, and t fits there.
 abbrev pub Passes : Insn → State → State → Type 0

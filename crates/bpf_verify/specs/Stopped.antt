@@ -1,11 +1,13 @@
 -- What is known of a program at which the pass stops, and that it is true of the program's runs.
-use Rattle.std.specs.Prelude.{ℕ, ◌≡◌, ◌<◌, List, Option, Some, None, IsSome}
+use Rattle.std.specs.Prelude.{ℕ, ◌≡◌, ◌<◌, ◌⊎◌, List, Option, Some, None, IsSome}
 use Rattle.bpf_insn.specs.declared.insn.Insn.{Insn}
 use Rattle.bpf_helpers.specs.declared.values.Env.{Env}
 use Rattle.bpf_helpers.specs.Machine.{Config}
 use Rattle.bpf_helpers.specs.Runs.{start, IsInput, Reaches}
+use Rattle.bpf_verify.specs.declared.fault.FlowFault.{FlowFault}
 use Rattle.bpf_verify.specs.declared.fault.VerifyFault.{VerifyFault}
 use Rattle.bpf_verify.specs.declared.fault.VerifyFault.TheVariants.{NoMemory, Empty, FrameWritten, NoHelper, Backward, JumpOut, JumpIntoWide, FallsOff, Unset, HelperArgument, ExitNotNumber, NotPointer, PointerOp, PointerRange, PointerStored, ArgumentWritten, OutOfRecord, OutOfArgument, OutOfStack}
+use Rattle.bpf_verify.specs.Fault.{placed_fault}
 use Rattle.bpf_verify.specs.States.{States, state_at}
 use Rattle.bpf_verify.specs.Verified.{FitsAt, Starts}
 use Rattle.bpf_verify.specs.Visits.{AreStates, ConsistentAt}
@@ -74,3 +76,7 @@ pub record KeepsAt (old new : States) (at : ℕ) : Type 0 where
 -- Where the instruction at a unit is at fault, nothing is added.
 abbrev pub Stays : States → States → ℕ → VerifyFault → Type 0
 Stays old new at fault = (unit : ℕ) → stopping_unit fault ≡ Some unit → (unit ≡ at) × KeepsAt old new at
+
+-- The instruction at a unit is at fault, and nothing was added, or memory ran out.
+abbrev pub Halts : VerifyFault → ℕ → States → States → Type 0
+Halts fault at old new = (fault ≡ NoMemory) ⊎ ((flow : FlowFault) × (fault ≡ placed_fault flow at) × (new ≡ old))

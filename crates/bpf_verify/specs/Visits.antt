@@ -1,10 +1,11 @@
 -- States that grow while the instructions are taken.
-use Rattle.std.specs.Prelude.{ℕ, ◌≡◌, ◌<◌, ◌≤◌, ◌⊎◌, List, length, slice_set, Option, Some, None, IsSome}
+use Rattle.std.specs.Prelude.{ℕ, ◌≡◌, ◌<◌, ◌≤◌, ◌⊎◌, Bool, true, pos, ◌+◌, List, length, slice_set, Option, Some, None, IsSome}
 use Rattle.bpf_insn.specs.declared.insn.Insn.{Insn}
-use Rattle.bpf_insn.specs.Code.{fetch, unit_count}
+use Rattle.bpf_insn.specs.Code.{fetch, unit_count, units_of}
 use Rattle.bpf_helpers.specs.Machine.{Config, ended}
 use Rattle.bpf_verify.specs.declared.state.State.{State}
 use Rattle.bpf_verify.specs.States.{States, state_at, Fits}
+use Rattle.bpf_verify.specs.Steps.{Edges, Flows, distance_of}
 use Rattle.bpf_verify.specs.Verified.{FitsAt, GoesOn}
 
 -- There is a place for each unit, and states stand where instructions begin alone.
@@ -23,6 +24,36 @@ pub record Joins (old new : States) (to : ℕ) (added : State) : Type 0 where
 abbrev pub Follows : States → States → ℕ → Option State → Type 0
 Follows old new to None = new ≡ old
 Follows old new to (Some added) = Joins old new to added
+
+-- What is known on both edges is added at the units where they lead.
+pub record Settles (old new : States) (next to : ℕ) (edges : Edges) : Type 0 where
+  pub between : States
+  pub first : Follows old between next edges.next
+  pub second : Follows between new to edges.jump
+
+-- The instruction with what is known before it is taken: what is known behind it is added where it goes on.
+pub record Taken (i : Insn) (s : State) (old new : States) (next to : ℕ) : Type 0 where
+  pub edges : Edges
+  pub flows : Flows i s edges
+  pub settles : Settles old new next to edges
+
+-- the same at a unit
+pub record TakenAt (i : Insn) (s : State) (old new : States) (at : ℕ) : Type 0 where
+  pub to : ℕ
+  pub far : (k : ℕ) → distance_of i ≡ pos k → to ≡ at + 1 + k
+  pub taken : Taken i s old new (at + units_of i) to
+
+-- a unit whose state is kept as it is known
+pub record Ready (known kept : States) (u : ℕ) : Type 0 where
+  pub within : u < length kept
+  pub noted : u < length known
+  pub same : state_at kept u ≡ state_at known u
+
+-- The states that a pass keeps when it has come to a unit: all that it knows, or those from the unit on.
+pub record Keeps (all : Bool) (at : ℕ) (known kept : States) : Type 0 where
+  pub long : length kept ≡ length known
+  pub whole : all ≡ true → kept ≡ known
+  pub rest : (u : ℕ) → at ≤ u → state_at kept u ≡ state_at known u
 
 -- The new states have all that fits the old ones, and up to the unit they are the old ones.
 pub record Grows (old new : States) (at : ℕ) : Type 0 where

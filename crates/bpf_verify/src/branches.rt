@@ -1,17 +1,17 @@
 //! What conditional jumps make of what is known.
 
-ghost use Rattle.std.specs.Prelude.{◌≡◌, ◌≤◌, ◌≤ℤ◌, pos, ℕ, IfOk, IsSomeAnd, Some, None, true, false, length};
+ghost use Rattle.std.specs.Prelude.{◌≡◌, ◌≤◌, ◌≤ℤ◌, pos, ℕ, IfOk, IsTrue, Some, true, false, length};
 ghost use Rattle.bpf_insn.specs.Spelling.{IsOperand};
 ghost use Rattle.bpf_helpers.specs.Machine.{register as register_of, comparison_of};
 ghost use Rattle.bpf_range.specs.Sets.{In, Contains};
 ghost use Rattle.bpf_verify.specs.Kinds.{HoldsKind, IsNumber};
 ghost use Rattle.bpf_verify.specs.States.{Fits};
-ghost use Rattle.bpf_verify.specs.Steps.{Flows};
+ghost use Rattle.bpf_verify.specs.Steps.{Flows, edges_of};
 ghost use Rattle.bpf_verify.specs.Tested.{tested};
 
 use crate::fault::FlowFault;
 use crate::numbers::{number_of, written};
-use crate::state::{Edges, State};
+use crate::state::{State, Way};
 use bpf_insn::{Insn, Operand, Test, Width};
 use bpf_range::{Kind, Known, Range, refine};
 
@@ -25,39 +25,31 @@ fn narrowed_length(old: Range, test: Test, known: Known) -> Range
     }
 }
 
-/// The state in which a register's number is one of these.
-fn narrowed(state: &State, register: u8, test: Test, known: Known) -> State
+/// Only those are left of which a register's number is one of these.
+fn narrow(state: &mut State, register: u8, test: Test, known: Known)
     requires { register ≤ 10 }
-    ensures { (c : _) → Fits state.now c → IsNumber (Contains known) (register_of c register) → Fits result c }
+    ensures { (c : _) → Fits state.old c → IsNumber (Contains known) (register_of c register) → Fits state.new c }
 {
     match state.kind(register) {
-        Kind::Num(_) => state.with(register, Kind::Num(known)),
-        Kind::RecLen => State {
-            kinds: state.kinds,
-            bytes: narrowed_length(state.bytes, test, known),
-            argument: state.argument,
-        },
-        Kind::ArgLen => State {
-            kinds: state.kinds,
-            bytes: state.bytes,
-            argument: narrowed_length(state.argument, test, known),
-        },
-        _ => *state,
+        Kind::Num(_) => state.set(register, Kind::Num(known)),
+        Kind::RecLen => state.bytes = narrowed_length(state.bytes, test, known),
+        Kind::ArgLen => state.argument = narrowed_length(state.argument, test, known),
+        _ => {}
     }
 }
 
-fn narrowed_operand(state: &State, operand: Operand, test: Test, known: Known) -> State
+fn narrow_operand(state: &mut State, operand: Operand, test: Test, known: Known)
     requires { IsOperand operand }
-    ensures { (w : Width) (c : _) → Fits state.now c → IsNumber (Contains known) (tested w c operand) → Fits result c }
+    ensures { (w : Width) (c : _) → Fits state.old c → IsNumber (Contains known) (tested w c operand) → Fits state.new c }
 {
     match operand {
-        Operand::Imm(_) => *state,
-        Operand::Reg(r) => narrowed(state, r, test, known),
+        Operand::Imm(_) => {}
+        Operand::Reg(r) => narrow(state, r, test, known),
     }
 }
 
-/// What is known on one edge of a test, where that edge can be taken.
-fn refined(
+/// Whether an edge of a test can be taken, and then what is known there.
+fn follow_edge(
     test: Test,
     width: Width,
     dst: u8,
@@ -65,15 +57,18 @@ fn refined(
     a: Known,
     b: Known,
     taken: bool,
-    state: &State,
-) -> Option<State>
+    state: &mut State,
+) -> bool
     requires dst { dst ≤ 10 }
     requires src { IsOperand src }
-    ensures { (c : _) → Fits state.now c → IsNumber (Contains a) (register_of c dst) → IsNumber (Contains b) (tested width c src) → comparison_of test width (register_of c dst) (tested width c src) ≡ Some taken → IsSomeAnd result (λ t. Fits t c) }
+    ensures { (c : _) → Fits state.old c → IsNumber (Contains a) (register_of c dst) → IsNumber (Contains b) (tested width c src) → comparison_of test width (register_of c dst) (tested width c src) ≡ Some taken → IsTrue result × Fits state.new c }
 {
-    let (x, y) = refine(test, width, a, b, taken)?;
-    let first = narrowed(state, dst, test, x);
-    Some(narrowed_operand(&first, src, test, y))
+    let Some((x, y)) = refine(test, width, a, b, taken) else {
+        return false;
+    };
+    narrow(state, dst, test, x);
+    narrow_operand(state, src, test, y);
+    true
 }
 
 /// The kind of the second operand of a test: at 32 bits an immediate is a number below 2^32.
@@ -89,17 +84,20 @@ fn tested_operand(state: &State, width: Width, operand: Operand) -> Kind
     }
 }
 
-/// The edges of a conditional jump, by any distance that is not backward.
+/// What is known behind a conditional jump, by any distance that is not backward: where both ways can be taken, of the jump's in the
+/// second state, and else all in the first.
 pub fn flow_branch(
     test: Test,
     width: Width,
     dst: u8,
     src: Operand,
-    state: &State,
-) -> Result<Edges, FlowFault>
+    state: &mut State,
+    target: &mut State,
+) -> Result<Way, FlowFault>
     requires dst { dst ≤ 10 }
     requires src { IsOperand src }
-    ensures { IfOk result (λ e. (offset : _) → pos 0 ≤ℤ offset → Flows (Insn.Branch test width dst src offset) state.now e) }
+    requires same { target.old ≡ state.old }
+    ensures { IfOk result (λ way. (offset : _) → pos 0 ≤ℤ offset → Flows (Insn.Branch test width dst src offset) state.old (edges_of way state.new target.new)) }
 {
     let first = state.kind(dst);
     let second = tested_operand(state, width, src);
@@ -111,8 +109,16 @@ pub fn flow_branch(
     let Some(b) = number_of(second, state.bytes, state.argument) else {
         return Err(FlowFault::PointerOp);
     };
-    Ok(Edges {
-        next: refined(test, width, dst, src, a, b, false, state),
-        jump: refined(test, width, dst, src, a, b, true, state),
-    })
+    let jumps = follow_edge(test, width, dst, src, a, b, true, target);
+    if !follow_edge(test, width, dst, src, a, b, false, state) {
+        if !jumps {
+            return Ok(Way::End);
+        }
+        *state = *target;
+        return Ok(Way::Jump);
+    }
+    if jumps {
+        return Ok(Way::Both);
+    }
+    Ok(Way::Next)
 }

@@ -1,6 +1,6 @@
 //! What calls of helpers make of what is known.
 
-ghost use Rattle.std.specs.Prelude.{◌≡◌, ◌≤◌, ℕ, IfOk, IsSome, Some};
+ghost use Rattle.std.specs.Prelude.{◌≡◌, ◌≤◌, ℕ, OnOk, IsSome, Some};
 ghost use Rattle.bpf_helpers.specs.declared.helpers.Helper.TheVariants.{Reply, Copy};
 ghost use Rattle.bpf_helpers.specs.Helpers.{Answer, numbered};
 ghost use Rattle.bpf_helpers.specs.Machine.{after_answer};
@@ -19,46 +19,43 @@ use bpf_range::{Kind, Known};
 /// The most bytes that one copy moves.
 const COPY_LIMIT: u64 = 1024;
 
-/// What is known after a call that gives one of these numbers: R1 to R5 are left unset.
-fn answered(state: &State, answer: Known) -> State
-    ensures { (c : _) (a : Answer) → Fits state.now c → Contains answer a.value → Fits result (after_answer a c) }
+/// After a call that gives one of these numbers R1 to R5 are left unset.
+fn answered(state: &mut State, answer: Known)
+    ensures { (c : _) (a : Answer) → Fits state.old c → Contains answer a.value → Fits state.new (after_answer a c) }
 {
     let lost = Kind::Unset;
-    State {
-        kinds: [
-            Kind::Num(answer),
-            lost,
-            lost,
-            lost,
-            lost,
-            lost,
-            state.kind(6),
-            state.kind(7),
-            state.kind(8),
-            state.kind(9),
-            state.kind(10),
-        ],
-        bytes: state.bytes,
-        argument: state.argument,
-    }
+    state.kinds = [
+        Kind::Num(answer),
+        lost,
+        lost,
+        lost,
+        lost,
+        lost,
+        state.kind(6),
+        state.kind(7),
+        state.kind(8),
+        state.kind(9),
+        state.kind(10),
+    ];
 }
 
 /// `Reply` takes a number in R1.
-fn call_reply(state: &State) -> Result<State, FlowFault>
-    ensures { IfOk result (IsCalled Reply state.now) }
+fn call_reply(state: &mut State) -> Result<(), FlowFault>
+    ensures { OnOk result (IsCalled Reply state.old state.new) }
 {
     let word = state.kind(1);
     written(word)?;
     let Some(_number) = number_of(word, state.bytes, state.argument) else {
         return Err(FlowFault::HelperArgument);
     };
-    Ok(answered(state, Helper::Reply.result()))
+    answered(state, Helper::Reply.result());
+    Ok(())
 }
 
 /// `Copy` takes the addresses in R1 and R2 and the number of bytes in R3. As many bytes as R3 can say have
 /// to be there at both, and those at R1 are written.
-fn call_copy(state: &State) -> Result<State, FlowFault>
-    ensures { IfOk result (IsCalled Copy state.now) }
+fn call_copy(state: &mut State) -> Result<(), FlowFault>
+    ensures { OnOk result (IsCalled Copy state.old state.new) }
 {
     let first = state.kind(1);
     let second = state.kind(2);
@@ -82,26 +79,36 @@ fn call_copy(state: &State) -> Result<State, FlowFault>
     writable(to.region)?;
     inside(to, state, 0, most)?;
     inside(from, state, 0, most)?;
-    Ok(answered(state, Helper::Copy.result()))
+    answered(state, Helper::Copy.result());
+    Ok(())
 }
 
 /// What is known after a call of the helper.
-fn called(helper: Helper, state: &State) -> Result<State, FlowFault>
-    ensures { IfOk result (IsCalled helper state.now) }
+fn called(helper: Helper, state: &mut State) -> Result<(), FlowFault>
+    ensures { OnOk result (IsCalled helper state.old state.new) }
 {
     match helper {
         Helper::Reply => call_reply(state),
         Helper::Copy => call_copy(state),
-        Helper::Now => Ok(answered(state, Helper::Now.result())),
-        Helper::Present => Ok(answered(state, Helper::Present.result())),
-        Helper::Who => Ok(answered(state, Helper::Who.result())),
+        Helper::Now => {
+            answered(state, Helper::Now.result());
+            Ok(())
+        }
+        Helper::Present => {
+            answered(state, Helper::Present.result());
+            Ok(())
+        }
+        Helper::Who => {
+            answered(state, Helper::Who.result());
+            Ok(())
+        }
     }
 }
 
 /// A call of a helper that is there.
-pub fn after_call(id: i32, state: &State) -> Result<State, FlowFault>
+pub fn after_call(id: i32, state: &mut State) -> Result<(), FlowFault>
     requires { IsSome (numbered id) }
-    ensures { IfOk result (Passes (Insn.Call id) state.now) }
+    ensures { OnOk result (Passes (Insn.Call id) state.old state.new) }
 {
     match helper_of(id) {
         Some(helper) => called(helper, state),

@@ -81,14 +81,13 @@ fn join_kinds(
     }
 }
 
-/// What fits one of two states fits this.
-pub fn join_states(a: &State, b: &State) -> State
-    ensures left { (c : _) → Fits a.now c → Fits result c }
-    ensures right { (c : _) → Fits b.now c → Fits result c }
+/// What fits one of two states fits the first then.
+pub fn join_states(a: &mut State, b: &State)
+    ensures left { (c : _) → Fits a.old c → Fits a.new c }
+    ensures right { (c : _) → Fits b.now c → Fits a.new c }
 {
-    let mut kinds = a.kinds;
     for r in 0..11u8 {
-        kinds[r as usize] = join_kinds(
+        let kind = join_kinds(
             a.kind(r),
             a.bytes,
             a.argument,
@@ -96,10 +95,8 @@ pub fn join_states(a: &State, b: &State) -> State
             b.bytes,
             b.argument,
         );
+        a.kinds[r as usize] = kind;
     }
-    State {
-        kinds,
-        bytes: hull(a.bytes, b.bytes),
-        argument: hull(a.argument, b.argument),
-    }
+    a.bytes = hull(a.bytes, b.bytes);
+    a.argument = hull(a.argument, b.argument);
 }

@@ -33,16 +33,17 @@ pub fn after_load(
     dst: u8,
     base: u8,
     offset: i16,
-    state: &State,
-) -> Result<State, FlowFault>
+    state: &mut State,
+) -> Result<(), FlowFault>
     requires dst { dst ≤ 10 }
     requires frame { dst ≢ 10 }
     requires base { base ≤ 10 }
-    ensures { IfOk result (Passes (Insn.Load size dst base offset) state.now) }
+    ensures { OnOk result (Passes (Insn.Load size dst base offset) state.old state.new) }
 {
     let _region = reached(size, base, offset, state)?;
     let loaded = Known::of(0, greatest_loaded(size));
-    Ok(state.with(dst, Kind::Num(loaded)))
+    state.set(dst, Kind::Num(loaded));
+    Ok(())
 }
 
 /// What is known after a load with sign, which gives any number (RFC 9669, section 5.2). The error is that
@@ -52,16 +53,17 @@ pub fn after_load_signed(
     dst: u8,
     base: u8,
     offset: i16,
-    state: &State,
-) -> Result<State, FlowFault>
+    state: &mut State,
+) -> Result<(), FlowFault>
     requires dst { dst ≤ 10 }
     requires frame { dst ≢ 10 }
     requires base { base ≤ 10 }
-    ensures { IfOk result (Passes (Insn.LoadSigned size dst base offset) state.now) }
+    ensures { OnOk result (Passes (Insn.LoadSigned size dst base offset) state.old state.new) }
 {
     let _region = reached(size, base, offset, state)?;
     let loaded = Known::of(0, u64::MAX);
-    Ok(state.with(dst, Kind::Num(loaded)))
+    state.set(dst, Kind::Num(loaded));
+    Ok(())
 }
 
 /// What is known after a store of a register: what was known before (RFC 9669, section 5.1). The error is that
@@ -72,10 +74,10 @@ pub fn after_store(
     offset: i16,
     src: u8,
     state: &State,
-) -> Result<State, FlowFault>
+) -> Result<(), FlowFault>
     requires base { base ≤ 10 }
     requires src { src ≤ 10 }
-    ensures { IfOk result (Passes (Insn.Store size base offset src) state.now) }
+    ensures { OnOk result (Passes (Insn.Store size base offset src) state.now state.now) }
 {
     written(state.kind(base))?;
     written(state.kind(src))?;
@@ -86,20 +88,18 @@ pub fn after_store(
         return Err(FlowFault::PointerStored);
     };
     writable(place.region)?;
-    inside(place, state, offset as i64, count_of(size))?;
-    Ok(*state)
+    inside(place, state, offset as i64, count_of(size))
 }
 
 /// The number that is stored does not matter.
-pub fn after_store_imm(size: Size, base: u8, offset: i16, state: &State) -> Result<State, FlowFault>
+pub fn after_store_imm(size: Size, base: u8, offset: i16, state: &State) -> Result<(), FlowFault>
     requires { base ≤ 10 }
-    ensures { IfOk result (λ t. (value : _) → Passes (Insn.StoreImm size base offset value) state.now t) }
+    ensures { OnOk result ((value : _) → Passes (Insn.StoreImm size base offset value) state.now state.now) }
 {
     written(state.kind(base))?;
     let Some(place) = place_of(state.kind(base)) else {
         return Err(FlowFault::NotPointer);
     };
     writable(place.region)?;
-    inside(place, state, offset as i64, count_of(size))?;
-    Ok(*state)
+    inside(place, state, offset as i64, count_of(size))
 }

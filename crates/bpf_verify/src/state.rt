@@ -75,25 +75,22 @@ impl State {
         }
     }
 
-    /// The state with a register of another kind.
-    pub fn with(&self, register: u8, kind: Kind) -> State
+    /// Gives a register another kind.
+    pub fn set(&mut self, register: u8, kind: Kind)
         requires { register ≤ 10 }
-        ensures { Sets self.now result register kind }
+        ensures { Sets self.old self.new register kind }
     {
-        let mut kinds = self.kinds;
-        kinds[register as usize] = kind;
-        State {
-            kinds,
-            bytes: self.bytes,
-            argument: self.argument,
-        }
+        self.kinds[register as usize] = kind;
     }
 }
 
-/// What is known after an instruction: on the edge to the next one, and on the edge of its jump. There
-/// is nothing for an edge that is never taken.
-#[derive(Clone, Copy, Debug)]
-pub struct Edges {
-    pub next: Option<State>,
-    pub jump: Option<State>,
+/// Where a run may go on after an instruction.
+#[derive(Clone, Copy)]
+pub enum Way {
+    /// Nowhere: it ends, or never comes to the instruction.
+    End,
+    Next,
+    Jump,
+    /// To the next instruction, or to that of the jump.
+    Both,
 }

@@ -1,7 +1,8 @@
 //! The states of a program, by unit.
 
-ghost use Rattle.std.specs.Prelude.{◌≡◌, ◌<◌, ℕ, [], length, slice_set, Some, None, IfOk, OnOk};
+ghost use Rattle.std.specs.Prelude.{◌≡◌, ◌<◌, [], length, slice_set, replicate, Some, None, IfOk};
 ghost use Rattle.std.specs.Option.{option_map};
+ghost use Rattle.std.specs.Box.{box_value};
 ghost use Rattle.bpf_verify.specs.States.{state_at};
 
 use crate::state::State;
@@ -35,8 +36,7 @@ impl<A: Allocator> States<A> {
 
     /// No state at any of so many units.
     pub(crate) fn none(alloc: A, units: usize) -> Result<States<A>, AllocError>
-        ensures long { IfOk result (λ s. length s ≡ units) }
-        ensures none { IfOk result (λ s. (at : ℕ) → state_at s at ≡ None) }
+        ensures { IfOk result (λ s. s ≡ replicate units None) }
     {
         let mut boxes = Vec::new(alloc);
         boxes.reserve(units)?;
@@ -56,13 +56,20 @@ impl<A: Allocator> States<A> {
         Some(&**boxed)
     }
 
-    /// Puts a state at a unit, in the place of the one that stands there. Without memory nothing changes.
-    pub(crate) fn put(&mut self, alloc: A, at: usize, state: State) -> Result<(), AllocError>
+    /// Puts a state at a unit, in the place of the one that stands there.
+    pub(crate) fn put(&mut self, at: usize, state: Box<State, A>)
         requires { at < length self.old }
-        ensures ok { OnOk result (self.new ≡ slice_set self.old at (Some state)) }
+        ensures { self.new ≡ slice_set self.old at (Some (box_value state)) }
     {
-        let boxed = Box::new(alloc, state)?;
-        self.boxes[at] = Some(boxed);
-        Ok(())
+        self.boxes[at] = Some(state);
+    }
+
+    /// Takes the state at a unit away.
+    pub(crate) fn take(&mut self, at: usize) -> Option<Box<State, A>>
+        requires { at < length self.old }
+        ensures value { option_map box_value result ≡ state_at self.old at }
+        ensures gone { self.new ≡ slice_set self.old at None }
+    {
+        self.boxes[at].take()
     }
 }

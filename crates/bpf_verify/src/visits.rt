@@ -1,55 +1,27 @@
 //! The pass over a program's instructions.
 
-ghost use Rattle.std.specs.Prelude.{◌≡◌, ◌<◌, ◌≤◌, ◌+◌, ◌≤ℤ◌, pos, ℕ, IsSome, OnOk, IfOk, IfErr, IsErrAnd, Some, None, length};
-ghost use Rattle.std.specs.Option.{option_map};
-ghost use Rattle.bpf_insn.specs.Code.{unit_count, units_of, fetch};
-ghost use Rattle.bpf_helpers.specs.Runs.{Safe};
-ghost use Rattle.bpf_verify.specs.States.{Fits, state_at};
-ghost use Rattle.bpf_verify.specs.Steps.{distance_of};
-ghost use Rattle.bpf_verify.specs.Structure.{IsBuilt, IsMisbuilt, IsMet, IsRefused};
-ghost use Rattle.bpf_verify.specs.Stopped.{Stays, IsStopped};
-ghost use Rattle.bpf_verify.specs.Verified.{Starts, IsVerified};
-ghost use Rattle.bpf_verify.specs.Visits.{AreStates, Follows, Adds, ConsistentAt};
+ghost use Rattle.std.specs.Prelude.{◌≡◌, ◌≢◌, ◌<◌, ◌≤◌, ◌+◌, ◌≤ℤ◌, pos, ℕ, Bool, IsTrue, OnOk, OnErr, IfOk, IfErr};
+ghost use Rattle.std.specs.Box.{box_value};
+ghost use Rattle.bpf_insn.specs.Code.{units_of, unit_count};
+ghost use Rattle.bpf_insn.specs.Spelling.{HasSpelling, IsOperand};
+ghost use Rattle.bpf_verify.specs.declared.state.State.{State as StateOf};
+ghost use Rattle.bpf_verify.specs.Flats.{StandsFor, AreFlats};
+ghost use Rattle.bpf_verify.specs.Steps.{distance_of, edges_of, GoesNext, GoesJump, HasNext, HasJump, IsPlain};
+ghost use Rattle.bpf_verify.specs.Structure.{CanFlow, IsBuilt, IsMet};
+ghost use Rattle.bpf_verify.specs.Stopped.{Halts, Stays, IsStopped};
+ghost use Rattle.bpf_verify.specs.Verified.{IsVerified, Starts};
+ghost use Rattle.bpf_verify.specs.Visits.{AreStates, Adds, ConsistentAt, Keeps, Ready, Settles, Taken, TakenAt};
 
-use crate::fault::VerifyFault;
-use crate::flat::flatten;
+use crate::branches::flow_branch;
+use crate::fault::{FlowFault, VerifyFault};
+use crate::flat::{Flat, flat_of, flat_plain};
 use crate::flow::flow;
-use crate::joining::join_states;
-use crate::refused::Refused;
-use crate::state::State;
-use crate::structure::structure;
+use crate::noted::Noted;
+use crate::pass::Pass;
+use crate::state::{State, Way};
 use crate::table::States;
-use crate::verified::Verified;
-use bpf_insn::{Code, Insn, encode};
+use bpf_insn::{Code, Insn, Operand, Test, Width};
 use std::alloc::{AllocError, Allocator};
-
-/// What fits the old state, where there was one, or the new one.
-fn joined(old: Option<&State>, state: State) -> State
-    ensures new { (c : _) → Fits state c → Fits result c }
-    ensures kept { (s : _) (c : _) → option_map (λ b. b.now) old.entry ≡ Some s → Fits s c → Fits result c }
-{
-    match old {
-        Some(before) => join_states(before, &state),
-        None => state,
-    }
-}
-
-/// Adds what is known on an edge to the unit where it leads, if it may be taken.
-fn follow<A: Allocator + Copy>(
-    alloc: A,
-    states: &mut States<A>,
-    to: usize,
-    edge: Option<State>,
-) -> Result<(), AllocError>
-    requires { IsSome edge → to < length states.old }
-    ensures { OnOk result (Follows states.old states.new to edge) }
-{
-    let Some(state) = edge else {
-        return Ok(());
-    };
-    let both = joined(states.get(to), state);
-    states.put(alloc, to, both)
-}
 
 /// How far an instruction jumps.
 fn distance(insn: Insn) -> i64
@@ -64,126 +36,205 @@ fn distance(insn: Insn) -> i64
     }
 }
 
-/// Takes the instruction at a unit, if a state stands there: the states on its edges are added.
-fn visit<A: Allocator + Copy>(
-    alloc: A,
-    code: &Code<A>,
-    states: &mut States<A>,
-    at: usize,
-) -> Result<(), VerifyFault>
-    requires built { IsBuilt code.now }
-    requires are { AreStates code.now states.old }
-    ensures adds { OnOk result (Adds code.now states.old states.new at) }
-    ensures consistent { OnOk result (ConsistentAt code.now states.new at) }
-    ensures met { IfErr result (IsMet code.now) }
-    ensures stays { IfErr result (Stays states.old states.new at) }
+/// Adds what is known behind an instruction to the unit to which it goes on, where it goes one way at most.
+fn settle<A: Allocator + Copy>(
+    pass: &mut Pass<A>,
+    way: Way,
+    next: usize,
+    to: usize,
+    state: Box<State, A>,
+)
+    requires one { way ≢ Way.Both }
+    requires next { GoesNext way → Ready pass.old.noted.states pass.old.kept next }
+    requires jump { GoesJump way → Ready pass.old.noted.states pass.old.kept to }
+    ensures settles { (t : StateOf) → Settles pass.old.noted.states pass.new.noted.states next to (edges_of way (box_value state) t) }
+    ensures keeps { (all : Bool) (from : ℕ) → Keeps all from pass.old.noted.states pass.old.kept → Keeps all from pass.new.noted.states pass.new.kept }
 {
-    let Some(state) = states.get(at) else {
-        return Ok(());
-    };
-    let Some(insn) = code.insn_at(at) else {
-        unreachable!();
-    };
-    let edges = match flow(insn, state) {
-        Ok(edges) => edges,
-        Err(fault) => return Err(fault.at(at)),
-    };
-    follow(alloc, states, at + insn.units(), edges.next)?;
-    follow(alloc, states, at + 1 + distance(insn) as usize, edges.jump)?;
+    match way {
+        Way::End => {}
+        Way::Next => pass.add(next, state),
+        Way::Jump => pass.add(to, state),
+        Way::Both => unreachable!(),
+    }
+}
+
+/// Takes an instruction that is no conditional jump: what is known behind it is added where it goes on.
+fn visit_plain<A: Allocator + Copy>(
+    pass: &mut Pass<A>,
+    insn: Insn,
+    next: usize,
+    to: usize,
+    state: Box<State, A>,
+) -> Result<(), FlowFault>
+    requires has { HasSpelling insn }
+    requires built { CanFlow insn }
+    requires plain { IsPlain insn }
+    requires next { HasNext insn → Ready pass.old.noted.states pass.old.kept next }
+    requires jump { HasJump insn → Ready pass.old.noted.states pass.old.kept to }
+    ensures taken { OnOk result (Taken insn (box_value state) pass.old.noted.states pass.new.noted.states next to) }
+    ensures same { OnErr result (pass.new ≡ pass.old) }
+    ensures keeps { (all : Bool) (from : ℕ) → Keeps all from pass.old.noted.states pass.old.kept → Keeps all from pass.new.noted.states pass.new.kept }
+{
+    let mut state = state;
+    let way = flow(insn, &mut state)?;
+    settle(pass, way, next, to, state);
     Ok(())
 }
 
-/// The states of a code whose structure has no fault, or its fault and the states where the pass stopped. Each instruction is taken
-/// once, the lowest first.
-fn states_of<A: Allocator + Copy>(
+/// Takes a conditional jump: what is known on its edges is added where they lead.
+fn visit_branch<A: Allocator + Copy>(
+    pass: &mut Pass<A>,
+    test: Test,
+    width: Width,
+    dst: u8,
+    src: Operand,
+    next: usize,
+    to: usize,
+    state: Box<State, A>,
+    target: Box<State, A>,
+) -> Result<(), FlowFault>
+    requires dst { dst ≤ 10 }
+    requires src { IsOperand src }
+    requires same { box_value target ≡ box_value state }
+    requires next { Ready pass.old.noted.states pass.old.kept next }
+    requires jump { Ready pass.old.noted.states pass.old.kept to }
+    ensures taken { OnOk result ((offset : _) → pos 0 ≤ℤ offset → Taken (Insn.Branch test width dst src offset) (box_value state) pass.old.noted.states pass.new.noted.states next to) }
+    ensures same { OnErr result (pass.new ≡ pass.old) }
+    ensures keeps { (all : Bool) (from : ℕ) → Keeps all from pass.old.noted.states pass.old.kept → Keeps all from pass.new.noted.states pass.new.kept }
+{
+    let (mut state, mut target) = (state, target);
+    let way = flow_branch(test, width, dst, src, &mut state, &mut target)?;
+    if let Way::Both = way {
+        pass.add(next, state);
+        pass.add(to, target);
+        return Ok(());
+    }
+    settle(pass, way, next, to, state);
+    Ok(())
+}
+
+/// Takes the instruction at a unit with what is known before it.
+fn visit_insn<A: Allocator + Copy>(
+    alloc: A,
+    pass: &mut Pass<A>,
+    at: usize,
+    insn: Insn,
+    state: Box<State, A>,
+) -> Result<(), VerifyFault>
+    requires short { at < 4096 }
+    requires has { HasSpelling insn }
+    requires built { CanFlow insn }
+    requires next { HasNext insn → Ready pass.old.noted.states pass.old.kept (at + units_of insn) }
+    requires jump { (k : ℕ) → HasJump insn → distance_of insn ≡ pos k → Ready pass.old.noted.states pass.old.kept (at + 1 + k) }
+    ensures taken { OnOk result (TakenAt insn (box_value state) pass.old.noted.states pass.new.noted.states at) }
+    ensures halts { IfErr result (λ fault. Halts fault at pass.old.noted.states pass.new.noted.states) }
+    ensures keeps { (all : Bool) (from : ℕ) → Keeps all from pass.old.noted.states pass.old.kept → Keeps all from pass.new.noted.states pass.new.kept }
+{
+    let next = at + insn.units();
+    let to = at + 1 + distance(insn) as usize;
+    if let Insn::Branch {
+        test,
+        width,
+        dst,
+        src,
+        ..
+    } = insn
+    {
+        let Ok(target) = Box::new(alloc, *state) else {
+            return Err(VerifyFault::NoMemory);
+        };
+        return match visit_branch(pass, test, width, dst, src, next, to, state, target) {
+            Ok(()) => Ok(()),
+            Err(fault) => Err(fault.at(at)),
+        };
+    }
+    match visit_plain(pass, insn, next, to, state) {
+        Ok(()) => Ok(()),
+        Err(fault) => Err(fault.at(at)),
+    }
+}
+
+/// Takes the instruction at a unit, if a state stands there: what is known behind it is added where it goes on. The result is what
+/// stands at the unit, made ready.
+fn visit<A: Allocator + Copy>(
     alloc: A,
     code: &Code<A>,
-) -> Result<States<A>, (VerifyFault, States<A>)>
+    pass: &mut Pass<A>,
+    all: bool,
+    at: usize,
+) -> Result<Flat, VerifyFault>
+    requires built { IsBuilt code.now }
+    requires are { AreStates code.now pass.old.noted.states }
+    requires keeps { Keeps all at pass.old.noted.states pass.old.kept }
+    requires short { at < unit_count code.now }
+    ensures adds { IfOk result (λ _. Adds code.now pass.old.noted.states pass.new.noted.states at) }
+    ensures consistent { IfOk result (λ _. ConsistentAt code.now pass.new.noted.states at) }
+    ensures flat { IfOk result (StandsFor code.now pass.new.noted.states at) }
+    ensures keeps { Keeps all (at + 1) pass.new.noted.states pass.new.kept }
+    ensures met { IfErr result (IsMet code.now) }
+    ensures stays { IfErr result (Stays pass.old.noted.states pass.new.noted.states at) }
+{
+    let Some(insn) = code.insn_at(at) else {
+        return Ok(Flat::Other);
+    };
+    let Some(state) = pass.take(alloc, all, at)? else {
+        return Ok(flat_plain(insn));
+    };
+    let flat = flat_of(&state, insn);
+    visit_insn(alloc, pass, at, insn, state)?;
+    Ok(flat)
+}
+
+/// What the pass over a program has found: its states, as clauses see them, those that are kept, and what stands at its units, made
+/// ready.
+#[derive(Drop)]
+pub(crate) struct Passed<A: Allocator> {
+    pub(crate) noted: Noted,
+    pub(crate) kept: States<A>,
+    pub(crate) flats: Vec<Flat, A>,
+}
+
+/// The pass before its first instruction: what is known at the start.
+fn begin<A: Allocator + Copy>(alloc: A, code: &Code<A>) -> Result<Pass<A>, AllocError>
     requires { IsBuilt code.now }
-    ensures verified { IfOk result (IsVerified code.now) }
+    ensures are { IfOk result (λ p. AreStates code.now p.noted.states) }
+    ensures starts { IfOk result (λ p. Starts p.noted.states) }
+    ensures keeps { IfOk result (λ p. (all : Bool) → Keeps all 0 p.noted.states p.kept) }
+{
+    let mut pass = Pass::new(alloc, code.units())?;
+    let start = Box::new(alloc, State::at_start())?;
+    pass.add(0, start);
+    Ok(pass)
+}
+
+/// Takes each instruction of a code whose structure has no fault once, the lowest first. The error is the first fault, and the states
+/// that are kept where the pass stopped: all that it knew, or those of the units ahead.
+pub(crate) fn pass_over<A: Allocator + Copy>(
+    alloc: A,
+    code: &Code<A>,
+    all: bool,
+) -> Result<Passed<A>, (VerifyFault, States<A>)>
+    requires { IsBuilt code.now }
+    ensures verified { IfOk result (λ p. IsVerified code.now p.noted.states) }
+    ensures flats { IfOk result (λ p. AreFlats code.now p.noted.states p.flats.items) }
+    ensures whole { IsTrue all → IfOk result (λ p. p.kept ≡ p.noted.states) }
     ensures met { IfErr result (λ e. IsMet code.now e.0) }
-    ensures stopped { IfErr result (λ e. IsStopped code.now e.1 e.0) }
+    ensures stopped { IsTrue all → IfErr result (λ e. IsStopped code.now e.1 e.0) }
 {
     let units = code.units();
-    let Ok(mut states) = States::none(alloc, units) else {
+    let mut flats = Vec::new(alloc);
+    let Ok(()) = flats.reserve(units) else {
         return Err((VerifyFault::NoMemory, States::empty(alloc)));
     };
-    let Ok(()) = states.put(alloc, 0, State::at_start()) else {
-        return Err((VerifyFault::NoMemory, states));
+    let Ok(mut pass) = begin(alloc, code) else {
+        return Err((VerifyFault::NoMemory, States::empty(alloc)));
     };
     for at in 0..units {
-        if let Err(fault) = visit(alloc, code, &mut states, at) {
-            return Err((fault, states));
+        match visit(alloc, code, &mut pass, all, at) {
+            Ok(flat) => flats.push_reserved(flat),
+            Err(fault) => return Err((fault, pass.kept)),
         }
     }
-    Ok(states)
-}
-
-/// Accepts a program, as `verify` does, or says why not, and also what was known before its instructions when the fault was met. Where
-/// the fault is one of the structure, nothing was known.
-pub fn examine<A: Allocator + Copy>(alloc: A, code: Code<A>) -> Result<Verified<A>, Refused<A>>
-    ensures value { IfOk result (λ v. v.code ≡ code) }
-    ensures safe { IfOk result (λ v. Safe v.code) }
-    ensures built { IfOk result (λ v. IsBuilt v.code) }
-    ensures refused { IfErr result (λ e. IsRefused code e.fault) }
-    ensures structure { (fault : _) → IsMisbuilt code fault → IsErrAnd result (λ e. e.fault ≡ fault) }
-    ensures back { IfErr result (λ e. e.code ≡ code) }
-    ensures stopped { IsBuilt code → IfErr result (λ e. IsStopped code e.states e.fault) }
-    ensures unknown { IfErr result (λ e. IsMisbuilt code e.fault → (u : ℕ) → state_at e.states u ≡ None) }
-{
-    if let Err(fault) = structure(&code) {
-        return Err(Refused {
-            fault,
-            code,
-            states: States::empty(alloc),
-        });
-    }
-    let states = match states_of(alloc, &code) {
-        Ok(states) => states,
-        Err((fault, states)) => {
-            return Err(Refused {
-                fault,
-                code,
-                states,
-            })
-        }
-    };
-    let fault = VerifyFault::NoMemory;
-    let Ok(flats) = flatten(alloc, &code, &states) else {
-        return Err(Refused {
-            fault,
-            code,
-            states,
-        });
-    };
-    match encode(alloc, &code) {
-        Ok(image) => Ok(Verified::new(code, states, flats, image)),
-        Err(AllocError) => Err(Refused {
-            fault,
-            code,
-            states,
-        }),
-    }
-}
-
-/// Accepts a program, which is then safe, or says why not and gives it back.
-///
-/// The structure comes first: each instruction is tested, the lowest first, whether anything reaches it or
-/// not. Then each instruction that is reached is taken once, the lowest first, with what is known before it;
-/// its first fault is told. `NoMemory` comes only behind the structure.
-pub fn verify<A: Allocator + Copy>(
-    alloc: A,
-    code: Code<A>,
-) -> Result<Verified<A>, (VerifyFault, Code<A>)>
-    ensures value { IfOk result (λ v. v.code ≡ code) }
-    ensures safe { IfOk result (λ v. Safe v.code) }
-    ensures built { IfOk result (λ v. IsBuilt v.code) }
-    ensures refused { IfErr result (λ e. IsRefused code e.0) }
-    ensures structure { (fault : _) → IsMisbuilt code fault → IsErrAnd result (λ e. e.0 ≡ fault) }
-    ensures back { IfErr result (λ e. e.1 ≡ code) }
-{
-    match examine(alloc, code) {
-        Ok(verified) => Ok(verified),
-        Err(Refused { fault, code, .. }) => Err((fault, code)),
-    }
+    let Pass { noted, kept } = pass;
+    Ok(Passed { noted, kept, flats })
 }

@@ -13,7 +13,7 @@ ghost use Rattle.dbm_programs.specs.Judging.{EndsAs, EndsJudged, Explains, IsExp
 use crate::judging::{judge_image, show_accepted, verify_file};
 use bpf_explain::{explain_accepted, explain_refused};
 use bpf_insn::{Code, DecodeFault, decode};
-use bpf_verify::{Refused, Verified, VerifyFault, examine};
+use bpf_verify::{Examined, Refused, VerifyFault, examine};
 use clap::{ArgMatches, Command};
 use dbm_reports::{Given, Report, ReportFault, Subcommand, file_image, printed, refused};
 use dbm_script::Notation;
@@ -149,7 +149,7 @@ fn explain_code(
     ensures { IfOk result (EndsJudged image.now) }
 {
     match examine(alloc, code) {
-        Ok(verified) => explain_verified(alloc, verified, image, source),
+        Ok(examined) => explain_examined(alloc, examined, image, source),
         Err(
             Refused {
                 fault: VerifyFault::NoMemory,
@@ -161,16 +161,16 @@ fn explain_code(
 }
 
 // What is said of an accepted program of an image.
-fn explain_verified(
+fn explain_examined(
     alloc: Global,
-    verified: Verified<Global>,
+    examined: Examined<Global>,
     image: &[u8],
     source: Option<&str>,
 ) -> Result<Report, AllocError>
-    requires { IsProgramOf image.now verified }
+    requires { IsProgramOf image.now examined }
     ensures { IfOk result (EndsJudged image.now) }
 {
-    let rows = explain_accepted(alloc, &verified)?.text(alloc, source)?;
+    let rows = explain_accepted(alloc, &examined)?.text(alloc, source)?;
     let line = show_accepted(alloc, image.len() / 8)?;
     behind(rows, printed(line))
 }

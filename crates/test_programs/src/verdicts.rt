@@ -2,30 +2,52 @@
 
 use bpf_asm::assemble;
 use bpf_explain::{Explanation, explain_accepted, explain_refused};
+use bpf_insn::Code;
 use bpf_range::Kind;
-use bpf_verify::{Verified, examine, verify};
+use bpf_verify::{Examined, Refused, examine, verify};
 use std::alloc::{AllocError, Global};
 use std::fmt::Write;
 
 // A program that was written on one line.
-fn accepted(alloc: Global, text: &str) -> Result<Result<Verified, String>, AllocError> {
+fn code_of(alloc: Global, text: &str) -> Result<Result<Code, String>, AllocError> {
     let text = if text == "." { "" } else { text };
     let lines = text.replace(alloc, " / ", "\n")?;
-    let code = match assemble(alloc, lines.as_str()) {
-        Ok(code) => code,
-        Err(fault) => return Ok(Err(format!(in alloc; "no program: {fault}")?)),
-    };
-    match verify(alloc, code) {
-        Ok(verified) => Ok(Ok(verified)),
-        Err((fault, _code)) => Ok(Err(format!(in alloc; "{fault}")?)),
+    match assemble(alloc, lines.as_str()) {
+        Ok(code) => Ok(Ok(code)),
+        Err(fault) => Ok(Err(format!(in alloc; "no program: {fault}")?)),
     }
 }
 
-fn show_verdict(alloc: Global, text: &str) -> Result<String, AllocError> {
-    match accepted(alloc, text)? {
-        Ok(_verified) => String::from_str(alloc, "accepted"),
-        Err(fault) => Ok(fault),
+// A program that is accepted, with what is known of it.
+fn accepted(alloc: Global, text: &str) -> Result<Result<Examined, String>, AllocError> {
+    let code = match code_of(alloc, text)? {
+        Ok(code) => code,
+        Err(fault) => return Ok(Err(fault)),
+    };
+    match examine(alloc, code) {
+        Ok(examined) => Ok(Ok(examined)),
+        Err(Refused { fault, .. }) => Ok(Err(format!(in alloc; "{fault}")?)),
     }
+}
+
+// The verdict, which is the same whether what is known is kept or not.
+fn show_verdict(alloc: Global, text: &str) -> Result<String, AllocError> {
+    let code = match code_of(alloc, text)? {
+        Ok(code) => code,
+        Err(fault) => return Ok(fault),
+    };
+    let verdict = match verify(alloc, code) {
+        Ok(_verified) => String::from_str(alloc, "accepted")?,
+        Err((fault, _code)) => format!(in alloc; "{fault}")?,
+    };
+    let examined = match accepted(alloc, text)? {
+        Ok(_examined) => String::from_str(alloc, "accepted")?,
+        Err(fault) => fault,
+    };
+    if verdict.as_str() != examined.as_str() {
+        return format!(in alloc; "{verdict}, but {examined} where all is kept");
+    }
+    Ok(verdict)
 }
 
 // The verdict of a text behind which 0 is answered.
@@ -72,12 +94,14 @@ fn push_kind(out: &mut String, kind: Kind) -> Result<(), AllocError> {
 }
 
 // What is known of the registers at a unit.
-fn push_kinds(out: &mut String, verified: &Verified, at: usize) -> Result<(), AllocError> {
+fn push_kinds(out: &mut String, examined: &Examined, at: usize) -> Result<(), AllocError> {
+    let Some(state) = examined.states().get(at) else {
+        return out.push_str("nothing");
+    };
     for register in 0..11usize {
-        match verified.kind(at, register) {
-            None => return out.push_str("nothing"),
-            Some(Kind::Unset) => {}
-            Some(kind) => {
+        match state.kinds[register] {
+            Kind::Unset => {}
+            kind => {
                 let mark = if out.is_empty() { "" } else { "; " };
                 write!(out, "{mark}r{register} ")?;
                 push_kind(out, kind)?;
@@ -95,9 +119,9 @@ fn show_kinds(alloc: Global, words: &str) -> Result<String, AllocError> {
         return String::from_str(alloc, "a unit that is no number");
     };
     match accepted(alloc, text)? {
-        Ok(verified) => {
+        Ok(examined) => {
             let mut out = String::new(alloc);
-            push_kinds(&mut out, &verified, unit)?;
+            push_kinds(&mut out, &examined, unit)?;
             Ok(out)
         }
         Err(fault) => Ok(fault),
@@ -112,7 +136,7 @@ fn explained(alloc: Global, text: &str) -> Result<Option<(Explanation, String)>,
         return Ok(None);
     };
     let explanation = match examine(alloc, code) {
-        Ok(verified) => explain_accepted(alloc, &verified)?,
+        Ok(examined) => explain_accepted(alloc, &examined)?,
         Err(refused) => explain_refused(alloc, &refused)?,
     };
     Ok(Some((explanation, lines)))

@@ -3,4 +3,4 @@ use Rattle.bpf_verify.proofs.Arms.{unary_passes}
 use Rattle.bpf_verify.proofs.flow.after_unary.Goals as goal
 
 pub returns : goal.returns
-returns c = unary_passes c.args.op c.args.width c.args.dst c.args.state.now c.with.result c.single.result c.in_ok-kind.kind c.with.ensures c.requires.dst c.requires.frame (rw (sym c.kind.ensures) c.in_ok-kind.ensures) c.single.ensures.contains
+returns c = unary_passes c.args.op c.args.width c.args.dst c.args.state.now c.set.new.self c.single.result c.in_ok-kind.kind c.set.ensures c.requires.dst c.requires.frame (rw (sym c.kind.ensures) c.in_ok-kind.ensures) c.single.ensures.contains

@@ -11,5 +11,5 @@ pub returns : goal.returns
 returns c =
     let o : FitsSigned w16 c.args.offset = search rules in
     let reach : Reaching c.args.state.now c.args.base c.args.offset (bytes_of c.args.size) c.in_ok-_region._region = simp to_z-of_z at c.in_ok-_region.ensures in
-    load_passes c.args.size c.args.dst c.args.base c.args.offset c.in_ok-_region._region c.args.state.now c.with.result c.of-loaded.result c.with.ensures c.requires.dst c.requires.frame
+    load_passes c.args.size c.args.dst c.args.base c.args.offset c.in_ok-_region._region c.args.state.now c.set.new.self c.of-loaded.result c.set.ensures c.requires.dst c.requires.frame
     (λ x h. c.of-loaded.ensures.contains x (omega arith) (omega (arith, c.greatest_loaded.ensures))) reach

@@ -2,13 +2,10 @@ use Rattle.std.proofs.Common.{◌∙◌, ap, Some, slice_set}
 use Rattle.std.specs.Option.{option_map}
 use Rattle.std.specs.Box.{box_value}
 use Rattle.std.proofs.lemmas.List.{map-set}
-use Rattle.bpf_verify.specs.States.{States, unboxed}
+use Rattle.bpf_verify.specs.States.{States}
 use Rattle.bpf_verify.proofs.table.States.put.Goals as goal
 
 pub returns : goal.returns
-returns g c = record {
-  ok =
-      map-set (option_map box_value) c.self.inside.boxes.items c.args.at (Some c.in_ok-boxed.boxed)
-      ∙ ap (λ s. slice_set (unboxed c.self.inside.boxes.items) c.args.at (Some s)) c.in_ok-boxed.ensures.ok
-      ∙ ap (λ (xs : States). slice_set xs c.args.at (Some c.args.state)) c.self.view_is;
-}
+returns g c =
+    map-set (option_map box_value) c.self.inside.boxes.items c.args.at (Some c.args.state)
+    ∙ ap (λ (xs : States). slice_set xs c.args.at (Some (box_value c.args.state))) c.self.view_is

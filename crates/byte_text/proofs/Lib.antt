@@ -1,4 +1,5 @@
 pub mod Decimals
+pub mod OneDigit
 pub mod LowBytes
 pub mod Cuts
 pub mod Escaped

@@ -1,5 +1,5 @@
 //! Numbers in decimal, and as little-endian bytes.
-ghost use Rattle.std.specs.Prelude.{◌≡◌, ◌<◌, ◌≤◌, ◌^◌, ◌++◌, ℕ, IfSome, OnOk, Some, decimal, length};
+ghost use Rattle.std.specs.Prelude.{◌≡◌, ◌<◌, ◌≤◌, ◌^◌, ◌∷◌, ◌++◌, [], ℕ, IfSome, OnOk, Some, decimal, length};
 ghost use Rattle.std.specs.Bool.{Decides};
 ghost use Rattle.byte_text.specs.Numbers.{number_of, signed_of, signed_text, low_bytes, number_in};
 
@@ -14,11 +14,29 @@ pub fn read_number(text: &[u8], most: u64) -> Option<u64>
     ensures value { result ≡ number_of most text.now }
     ensures within { IfSome result (λ n. n ≤ most) }
 {
+    if let [digit] = text {
+        return read_digit(*digit, most);
+    }
     let number = parsed(text)?;
     if number > most {
         return None;
     }
     if !is_decimal_of(text, number) {
+        return None;
+    }
+    Some(number)
+}
+
+// The number of at most `most` that one digit is, where it is one.
+fn read_digit(digit: u8, most: u64) -> Option<u64>
+    ensures value { result ≡ number_of most (digit ∷ []) }
+    ensures within { IfSome result (λ n. n ≤ most) }
+{
+    if digit < b'0' || digit > b'9' {
+        return None;
+    }
+    let number = u64::from(digit - b'0');
+    if number > most {
         return None;
     }
     Some(number)

@@ -8,3 +8,5 @@ pub mod SpelledExamples
 pub mod LinesStay
 pub mod DigitLemmas
 pub mod WrittenHex
+pub mod HexWords
+pub mod Directly

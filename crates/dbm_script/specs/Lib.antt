@@ -9,3 +9,4 @@ pub mod Tasks
 pub mod Images
 pub mod Script
 pub mod Digits
+pub mod Direct

@@ -1,6 +1,7 @@
 //! Answers to commands, and their texts.
-ghost use Rattle.std.specs.Prelude.{◌≡◌, ◌++◌, OnOk};
+ghost use Rattle.std.specs.Prelude.{◌≡◌, ◌++◌, OnOk, codes};
 ghost use Rattle.dbm_script.specs.Answers.{reply_text, answer_text};
+ghost use Rattle.dbm_script.specs.Notation.{value_shown};
 
 use crate::notations::{Notation, show_value};
 use itoa::Buffer;
@@ -48,10 +49,7 @@ pub fn show_reply<A: Allocator + Copy>(
     ensures { OnOk result (text.new.items ≡ text.old.items ++ reply_text notation.now reply.now) }
 {
     match reply {
-        Reply::Found(value) => {
-            text.extend_from_slice(b"found ")?;
-            show_value(alloc, notation, value.as_slice(), text)
-        }
+        Reply::Found(value) => show_found(alloc, notation, value.as_slice(), text),
         Reply::Missing => text.extend_from_slice(b"missing"),
         Reply::Stored => text.extend_from_slice(b"stored"),
         Reply::Exists => text.extend_from_slice(b"exists"),
@@ -70,4 +68,20 @@ pub fn show_reply<A: Allocator + Copy>(
             text.extend_from_slice(digits.format(*count).as_bytes())
         }
     }
+}
+
+/// Writes the text of a fetch that found a value.
+///
+/// # Errors
+/// `AllocError` where there is no memory for it. The text is of no use then.
+pub(crate) fn show_found<A: Allocator + Copy>(
+    alloc: A,
+    notation: &Notation<A>,
+    value: &[u8],
+    text: &mut Vec<u8, A>,
+) -> Result<(), AllocError>
+    ensures { OnOk result (text.new.items ≡ text.old.items ++ (codes "found " ++ value_shown notation.now value.now)) }
+{
+    text.extend_from_slice(b"found ")?;
+    show_value(alloc, notation, value, text)
 }

@@ -37,7 +37,7 @@ pub(crate) fn decode<A: Allocator>(alloc: A, text: &[u8]) -> Result<Option<Vec<u
 }
 
 // Whether a text is the hex of as many bytes as there is room for. Then they are written.
-fn decode_into(text: &[u8], out: &mut [u8]) -> bool
+pub(crate) fn decode_into(text: &[u8], out: &mut [u8]) -> bool
     requires { length text.now ≡ 2 * length out.old }
     ensures bytes { result ≡ true → decode_pairs 0 text.now ≡ Ok out.new }
     ensures none { result ≡ false → result_ok (decode_pairs 0 text.now) ≡ None }

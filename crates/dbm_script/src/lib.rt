@@ -4,6 +4,7 @@
 mod answers;
 mod commands;
 mod digits;
+mod direct;
 mod fault;
 mod images;
 mod lines;

@@ -10,6 +10,7 @@ ghost use Rattle.dbm_script.specs.Images.{Verdict};
 ghost use Rattle.dbm_script.specs.Script.{AnswersExceed, IsScriptRun, RunsLines, AnswersCommand, AnswersLine, Adds, stage};
 
 use crate::answers::{Answer, show_answer};
+use crate::direct::answer_directly;
 use crate::fault::{LinesFault, ScriptFault};
 use crate::images::answer_image;
 use crate::lines::{Ask, read_line};
@@ -126,6 +127,9 @@ fn answer_words<A: Allocator + Copy>(
         AnswersLine A notation.now (stage image.old registry.old.programs) (ask_of notation.now (pieces_of 32 line.now)) told added (stage image.new registry.new.programs))) }
     ensures kept { OnOk result ((image.new.kind ≡ image.old.kind) × (image.new.size ≡ image.old.size)) }
 {
+    if answer_directly(alloc, notation, image, registry, line, text)? {
+        return Ok(());
+    }
     match read_line(alloc, notation, line)? {
         None => text.extend_from_slice(b"bad line"),
         Some(ask) => answer_ask(alloc, notation, image, registry, ask, text),

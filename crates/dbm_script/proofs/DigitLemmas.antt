@@ -8,7 +8,7 @@ use Rattle.hex.specs.declared.error.FromHexError.TheVariants.{InvalidHexCharacte
 use Rattle.hex.proofs.Pairs.{prepend, decode_err}
 use Rattle.dbm_script.specs.Digits.{are_values, is_same, value_read}
 
-same_so : (a b : Option ℕ) → is_same a b ≡ true → a ≡ b
+pub same_so : (a b : Option ℕ) → is_same a b ≡ true → a ≡ b
 same_so None None h = refl
 same_so None (Some w) h = absurd (true≢false (sym h))
 same_so (Some v) None h = absurd (true≢false (sym h))
@@ -27,7 +27,7 @@ value_in (v ∷ vs) c (suc i) all within =
 read_small : (v : ℕ) → v ≤ 15 → value_read v ≡ Some v
 read_small v small = grind arith
 
-read_large : (v : ℕ) → 15 < v → value_read v ≡ None
+pub read_large : (v : ℕ) → 15 < v → value_read v ≡ None
 read_large v large = grind arith
 
 -- two digits that read

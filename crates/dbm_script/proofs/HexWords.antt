@@ -29,7 +29,7 @@ pub record IsRead (high low : Option ℕ) (rest : Result (List ℕ) FromHexError
   pub low_is : low ≡ Some l
   pub rest_is : rest ≡ Ok bytes
 
-pair_read : (a b i : ℕ) (high low : Option ℕ) (rest : Result (List ℕ) FromHexError) (out : List ℕ)
+pub pair_read : (a b i : ℕ) (high low : Option ℕ) (rest : Result (List ℕ) FromHexError) (out : List ℕ)
     → ((digit_or_error a i high >>= (λ h. digit_or_error b (i + 1) low >>= (λ l. Ok (h * 16 + l)))) >>= (λ byte. rest >>= (λ bytes. Ok (byte ∷ bytes)))) ≡ Ok out → IsRead high low rest
 pair_read a b i None low rest out e = let f : ⊥ = cc in absurd f
 pair_read a b i (Some h) None rest out e = let f : ⊥ = cc in absurd f

@@ -10,3 +10,5 @@ pub mod DigitLemmas
 pub mod WrittenHex
 pub mod HexWords
 pub mod Directly
+pub mod Vectors
+pub mod HexPairs

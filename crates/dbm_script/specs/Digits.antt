@@ -1,5 +1,5 @@
 -- Digits in hex by a table of bytes.
-use Rattle.std.specs.Prelude.{ℕ, ◌+◌, ◌==◌, ◌&&◌, nat_le, cond, Bool, true, false, List, [], ◌∷◌, Option, Some, None}
+use Rattle.std.specs.Prelude.{ℕ, ◌+◌, ◌*◌, ◌%◌, ◌==◌, ◌&&◌, nat_le, nat_lt, bit_or, cond, Bool, true, false, List, [], ◌∷◌, Option, Some, None}
 use Rattle.hex.specs.Hex.{hex_digit_value}
 
 -- the value for which a byte of the table stands, and none above 15
@@ -16,3 +16,26 @@ is_same (Some v) (Some w) = v == w
 abbrev pub are_values : List ℕ → ℕ → Bool
 are_values [] c = true
 are_values (v ∷ vs) c = is_same (value_read v) (hex_digit_value c) && are_values vs (c + 1)
+
+-- ---- sixteen at once
+
+-- whether a lane passes a test, as vectors tell it
+abbrev pub lane_passes : Bool → Bool
+lane_passes test = nat_le 128 (cond test 255 0)
+
+-- by how much a digit stands behind 0, and a letter behind a, among 256
+abbrev pub behind_zero : ℕ → ℕ
+behind_zero c = (c + 208) % 256
+
+abbrev pub behind_a : ℕ → ℕ
+behind_a c = (bit_or c 32 + 159) % 256
+
+-- the value of a digit, and 255 for what is none
+abbrev pub lane_value : ℕ → ℕ
+lane_value c = cond (lane_passes (nat_lt (behind_zero c) 10)) (behind_zero c) (cond (lane_passes (nat_lt (behind_a c) 6)) ((behind_a c + 10) % 256) 255)
+
+-- the bytes of pairs of digits by their values
+abbrev pub joined : List ℕ → List ℕ
+joined [] = []
+joined (v ∷ []) = []
+joined (high ∷ low ∷ rest) = (high * 16 % 256 + low) % 256 ∷ joined rest

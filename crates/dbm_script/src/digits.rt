@@ -1,11 +1,12 @@
 //! Hex, read and written by tables.
-ghost use Rattle.std.specs.Prelude.{◌≡◌, ◌+◌, ◌*◌, ◌≤◌, ◌++◌, IfOk, OnOk, true, false, Ok, None, length, ℕ, Vec, vec_len, vec_capacity};
+ghost use Rattle.std.specs.Prelude.{◌≡◌, ◌+◌, ◌*◌, ◌≤◌, ◌++◌, IfOk, OnOk, true, false, Ok, None, length, map, ℕ, Vec, vec_len, vec_capacity};
 ghost use Rattle.std.specs.Option.{option_map};
-ghost use Rattle.dbm_script.specs.Digits.{are_values, value_read};
+ghost use Rattle.dbm_script.specs.Digits.{are_values, joined, lane_value, value_read};
 ghost use Rattle.std.specs.Result.{result_ok};
 ghost use Rattle.hex.specs.Hex.{decode_of, decode_pairs, encode_lower, encode_with, hex_digit_value};
 
 use std::alloc::{AllocError, Allocator};
+use std::simd::prelude::*;
 
 // The value of each digit, and more than 15 for what is none.
 const VALUES: [u8; 256] =
@@ -36,8 +37,61 @@ pub(crate) fn decode<A: Allocator>(alloc: A, text: &[u8]) -> Result<Option<Vec<u
     Ok(Some(bytes))
 }
 
-// Whether a text is the hex of as many bytes as there is room for. Then they are written.
+// Whether a text is the hex of as many bytes as there is room for. Then they are written, eight at once as long as there are as many.
 pub(crate) fn decode_into(text: &[u8], out: &mut [u8]) -> bool
+    requires { length text.now ≡ 2 * length out.old }
+    ensures bytes { result ≡ true → decode_pairs 0 text.now ≡ Ok out.new }
+    ensures none { result ≡ false → result_ok (decode_pairs 0 text.now) ≡ None }
+{
+    if out.len() < 8 {
+        return decode_each(text, out);
+    }
+    let (first, others) = text.split_at(16);
+    let (bytes, rest) = out.split_at_mut(8);
+    decode_eight(first, bytes) && decode_into(others, rest)
+}
+
+// The same for eight bytes.
+#[inline(always)]
+fn decode_eight(text: &[u8], out: &mut [u8]) -> bool
+    requires text { length text.now ≡ 16 }
+    requires out { length out.old ≡ 8 }
+    ensures bytes { result ≡ true → decode_pairs 0 text.now ≡ Ok out.new }
+    ensures none { result ≡ false → result_ok (decode_pairs 0 text.now) ≡ None }
+{
+    let digits = values(u8x16::from_slice(text));
+    if digits.simd_gt(u8x16::splat(15)).to_bitmask() != 0 {
+        return false;
+    }
+    pairs(digits).copy_to_slice(out);
+    true
+}
+
+// The values of sixteen digits, and more than 15 for each that is none.
+#[inline(always)]
+fn values(text: u8x16) -> u8x16
+    ensures { result ≡ map lane_value text }
+{
+    let decimal = text - u8x16::splat(48);
+    let letter = (text | u8x16::splat(32)) - u8x16::splat(97);
+    let behind = letter
+        .simd_lt(u8x16::splat(6))
+        .select(letter + u8x16::splat(10), u8x16::splat(255));
+    decimal.simd_lt(u8x16::splat(10)).select(decimal, behind)
+}
+
+// The bytes of sixteen digits.
+#[inline(always)]
+fn pairs(digits: u8x16) -> u8x8
+    ensures { result ≡ joined digits }
+{
+    let high: u8x8 = digits.swizzle([0, 2, 4, 6, 8, 10, 12, 14]);
+    let low: u8x8 = digits.swizzle([1, 3, 5, 7, 9, 11, 13, 15]);
+    high * u8x8::splat(16) + low
+}
+
+// The same byte by byte.
+fn decode_each(text: &[u8], out: &mut [u8]) -> bool
     requires { length text.now ≡ 2 * length out.old }
     ensures bytes { result ≡ true → decode_pairs 0 text.now ≡ Ok out.new }
     ensures none { result ≡ false → result_ok (decode_pairs 0 text.now) ≡ None }

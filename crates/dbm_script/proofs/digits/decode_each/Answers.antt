@@ -1,7 +1,7 @@
 use Rattle.std.proofs.Common.{◌+◌, ◌*◌, ⊎_elim, slice_index, arith}
 use Rattle.dbm_script.proofs.DigitLemmas.{pair_ok, pair_high, pair_low, refused}
 use Rattle.hex.proofs.Pairs.{decode_step, decode_done}
-use Rattle.dbm_script.proofs.digits.decode_into.Goals as goal
+use Rattle.dbm_script.proofs.digits.decode_each.Goals as goal
 
 pub returns-then-high-gt15-clause-none : goal.returns-then-high-gt15-clause-none
 returns-then-high-gt15-clause-none c = λ _.

@@ -10,13 +10,22 @@ use std::alloc::{AllocError, Allocator};
 const SIGN: u64 = 9_223_372_036_854_775_808;
 
 /// The number of at most `most` that a text is, in decimal without leading zeros, where it is one. No memory is taken.
+#[inline(always)]
 pub fn read_number(text: &[u8], most: u64) -> Option<u64>
     ensures value { result ≡ number_of most text.now }
     ensures within { IfSome result (λ n. n ≤ most) }
 {
-    if let [digit] = text {
-        return read_digit(*digit, most);
+    match text {
+        [digit] => read_digit(*digit, most),
+        _ => read_long(text, most),
     }
+}
+
+// The same of a text of any length.
+fn read_long(text: &[u8], most: u64) -> Option<u64>
+    ensures value { result ≡ number_of most text.now }
+    ensures within { IfSome result (λ n. n ≤ most) }
+{
     let number = parsed(text)?;
     if number > most {
         return None;

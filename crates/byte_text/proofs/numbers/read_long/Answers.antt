@@ -1,7 +1,7 @@
 use Rattle.std.proofs.Common.{◌≡◌, ◌≤◌, ◌<◌, ◌∙◌, ◌^◌, Some, None, true, false, sym, arith, rules}
 use Rattle.std.proofs.lemmas.Bool.{false≢true}
 use Rattle.byte_text.proofs.Decimals.{number_is, refuted, unread}
-use Rattle.byte_text.proofs.numbers.read_number.Goals as goal
+use Rattle.byte_text.proofs.numbers.read_long.Goals as goal
 
 pub returns-in_err-number-clause-value : goal.returns-in_err-number-clause-value
 returns-in_err-number-clause-value c =

@@ -1,6 +1,10 @@
 -- A text cut at its first byte of a kind.
-use Rattle.std.proofs.Common.{◌≡◌, ℕ, ◌+◌, ◌-◌, ◌<◌, ◌≤◌, List, [], ◌∷◌, ◌++◌, length, take, drop, get_or, eqb, take-append-drop, true, false, None, refl, sym, ap, ◌∙◌, arith, rules}
-use Rattle.std.proofs.lemmas.Bool.{false_from_ne_true}
+use Rattle.std.proofs.Common.{◌≡◌, ℕ, ◌+◌, ◌-◌, ◌<◌, ◌≤◌, List, [], ◌∷◌, ◌++◌, length, take, drop, get_or, eqb, cond, take-append-drop, Bool, true, false, Some, None, refl, sym, ap, ◌∙◌, arith, rules}
+use Rattle.std.specs.Prelude.{nat_lt, position}
+use Rattle.std.specs.List.{position_or_len}
+use Rattle.std.proofs.lemmas.Bool.{false_from_ne_true, false≢true}
+use Rattle.std.proofs.lemmas.List.Quantifiers.{position-Some}
+use Rattle.std.proofs.lemmas.List.Sums.{fails_before_first}
 use Rattle.std.proofs.lemmas.List.{drop_more, take_all, get_or-take, get_or_default, length-drop}
 use Rattle.std.proofs.lemmas.List.Splits.{slice_split_none, slice_split_at, length-slice_split}
 use Rattle.std.specs.List.{All}
@@ -26,6 +30,21 @@ pieces-first byte text k h none hit =
     ap (pieces_of byte) (sym (take-append-drop k text) ∙ ap (λ xs. take k text ++ xs) (drop_more text k 0 h))
     ∙ slice_split_at (λ b. eqb b byte) (take k text) (get_or text k 0) (drop (k + 1) text) (none_passes byte text k (omega arith) none) hit
     ∙ ap (λ xs. take k text ∷ pieces_of byte xs) (sym (take_all (length text - (k + 1)) (drop (k + 1) text) (let l : length (drop (k + 1) text) ≡ length text - (k + 1) = length-drop (k + 1) text in omega arith)))
+
+-- the same by the first place that passes
+pub pieces_at : (byte : ℕ) (text : List ℕ) (k : ℕ) → position (λ b. eqb b byte) text ≡ Some k → pieces_of byte text ≡ take k text ∷ pieces_of byte (take (length text - (k + 1)) (drop (k + 1) text))
+pieces_at byte text k is =
+    let found = position-Some (λ b. eqb b byte) text k 0 is in
+    pieces-first byte text k found.0 (λ j _ l e. false≢true (sym (found.2 j l) ∙ e)) found.1
+
+far : (first long k : ℕ) (b : Bool) → nat_lt first long ≡ b → cond b (Some first) None ≡ None → k < long → k < first
+far first long k true e is l = let f : ⊥ = cc in absurd f
+far first long k false e is l = grind arith
+
+pub pieces_whole : (byte : ℕ) (text : List ℕ) → position (λ b. eqb b byte) text ≡ None → pieces_of byte text ≡ text ∷ []
+pieces_whole byte text is =
+    slice_split_none (λ b. eqb b byte) text
+    (λ k d l. fails_before_first (λ b. eqb b byte) text k d (far (position_or_len (λ b. eqb b byte) text) (length text) k _ refl is l))
 
 -- seven words and more ask nothing
 pub too_many_words : {A : Type 0} (n : Notation A) (a b c d e f rest : List ℕ) → None ≡ ask_of n (a ∷ b ∷ c ∷ d ∷ e ∷ f ∷ pieces_of 32 rest)

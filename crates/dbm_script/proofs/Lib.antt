@@ -12,3 +12,4 @@ pub mod HexWords
 pub mod Directly
 pub mod Vectors
 pub mod HexPairs
+pub mod OneDigit

@@ -1,5 +1,5 @@
 //! Answers to commands, and their texts.
-ghost use Rattle.std.specs.Prelude.{◌≡◌, ◌++◌, OnOk, codes};
+ghost use Rattle.std.specs.Prelude.{◌≡◌, ◌++◌, OnOk, codes, decimal};
 ghost use Rattle.dbm_script.specs.Answers.{reply_text, answer_text};
 ghost use Rattle.dbm_script.specs.Notation.{value_shown};
 
@@ -57,10 +57,9 @@ pub fn show_reply<A: Allocator + Copy>(
         Reply::Deleted => text.extend_from_slice(b"deleted"),
         Reply::Ran { code, word } => {
             text.extend_from_slice(b"ran ")?;
-            let mut digits = Buffer::new();
-            text.extend_from_slice(digits.format(*code).as_bytes())?;
+            show_number(*code, text)?;
             text.push(b' ')?;
-            text.extend_from_slice(digits.format(*word).as_bytes())
+            show_number(*word, text)
         }
         Reply::Count(count) => {
             text.extend_from_slice(b"count ")?;
@@ -84,4 +83,15 @@ pub(crate) fn show_found<A: Allocator + Copy>(
 {
     text.extend_from_slice(b"found ")?;
     show_value(alloc, notation, value, text)
+}
+
+// Writes a number in decimal after a text.
+fn show_number<A: Allocator>(number: u64, text: &mut Vec<u8, A>) -> Result<(), AllocError>
+    ensures { OnOk result (text.new.items ≡ text.old.items ++ decimal number) }
+{
+    if number < 10 {
+        return Ok(text.push(b'0' + number as u8)?);
+    }
+    let mut digits = Buffer::new();
+    text.extend_from_slice(digits.format(number).as_bytes())
 }

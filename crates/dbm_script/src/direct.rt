@@ -13,7 +13,7 @@ use crate::answers::{show_found, show_reply};
 use crate::digits::decode_into;
 use crate::notations::Notation;
 use crate::numbers::read_blank;
-use crate::pieces::first_piece;
+use crate::pieces::{first_piece, first_short_piece};
 use byte_text::read_number;
 use prog_registry::{ProgId, Registry};
 use sdbm_addr::Mode;
@@ -44,7 +44,7 @@ pub(crate) fn answer_directly<A: Allocator + Copy>(
     if !notation.is_hex() {
         return Ok(false);
     }
-    let (name, rest) = first_piece(b' ', line);
+    let (name, rest) = first_short_piece(b' ', line);
     let Some(words) = rest else {
         return Ok(false);
     };
@@ -192,19 +192,19 @@ fn run_directly<A: Allocator + Copy>(
     let Some(rest) = rest else {
         return Ok(false);
     };
-    let (prog, rest) = first_piece(b' ', rest);
+    let (prog, rest) = first_short_piece(b' ', rest);
     let Some(rest) = rest else {
         return Ok(false);
     };
-    let (arg, rest) = first_piece(b' ', rest);
+    let (arg, rest) = first_short_piece(b' ', rest);
     let Some(rest) = rest else {
         return Ok(false);
     };
-    let (blank, rest) = first_piece(b' ', rest);
+    let (blank, rest) = first_short_piece(b' ', rest);
     let Some(rest) = rest else {
         return Ok(false);
     };
-    let (now, rest) = first_piece(b' ', rest);
+    let (now, rest) = first_short_piece(b' ', rest);
     match rest {
         None => run_words(
             alloc, notation, image, registry, key, prog, arg, blank, now, text,

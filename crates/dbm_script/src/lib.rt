@@ -29,7 +29,7 @@ pub use numbers::read_blank;
 pub use pieces::first_piece;
 pub use run_words::{RunWords, WordFault, read_run_words};
 pub use running::{RunAsk, answer_run, command_of_run};
-pub use script::{answer_command, answer_line, run_lines, run_script};
+pub use script::{answer_command, answer_line, run_lines, run_script, run_spelled};
 pub use shorthand::{Lines, TimeOfDay, spell_line, spell_out};
 pub use streams::{SCRIPT_LIMIT, read_all};
 pub use tasks::{TasksFault, read_tasks};

@@ -6,6 +6,7 @@ ghost use Rattle.sdbm_addr.specs.Database.{Database};
 ghost use Rattle.dbm_script.specs.Pieces.{pieces_of};
 ghost use Rattle.dbm_script.specs.Lines.{ask_of};
 ghost use Rattle.dbm_script.specs.Answers.{IsAnswerTo};
+ghost use Rattle.dbm_script.specs.Shorthand.{spelled};
 ghost use Rattle.dbm_script.specs.Images.{Verdict};
 ghost use Rattle.dbm_script.specs.Script.{AnswersExceed, IsScriptRun, RunsLines, AnswersCommand, AnswersLine, Adds, stage};
 
@@ -17,6 +18,7 @@ use crate::lines::{Ask, read_line};
 use crate::notations::Notation;
 use crate::pieces::first_piece;
 use crate::running::answer_run;
+use crate::shorthand::{Lines, TimeOfDay, spell_line};
 use crate::streams::read_all;
 use byte_text::write_all;
 use prog_registry::Registry;
@@ -82,6 +84,49 @@ pub fn run_lines<A: Allocator + Copy>(
     while let Some(left) = rest {
         let (line, after) = first_piece(b'\n', left);
         answer_line(alloc, notation, &mut image, &mut registry, line, &mut text)?;
+        if text.len() as u64 > most {
+            return Err(LinesFault::OutputTooLong);
+        }
+        rest = after;
+    }
+    Ok((image, text))
+}
+
+/// The same for a script whose shorthand is spelled out line by line, as `spell_out` does it at once. No more of what it makes of them
+/// is kept than a line.
+///
+/// # Errors
+/// `OutputTooLong` at the first line with whose answer there are more bytes, and `NoMemory`. The image is gone then.
+pub fn run_spelled<A: Allocator + Copy>(
+    alloc: A,
+    notation: &Notation<A>,
+    image: Image<A>,
+    time: Option<TimeOfDay>,
+    input: &[u8],
+    most: u64,
+) -> Result<(Image<A>, Vec<u8, A>), LinesFault>
+    ensures runs { IfOk result (λ r. IsScriptRun A notation.now image (spelled Lines.OfScript time input.now) r.1.items r.0) }
+    ensures short { IfOk result (λ r. length r.1.items ≤ most) }
+    ensures long { IsErrOf result LinesFault.OutputTooLong → AnswersExceed A notation.now image (spelled Lines.OfScript time input.now) most }
+    ensures kept { IfOk result (λ r. (r.0.kind ≡ image.kind) × (r.0.size ≡ image.size)) }
+{
+    let mut image = image;
+    let mut registry = Registry::new(alloc)?;
+    let mut text = Vec::new(alloc);
+    let mut line = Vec::new(alloc);
+    let mut rest = Some(input);
+    while let Some(left) = rest {
+        let (short, after) = first_piece(b'\n', left);
+        line.clear();
+        spell_line(Lines::OfScript, time, short, &mut line)?;
+        answer_line(
+            alloc,
+            notation,
+            &mut image,
+            &mut registry,
+            line.as_slice(),
+            &mut text,
+        )?;
         if text.len() as u64 > most {
             return Err(LinesFault::OutputTooLong);
         }

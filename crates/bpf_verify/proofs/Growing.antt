@@ -13,7 +13,7 @@ use Rattle.bpf_verify.specs.States.{States, state_at, Fits, IsConfig}
 use Rattle.bpf_verify.specs.Steps.{Edges, Sound, Flows, FitsSome, distance_of}
 use Rattle.bpf_verify.specs.Structure.{IsBuilt}
 use Rattle.bpf_verify.specs.Verified.{FitsAt, GoesOn, Consistent}
-use Rattle.bpf_verify.specs.Visits.{AreStates, Joins, Follows, Grows, Adds, Arrived, ConsistentAt, TakenAt}
+use Rattle.bpf_verify.specs.Visits.{AreStates, Joins, Follows, Grows, Adds, Arrived, ConsistentAt, VisitedAt}
 use Rattle.bpf_verify.proofs.Built.{can_flow, next_begins, jump_begins, distance_forward}
 use Rattle.bpf_verify.proofs.Configs.{keeps_config}
 use Rattle.bpf_verify.proofs.Jumping.{natural}
@@ -158,7 +158,7 @@ visited code old mid new at n to i s e built here known are flows units far firs
           (λ d j config leads p f. lands_edge code mid new at to e.jump d further target g.are second config (p ∙ sym (far j leads)) f),
     )
 
-pub taken_adds : (code : List Insn) (old new : States) (at : ℕ) (i : Insn) (s : State) → IsBuilt code → fetch code at ≡ Some i → state_at old at ≡ Some s → AreStates code old → TakenAt i s old new at → Adds code old new at × ConsistentAt code new at
+pub taken_adds : (code : List Insn) (old new : States) (at : ℕ) (i : Insn) (s : State) → IsBuilt code → fetch code at ≡ Some i → state_at old at ≡ Some s → AreStates code old → VisitedAt i s old new at → Adds code old new at × ConsistentAt code new at
 taken_adds code old new at i s built here known are t = visited code old t.taken.settles.between new at (units_of i) t.to i s t.taken.edges built here known are t.taken.flows refl t.far t.taken.settles.first t.taken.settles.second
 
 state_within : (states : States) (u : ℕ) (s : State) → state_at states u ≡ Some s → u < length states

@@ -32,16 +32,16 @@ pub record Settles (old new : States) (next to : ℕ) (edges : Edges) : Type 0 w
   pub second : Follows between new to edges.jump
 
 -- The instruction with what is known before it is taken: what is known behind it is added where it goes on.
-pub record Taken (i : Insn) (s : State) (old new : States) (next to : ℕ) : Type 0 where
+pub record Visited (i : Insn) (s : State) (old new : States) (next to : ℕ) : Type 0 where
   pub edges : Edges
   pub flows : Flows i s edges
   pub settles : Settles old new next to edges
 
 -- the same at a unit
-pub record TakenAt (i : Insn) (s : State) (old new : States) (at : ℕ) : Type 0 where
+pub record VisitedAt (i : Insn) (s : State) (old new : States) (at : ℕ) : Type 0 where
   pub to : ℕ
   pub far : (k : ℕ) → distance_of i ≡ pos k → to ≡ at + 1 + k
-  pub taken : Taken i s old new (at + units_of i) to
+  pub taken : Visited i s old new (at + units_of i) to
 
 -- a unit whose state is kept as it is known
 pub record Ready (known kept : States) (u : ℕ) : Type 0 where

@@ -10,7 +10,7 @@ ghost use Rattle.bpf_verify.specs.Steps.{distance_of, edges_of, GoesNext, GoesJu
 ghost use Rattle.bpf_verify.specs.Structure.{CanFlow, IsBuilt, IsMet};
 ghost use Rattle.bpf_verify.specs.Stopped.{Halts, Stays, IsStopped};
 ghost use Rattle.bpf_verify.specs.Verified.{IsVerified, Starts};
-ghost use Rattle.bpf_verify.specs.Visits.{AreStates, Adds, ConsistentAt, Keeps, Ready, Settles, Taken, TakenAt};
+ghost use Rattle.bpf_verify.specs.Visits.{AreStates, Adds, ConsistentAt, Keeps, Ready, Settles, Visited, VisitedAt};
 
 use crate::branches::flow_branch;
 use crate::fault::{FlowFault, VerifyFault};
@@ -71,7 +71,7 @@ fn visit_plain<A: Allocator + Copy>(
     requires plain { IsPlain insn }
     requires next { HasNext insn → Ready pass.old.noted.states pass.old.kept next }
     requires jump { HasJump insn → Ready pass.old.noted.states pass.old.kept to }
-    ensures taken { OnOk result (Taken insn (box_value state) pass.old.noted.states pass.new.noted.states next to) }
+    ensures taken { OnOk result (Visited insn (box_value state) pass.old.noted.states pass.new.noted.states next to) }
     ensures same { OnErr result (pass.new ≡ pass.old) }
     ensures keeps { (all : Bool) (from : ℕ) → Keeps all from pass.old.noted.states pass.old.kept → Keeps all from pass.new.noted.states pass.new.kept }
 {
@@ -98,7 +98,7 @@ fn visit_branch<A: Allocator + Copy>(
     requires same { box_value target ≡ box_value state }
     requires next { Ready pass.old.noted.states pass.old.kept next }
     requires jump { Ready pass.old.noted.states pass.old.kept to }
-    ensures taken { OnOk result ((offset : _) → pos 0 ≤ℤ offset → Taken (Insn.Branch test width dst src offset) (box_value state) pass.old.noted.states pass.new.noted.states next to) }
+    ensures taken { OnOk result ((offset : _) → pos 0 ≤ℤ offset → Visited (Insn.Branch test width dst src offset) (box_value state) pass.old.noted.states pass.new.noted.states next to) }
     ensures same { OnErr result (pass.new ≡ pass.old) }
     ensures keeps { (all : Bool) (from : ℕ) → Keeps all from pass.old.noted.states pass.old.kept → Keeps all from pass.new.noted.states pass.new.kept }
 {
@@ -126,7 +126,7 @@ fn visit_insn<A: Allocator + Copy>(
     requires built { CanFlow insn }
     requires next { HasNext insn → Ready pass.old.noted.states pass.old.kept (at + units_of insn) }
     requires jump { (k : ℕ) → HasJump insn → distance_of insn ≡ pos k → Ready pass.old.noted.states pass.old.kept (at + 1 + k) }
-    ensures taken { OnOk result (TakenAt insn (box_value state) pass.old.noted.states pass.new.noted.states at) }
+    ensures taken { OnOk result (VisitedAt insn (box_value state) pass.old.noted.states pass.new.noted.states at) }
     ensures halts { IfErr result (λ fault. Halts fault at pass.old.noted.states pass.new.noted.states) }
     ensures keeps { (all : Bool) (from : ℕ) → Keeps all from pass.old.noted.states pass.old.kept → Keeps all from pass.new.noted.states pass.new.kept }
 {

@@ -110,10 +110,6 @@ step_is code i c d f e a =
 ended_is : (code : List Insn) (i : Insn) (c : Config) → fetch code c.place ≡ Some i → IsSome (exit_code i c) → IsSome (ended code c)
 ended_is code i c f h = let e : ended code c ≡ exit_code i c = ap (λ o. option_and_then (λ j. exit_code j c) o) f in ap is_some e ∙ h
 
--- nothing fits where no state stands
-pub unreached : (code : List Insn) (states : States) (at : ℕ) → state_at states at ≡ None → ConsistentAt code states at
-unreached code states at e = λ c p f. let n : None ≡ Some f.state = sym e ∙ ap (state_at states) (sym p) ∙ f.stands in let h : ⊥ = cc in absurd h
-
 visits : (code : List Insn) (old mid new : States) (at : ℕ) (i : Insn) (s : State) (e : Edges)
     → state_at old at ≡ Some s → fetch code at ≡ Some i → Sound i s e
     → Grows old mid at → Grows mid new at

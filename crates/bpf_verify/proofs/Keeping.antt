@@ -1,5 +1,5 @@
 -- What a pass keeps of what it knows.
-use Rattle.std.proofs.Common.{◌≡◌, ℤ, ℕ, zero, suc, ◌+◌, ◌<◌, ◌≤◌, length, refl, sym, ap, ◌∙◌, arith, [], ◌∷◌, Option, None, Bool, ⊎_elim}
+use Rattle.std.proofs.Common.{◌≡◌, ℤ, ℕ, zero, suc, ◌<◌, length, refl, sym, ap, ◌∙◌, arith, [], ◌∷◌, Option, None, Bool, ⊎_elim}
 use Rattle.std.specs.Prelude.{slice_set}
 use Rattle.std.proofs.Math.ListN.{length-set}
 use Rattle.std.proofs.lemmas.Bool.{cases_eq}
@@ -50,12 +50,6 @@ keeps_put all at known kept to o r k = rw (set_again kept to None o) (record {
 
 pub keeps_none : (all : Bool) (at : ℕ) (states : States) → Keeps all at states states
 keeps_none all at states = record { long = refl; whole = λ e. refl; rest = λ u h. refl }
-
-pub keeps_on : (all : Bool) (at : ℕ) (known kept : States) → Keeps all at known kept → Keeps all (at + 1) known kept
-keeps_on all at known kept k = record { long = k.long; whole = k.whole; rest = λ u h. k.rest u (omega arith) }
-
-pub ready_at : (all : Bool) (at : ℕ) (known kept : States) → Keeps all at known kept → (u : ℕ) → at ≤ u → u < length known → Ready known kept u
-ready_at all at known kept k u h l = let n : length kept ≡ length known = k.long in record { within = omega arith; noted = l; same = k.rest u h }
 
 -- ---- ways
 

@@ -1,6 +1,6 @@
 //! What conditional jumps make of what is known.
 
-ghost use Rattle.std.specs.Prelude.{◌≡◌, ◌≤◌, ◌≤ℤ◌, pos, ℕ, IfOk, IsTrue, Some, true, false, length};
+ghost use Rattle.std.specs.Prelude.{◌≡◌, ◌≤◌, ◌≤ℤ◌, pos, ℕ, IfOk, IsTrue, Some, length};
 ghost use Rattle.bpf_insn.specs.Spelling.{IsOperand};
 ghost use Rattle.bpf_helpers.specs.Machine.{register as register_of, comparison_of};
 ghost use Rattle.bpf_range.specs.Sets.{In, Contains};
@@ -84,8 +84,8 @@ fn tested_operand(state: &State, width: Width, operand: Operand) -> Kind
     }
 }
 
-/// What is known behind a conditional jump, by any distance that is not backward: where both ways can be taken, of the jump's in the
-/// second state, and else all in the first.
+/// What is known behind a conditional jump, by any distance that is not backward. Where both ways can be taken, the second state has what
+/// is known after the jump; else the first has all.
 pub fn flow_branch(
     test: Test,
     width: Width,

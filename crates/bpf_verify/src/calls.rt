@@ -1,6 +1,6 @@
 //! What calls of helpers make of what is known.
 
-ghost use Rattle.std.specs.Prelude.{◌≡◌, ◌≤◌, ℕ, OnOk, IsSome, Some};
+ghost use Rattle.std.specs.Prelude.{OnOk, IsSome};
 ghost use Rattle.bpf_helpers.specs.declared.helpers.Helper.TheVariants.{Reply, Copy};
 ghost use Rattle.bpf_helpers.specs.Helpers.{Answer, numbered};
 ghost use Rattle.bpf_helpers.specs.Machine.{after_answer};

@@ -1,6 +1,6 @@
 //! What an instruction makes of what is known before it.
 
-ghost use Rattle.std.specs.Prelude.{◌≡◌, ◌≢◌, ◌≤◌, IfOk, OnOk, Some, None};
+ghost use Rattle.std.specs.Prelude.{◌≢◌, ◌≤◌, IfOk, OnOk};
 ghost use Rattle.bpf_insn.specs.Spelling.{HasSpelling, IsOperand};
 ghost use Rattle.bpf_verify.specs.Steps.{IsAccess, IsPlain, Passes, Flows, edges_of};
 ghost use Rattle.bpf_verify.specs.Structure.{CanFlow};

@@ -1,6 +1,6 @@
 //! Joins of states.
 
-ghost use Rattle.std.specs.Prelude.{◌≡◌, ◌<◌, ◌≤◌, ℕ, length, slice_set};
+ghost use Rattle.std.specs.Prelude.{ℕ};
 ghost use Rattle.bpf_range.specs.Sets.{In};
 ghost use Rattle.bpf_verify.specs.Kinds.{Between, HoldsKind};
 ghost use Rattle.bpf_verify.specs.States.{Fits};

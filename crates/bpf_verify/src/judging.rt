@@ -16,8 +16,8 @@ use crate::visits::pass_over;
 use bpf_insn::{Code, encode};
 use std::alloc::{AllocError, Allocator};
 
-/// Accepts a program where `verify` does, with what is known before each of its instructions, or says why not, and also what was known
-/// when the fault was met. Where the fault is one of the structure, nothing was known.
+/// Accepts a program, as `verify` does where there is memory for what is known before each of its instructions, which comes with it; or
+/// says why not, and also what was known when the fault was met. Where the fault is one of the structure, nothing was known.
 pub fn examine<A: Allocator + Copy>(alloc: A, code: Code<A>) -> Result<Examined<A>, Refused<A>>
     ensures value { IfOk result (λ v. v.code ≡ code) }
     ensures safe { IfOk result (λ v. Safe v.code) }

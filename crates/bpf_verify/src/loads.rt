@@ -1,8 +1,7 @@
 //! What loads and stores make of what is known.
 
-ghost use Rattle.std.specs.Prelude.{◌≡◌, ◌≢◌, ◌≤◌, IfOk, OnOk, length, Some, None};
+ghost use Rattle.std.specs.Prelude.{◌≢◌, ◌≤◌, IfOk, OnOk};
 ghost use Rattle.bpf_insn.specs.Arithmetic.{bytes_of};
-ghost use Rattle.bpf_verify.specs.States.{Fits};
 ghost use Rattle.bpf_verify.specs.Steps.{Passes, Reaching};
 
 use crate::fault::FlowFault;

@@ -1,5 +1,5 @@
 // States that only clauses read, so that what is proved of a program can speak of all that the pass knew of it, and none of it is kept.
-ghost use Rattle.std.specs.Prelude.{◌≡◌, ◌<◌, length, slice_set, replicate, Some, None};
+ghost use Rattle.std.specs.Prelude.{◌≡◌, slice_set, replicate, Some, None};
 ghost use base.Fml.{ftrue};
 ghost use Rattle.bpf_verify.specs.States.{States as StateList};
 
@@ -34,6 +34,11 @@ impl Noted {
         Noted {}
     }
 }
+
+// It owns nothing, so it may go to any thread, and any thread may share it.
+unsafe impl Send for Noted {}
+
+unsafe impl Sync for Noted {}
 
 impl Drop for Noted {
     fn drop(self) {

@@ -56,7 +56,7 @@ fn titled_command<'a>(alloc: Global) -> Command<'a>
     ensures { IsSubcommand spec.titled result }
 {
     Command::new(alloc, "dbm")
-        .version("0.1.0")
+        .version("2.0.0")
         .about("A key-value store in the files of an sdbm database")
         .after_help(
             "Bytes are written in hex, two digits a byte, or as . for none; with --text as text.\n\

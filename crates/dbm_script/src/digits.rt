@@ -1,4 +1,4 @@
-//! Hex, read and written by tables.
+//! Hex, read sixteen digits at once and by a table, and written by tables.
 ghost use Rattle.std.specs.Prelude.{◌≡◌, ◌+◌, ◌*◌, ◌≤◌, ◌++◌, IfOk, OnOk, true, false, Ok, None, length, map, ℕ, Vec, vec_len, vec_capacity};
 ghost use Rattle.std.specs.Option.{option_map};
 ghost use Rattle.dbm_script.specs.Digits.{are_values, joined, lane_value, value_read};
@@ -90,7 +90,7 @@ fn pairs(digits: u8x16) -> u8x8
     high * u8x8::splat(16) + low
 }
 
-// The same byte by byte.
+// `decode_into`, byte by byte.
 fn decode_each(text: &[u8], out: &mut [u8]) -> bool
     requires { length text.now ≡ 2 * length out.old }
     ensures bytes { result ≡ true → decode_pairs 0 text.now ≡ Ok out.new }

@@ -29,7 +29,7 @@ const SHORT: usize = 64;
 /// it did: a fetch, a store on a page that has room, and a run on a record that is there, each with short words. Else nothing has changed.
 ///
 /// # Errors
-/// `AllocError` where there is no memory for the text.
+/// `AllocError` where there is no memory for the text. It is of no use then, and a store or a run may have been done.
 pub(crate) fn answer_directly<A: Allocator + Copy>(
     alloc: A,
     notation: &Notation<A>,

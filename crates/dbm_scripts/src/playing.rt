@@ -1,13 +1,14 @@
 //! A script on a database.
-ghost use Rattle.std.specs.Prelude.{◌≡◌, Some, IfOk, IfErr, IfSome, true};
+ghost use Rattle.std.specs.Prelude.{◌≡◌, Some, IfOk, IfErr, true};
 ghost use Rattle.sdbm_addr.specs.Database.{Database};
-ghost use Rattle.dbm_reports.specs.Causes.{IsCaused, input_causes};
+ghost use Rattle.dbm_script.specs.Shorthand.{spelled};
+ghost use Rattle.dbm_reports.specs.Causes.{IsCaused};
 ghost use Rattle.dbm_reports.specs.Reports.{OnDatabase};
 ghost use Rattle.dbm_scripts.specs.Playing.{Plays, PlaysAs, PlaysAlone, PlaysOn, alone_causes, output_limit, play_causes, script_causes, spelled_input};
 
 use crate::strict::has_bad_line;
 use dbm_reports::{Given, Report, ReportFault, key_bytes_of, open, page_size_of, read_input};
-use dbm_script::{Lines, Notation, TimeOfDay, read_number, run_lines, spell_out};
+use dbm_script::{Lines, Notation, TimeOfDay, read_number, run_spelled, spell_out};
 use dbm_words::Form;
 use sdbm_files::Image;
 use std::alloc::Global;
@@ -44,11 +45,12 @@ pub fn report_alone<R: Read>(
     ensures fault { IfErr result (IsCaused (alone_causes notation.now form time (R.remaining reader.old) most)) }
 {
     let image = Image::empty(alloc, key_bytes_of(form), page_size_of(form));
-    let script = read_script(alloc, time, reader)?;
+    let script = read_input(alloc, reader)?;
     let Report { text, status, .. } = play_as(
         alloc,
         notation,
         image,
+        time,
         script.as_slice(),
         most,
         strict,
@@ -78,21 +80,16 @@ pub fn report_played<R: Read>(
     ensures fault { IfErr result (IsCaused (script_causes notation.now form given.now time (R.remaining reader.old) most)) }
 {
     let image = open(alloc, given, form)?;
-    let script = read_script(alloc, time, reader)?;
-    play_as(alloc, notation, image, script.as_slice(), most, strict)
-}
-
-// The script on standard input, with its shorthand spelled out.
-fn read_script<R: Read>(
-    alloc: Global,
-    time: Option<TimeOfDay>,
-    reader: &mut R,
-) -> Result<Vec<u8>, ReportFault>
-    ensures ok { IfOk result (λ script. IfSome (spelled_input time (R.remaining reader.old)) (λ input. script.items ≡ input)) }
-    ensures fault { IfErr result (IsCaused (input_causes (R.remaining reader.old))) }
-{
-    let input = read_input(alloc, reader)?;
-    Ok(spell_out(alloc, Lines::OfScript, time, input.as_slice())?)
+    let script = read_input(alloc, reader)?;
+    play_as(
+        alloc,
+        notation,
+        image,
+        time,
+        script.as_slice(),
+        most,
+        strict,
+    )
 }
 
 // What comes of a script: a strict one is not run where a line of it asks nothing.
@@ -100,17 +97,18 @@ fn play_as(
     alloc: Global,
     notation: &Notation<Global>,
     image: Image<Global>,
+    time: Option<TimeOfDay>,
     script: &[u8],
     most: u64,
     strict: bool,
 ) -> Result<Report, ReportFault>
-    ensures ok { IfOk result (λ report. (after : Database) × (PlaysAs strict notation.now image (Some script.now) most after report × (report.database ≡ Some after))) }
-    ensures fault { IfErr result (IsCaused (play_causes notation.now image (Some script.now) most)) }
+    ensures ok { IfOk result (λ report. (after : Database) × (PlaysAs strict notation.now image (Some (spelled Lines.OfScript time script.now)) most after report × (report.database ≡ Some after))) }
+    ensures fault { IfErr result (IsCaused (play_causes notation.now image (Some (spelled Lines.OfScript time script.now)) most)) }
 {
     if strict {
-        return play_strictly(alloc, notation, image, script, most);
+        return play_strictly(alloc, notation, image, time, script, most);
     }
-    play(alloc, notation, image, script, most)
+    play(alloc, notation, image, time, script, most)
 }
 
 // What comes of a strict script.
@@ -118,13 +116,15 @@ fn play_strictly(
     alloc: Global,
     notation: &Notation<Global>,
     image: Image<Global>,
+    time: Option<TimeOfDay>,
     script: &[u8],
     most: u64,
 ) -> Result<Report, ReportFault>
-    ensures ok { IfOk result (λ report. (after : Database) × (PlaysAs true notation.now image (Some script.now) most after report × (report.database ≡ Some after))) }
-    ensures fault { IfErr result (IsCaused (play_causes notation.now image (Some script.now) most)) }
+    ensures ok { IfOk result (λ report. (after : Database) × (PlaysAs true notation.now image (Some (spelled Lines.OfScript time script.now)) most after report × (report.database ≡ Some after))) }
+    ensures fault { IfErr result (IsCaused (play_causes notation.now image (Some (spelled Lines.OfScript time script.now)) most)) }
 {
-    let bad = has_bad_line(alloc, notation, script)?;
+    let lines = spell_out(alloc, Lines::OfScript, time, script)?;
+    let bad = has_bad_line(alloc, notation, lines.as_slice())?;
     if bad {
         return Ok(Report {
             text: Vec::new(alloc),
@@ -132,7 +132,7 @@ fn play_strictly(
             database: Some(image),
         });
     }
-    play(alloc, notation, image, script, most)
+    play(alloc, notation, image, time, script, most)
 }
 
 // The answers to a script, which are to have at most so many bytes, and the database after it, which is to be written.
@@ -140,13 +140,14 @@ fn play(
     alloc: Global,
     notation: &Notation<Global>,
     image: Image<Global>,
+    time: Option<TimeOfDay>,
     script: &[u8],
     most: u64,
 ) -> Result<Report, ReportFault>
-    ensures ok { IfOk result (λ report. (after : Database) × (Plays notation.now image (Some script.now) most after report × (report.database ≡ Some after))) }
-    ensures fault { IfErr result (IsCaused (play_causes notation.now image (Some script.now) most)) }
+    ensures ok { IfOk result (λ report. (after : Database) × (Plays notation.now image (Some (spelled Lines.OfScript time script.now)) most after report × (report.database ≡ Some after))) }
+    ensures fault { IfErr result (IsCaused (play_causes notation.now image (Some (spelled Lines.OfScript time script.now)) most)) }
 {
-    let (image, text) = run_lines(alloc, notation, image, script, most)?;
+    let (image, text) = run_spelled(alloc, notation, image, time, script, most)?;
     Ok(Report {
         text,
         status: 0,

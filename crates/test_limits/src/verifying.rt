@@ -2,7 +2,7 @@
 
 use bpf_asm::assemble;
 use bpf_insn::Code;
-use bpf_verify::{VerifyFault, verify};
+use bpf_verify::{Refused, VerifyFault, examine, verify};
 use linked_list_allocator::LocalHeap;
 use std::alloc::{AllocError, Global};
 use std::process::Abort;
@@ -51,19 +51,64 @@ fn each_growth_refused(rt: HostRuntime) -> Result<(), Fail> {
     Err(Fail::from("no heap is large enough"))
 }
 
-// What nothing reaches has no state. All of them would take 2 MB. Each unit takes 8 bytes for its own, 8
-// for its ready form and 24 for where its state would be: an `Option`'s tag, a box, and the allocator in the box.
+// The same where what is known is kept: a copy of a state may be refused too.
 #[test]
-fn unreached_units_take_little(rt: HostRuntime) -> Result<(), Fail> {
-    let text = jump_over(rt.alloc(), 4093)?;
-    let heap = LocalHeap::new(rt.alloc(), 1 << 20)?;
-    let code = assemble(&heap, text.as_str())?;
+fn each_growth_refused_to_examine(rt: HostRuntime) -> Result<(), Fail> {
+    let want = assemble(rt.alloc(), COUNTER)?;
+    let mut was_refused = false;
+    for blocks in 8..1200usize {
+        let heap = LocalHeap::new(rt.alloc(), 16 * blocks)?;
+        let Ok(code) = assemble(&heap, COUNTER) else {
+            continue;
+        };
+        let taken = heap.used();
+        match examine(&heap, code) {
+            Ok(examined) => {
+                assert_eq!(rt; examined.code().len(), want.len());
+                assert!(rt; was_refused);
+                return Ok(());
+            }
+            Err(Refused { fault, code, states }) => {
+                assert_eq!(rt; fault, VerifyFault::NoMemory);
+                assert_eq!(rt; code.len(), want.len());
+                drop(states);
+                assert_eq!(rt; heap.used(), taken);
+                was_refused = true;
+            }
+        }
+    }
+    Err(Fail::from("no heap is large enough"))
+}
+
+// A text of 4,096 units, each of which is reached.
+fn straight_line(alloc: Global) -> Result<String, AllocError> {
+    let mut text = String::from_str(alloc, "mov r0, 0\n")?;
+    for _ in 0..4094 {
+        text.push_str("add r0, 1\n")?;
+    }
+    text.push_str("exit")?;
+    Ok(text)
+}
+
+// How many bytes an accepted program keeps beside its code. All its states would take 2 MB: the heap has half of that.
+fn kept(rt: &impl Abort, alloc: Global, text: &str) -> Result<usize, Fail> {
+    let heap = LocalHeap::new(alloc, 1 << 20)?;
+    let code = assemble(&heap, text)?;
     let before = heap.used();
     let Ok(verified) = verify(&heap, code) else {
         return Err(Fail::from("it is refused"));
     };
     assert_eq!(rt; verified.code().len(), 4096usize);
-    assert!(rt; heap.used().saturating_sub(before) < 166_000);
+    Ok(heap.used().saturating_sub(before))
+}
+
+// A unit takes 8 bytes for its own and 8 for its ready form, whether it is reached or not.
+#[test]
+fn units_take_little(rt: HostRuntime) -> Result<(), Fail> {
+    let line = straight_line(rt.alloc())?;
+    assert!(rt; kept(&rt, rt.alloc(), line.as_str())? < 70_000);
+    let jump = jump_over(rt.alloc(), 4093)?;
+    assert!(rt; kept(&rt, rt.alloc(), jump.as_str())? < 70_000);
     Ok(())
 }
 

@@ -15,9 +15,9 @@
  * boddurci_take waits for its mutex, boddurci_give lets it go, and boddurci_save takes it by itself.
  *
  * The lock is that of the program dbm: an exclusive flock on BASE.lock, from boddurci_open_files to boddurci_close_files. So dbm and
- * other services wait meanwhile; whoever knows nothing of the lock, as Perl, does not. To read only, open with BODDURCI_READ_ONLY: the
- * lock is then shared, and let go as soon as the files are read. Where both files are symbolic links to those of another base, that one's
- * lock is taken.
+ * other services wait meanwhile; a program that knows nothing of the lock, as Perl, does not. To read only, open with
+ * BODDURCI_READ_ONLY: the lock is then shared, and let go as soon as the files are read. Where both files are symbolic links to those of
+ * another base, that one's lock is taken.
  *
  * Names are resolved once, by boddurci_open_files, which keeps the folder open. So neither a chdir nor a link in the path that is changed
  * leads a save into other files; and where BASE.lock, .pag or .dir is another file than was opened, a save is BODDURCI_MOVED.
@@ -84,7 +84,7 @@ typedef struct boddurci_fault {
 const char *boddurci_files_text(uint32_t status);
 
 /* Opens the database in BASE.dir and BASE.pag, each of which may be missing, or returns NULL and says why. A save that was cut off is ended
- * first, whoever made it; a base that is read only writes nothing, and reads what the save would have left, once that is kept on the disk.
+ * first, no matter who made it; a base that is read only writes nothing, and reads what the save would have left, once that is kept on the disk.
  * It waits for the lock without an end, also behind a signal. Where it returns NULL nothing was changed but that such a save was ended, and
  * that a lock may have been made. Who may not write a .pag that is there makes no lock. FILE_FAILED, LOCKED (by NO_WAIT alone), BAD_REDO,
  * TOO_LONG, UNSAFE, MOVED, BAD_NAME, OPEN_HERE, and BAD_FILES and NO_MEMORY of boddurci.h. */
@@ -116,8 +116,8 @@ void boddurci_give(boddurci_base *base);
  *
  * Both files get the blocks that they want before the save counts, where the file system can give them, so that a full disk is FILE_FAILED
  * with nothing changed. Where a file cannot be written all the same, it is DONE, fault->system is not 0, and the text says which file: the
- * save is kept in BASE.redo, and the next who saves or opens to write ends it. Until then whoever knows nothing of BASE.redo, as Perl's
- * SDBM_File, may see half of it. */
+ * save is kept in BASE.redo, and the next who saves or opens to write ends it. Until then a program that knows nothing of BASE.redo, as
+ * Perl's SDBM_File, may see half of it. */
 uint32_t boddurci_save(boddurci_base *base, boddurci_fault *fault) BODDURCI_IS_LOOKED_AT;
 
 /* Lets the lock go, and the memory. Nothing is saved. base may be NULL. No thread may use the base meanwhile, or later. In a child it frees

@@ -148,7 +148,7 @@ int boddurci_recover(struct boddurci_disk *disk, struct boddurci_bytes redo);
 int boddurci_stage(struct boddurci_disk *disk, struct boddurci_bytes redo);
 
 /* Marks the redo file that was staged, which commits its save, and ends it. Where the mark cannot be kept it takes the redo file away.
- * What fails behind the mark is no fault, and then it is 1 and errno says why: whoever opens or saves next ends the save. */
+ * What fails behind the mark is no fault, and then it is 1 and errno says why: the next who opens or saves ends the save. */
 int boddurci_commit(struct boddurci_disk *disk, struct boddurci_bytes redo);
 
 #pragma GCC visibility pop

@@ -175,7 +175,7 @@ class _Room:
 
 
 class _Taken:
-    """The mutex of a base, which its save wants too. Whoever waits for it lets other threads go on."""
+    """The mutex of a base, which its save wants too. A thread that waits for it lets others go on."""
 
     def __init__(self, base):
         self._base = base

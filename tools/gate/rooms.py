@@ -78,7 +78,7 @@ class Room:
         shutil.rmtree(self.at, ignore_errors=True)
 
     def rt(self, *words):
-        """Runs rt in the crate's folder, and returns its status and all that it says. What was killed, most likely for want of memory,
+        """Runs rt in the crate's folder, and returns its status and all that it says. What was killed, most likely because memory ran out,
         runs once more."""
         for _ in range(2):
             ran, said = start([rt(), *words], self.folder)

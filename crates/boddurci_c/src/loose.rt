@@ -16,7 +16,7 @@ impl<T, A: Allocator> Model for Loose<T, A> {
 }
 
 impl<T: Drop, A: Allocator> Loose<T, A> {
-    /// Takes the box apart. Nothing is freed: whoever has the parts owns the value.
+    /// Takes the box apart. Nothing is freed: the holder of the parts owns the value.
     pub fn of(value: Box<T, A>) -> Loose<T, A>
         ensures { result.value ≡ value.value }
     {

@@ -10,7 +10,7 @@ use std::alloc::{AllocError, Allocator};
 
 /// The text of a code, one instruction a line, which `assemble` takes back to the code: numbers in
 /// signed decimal, a constant of 64 bits in hex, distances in units with their sign. It fails only
-/// for want of memory.
+/// where memory runs out.
 pub fn disassemble<A: Allocator, B: Allocator>(
     alloc: A,
     code: &Code<B>,

@@ -54,7 +54,7 @@ pub struct AsmFault {
 }
 
 impl AsmFault {
-    /// The fault of a line. Want of memory is the fault of none.
+    /// The fault of a line. Memory that runs out is the fault of none.
     pub(crate) fn at(line: usize, kind: FaultKind) -> AsmFault
         requires { 0 < line }
         ensures kind { result.kind ≡ kind }

@@ -16,7 +16,7 @@ pub struct Definition {
     pub unit: usize,
 }
 
-/// The labels of a text, in the order of their names: whoever writes the text chooses these, and could choose such as collide in a
+/// The labels of a text, in the order of their names: the author of the text chooses these, and could choose such as collide in a
 /// hash map.
 pub type Labels<'a, A> = BTreeMap<&'a [u8], Definition, A>;
 

@@ -8,7 +8,7 @@ use crate::spelling::put_insn;
 use std::alloc::{AllocError, Allocator};
 
 /// The bytes of a code: the spellings of its instructions, joined (RFC 9669, section 3). `decode`
-/// of them gives the code again. It fails only for want of memory.
+/// of them gives the code again. It fails only where memory runs out.
 pub fn encode<A: Allocator, B: Allocator>(
     alloc: A,
     code: &Code<B>,

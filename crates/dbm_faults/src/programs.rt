@@ -126,7 +126,7 @@ pub fn pool_sentence(fault: PoolFault) -> Option<Sentence<'static>> {
 const UNDONE: &str =
     "The workers could not do all tasks: that should never be. Nothing was changed.";
 
-// Of a task that was refused. `None` where it was for want of memory.
+// Of a task that was refused. `None` where memory ran out.
 fn refused_sentence(task: usize, refusal: Refusal) -> Option<Sentence<'static>> {
     let task = Part::Number(task as u64);
     match refusal {

@@ -303,7 +303,7 @@ fn is_too_long(place: Place<'_>, redo: &[u8]) -> bool {
     }
 }
 
-// Keeps a plan that is marked, and its name, before anything that stands on it is told: whoever marked it may have been killed before
+// Keeps a plan that is marked, and its name, before anything that stands on it is told: the run that marked it may have been killed before
 // the mark was on the disk. A file system that cannot be written has nothing to keep.
 fn keep_plan<R: Files<File = File>>(rt: &R, names: &Names) -> io::Result<()> {
     let name = names.redo.as_str();

@@ -18,7 +18,7 @@ struct Take {
 }
 
 /// Waits for the lock of a run that writes, and takes it. It is held until the file that is handed out is dropped. Where its file is
-/// missing it is made, so that whoever may use the pages can lock it; but a run that may not write the pages makes none. With a patience
+/// missing it is made, so that all who may use the pages can lock it; but a run that may not write the pages makes none. With a patience
 /// it waits no longer than that.
 ///
 /// # Errors

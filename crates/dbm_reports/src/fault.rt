@@ -11,7 +11,7 @@ use std::alloc::{AllocError, AllocFailed, Global};
 use std::error::Error;
 use std::fmt;
 
-/// Why nothing comes of a wish. It prints as its name, or as the fault within it, which is never want of memory.
+/// Why nothing comes of a wish. It prints as its name, or as the fault within it, which is never that memory ran out.
 #[derive(Clone, Copy, Debug)]
 pub enum ReportFault {
     /// A key, a value or an argument is no hex and no dot.

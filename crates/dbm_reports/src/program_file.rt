@@ -47,7 +47,8 @@ pub fn file_image(alloc: Global, file: &[u8], is_image: bool) -> Result<Vec<u8>,
     text_image(alloc, file)
 }
 
-/// The line that says why an image gets no number, with a status, and the database that is to be written. Want of memory is no such line.
+/// The line that says why an image gets no number, with a status, and the database that is to be written. Memory that runs
+/// out has no such line.
 ///
 /// # Errors
 /// `AllocError` where no memory is left, or where that is the fault.

@@ -40,7 +40,7 @@ fn show_number<A: Allocator>(id: u32, text: &mut Vec<u8, A>) -> Result<(), Alloc
 /// Writes after a text why an image gets no number.
 ///
 /// # Errors
-/// `AllocError` where there is no memory for it, or where it is want of memory that is to be told. The text is of no use then.
+/// `AllocError` where there is no memory for it, or where the refusal is that memory ran out. The text is of no use then.
 pub fn show_refusal<A: Allocator + Copy>(
     alloc: A,
     fault: RegFault,

@@ -51,7 +51,7 @@ impl<A: Allocator + Copy> Desk<A> {
         }
     }
 
-    /// Answers as `step` does, and gives the reply twice, so that whoever asked can keep one. Both are made before the desk changes.
+    /// Answers as `step` does, and gives the reply twice, so that the asker can keep one. Both are made before the desk changes.
     ///
     /// # Errors
     /// Those of `step`, with the same left as it was.

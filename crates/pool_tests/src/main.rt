@@ -18,7 +18,7 @@
 //! | `met` | how many jobs came to work, and how many sessions waited in vain |
 //! | `# TEXT` | the line itself |
 //!
-//! What cannot be done, for want of memory too, is answered with `cannot`.
+//! What cannot be done, as where memory runs out, is answered with `cannot`.
 #![tactic(auto)]
 
 mod jobs;

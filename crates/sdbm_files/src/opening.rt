@@ -14,7 +14,7 @@ use sdbm_page::{Page, PageFault};
 use std::alloc::{AllocError, Allocator};
 use std::collections::HashMap;
 
-/// Why the bytes of two files give no database. The faults are tested in this order; want of memory ends the call where it is met.
+/// Why the bytes of two files give no database. The faults are tested in this order; memory that runs out ends the call there.
 #[derive(Clone, Copy, Debug, PartialEq, Eq)]
 pub enum OpenFault {
     /// The length of `.pag` is no multiple of the page size.

@@ -89,7 +89,7 @@ pub fn commit<D: Disk>(disk: &mut D, plan: &[u8]) -> Result<(), DiskError>
 ///
 /// # Errors
 ///
-/// As the disk says. The save stays committed: whoever opens the files next ends it.
+/// As the disk says. The save stays committed: the next who opens the files ends it.
 pub fn finish<D: Disk>(disk: &mut D, plan: &[u8]) -> Result<(), DiskError>
     requires plan { IsPlan plan.now }
     requires knows { Knows plan.now (files (D.seen disk.old)) }

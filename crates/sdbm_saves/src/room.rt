@@ -14,7 +14,7 @@ const BLOCK: usize = 4096;
 const MOST: usize = 658_000;
 
 /// Tries before a save whether the disk has room for it: a save that is marked and then finds a full disk leaves its files half done for
-/// whoever does not know the redo file. Where the changes of the plan may want new blocks, the redo file gets as many, and those of the
+/// programs that do not know the redo file. Where the changes of the plan may want new blocks, the redo file gets as many, and those of the
 /// plan itself, each with a zero in it, and is taken away. So it never has a mark, and the data files are not touched. Another may take
 /// the room in between. Where no change wants a block nothing is done.
 ///

@@ -16,7 +16,7 @@
 //! |---|---|
 //! | `sessions COUNT` | how many there are after so many more, or why no more are made |
 //! | `SESSION COMMAND` | the reply, or why the call is refused |
-//! | `watch SESSION COMMAND` | the reply; the session asks again after each call that is refused for want of memory |
+//! | `watch SESSION COMMAND` | the reply; the session asks again after each call that is refused because memory ran out |
 //! | `group SESSION COMMAND / COMMAND / ..` | what came of each of these calls, which are made at once, or that there was no memory to make any |
 //! | `COUNT calls COMMAND / COMMAND / ..` | in `apart`, of each of so many sessions: its replies, or how many of many, and why one was refused, behind which it makes no more |
 //! | `COUNT times CALLS COMMAND` | the same of so many calls of one command |

@@ -68,7 +68,13 @@ fn each_growth_refused_to_examine(rt: HostRuntime) -> Result<(), Fail> {
                 assert!(rt; was_refused);
                 return Ok(());
             }
-            Err(Refused { fault, code, states }) => {
+            Err(
+                Refused {
+                    fault,
+                    code,
+                    states,
+                },
+            ) => {
                 assert_eq!(rt; fault, VerifyFault::NoMemory);
                 assert_eq!(rt; code.len(), want.len());
                 drop(states);

@@ -12,4 +12,3 @@ pub mod HexWords
 pub mod Directly
 pub mod Vectors
 pub mod HexPairs
-pub mod OneDigit

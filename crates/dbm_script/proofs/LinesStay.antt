@@ -1,11 +1,11 @@
 -- Spelled out, a text has as many lines as before, and each stands for the one at its place.
-use Rattle.std.proofs.Common.{◌≡◌, ℕ, suc, zero, ◌<◌, List, [], ◌∷◌, ◌++◌, length, map, take, drop, cond, codes, decimal, Option, Some, None, Bool, true, false, eqb, refl, sym, ap, subst, ◌∙◌, arith, rules}
+use Rattle.std.proofs.Common.{◌≡◌, ℕ, suc, zero, ◌<◌, List, [], ◌∷◌, ◌++◌, length, map, take, drop, cond, codes, decimal, Option, Some, None, Bool, true, false, Bor, eqb, refl, sym, ap, subst, ◌∙◌, arith, rules}
 use Rattle.std.proofs.lemmas.Bool.{eq-eqb, ne_eqb}
 use Rattle.std.proofs.lemmas.List.Splits.{length-slice_split, slice_split-cons_no, slice_split-cons_yes}
 use Rattle.std.specs.Fmt.{digit_glyph, digits, digits_onto}
 use Rattle.std.specs.List.{ends_with, join_with_byte, onto_first, starts_with}
 use Rattle.std.specs.Prelude.{nat_eq, nat_lt, ◌+◌, ◌-◌, ◌/◌, ◌%◌, ◌==◌, if◌then◌else◌, ⊤}
-use Rattle.dbm_script.specs.Pieces.{pieces_of}
+use Rattle.dbm_script.specs.Pieces.{pieces_of, pieces_left}
 use Rattle.dbm_script.specs.Shorthand.{fully_named, in_full, is_comment, spelled, spelled_line, timed}
 use Rattle.dbm_script.specs.declared.shorthand.Lines.{Lines}
 use Rattle.dbm_script.specs.declared.shorthand.Lines.TheVariants.{OfBatch, OfScript}
@@ -120,3 +120,9 @@ lines_stay lines time text = go (pieces_of 10 text) (let long = length-slice_spl
     go : (all : List (List ℕ)) → 0 < length all → AllLack 10 all → pieces_of 10 (join_with_byte 10 (map (spelled_line lines time) all)) ≡ map (spelled_line lines time) all
     go [] some p = absurd (search (rules, some))
     go (line ∷ rest) some p = joined_pieces 10 (spelled_line lines time line) (map (spelled_line lines time) rest) (lines_lack lines time (line ∷ rest) p)
+
+-- the first line that is left, spelled out, stands before the others
+pub spelled_first : (f : List ℕ → List ℕ) (rest after : Option (Bor (List ℕ))) (left : Bor (List ℕ)) (short line : List ℕ) → rest ≡ Some left → pieces_of 10 left.now ≡ short ∷ pieces_left 10 after → f short ≡ line
+    → map f (pieces_left 10 rest) ≡ line ∷ map f (pieces_left 10 after)
+spelled_first f rest after left short line is cut spelled =
+    ap (λ (r : Option (Bor (List ℕ))). map f (pieces_left 10 r)) is ∙ ap (map f) cut ∙ ap (λ (l : List ℕ). l ∷ map f (pieces_left 10 after)) spelled

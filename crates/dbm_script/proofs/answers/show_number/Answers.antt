@@ -1,6 +1,6 @@
 use Rattle.std.proofs.Common.{◌∙◌, ◌++◌, List, ℕ, sym, ap}
-use Rattle.dbm_script.proofs.OneDigit.{one_digit}
+use Rattle.std.proofs.lemmas.Fmt.{decimal_digit}
 use Rattle.dbm_script.proofs.answers.show_number.Goals as goal
 
 pub returns-then-number-lt10 : goal.returns-then-number-lt10
-returns-then-number-lt10 g c = c.in_ok-push.ensures.items ∙ ap (λ (added : List ℕ). c.args.text.now.items ++ added) (sym (one_digit c.args.number c.if-number-lt10.true))
+returns-then-number-lt10 g c = c.in_ok-push.ensures.items ∙ ap (λ (added : List ℕ). c.args.text.now.items ++ added) (sym (decimal_digit c.args.number c.if-number-lt10.true))

@@ -1,10 +1,10 @@
-use Rattle.std.proofs.Common.{◌≡◌, ◌∷◌, ◌++◌, [], List, ℕ, map, ap, sym, ◌∙◌, refl, rules}
+use Rattle.std.proofs.Common.{◌≡◌, ◌∷◌, ◌++◌, [], map, ap, sym, ◌∙◌, refl, rules}
 use Rattle.prog_registry.specs.Registry.{Registered}
 use Rattle.dbm_script.specs.Pieces.{pieces_of, pieces_left}
 use Rattle.dbm_script.specs.Script.{RunsLines, RunsScript, stage}
 use Rattle.dbm_script.specs.Shorthand.{spelled, spelled_line}
 use Rattle.dbm_script.specs.declared.shorthand.Lines.TheVariants.{OfScript}
-use Rattle.dbm_script.proofs.LinesStay.{lines_stay}
+use Rattle.dbm_script.proofs.LinesStay.{lines_stay, spelled_first}
 use Rattle.dbm_script.proofs.Runs.{IsScriptRun-from, next_done, one_more}
 use Rattle.dbm_script.proofs.script.run_spelled.Goals as goal
 
@@ -23,12 +23,9 @@ pub loop-rest-preserved : goal.loop-rest-preserved
 loop-rest-preserved g c =
     let before = c.loop-rest.invariant in
     let f = spelled_line OfScript c.args.time in
-    let short = c.first_piece.result.0.now in
     let line = c.as_slice.result.now in
-    let after = c.first_piece.result.1 in
-    let left : pieces_left 10 c.loop-rest.rest ≡ short ∷ pieces_left 10 after = ap (pieces_left 10) c.in-Some.is ∙ c.first_piece.ensures in
-    let is : f short ≡ line = search rules in
-    let next : map f (pieces_left 10 c.loop-rest.rest) ≡ line ∷ map f (pieces_left 10 after) = ap (map f) left ∙ ap (λ (l : List ℕ). l ∷ map f (pieces_left 10 after)) is in
+    let is : f c.first_piece.result.0.now ≡ line = search rules in
+    let next = spelled_first f c.loop-rest.rest c.first_piece.result.1 _ _ line c.in-Some.is c.first_piece.ensures is in
     let kept = c.in_ok-answer_line.ensures.kept in
     let adds = c.in_ok-answer_line.ensures.answer in
     record {
@@ -45,16 +42,13 @@ pub returns-then-len-most-clause-long : goal.returns-then-len-most-clause-long
 returns-then-len-most-clause-long g c = λ _.
     let before = c.loop-rest.invariant in
     let f = spelled_line OfScript c.args.time in
-    let short = c.first_piece.result.0.now in
     let line = c.as_slice.result.now in
-    let after = c.first_piece.result.1 in
-    let left : pieces_left 10 c.loop-rest.rest ≡ short ∷ pieces_left 10 after = ap (pieces_left 10) c.in-Some.is ∙ c.first_piece.ensures in
-    let is : f short ≡ line = search rules in
-    let next : map f (pieces_left 10 c.loop-rest.rest) ≡ line ∷ map f (pieces_left 10 after) = ap (map f) left ∙ ap (λ (l : List ℕ). l ∷ map f (pieces_left 10 after)) is in
+    let is : f c.first_piece.result.0.now ≡ line = search rules in
+    let next = spelled_first f c.loop-rest.rest c.first_piece.result.1 _ _ line c.in-Some.is c.first_piece.ensures is in
     let adds = c.in_ok-answer_line.ensures.answer in
     record {
       first = before.done ++ line ∷ [];
-      others = map f (pieces_left 10 after);
+      others = map f (pieces_left 10 c.first_piece.result.1);
       lines = next_done before.done line _ _ _ before.lines next;
       told = before.told ++ adds.holds.0;
       text = c.answer_line.new.text.items;

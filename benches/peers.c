@@ -12,7 +12,7 @@
 
 enum { KEY_BYTES = 16, VALUE_BYTES = 8 };
 
-/* A store: how it is opened, and how one pair is stored and fetched. tick comes behind each write. */
+/* A store: how it is opened, and how one pair is stored and fetched. tick comes after each write. */
 typedef struct {
     const char *name;
     int (*open)(const char *path);

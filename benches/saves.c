@@ -122,7 +122,7 @@ static int by_size(const void *one, const void *other)
     return (a > b) - (a < b);
 }
 
-/* The median time of a save behind so many changes, of pairs that change from round to round. */
+/* The median time of a save after so many changes, of pairs that change from round to round. */
 static double median(unsigned changes, unsigned n, unsigned rounds)
 {
     double times[MOST_ROUNDS];

@@ -213,7 +213,7 @@ void boddurci_abandon(boddurci_ticket *ticket);
 
 /* Every pair in turn, in an order that stays while nothing is stored, deleted or run; after a change begin anew. A cursor is yours, and
  * any number of them may be on the way. boddurci_first sets it before the first pair: IS_CLOSED. boddurci_next tells the next pair and
- * moves the cursor behind it: MISSING where none is left; SHORT_ROOM where key or value does not fit, and then the cursor stays;
+ * moves the cursor after it: MISSING where none is left; SHORT_ROOM where key or value does not fit, and then the cursor stays;
  * IS_CLOSED. */
 uint32_t boddurci_first(boddurci *db, boddurci_cursor *cursor);
 uint32_t boddurci_next(boddurci *db, boddurci_cursor *cursor, uint8_t *key, size_t key_room, size_t *key_length, uint8_t *value,
@@ -230,11 +230,11 @@ uint32_t boddurci_files(boddurci *db, uint8_t *dir, size_t dir_room, size_t *dir
 uint32_t boddurci_changed(boddurci *db, uint32_t *numbers, size_t room, size_t *count);
 
 /* The plan of a save, which makes the files those of the database. Of the files it wants the bytes of .dir, how many bytes .pag has, and the
- * bytes of the pages with these numbers, one page behind the other, where a byte past the end of the file is zero. All pages that
+ * bytes of the pages with these numbers, one page after the other, where a byte past the end of the file is zero. All pages that
  * boddurci_changed tells have to be among them: a page that is not counts as one that stands in the file as it was written last, or opened.
- * Where the files may be others, as behind another program, give all pages of the file and of the database.
+ * Where the files may be others, as after another program, give all pages of the file and of the database.
  *
- * It has the blocks of 1,024 bytes of .dir, and behind them those of the pages, that differ; no bytes where nothing does. Once it is DONE no
+ * It has the blocks of 1,024 bytes of .dir, and after them those of the pages, that differ; no bytes where nothing does. Once it is DONE no
  * page counts as changed: where the plan is not done, give the numbers to boddurci_mark. STALE where a page that may have changed is not
  * among the numbers, or where the bytes are not those of so many pages; SHORT_ROOM; FILE_TOO_LONG also for more than 2^22 numbers;
  * IS_CLOSED, NO_MEMORY. After each of these the handle is as it was.

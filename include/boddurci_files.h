@@ -67,7 +67,7 @@ enum boddurci_files_status {
     BODDURCI_UNSAFE = 37,      /* BASE.redo or BASE.lock may be a stranger's; the text says why */
     BODDURCI_MOVED = 38,       /* BASE.lock, .pag, .dir or .redo is another file than was opened, or links lead elsewhere */
     BODDURCI_FORKED = 39,      /* it was opened by another process, of which this one is a child */
-    BODDURCI_BAD_NAME = 40,    /* the name is NULL or empty, . or .., or ends in one of these behind a / */
+    BODDURCI_BAD_NAME = 40,    /* the name is NULL or empty, . or .., or ends in one of these after a / */
     BODDURCI_INTERRUPTED = 41, /* a signal was handled while the lock was waited for */
     BODDURCI_OPEN_HERE = 42    /* this thread has opened it already, and nobody has closed that: it would wait for itself */
 };
@@ -85,7 +85,7 @@ const char *boddurci_files_text(uint32_t status);
 
 /* Opens the database in BASE.dir and BASE.pag, each of which may be missing, or returns NULL and says why. A save that was cut off is ended
  * first, no matter who made it; a base that is read only writes nothing, and reads what the save would have left, once that is kept on the disk.
- * It waits for the lock without an end, also behind a signal. Where it returns NULL nothing was changed but that such a save was ended, and
+ * It waits for the lock without an end, also after a signal. Where it returns NULL nothing was changed but that such a save was ended, and
  * that a lock may have been made. Who may not write a .pag that is there makes no lock. FILE_FAILED, LOCKED (by NO_WAIT alone), BAD_REDO,
  * TOO_LONG, UNSAFE, MOVED, BAD_NAME, OPEN_HERE, and BAD_FILES and NO_MEMORY of boddurci.h. */
 boddurci_base *boddurci_open_files(const char *base, uint32_t flags, boddurci_fault *fault);

@@ -205,7 +205,7 @@ static int is_untouched(const char *name, const struct stat *before)
            is.st_mtim.tv_nsec == before->st_mtim.tv_nsec && is.st_ctim.tv_sec == before->st_ctim.tv_sec && is.st_ctim.tv_nsec == before->st_ctim.tv_nsec;
 }
 
-/* Zeros behind the ends of files, as another program may leave them, go with the first save. */
+/* Zeros after the ends of files, as another program may leave them, go with the first save. */
 static void test_ends(void)
 {
     struct stat before[2], found;
@@ -220,7 +220,7 @@ static void test_ends(void)
     EXPECT(stat("visits.dir", &found) == 0 && found.st_size == before[1].st_size);
 }
 
-/* A save of no change touches nothing, not behind a save either, nor where a pair was stored that stands there already. */
+/* A save of no change touches nothing, not after a save either, nor where a pair was stored that stands there already. */
 static void test_untouched(void)
 {
     struct stat pages, directory, folder;
@@ -424,7 +424,7 @@ static void test_redo(void)
     EXPECT(unlink("visits.redo") == 0);
 }
 
-/* A save of an empty database that was cut off: a reader finds it empty and writes nothing, and who writes ends it. */
+/* A save of an empty database that was cut off: a reader finds it empty and writes nothing, and a writer ends it. */
 static void test_cut_off(void)
 {
     static const uint32_t lengths[4] = {0, 0, 1024, 0};

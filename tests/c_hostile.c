@@ -4,7 +4,7 @@
  *     c_hostile chdir BASE FOLDER       goes to another folder before it saves
  *     c_hostile swap BASE LINK TARGET   makes a link lead elsewhere before it saves
  *     c_hostile replace BASE FROM TO    gives a file another name before it saves
- *     c_hostile fork BASE               has a child that saves, and closes the base, behind a later save of its parent */
+ *     c_hostile fork BASE               has a child that saves, and closes the base, after a later save of its parent */
 #define _POSIX_C_SOURCE 200809L
 #include "boddurci_files.h"
 #include <stdio.h>

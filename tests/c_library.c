@@ -223,7 +223,7 @@ static void test_crowded(void)
     boddurci_close(&db);
 }
 
-/* Four keys that hash alike in their 9, 19 and 20 lowest bits: the last of them would split a page behind the longest .pag. */
+/* Four keys that hash alike in their 9, 19 and 20 lowest bits: the last of them would need a page past the end of the longest .pag. */
 static void test_too_long(void)
 {
 #define KEY(i) (const uint8_t *)keys[i], strlen(keys[i])

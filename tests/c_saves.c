@@ -4,7 +4,7 @@
  *     c_saves change BASE    does the lines of standard input, `replace KEY VALUE` and `delete KEY` in hex, saves, and prints `saved`;
  *                            where the save is kept in the redo file alone, it says so on standard error
  *     c_saves insist BASE    the same, but where the save fails it saves once more
- *     c_saves each BASE      saves behind each line, and goes on where that fails */
+ *     c_saves each BASE      saves after each line, and goes on where that fails */
 #include "boddurci_files.h"
 #include <stdio.h>
 #include <string.h>

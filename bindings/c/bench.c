@@ -30,7 +30,7 @@ static void name(char *key, unsigned i)
 
 #define KEY (const uint8_t *)key, 16
 
-/* The plan of a save behind the change of one pair; 0 where there is one. */
+/* The plan of a save after the change of one pair; 0 where there is one. */
 static int plan_one(boddurci *db, const uint8_t *dir, size_t dir_length, const uint8_t *pag, size_t pag_length, size_t page)
 {
     static uint8_t pages[8192], plan[65536];

@@ -1,4 +1,4 @@
-/* The three files of a save, and the order in which it writes them: the plan behind a mark that is not set, the room for it in both data
+/* The three files of a save, and the order in which it writes them: the plan after a mark that is not set, the room for it in both data
  * files, the mark, the plan done in both, no mark. crates/sdbm_saves/src/redo.rt is the same but for the room, and is proved. */
 #define _GNU_SOURCE
 #include "boddurci_saves.h"
@@ -97,7 +97,7 @@ static int resize(struct boddurci_disk *disk, enum boddurci_file file, size_t le
 }
 
 /* Keeps what is in a file, also what this save has not written, and the names of all: also those that an earlier save made, which may have
- * been killed. A data file that is not there has nothing; one that may not be written fails here, and not in the midst of a commit. */
+ * been killed. A data file that is not there has nothing; one that may not be written fails here, and not in the middle of a commit. */
 static int keep(struct boddurci_disk *disk, enum boddurci_file file)
 {
     disk->last = file;
@@ -142,7 +142,7 @@ static int reserve(struct boddurci_disk *disk, enum boddurci_file file, size_t a
     return status;
 }
 
-/* Takes back what the data files were given behind their ends. */
+/* Takes back what the data files were given past their ends. */
 static void release(struct boddurci_disk *disk)
 {
     struct stat is;
@@ -192,7 +192,7 @@ static int is_too_far(struct boddurci_disk *disk, enum boddurci_file file)
     return -1;
 }
 
-/* Lets go what a redo file has behind its end. */
+/* Lets go what a redo file has past its end. */
 static int trim(struct boddurci_disk *disk, size_t length)
 {
     int status;
@@ -202,7 +202,7 @@ static int trim(struct boddurci_disk *disk, size_t length)
     return status;
 }
 
-/* Tries whether the redo file, which is written, could have so many blocks more behind its end, and lets them go. */
+/* Tries whether the redo file, which is written, could have so many blocks more past its end, and lets them go. */
 static int try_behind(struct boddurci_disk *disk, size_t length, size_t size)
 {
     static const uint8_t zeros[BLOCK];
@@ -233,7 +233,7 @@ static int reserve_all(struct boddurci_disk *disk, struct boddurci_bytes redo, u
     return reserve_run(disk, &run, absent);
 }
 
-/* Sees that there is room for what is to be done behind the mark: the data files get their blocks now, and the redo file tries as many as
+/* Sees that there is room for what is to be done after the mark: the data files get their blocks now, and the redo file tries as many as
  * they cannot be given. */
 static int take_room(struct boddurci_disk *disk, struct boddurci_bytes redo)
 {

@@ -32,7 +32,7 @@ struct boddurci_base {
     int is_planned;        /* a save has compared their lengths and the directory */
     struct note notes[2];
     pthread_mutex_t mutex; /* of db */
-    pthread_mutex_t saves; /* of the files; who wants both takes it first */
+    pthread_mutex_t saves; /* of the files; a call that wants both takes it first */
 };
 
 static int is_of_another(const boddurci_base *base)
@@ -271,7 +271,7 @@ static void see_files(struct boddurci_place *place)
     }
 }
 
-/* Reads both data files, behind a save that was cut off. */
+/* Reads both data files, after a save that was cut off. */
 static uint32_t read_files(boddurci_base *base, struct boddurci_bytes *files, boddurci_fault *fault)
 {
     struct boddurci_disk disk;

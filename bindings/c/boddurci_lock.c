@@ -1,4 +1,4 @@
-/* Which base a name means, and its lock: an exclusive flock on BASE.lock, or a shared one of who only reads. */
+/* Which base a name means, and its lock: an exclusive flock on BASE.lock, or a shared one of a process that only reads. */
 #define _POSIX_C_SOURCE 200809L
 #define _DEFAULT_SOURCE
 #define _XOPEN_SOURCE 700
@@ -174,7 +174,7 @@ int boddurci_is_held(const struct boddurci_place *place)
            held.st_dev == named.st_dev && held.st_ino == named.st_ino;
 }
 
-/* Whether this run may write .pag, where that is there: who may not leaves no lock behind. */
+/* Whether this run may write .pag, where that is there: a run that may not makes no lock. */
 static int may_write(const struct boddurci_place *place)
 {
     int opened = openat(place->folder, place->names[BODDURCI_PAGES], O_RDWR | O_NONBLOCK | O_NOCTTY | O_CLOEXEC);
@@ -204,7 +204,7 @@ static uint32_t make_lock(struct boddurci_place *place, boddurci_fault *fault)
     return BODDURCI_DONE;
 }
 
-/* Opens the file of the lock: a reader one that is there, and who writes makes it. */
+/* Opens the file of the lock: a reader opens one that is there, and a writer makes it. */
 static uint32_t open_lock(struct boddurci_place *place, int reads, boddurci_fault *fault)
 {
     uint32_t status = BODDURCI_DONE;
@@ -279,7 +279,7 @@ uint32_t boddurci_enter(struct boddurci_place *place, const char *name, int read
 {
     char *led;
     if (!is_name(name))
-        return boddurci_fail(fault, BODDURCI_BAD_NAME, 0, "the name is empty, . or .., or ends in one of these behind a /");
+        return boddurci_fail(fault, BODDURCI_BAD_NAME, 0, "the name is empty, . or .., or ends in one of these after a /");
     uint32_t status = resolve(name, &led, fault);
     const char *base = led != NULL ? led : name;
     if (status == BODDURCI_DONE)

@@ -4,7 +4,7 @@
 #include <string.h>
 
 /* A redo file: the mark; eight bytes that are always the same; the new lengths of the pages and of the directory, their old lengths, and
- * how many changes there are; the changes, and nothing behind them. A change: its file, 0 for the pages; its offset, its length, its bytes,
+ * how many changes there are; the changes, and nothing after them. A change: its file, 0 for the pages; its offset, its length, its bytes,
  * and those that stood there before, where a byte past the end of the old file is zero. A number is four bytes, the low one first. */
 enum { MARKED = 1, SIGNATURE_AT = 1, NEW_AT = 9, OLD_AT = 17, COUNT_AT = 25, HEAD = 29, CHANGE_HEAD = 9 };
 

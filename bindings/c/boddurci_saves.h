@@ -53,7 +53,7 @@ size_t boddurci_old_length(struct boddurci_bytes redo, enum boddurci_file file);
 struct boddurci_change boddurci_before_changes(struct boddurci_bytes redo);
 int boddurci_next_change(struct boddurci_bytes redo, struct boddurci_change *change);
 
-/* Whether the save is one of these data files, which stand before it, behind it, or in its midst: 1 or 0; or -1, where memory ran out. */
+/* Whether the save is one of these data files, which stand before it, after it, or in the middle of it: 1 or 0; or -1, where memory ran out. */
 int boddurci_knows(struct boddurci_bytes redo, const struct boddurci_bytes files[2]);
 
 /* Does the save in the bytes of a data file. */
@@ -148,7 +148,7 @@ int boddurci_recover(struct boddurci_disk *disk, struct boddurci_bytes redo);
 int boddurci_stage(struct boddurci_disk *disk, struct boddurci_bytes redo);
 
 /* Marks the redo file that was staged, which commits its save, and ends it. Where the mark cannot be kept it takes the redo file away.
- * What fails behind the mark is no fault, and then it is 1 and errno says why: the next who opens or saves ends the save. */
+ * What fails after the mark is no fault, and then it is 1 and errno says why: the next who opens or saves ends the save. */
 int boddurci_commit(struct boddurci_disk *disk, struct boddurci_bytes redo);
 
 #pragma GCC visibility pop

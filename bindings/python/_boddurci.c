@@ -5,7 +5,7 @@
  * the method in Python, which begins it anew. So what a call tells, and when it waits, is described once, and there.
  *
  * A plain call keeps the lock of the interpreter from its look at the database to its end, and calls nothing of Python in between: so no
- * other thread, no signal and no fork comes into its midst, and it takes no lock of its own.
+ * other thread, no signal and no fork comes in the middle of it, and it takes no lock of its own.
  *
  * It is not linked to the library. boddurci.py has found and opened that, and gives the addresses of its calls to `bind`. */
 #ifndef Py_LIMITED_API

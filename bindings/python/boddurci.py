@@ -8,7 +8,7 @@
 
 `open` can stand for `dbm.open`: keys and values are bytes, a str counts as its UTF-8. A database is in memory while it is open, under an
 exclusive lock on BASE.lock unless it is only read; `sync` and `close` write its files, and a crash meanwhile leaves the database before or
-after. Threads may share it; a signal handler that comes in the midst of a call may not use it. Nor may a child of the process that has
+after. Threads may share it; a signal handler that comes in the middle of a call may not use it. Nor may a child of the process that has
 opened it: there each call but `close` is an error, and nothing is saved.
 
 It stands on the shared object that `./dbm --build-library` makes: the file that BODDURCI_LIBRARY names, else libboddurci.so beside this
@@ -223,7 +223,7 @@ class _Database(MutableMapping):
         self._end, self._word = ctypes.c_uint64(), ctypes.c_uint64()
         names = ("_cursor", "_length", "_other", "_place", "_end", "_word")
         self._at = {name: ctypes.addressof(getattr(self, name)) for name in names}
-        # What a fetch is given behind its key.
+        # What a fetch is given after its key.
         self._value = (self._room.at, _VALUE_MOST, self._at["_length"])
 
     def _set_locks(self):

@@ -46,7 +46,7 @@ class Mapping(InFolder):
         self.assertEqual("extension" if boddurci._extension else "ctypes", WAY)
 
     def test_lengths(self):
-        """A class of bytes that tells another length reads nothing behind them."""
+        """A class of bytes that tells another length reads nothing after them."""
 
         class Long(bytes):
             def __len__(self):
@@ -253,7 +253,7 @@ class Saves(InFolder):
             self.assertEqual(len(reader), 101)
 
     def test_too_long(self):
-        """The last of these keys would split a page behind the longest .pag: it is refused, and the others are saved."""
+        """The last of these keys would need a page past the end of the longest .pag: it is refused, and the others are saved."""
         keys = [b"far180463", b"far413", b"far192442", b"far4056234"]
         db = boddurci.open(self.base, "c")
         for key in keys[:3]:
@@ -453,7 +453,7 @@ os.wait()
                     db[b"a"] = b"1"
                     db.sync()
 
-            # So that forks meet the thread in the midst of its calls.
+            # So that forks meet the thread in the middle of its calls.
             interval = sys.getswitchinterval()
             sys.setswitchinterval(1e-6)
             thread = threading.Thread(target=work)

@@ -1,4 +1,4 @@
-/* A document of 120 bytes with a version: it is replaced by whoever has seen the version that is there; a new one has version 0.
+/* A document of 120 bytes with a version: you replace it by naming the version that is there; a new one has version 0.
  * SAVE: it is replaced; the word is its version now. KEEP: another version is there, and the word is that one; or a length is too
  * short, and the word is 0. */
 #include "boddurci_record.h"

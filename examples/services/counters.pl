@@ -40,7 +40,7 @@ sub answers {
     return @said;
 }
 
-# Whether a save of dbm was cut off behind its commit, which is the first byte of the redo file. Without that the files are as they were.
+# Whether a save of dbm was cut off after its commit, which is the first byte of the redo file. Without that the files are as they were.
 sub is_cut_off {
     my ($base) = @_;
     open my $redo, "<:raw", "$base.redo" or return 0;

@@ -13,9 +13,9 @@
 //! 6. [`Image::write`] writes both files into two [`Sink`]s.
 //!
 //! [`run_jobs`] does 3 to 5 for a list of [`Task`]s: workers run one program on the records of many keys. A [`Registry`] keeps programs by
-//! number and judges an image that it knows only once.
+//! number and judges a program image that it knows only once.
 //!
-//! `docs/THREADS.md` tells it at length, and `crates/threads_example` is such a service.
+//! `docs/THREADS.md` tells it at length, and `crates/example_threads` is such a service.
 #![tactic(auto)]
 
 pub use bpf_asm::{AsmFault, FaultKind, assemble, disassemble};

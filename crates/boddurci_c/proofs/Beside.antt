@@ -7,7 +7,7 @@ use Rattle.sdbm_addr.specs.Database.{pairs_at}
 use Rattle.sdbm_saves.specs.declared.marked.Marked.{Marked}
 use Rattle.sdbm_saves.specs.Parts.{ReadsPage, ReadPages, IsMarkedIn}
 use Rattle.boddurci_c.specs.declared.opened.Db.{Db}
-use Rattle.boddurci_c.specs.Marks.{AreAmong}
+use Rattle.boddurci_marks.specs.Marks.{AreAmong}
 use Rattle.boddurci_c.specs.Plans.{IsReadBeside}
 
 -- it has each other page as it is written for the database

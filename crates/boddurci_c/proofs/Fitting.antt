@@ -21,13 +21,13 @@ use Rattle.store_moves.specs.Acts.{Acts}
 use Rattle.store_moves.specs.Leads.{FillsNone, IsPlaceOf, MayChange, changed_by}
 use Rattle.store_moves.specs.Worked.{IsWorked}
 use Rattle.store_moves.specs.Works.{works, change_of, key_of, HasKey, HasEnd}
-use Rattle.store_moves.specs.declared.work.Worked.{Worked}
+use Rattle.store_moves.specs.declared.worked.Worked.{Worked}
 use Rattle.store_moves.proofs.Acting.{Acts-on_page}
 use Rattle.store_moves.proofs.Lifting.{works_lead}
 use Rattle.boddurci_c.specs.declared.opened.Db.{Db}
 use Rattle.boddurci_c.specs.Calls.{HasFiles}
 use Rattle.boddurci_c.specs.Plans.{IsPlanFor, pages_left}
-use Rattle.boddurci_c.specs.Growth.{has_pairs, may_grow}
+use Rattle.boddurci_marks.specs.Growth.{has_pairs, may_grow}
 
 -- the page that was there has its place still
 place_stays : (size : PageSize) (before : List Pair) (number : ℕ) (leaf : Content) → (has_pairs before || has_place size (number, leaf)) ≡ true → (before ≢ [] → number < most_pages size) → has_place size (number, leaf) ≡ true

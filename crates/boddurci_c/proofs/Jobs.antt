@@ -7,14 +7,14 @@ use Rattle.sdbm_addr.specs.declared.PageSize.{PageSize}
 use Rattle.sdbm_addr.specs.Pairs.{Pair}
 use Rattle.sdbm_addr.specs.Database.{Database, IsDatabase, pairs_at}
 use Rattle.store_cmd.specs.Command.{IsSmall}
-use Rattle.store_moves.specs.declared.work.Worked.{Worked}
+use Rattle.store_moves.specs.declared.worked.Worked.{Worked}
 use Rattle.store_moves.specs.Acts.{Acts}
 use Rattle.store_moves.specs.Leads.{MayChange, changed_by}
 use Rattle.store_moves.specs.Worked.{IsWorked}
 use Rattle.store_moves.specs.Works.{PageResult, works, change_of, HasEnd, IsWorkable}
 use Rattle.boddurci_c.specs.Asked.{Asked, result_of, IsWorkedOut}
 use Rattle.sdbm_files.specs.Limits.{FitsFiles}
-use Rattle.boddurci_c.specs.Growth.{has_pairs, may_grow, Outgrows}
+use Rattle.boddurci_marks.specs.Growth.{has_pairs, may_grow, Outgrows}
 use Rattle.boddurci_c.specs.Tickets.{IsCurrent}
 use Rattle.boddurci_c.proofs.Fitting.{may_put_worked, put_worked, fits_worked}
 

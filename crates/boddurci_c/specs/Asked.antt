@@ -5,7 +5,7 @@ use Rattle.sdbm_addr.specs.declared.KeyBytes.{KeyBytes}
 use Rattle.sdbm_addr.specs.Pairs.{Content}
 use Rattle.sdbm_dir.specs.declared.Place.{Place}
 use Rattle.store_cmd.specs.declared.Command.{Command}
-use Rattle.store_moves.specs.declared.work.Worked.{Worked}
+use Rattle.store_moves.specs.declared.worked.Worked.{Worked}
 use Rattle.store_moves.specs.Works.{PageResult, works, HasEnd, IsWorkable}
 use Rattle.store_moves.specs.Worked.{IsWorked}
 

@@ -36,8 +36,8 @@ use Rattle.boddurci_c.specs.declared.status.Status.{Status}
 use Rattle.boddurci_c.specs.declared.status.Status.TheVariants.{Done, Missing, Exists, Crowded, ShortRoom, Refused, BadText, BadFiles, Changed, Stale, Closed, Open, PairTooLarge, ArgTooLong, NoProgram, NoMemory, TooLong, NoTicket}
 use Rattle.boddurci_c.specs.Statuses.{code_of, status_of}
 use Rattle.boddurci_c.specs.Units.{unit_in, nowhere}
-use Rattle.boddurci_c.specs.Growth.{Outgrows}
-use Rattle.boddurci_c.specs.Marks.{HasMore}
+use Rattle.boddurci_marks.specs.Growth.{Outgrows}
+use Rattle.boddurci_marks.specs.Marks.{HasMore}
 
 -- ---- a handle before a call and after it
 
@@ -181,7 +181,7 @@ pub record IsSameBesidePrograms (d d' : Db) : Type 0 where
   pub marks : d'.marks ≡ d.marks
   pub base : d'.base ≡ d.base
 
--- an image has its number, or is refused for a fault, and all else stays
+-- a program image has its number, or is refused for a fault, and all else stays
 abbrev pub Submits : List ℕ → Result ProgId RegFault → Db → Db → Type 0
 Submits image (Ok id) d d' = Gives d.registry image id.0 d'.registry × IsSameBesidePrograms d d'
 Submits image (Err fault) d d' = Refuses d.registry image fault d'.registry × IsSameBesidePrograms d d'
@@ -193,12 +193,12 @@ status_of_fault (faults.Decode fault) = Refused
 status_of_fault (faults.Verify fault) = Refused
 status_of_fault faults.Full = Refused
 
--- an image has a number
+-- a program image has a number
 pub record Numbers (image : List ℕ) (old : Option Db) (code : ℕ) (new : Option Db) (id : ℕ) : Type 0 where
   pub code_is : code ≡ code_of Done
   pub submits : At old new (Submits image (Ok (record { 0 = id })))
 
--- an image is refused; the unit and the text of the fault are told
+-- a program image is refused; the unit and the text of the fault are told
 pub record Rejects (image : List ℕ) (old : Option Db) (code : ℕ) (new : Option Db) (unit : ℕ) (room_old room_new : List ℕ) (len : ℕ) : Type 0 where
   pub fault : RegFault
   pub unit_is : unit ≡ unwrap_or (unit_in fault) nowhere

@@ -1,8 +1,6 @@
 pub mod Held
-pub mod Marks
 pub mod Statuses
 pub mod Units
-pub mod Growth
 pub mod Calls
 pub mod Texts
 pub mod Turns

@@ -13,7 +13,7 @@ use Rattle.boddurci_c.specs.declared.status.Status.{Status}
 use Rattle.boddurci_c.specs.declared.status.Status.TheVariants.{Done, ShortRoom, Stale, TooLong, NoMemory}
 use Rattle.boddurci_c.specs.Statuses.{code_of}
 use Rattle.boddurci_c.specs.Calls.{At, IsCopied}
-use Rattle.boddurci_c.specs.Marks.{AreAmong}
+use Rattle.boddurci_marks.specs.Marks.{AreAmong}
 
 -- the `.pag` that a plan leaves, which without bytes is the one that was there
 abbrev pub pages_left : List ℕ → List ℕ → List ℕ
@@ -26,7 +26,7 @@ pub record IsPlanFor (db : Database) (plan dir pag : List ℕ) : Type 0 where
   pub makes : IsSaving db plan pag dir ⊎ ((plan ≡ []) × AreFilesFor db pag dir)
   pub short : FitsFiles db → length (pages_left plan pag) ≤ pag_limit
 
--- A file of so many bytes reads as these bytes on the pages with these numbers, one page behind the other, and has each other page as it is
+-- A file of so many bytes reads as these bytes on the pages with these numbers, one page after the other, and has each other page as it is
 -- written for the base. A byte past its end counts as zero.
 pub record IsReadBeside (base : Database) (pag_length : ℕ) (numbers pages pag : List ℕ) : Type 0 where
   pub long : length pag ≡ pag_length

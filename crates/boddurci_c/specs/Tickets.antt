@@ -13,7 +13,7 @@ use Rattle.boddurci_c.specs.declared.status.Status.{Status}
 use Rattle.boddurci_c.specs.declared.status.Status.TheVariants.{Done, Changed, NoMemory, NoTicket, TooLong}
 use Rattle.boddurci_c.specs.Statuses.{code_of, status_of}
 use Rattle.boddurci_c.specs.Calls.{At, Shows, Denies, DeniesRun, Does, IsEnd}
-use Rattle.boddurci_c.specs.Growth.{Outgrows}
+use Rattle.boddurci_marks.specs.Growth.{Outgrows}
 use Rattle.boddurci_c.specs.Asked.{Asked}
 
 -- a page as it was asked is the page of its key in a database, which has the same pages and hashes keys so

@@ -27,7 +27,7 @@ pub record IsFirstFrom (db : Database) (from end n : ℕ) : Type 0 where
   pub bare : AreBare db from n
   pub has : pairs_at db n ≢ []
 
--- Pair i of page n is the next: the one at the cursor, or where its page has no such, the first of the first page behind it that has
+-- Pair i of page n is the next: the one at the cursor, or where its page has no such, the first of the first page after it that has
 -- pairs.
 pub record IsNext (db : Database) (cursor : Cursor) (n i : ℕ) : Type 0 where
   pub before : cursor.page < cursor.end
@@ -39,11 +39,11 @@ pub record IsNext (db : Database) (cursor : Cursor) (n i : ℕ) : Type 0 where
 abbrev pub IsOver : Database → Cursor → Type 0
 IsOver db cursor = (cursor.end ≤ cursor.page) ⊎ ((length (pairs_at db cursor.page) ≤ cursor.pair) × AreBare db (cursor.page + 1) cursor.end)
 
--- behind pair i of page n
+-- after pair i of page n
 abbrev pub behind : Cursor → ℕ → ℕ → Cursor
 behind cursor n i = record { page = n; end = cursor.end; pair = i + 1 }
 
--- the next pair is told, and the cursor stands behind it; or a room is too short, and the cursor stays
+-- the next pair is told, and the cursor stands after it; or a room is too short, and the cursor stays
 pub record Tells (db : Database) (old new : Cursor) (key_old key_new : List ℕ) (key_len : ℕ) (value_old value_new : List ℕ) (value_len : ℕ) (status : Status) : Type 0 where
   pub n : ℕ
   pub i : ℕ

@@ -7,22 +7,19 @@ ghost use Rattle.store_moves.specs.Acts.{Acts};
 ghost use Rattle.store_moves.specs.Works.{HasKey};
 ghost use Rattle.sdbm_files.specs.Limits.{FitsFiles};
 ghost use Rattle.boddurci_c.specs.Asked.{result_of};
-ghost use Rattle.boddurci_c.specs.Growth.{has_pairs, may_grow};
-ghost use Rattle.boddurci_c.specs.Marks.{HasMore, DifferOn};
+ghost use Rattle.boddurci_marks.specs.Growth.{has_pairs, may_grow};
+ghost use Rattle.boddurci_marks.specs.Marks.{HasMore, DifferOn};
 ghost use Rattle.boddurci_c.specs.Tickets.{IsAskedOf, IsCurrent, DeniesFinish, worked_out};
 
-use crate::changes::put_marked;
-use crate::growth::may_grow;
-use crate::marks::Marks;
-use crate::snapshot::Snapshot;
 use crate::status::Status;
+use boddurci_marks::{Marks, lends_pairs, may_grow, put_marked};
 use sdbm_addr::KeyBytes;
 use sdbm_dir::Place;
 use sdbm_files::Image;
 use std::alloc::{AllocError, Global};
 use std::marker::Model;
 use store_cmd::{Command, Reply};
-use store_moves::{Worked, key_in, work_on};
+use store_moves::{PageCopy, Worked, key_in, work_on};
 
 /// A command that was asked: the place of its key in a database whose keys hash so, and the page there as it was; and what it came to,
 /// once it is worked.
@@ -31,7 +28,7 @@ pub struct Job {
     command: Command<Global>,
     place: Place,
     kind: KeyBytes,
-    page: Snapshot,
+    page: PageCopy<Global>,
     worked: Option<Worked<Global>>,
 }
 
@@ -47,7 +44,7 @@ impl Model for Job {
 }
 
 impl Job {
-    /// Asks a command about a key, one that `check` takes for the page size of the database. The page is shared, and not copied.
+    /// Asks a command about a key, one that `check_sizes` takes for the page size of the database. The page is shared, and not copied.
     ///
     /// # Errors
     /// `AllocError` where the page has as many owners as can be counted.
@@ -57,7 +54,7 @@ impl Job {
         ensures { IfOk result (λ job. IsAskedOf image.now command job) }
     {
         let place = image.place(key_in(&command));
-        let page = Snapshot::of(image, place.page)?;
+        let page = PageCopy::of(image, place.page)?;
         let kind = image.key_bytes();
         Ok(Job {
             command,
@@ -146,7 +143,7 @@ impl Job {
         match &self.worked {
             None => true,
             Some(worked) => {
-                let there = self.page.has_pairs();
+                let there = lends_pairs(self.page.page());
                 may_grow(
                     self.page.page_size(),
                     there,

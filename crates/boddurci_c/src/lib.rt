@@ -13,17 +13,13 @@ ghost use Rattle.boddurci_c.specs.Tickets.{Asks, AsksNot, Works, WorksNot, Finis
 ghost use Rattle.sdbm_files.specs.Opened.{IsOpenFault, SpellsNoDatabase};
 
 mod base;
-mod changes;
 mod db;
-mod growth;
 mod handle;
 mod job;
 mod loose;
-mod marks;
 mod opened;
 mod plans;
 mod rooms;
-mod snapshot;
 mod status;
 mod texts;
 mod ticket;
@@ -130,7 +126,7 @@ pub extern "C" fn boddurci_count(alloc: Global, slot: &mut Handle, count: &mut u
     Status::Done.code()
 }
 
-// The status of a fault of an image.
+// The status of a fault of a program image.
 fn fault_status(fault: RegFault) -> Status
     ensures { result ≡ status_of_fault fault }
 {

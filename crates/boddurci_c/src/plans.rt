@@ -1,14 +1,14 @@
 //! The plan of a save.
 ghost use Rattle.std.specs.Prelude.{◌≡◌, ◌↔◌, ◌⊎◌, ◌*◌, IsTrue, IfOk, IfErr, OnOk};
-ghost use Rattle.boddurci_c.specs.Marks.{AreAmong};
+ghost use Rattle.boddurci_marks.specs.Marks.{AreAmong};
 ghost use Rattle.boddurci_c.specs.Plans.{HasRead, PlansFor, PlansOn, DeniesPlan};
 
 use crate::base::Base;
-use crate::marks::Marks;
 use crate::opened::Db;
 use crate::rooms::copy_out;
 use crate::status::Status;
-use sdbm_saves::{Marked, PlanFault, plan_marked};
+use boddurci_marks::Marks;
+use sdbm_saves::{Marked, SavePlanFault, plan_marked};
 use std::alloc::{AllocError, Global};
 
 /// Writes the plan that makes files of which some pages were read those of a database into a room, where it fits, and tells its length; no
@@ -54,8 +54,8 @@ fn plan_of(alloc: Global, db: &Db, old: Marked<'_>) -> Result<Vec<u8>, Status>
     match plan_marked(alloc, old, &db.image) {
         Ok(Some(plan)) => Ok(plan),
         Ok(None) => Ok(Vec::new(alloc)),
-        Err(PlanFault::TooLong) => Err(Status::TooLong),
-        Err(PlanFault::NoMemory) => Err(Status::NoMemory),
+        Err(SavePlanFault::TooLong) => Err(Status::TooLong),
+        Err(SavePlanFault::NoMemory) => Err(Status::NoMemory),
     }
 }
 

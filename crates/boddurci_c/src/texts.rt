@@ -8,7 +8,7 @@ use bpf_insn::encode;
 use std::alloc::Global;
 use std::fmt;
 
-/// Why a text has no image. It prints as the fault of `assemble`, or as `NotText`.
+/// Why a text has no program image. It prints as the fault of `assemble`, or as `NotText`.
 #[derive(Clone, Copy, Debug, PartialEq, Eq)]
 pub enum TextFault {
     /// It is not UTF-8.

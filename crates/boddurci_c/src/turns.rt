@@ -9,7 +9,7 @@ use crate::status::Status;
 use sdbm_files::Image;
 use std::alloc::Global;
 
-/// Where a walk over all pairs stands: at a page, with so many of its pairs behind it, on the way to the number above all pages.
+/// Where a walk over all pairs stands: at a page of which it has passed so many pairs, on the way to the number above all pages.
 #[repr(C)]
 #[derive(Clone, Copy)]
 pub struct Cursor {
@@ -18,7 +18,7 @@ pub struct Cursor {
     pub pair: usize,
 }
 
-// A pair, and how many pairs of its page are then behind.
+// A pair, and how many pairs of its page the walk has passed then.
 #[derive(Clone, Copy)]
 struct Met<'a> {
     key: &'a [u8],

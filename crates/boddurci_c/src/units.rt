@@ -1,12 +1,11 @@
-//! At which unit an image is at fault.
+//! At which unit a program image is at fault.
 ghost use Rattle.std.specs.Prelude.{◌≡◌, unwrap_or};
 ghost use Rattle.boddurci_c.specs.Units.{unit_in, nowhere};
 
 use bpf_insn::DecodeFault;
-use bpf_verify::VerifyFault;
 use prog_registry::RegFault;
 
-/// The unit of 8 bytes at which an image is at fault, or the greatest number where it is at none.
+/// The unit of 8 bytes at which a program image is at fault, or the greatest number where it is at none.
 pub fn unit_of(fault: RegFault) -> usize
     ensures { result ≡ unwrap_or (unit_in fault) nowhere }
 {
@@ -20,26 +19,7 @@ pub fn unit_of(fault: RegFault) -> usize
             | DecodeFault::Register(at)
             | DecodeFault::Reserved(at),
         ) => Some(at),
-        RegFault::Verify(VerifyFault::NoMemory | VerifyFault::Empty) => None,
-        RegFault::Verify(
-            VerifyFault::FrameWritten(at)
-            | VerifyFault::NoHelper(at)
-            | VerifyFault::Backward(at)
-            | VerifyFault::JumpOut(at)
-            | VerifyFault::JumpIntoWide(at)
-            | VerifyFault::FallsOff(at)
-            | VerifyFault::Unset(at)
-            | VerifyFault::HelperArgument(at)
-            | VerifyFault::ExitNotNumber(at)
-            | VerifyFault::NotPointer(at)
-            | VerifyFault::PointerOp(at)
-            | VerifyFault::PointerRange(at)
-            | VerifyFault::PointerStored(at)
-            | VerifyFault::ArgumentWritten(at)
-            | VerifyFault::OutOfRecord(at)
-            | VerifyFault::OutOfArgument(at)
-            | VerifyFault::OutOfStack(at),
-        ) => Some(at),
+        RegFault::Verify(fault) => fault.place(),
     };
     unit.unwrap_or(usize::MAX)
 }

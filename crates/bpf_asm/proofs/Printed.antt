@@ -471,7 +471,7 @@ blank : meaning [] ≡ Some Blank
 unfolding meaning meaning_of_body trimmed
 blank = refl
 
--- one line for each instruction, and an empty one behind
+-- one line for each instruction, and an empty one at the end
 abbrev meanings_of : List Insn → List (Option Meaning)
 meanings_of [] = Some Blank ∷ []
 meanings_of (i ∷ is) = Some (Plain i) ∷ meanings_of is

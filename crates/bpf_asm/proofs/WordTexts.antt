@@ -36,7 +36,7 @@ all_len : (p : ℕ → Bool) (xs : List ℕ) → Free p xs → prefix_len (λ x.
 all_len p [] f = refl
 all_len p (x ∷ xs) f = rw (f.0, all_len p xs f.1) (omega arith)
 
--- a test stops at the first byte behind
+-- a test stops at the first byte past those that pass
 pub seam : (p : ℕ → Bool) (xs : List ℕ) (y : ℕ) (ys : List ℕ) → Free p xs → p y ≡ true → prefix_len (λ x. not (p x)) (xs ++ (y ∷ ys)) ≡ length xs
 seam p [] y ys f e = rw e refl
 seam p (x ∷ xs) y ys f e = rw (f.0, seam p xs y ys f.1 e) (omega arith)

@@ -39,7 +39,7 @@ IsDefinition labels at (Some (Mark name)) = IfSome (definition_of labels name) (
 IsDefinition labels at (Some (Plain i)) = ⊤
 IsDefinition labels at (Some (Aimed i name)) = ⊤
 
--- the line at this place has these instructions behind the code, in any text with these labels
+-- the line at this place has these instructions after the code, in any text with these labels
 pub record Emits (labels : Labels) (at : ℕ) (m : Option Meaning) (old new : List Insn) : Type 0 where
   pub here : List Insn
   pub more : new ≡ old ++ here

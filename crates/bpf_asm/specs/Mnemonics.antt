@@ -66,7 +66,7 @@ size_digits Half = codes "16"
 size_digits Word = codes "32"
 size_digits Double = codes "64"
 
--- `32` behind what takes 32 bits
+-- `32` after what takes 32 bits
 abbrev pub with_width : Op → Width → List ℕ
 with_width (MovSx n) w = []
 with_width (Little n) w = []

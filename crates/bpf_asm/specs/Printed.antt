@@ -57,7 +57,7 @@ row_for (insns.Wide d n) = rows.Wide
 abbrev pub pair_text : List ℕ → List ℕ → List ℕ
 pair_text a b = a ++ (codes ", " ++ b)
 
--- what stands behind a mnemonic
+-- what follows a mnemonic
 abbrev pub operands_text : Insn → List ℕ
 operands_text (insns.Alu op w d s) = codes " " ++ pair_text (register_text d) (operand_text s)
 operands_text (insns.Unary op w d) = codes " " ++ register_text d

@@ -18,7 +18,7 @@ is_margin b = (b == 32) || (b == 9)
 abbrev pub trimmed_front : List ℕ → List ℕ
 trimmed_front xs = drop (prefix_len is_margin xs) xs
 
--- without the spaces and tabs behind
+-- without the spaces and tabs at its end
 abbrev pub trimmed_back : List ℕ → List ℕ
 trimmed_back xs = take (length xs - suffix_len is_margin xs) xs
 

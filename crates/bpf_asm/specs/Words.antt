@@ -39,11 +39,11 @@ numeral radix ds = if is_numeral radix ds then Some (digits_value radix ds) else
 abbrev pub is_hex : List ℕ → Bool
 is_hex ds = (slice_index ds 0 == 48) && (slice_index ds 1 == 120)
 
--- decimal, or hex of either case behind `0x`
+-- decimal, or hex of either case after `0x`
 unfoldable pub magnitude : List ℕ → Option ℕ
 magnitude ds = if is_hex ds then numeral 16 (drop 2 ds) else numeral 10 ds
 
--- the same, perhaps behind '-'
+-- the same, perhaps after '-'
 unfoldable pub number : List ℕ → Option ℤ
 number bs = if slice_index bs 0 == 45 then option_map (λ n. neg_ℤ (pos n)) (magnitude (drop 1 bs)) else option_map pos (magnitude bs)
 

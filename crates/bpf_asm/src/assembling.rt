@@ -47,7 +47,7 @@ fn with_distance(insn: Insn, distance: i16) -> Insn
     }
 }
 
-/// The distance from the unit behind `own` to one further down. In a text of more units than a code
+/// The distance from the unit after `own` to one further down. In a text of more units than a code
 /// has, it may be cut off.
 fn distance(own: usize, target: usize) -> i16
     requires { own < target }
@@ -165,7 +165,7 @@ fn read_lines<A: Allocator>(alloc: A, text: &[u8]) -> Result<Vec<Line<'_>, A>, A
 
 /// The code that a text denotes, the only one.
 ///
-/// Each line is blank, a label or an instruction, perhaps with a comment behind `;`. A jump to a
+/// Each line is blank, a label or an instruction, perhaps with a comment after `;`. A jump to a
 /// label goes from the next unit to the number of units above the label.
 ///
 /// It fails with `NoMemory` where memory runs out, and else only where the text denotes no code. The

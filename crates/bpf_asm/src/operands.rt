@@ -79,7 +79,7 @@ pub fn read_address(bytes: &[u8]) -> Result<(u8, i16), FaultKind>
     }
 }
 
-/// The text before the first comma, and the text behind it.
+/// The text before the first comma, and the text after it.
 fn first_part(rest: &[u8]) -> Result<(&[u8], &[u8]), FaultKind>
     ensures { MatchResult result (λ x. parts rest.now ≡ x.0.now ∷ parts x.1.now) (λ _. (a : List ℕ) × (parts rest.now ≡ a ∷ [])) }
 {

@@ -96,7 +96,7 @@ fn row_for(insn: Insn) -> Row
     }
 }
 
-/// What stands behind the mnemonic.
+/// What follows the mnemonic.
 fn write_operands<A: Allocator>(out: &mut String<A>, insn: Insn) -> Result<(), AllocError>
     ensures { OnOk result (string_bytes out.new ≡ string_bytes out.old ++ operands_text insn) }
 {
@@ -192,7 +192,7 @@ fn write_access<A: Allocator>(out: &mut String<A>, insn: Insn) -> Result<(), All
     }
 }
 
-/// Writes an instruction's line behind what was written. Without memory a part of it may stand
+/// Writes an instruction's line after what was written. Without memory a part of it may stand
 /// there.
 pub fn write_line<A: Allocator>(out: &mut String<A>, insn: Insn) -> Result<(), AllocError>
     ensures { OnOk result (string_bytes out.new ≡ string_bytes out.old ++ line_text insn) }

@@ -3,7 +3,8 @@
 ghost use Rattle.std.specs.Prelude.{◌≡◌, IfOk, Some, None};
 ghost use Rattle.std.specs.Option.{option_and_then};
 ghost use Rattle.bpf_verify.specs.Stopped.{HoldAlways};
-ghost use Rattle.bpf_explain.specs.Lines.{lines_up_to, place_of};
+ghost use Rattle.bpf_verify.specs.Fault.{place_of};
+ghost use Rattle.bpf_explain.specs.Lines.{lines_up_to};
 
 use crate::lines::{Line, lines_below, lines_to};
 use bpf_asm::disassemble;
@@ -77,24 +78,5 @@ fn explained<A: Allocator + Copy>(
 fn place_in(fault: Option<VerifyFault>) -> Option<usize>
     ensures { result ≡ option_and_then place_of fault }
 {
-    match fault? {
-        VerifyFault::NoMemory | VerifyFault::Empty => None,
-        VerifyFault::FrameWritten(at)
-        | VerifyFault::NoHelper(at)
-        | VerifyFault::Backward(at)
-        | VerifyFault::JumpOut(at)
-        | VerifyFault::JumpIntoWide(at)
-        | VerifyFault::FallsOff(at)
-        | VerifyFault::Unset(at)
-        | VerifyFault::HelperArgument(at)
-        | VerifyFault::ExitNotNumber(at)
-        | VerifyFault::NotPointer(at)
-        | VerifyFault::PointerOp(at)
-        | VerifyFault::PointerRange(at)
-        | VerifyFault::PointerStored(at)
-        | VerifyFault::ArgumentWritten(at)
-        | VerifyFault::OutOfRecord(at)
-        | VerifyFault::OutOfArgument(at)
-        | VerifyFault::OutOfStack(at) => Some(at),
-    }
+    fault?.place()
 }

@@ -1,6 +1,7 @@
 //! What an access needs, and what is there.
 
 use crate::facts::{kind_of, write_fact, write_place};
+use bpf_helpers::memory::count_of;
 use bpf_insn::{Insn, Size};
 use bpf_range::Kind;
 use bpf_verify::State;
@@ -26,15 +27,6 @@ struct Extent {
     there: u64,
 }
 
-fn bytes_of(size: Size) -> i64 {
-    match size {
-        Size::Byte => 1,
-        Size::Half => 2,
-        Size::Word => 4,
-        Size::Double => 8,
-    }
-}
-
 // The greatest number of a register.
 fn most(state: &State, register: u8) -> i64 {
     let greatest = match kind_of(state, register) {
@@ -51,7 +43,7 @@ fn access_at(size: Size, base: u8, offset: i16) -> [Option<Access>; 2] {
     let access = Access {
         base,
         offset: offset as i64,
-        count: bytes_of(size),
+        count: count_of(size) as i64,
     };
     [Some(access), None]
 }

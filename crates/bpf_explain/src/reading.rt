@@ -41,7 +41,7 @@ pub fn registers_read(insn: Insn) -> [Option<u8>; 3] {
     }
 }
 
-/// How far an instruction may jump from the unit behind it, where it may.
+/// How far an instruction may jump from the unit after it, where it may.
 pub fn distance_of(insn: Insn) -> Option<i64> {
     match insn {
         Insn::Branch { offset, .. } => Some(offset as i64),

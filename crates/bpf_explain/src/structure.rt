@@ -40,7 +40,7 @@ pub fn write_structure<A: Allocator>(
             )
         }
         VerifyFault::FallsOff(_) => {
-            out.push_str("nothing stands behind this instruction: the last one is exit or ja")
+            out.push_str("nothing follows this instruction: the last one is exit or ja")
         }
         VerifyFault::NoMemory => out.push_str("memory ran out"),
         _ => out.push_str("there is no instruction"),

@@ -1,4 +1,4 @@
-//! The table of a program's instructions, and the sentence behind it.
+//! The table of a program's instructions, and the sentence after it.
 
 use crate::explaining::Explanation;
 use crate::facts::{write_facts, write_range};
@@ -100,7 +100,7 @@ fn write_facts_in<A: Allocator>(
     Ok(())
 }
 
-// What is known before an instruction, in the columns behind its numbers: its text stands among them. The row begins at `row`.
+// What is known before an instruction, in the columns after its numbers: its text stands among them. The row begins at `row`.
 fn write_known<A: Allocator + Copy>(
     alloc: A,
     out: &mut String<A>,

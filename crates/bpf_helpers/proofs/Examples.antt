@@ -104,7 +104,7 @@ outcome_copies = refl
 outcome_of_two : run_outcome (set 0 (pos 2) ∷ Exit ∷ []) [] [] here ≡ Some (record { code = 2; word = 0; bytes = []; steps = 2 })
 outcome_of_two = refl
 
--- a run that is stuck has none: no instruction, no number in R0, a load outside, no instruction behind the last
+-- a run that is stuck has none: no instruction, no number in R0, a load outside, no instruction after the last
 no_program_has_none : run_outcome [] [] [] here ≡ None
 no_program_has_none = refl
 

@@ -6,3 +6,4 @@ mod ArithmeticExamples
 mod Examples
 mod HelperExamples
 mod StuckExamples
+pub mod Offsets

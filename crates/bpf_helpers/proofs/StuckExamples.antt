@@ -11,7 +11,7 @@ use Rattle.bpf_insn.specs.declared.insn.Insn.TheVariants.{Alu, Branch, Jump, Jum
 use Rattle.bpf_helpers.specs.Runs.{Ends, Sticks}
 use Rattle.bpf_helpers.proofs.Running.{ends, stops, here, set, move}
 
--- an instruction alone, and the end behind it
+-- an instruction alone, and the end after it
 abbrev lone : Insn → List Insn
 lone i = i ∷ set 0 (pos 0) ∷ Exit ∷ []
 
@@ -19,7 +19,7 @@ lone i = i ∷ set 0 (pos 0) ∷ Exit ∷ []
 abbrev SticksAtOnce : List Insn → Type 0
 SticksAtOnce program = Sticks program (7 ∷ []) (9 ∷ []) here 0 (7 ∷ [])
 
--- stuck behind one instruction
+-- stuck after one instruction
 abbrev SticksNext : List Insn → Type 0
 SticksNext program = Sticks program (7 ∷ []) (9 ∷ []) here 1 (7 ∷ [])
 

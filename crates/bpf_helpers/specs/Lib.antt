@@ -1,3 +1,5 @@
 pub mod Helpers
 pub mod Machine
 pub mod Runs
+pub mod Ends
+pub mod Classes

@@ -11,7 +11,7 @@ use Rattle.bpf_insn.specs.declared.insn.Operand.TheVariants.{Imm, Reg}
 use Rattle.bpf_insn.specs.declared.insn.Insn.{Insn}
 use Rattle.bpf_insn.specs.declared.insn.Insn.TheVariants.{Alu, Unary, Branch, Jump, JumpFar, Call, Exit, Load, LoadSigned, StoreImm, Store, Wide}
 use Rattle.bpf_insn.specs.declared.fields.Fields.{Fields}
-use Rattle.bpf_insn.specs.declared.rows.UnitFault.{UnitFault}
+use Rattle.bpf_insn.specs.declared.operands.UnitFault.{UnitFault}
 use Rattle.bpf_insn.specs.Spelling.{row_of, order_bit, arithmetic_class, jump_class}
 use Rattle.bpf_insn.specs.Rows.{OnlyReads, OnlyFinds}
 

@@ -93,7 +93,7 @@ all_insns (i ∷ is) = flat_map-append option_to_list (slots_of i) (slots is) �
 pub image_more : (code : List Insn) (i : Insn) → image_of (code ++ i ∷ []) ≡ image_of code ++ spelling_of i
 image_more code i = flat_map-append spelling_of code (i ∷ []) ∙ ap (λ (xs : List ℕ). image_of code ++ xs) (append-nil (spelling_of i))
 
--- what was written, and the instruction at the next unit behind it
+-- what was written, and the instruction at the next unit after it
 encodes_more : (code : List Insn) (unit : ℕ) (before : List ℕ) (o : Option Insn) → unit < unit_count code → o ≡ fetch code unit
     → before ≡ image_of (insns_of (take unit (slots code))) → before ++ image_of (option_to_list o) ≡ image_of (insns_of (take (unit + 1) (slots code)))
 encodes_more code unit before o h e b =

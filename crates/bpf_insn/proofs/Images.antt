@@ -4,12 +4,12 @@ use Rattle.std.specs.List.{AllByRecursion}
 use Rattle.std.proofs.lemmas.List.{append-nil, drop_at}
 use Rattle.bpf_insn.specs.declared.insn.Insn.{Insn}
 use Rattle.bpf_insn.specs.declared.insn.Insn.TheVariants.{Alu, Unary, Branch, Jump, JumpFar, Call, Exit, Load, LoadSigned, StoreImm, Store, Wide}
-use Rattle.bpf_insn.specs.declared.rows.UnitFault.{UnitFault}
+use Rattle.bpf_insn.specs.declared.operands.UnitFault.{UnitFault}
 use Rattle.bpf_insn.specs.Spelling.{HasSpelling, spelling_of, NoneBegins}
 use Rattle.bpf_insn.specs.Code.{slots, slots_of, unit_count, units_of, unit_limit, image_of, IsImage}
 use Rattle.bpf_insn.specs.Rows.{OnlyFinds}
 use Rattle.bpf_insn.specs.Decoding.{IsWhole, IsShort, FailsAt, HasFault, placed_fault}
-use Rattle.bpf_insn.specs.declared.rows.UnitFault.TheVariants as unit
+use Rattle.bpf_insn.specs.declared.operands.UnitFault.TheVariants as unit
 use Rattle.bpf_insn.proofs.Codes.{image_more}
 
 -- ---- lengths
@@ -44,7 +44,7 @@ units_above i = omega arith
 
 -- ---- reading
 
--- the image is the code read so far and the rest; and if it is the image of any code, that is the code read so far with a code for the rest behind it
+-- the image is the code read so far and the rest; and if it is the image of any code, that is the code read so far with a code for the rest after it
 pub record IsRead (image : List ℕ) (code : List Insn) (rest : List ℕ) : Type 0 where
   pub each : AllByRecursion HasSpelling code
   pub split : image ≡ image_of code ++ rest

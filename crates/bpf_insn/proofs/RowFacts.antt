@@ -103,7 +103,7 @@ high_half_fits n h = record { opcode_fits = omega arith; dst_fits = omega arith;
 pub tells_row : (i : Insn) (f : Fields) (bytes more : List ℕ) → IsFields f → take 8 bytes ≡ unit_bytes f → HasSpelling i → bytes ≡ spelling_of i ++ more → row_of i ≡ f
 tells_row i f bytes more fits unit has e = unit_tells (row_of i) f (row_fits i has) fits (sym (ap (take 8) e) ∙ unit)
 
--- the second unit behind a constant's first is its high half
+-- the second unit after a constant's first is its high half
 pub tells_high : (d n : ℕ) (f : Fields) (bytes more : List ℕ) → IsFields f → take 8 (drop 8 bytes) ≡ unit_bytes f → HasSpelling (Wide d n) → bytes ≡ spelling_of (Wide d n) ++ more → high_half n ≡ f
 tells_high d n f bytes more fits unit has e = unit_tells (high_half n) f (high_half_fits n has.1) fits (sym (ap (λ (xs : List ℕ). take 8 (drop 8 xs)) e) ∙ unit)
 

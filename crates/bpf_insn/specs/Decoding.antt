@@ -2,8 +2,8 @@
 use Rattle.std.specs.Prelude.{ℕ, ◌≡◌, ◌≢◌, ◌≤◌, ◌<◌, ◌/◌, ◌%◌, ◌++◌, List, length, ⊤, Result, MatchResult, codes}
 use Rattle.std.specs.Fmt.{decimal}
 use Rattle.bpf_insn.specs.declared.insn.Insn.{Insn}
-use Rattle.bpf_insn.specs.declared.rows.UnitFault.{UnitFault}
-use Rattle.bpf_insn.specs.declared.rows.UnitFault.TheVariants as unit
+use Rattle.bpf_insn.specs.declared.operands.UnitFault.{UnitFault}
+use Rattle.bpf_insn.specs.declared.operands.UnitFault.TheVariants as unit
 use Rattle.bpf_insn.specs.declared.fault.DecodeFault.{DecodeFault}
 use Rattle.bpf_insn.specs.declared.fault.DecodeFault.TheVariants.{NoMemory, Length, TooLong, Opcode, HalfWide, Register, Reserved}
 use Rattle.bpf_insn.specs.Spelling.{NoneBegins}

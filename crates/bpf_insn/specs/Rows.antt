@@ -2,7 +2,7 @@
 use Rattle.std.specs.Prelude.{◌≡◌, ◌*◌, ◌++◌, List, ℕ, drop, Result, Ok, IfOk}
 use Rattle.bpf_insn.specs.declared.insn.Insn.{Insn}
 use Rattle.bpf_insn.specs.declared.fields.Fields.{Fields}
-use Rattle.bpf_insn.specs.declared.rows.UnitFault.{UnitFault}
+use Rattle.bpf_insn.specs.declared.operands.UnitFault.{UnitFault}
 use Rattle.bpf_insn.specs.Spelling.{HasSpelling, row_of, spelling_of}
 use Rattle.bpf_insn.specs.Code.{units_of}
 

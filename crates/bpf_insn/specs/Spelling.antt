@@ -149,7 +149,7 @@ abbrev pub high_number : Insn → ℕ
 high_number (Wide d n) = n / 2 ^ 32
 high_number i = 0
 
--- the bytes behind the first unit
+-- the bytes after the first unit
 abbrev pub second_unit : Insn → List ℕ
 second_unit (Alu op w d s) = []
 second_unit (Unary op w d) = []

@@ -7,7 +7,7 @@ use crate::insn::{Op, Size, Width};
 use byteorder::{BigEndian, ByteOrder, LittleEndian};
 
 /// The number above all numbers of 32 bits.
-const ABOVE_32: u64 = 0x1_0000_0000;
+pub(crate) const ABOVE_32: u64 = 0x1_0000_0000;
 
 /// The low part of a number.
 fn low_part(size: Size, a: u64) -> u64

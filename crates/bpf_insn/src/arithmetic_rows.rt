@@ -6,7 +6,7 @@ ghost use Rattle.bpf_insn.specs.Rows.{Reads, OnlyReads};
 
 use crate::fields::Fields;
 use crate::insn::{Insn, Op, Operand, Size, Width};
-use crate::rows::{UnitFault, operand_of};
+use crate::operands::{UnitFault, operand_of};
 
 /// The operation with an operand of a number and a selector.
 fn op_of(code: u8, selector: i16) -> Option<Op>

@@ -3,10 +3,8 @@
 ghost use Rattle.std.specs.Prelude.{◌≡◌};
 ghost use Rattle.bpf_insn.specs.Conditions.{comparison, holds_of};
 
+use crate::arithmetic::ABOVE_32;
 use crate::insn::{Test, Width};
-
-/// The number above all numbers of 32 bits.
-const ABOVE_32: u64 = 0x1_0000_0000;
 
 fn holds64(test: Test, a: u64, b: u64) -> bool
     ensures { result ≡ comparison test Width.W64 a b }

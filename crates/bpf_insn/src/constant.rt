@@ -6,9 +6,9 @@ ghost use Rattle.bpf_insn.specs.Rows.{Finds, OnlyFinds};
 
 use crate::fields::Fields;
 use crate::insn::Insn;
-use crate::rows::UnitFault;
+use crate::operands::UnitFault;
 
-/// The constant whose first unit has these fields and whose second stands behind it.
+/// The constant whose first unit has these fields and whose second stands after it.
 pub fn wide_of(first: Fields, bytes: &[u8]) -> Result<Insn, UnitFault>
     requires opcode { first.opcode ≡ 0x18 }
     requires unit { take 8 bytes.now ≡ unit_bytes first }

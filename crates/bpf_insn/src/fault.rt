@@ -3,7 +3,7 @@
 ghost use Rattle.std.specs.Prelude.{◌≡◌};
 ghost use Rattle.bpf_insn.specs.declared.fault.DecodeFault.TheVariants.{NoMemory};
 
-use crate::rows::UnitFault;
+use crate::operands::UnitFault;
 use std::alloc::AllocError;
 use std::error::Error;
 use std::fmt;

@@ -6,7 +6,7 @@ ghost use Rattle.bpf_insn.specs.Rows.{Reads, OnlyReads};
 
 use crate::fields::Fields;
 use crate::insn::{Insn, Operand, Test, Width};
-use crate::rows::{UnitFault, operand_of};
+use crate::operands::{UnitFault, operand_of};
 
 /// The test of a number.
 fn test_of(code: u8) -> Option<Test>

@@ -17,6 +17,7 @@ mod fields;
 mod insn;
 mod jump_rows;
 mod memory_rows;
+mod operands;
 mod reading;
 mod rows;
 mod spelling;

@@ -6,7 +6,7 @@ ghost use Rattle.bpf_insn.specs.Rows.{Reads, OnlyReads};
 
 use crate::fields::Fields;
 use crate::insn::{Insn, Size};
-use crate::rows::UnitFault;
+use crate::operands::UnitFault;
 
 /// A load.
 fn load(fields: Fields, size: Size) -> Result<Insn, UnitFault>

@@ -6,7 +6,8 @@ ghost use Rattle.bpf_insn.specs.Rows.{Finds, OnlyFinds};
 use crate::constant::wide_of;
 use crate::fields::Fields;
 use crate::insn::Insn;
-use crate::rows::{UnitFault, insn_of};
+use crate::operands::UnitFault;
+use crate::rows::insn_of;
 
 /// The opcode of a constant of 64 bits.
 const WIDE: u8 = 0x18;

@@ -259,7 +259,7 @@ pub fn row(insn: Insn) -> Fields
     }
 }
 
-/// Writes the one spelling of an instruction behind what was written. Without memory a part of it
+/// Writes the one spelling of an instruction after what was written. Without memory a part of it
 /// may stand there.
 pub fn put_insn<A: Allocator>(out: &mut Vec<u8, A>, insn: Insn) -> Result<(), AllocError>
     requires { HasSpelling insn }

@@ -1,6 +1,3 @@
-pub mod Leading
-pub mod OneEnd
-pub mod Chains
 pub mod Sums
 pub mod Writing
 pub mod Accesses

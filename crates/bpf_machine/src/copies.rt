@@ -1,149 +1,147 @@
 //! The helper that copies bytes.
 
-ghost use Rattle.std.specs.Prelude.{◌≡◌, ◌≤◌, ◌<◌, ◌+◌, ◌+ℤ◌, length, take, drop, IfSome};
-ghost use Rattle.bpf_insn.specs.Code.{unit_limit};
+ghost use Rattle.std.specs.Prelude.{◌≡◌, ◌≤◌, ◌+◌, Some, IsSome, length, take, drop, slice_index};
+ghost use Rattle.std.specs.Option.{option_and_then};
+ghost use Rattle.bpf_helpers.specs.declared.values.Env.{Env as EnvOf};
+ghost use Rattle.bpf_helpers.specs.declared.values.Region.TheVariants.{Record, Stack as StackBytes};
 ghost use Rattle.bpf_helpers.specs.Helpers.{copy_limit};
-ghost use Rattle.bpf_helpers.specs.Machine.{inside, base_of, splice, copy_of, helper_call};
+ghost use Rattle.bpf_helpers.specs.Machine.{splice, with_contents};
 ghost use Rattle.bpf_helpers.specs.Runs.{record_limit, argument_limit};
-ghost use Rattle.bpf_machine.specs.Cpu.{config_of, Leads, memory_of};
+ghost use Rattle.bpf_machine.specs.Words.{pointed, bare, bytes_at, pasted, Copies};
 
-use crate::cpu::Cpu;
-use crate::memory::{move_within, put};
-use crate::places::place_of;
-use bpf_helpers::{Env, Helper, Region, Value};
-use bpf_insn::{Code, Insn};
-use std::alloc::Allocator;
+use crate::cores::Core;
+use crate::places::place_at;
+use bpf_helpers::Region;
+use bpf_helpers::memory::{move_within, put};
 
-/// The most bytes that one copy moves.
-const COPY_LIMIT: u64 = 1024;
-
-/// The place in memory of so many bytes at an offset, where they are wholly inside.
-fn place_at(region: Region, offset: i64, count: usize, len: usize) -> Option<usize>
-    requires few { count ≤ copy_limit }
-    requires short { len ≤ record_limit }
-    ensures value { result ≡ inside (offset +ℤ base_of region) count len }
-    ensures fits { IfSome result (λ place. place + count ≤ len) }
+/// Copies n bytes from a place of one memory to a place of another.
+fn put_part(to: &mut [u8], at: usize, from: &[u8], start: usize, n: usize)
+    requires to_fits { at + n ≤ length to.old }
+    requires from_fits { start + n ≤ length from.now }
+    requires limit { n ≤ copy_limit }
+    requires to_short { length to.old ≤ record_limit }
+    requires from_short { length from.now ≤ record_limit }
+    ensures { to.new ≡ splice to.old at (take n (drop start from.now)) }
 {
-    place_of(region, offset, 0, count, len)
+    put(to, at, &from[start..start + n]);
 }
 
-/// Copies n bytes of a region into the record, as they were before.
+/// The n bytes at an address come to a place in the record.
 fn copy_to_record(
+    core: &Core,
     bytes: &mut [u8],
-    to: usize,
-    cpu: &Cpu,
     argument: &[u8],
+    to: usize,
     region: Region,
-    from: usize,
+    word: u64,
     n: usize,
 )
-    requires to_fits { to + n ≤ length bytes.old }
-    requires limit { n ≤ copy_limit }
     requires bytes_fit { length bytes.old ≤ record_limit }
     requires argument_fits { length argument.now ≤ argument_limit }
-    requires from_fits { from + n ≤ length (memory_of region cpu.now bytes.old argument.now) }
-    ensures { bytes.new ≡ splice bytes.old to (take n (drop from (memory_of region cpu.now bytes.old argument.now))) }
+    requires limit { n ≤ copy_limit }
+    requires to_fits { to + n ≤ length bytes.old }
+    requires goes { IsSome (bytes_at (bare 0 core.now bytes.old argument.now) (pointed region word) n) }
+    ensures { option_and_then (with_contents (bare 0 core.now bytes.old argument.now) Record to) (bytes_at (bare 0 core.now bytes.old argument.now) (pointed region word) n) ≡ Some (bare 0 core.now bytes.new argument.now) }
 {
     match region {
-        Region::Record => move_within(bytes, to, from, n),
-        Region::Argument => put(bytes, to, &argument[from..from + n]),
-        Region::Stack => put(bytes, to, &cpu.stack[from..from + n]),
+        Region::Record => {
+            let start = place_at(region, word, n, bytes.len());
+            move_within(bytes, to, start, n);
+        }
+        Region::Argument => {
+            let start = place_at(region, word, n, argument.len());
+            put_part(bytes, to, argument, start, n);
+        }
+        Region::Stack => {
+            let start = place_at(region, word, n, 512);
+            put_part(bytes, to, &core.stack, start, n);
+        }
     }
 }
 
-/// Copies n bytes of a region into the stack, as they were before.
+/// The n bytes at an address come to a place on the stack.
 fn copy_to_stack(
-    cpu: &mut Cpu,
-    to: usize,
+    core: &mut Core,
     bytes: &[u8],
     argument: &[u8],
+    to: usize,
     region: Region,
-    from: usize,
+    word: u64,
     n: usize,
 )
-    requires to_fits { to + n ≤ 512 }
-    requires limit { n ≤ copy_limit }
     requires bytes_fit { length bytes.now ≤ record_limit }
     requires argument_fits { length argument.now ≤ argument_limit }
-    requires from_fits { from + n ≤ length (memory_of region cpu.old bytes.now argument.now) }
-    ensures { cpu.new ≡ record cpu.old { stack = splice cpu.old.stack to (take n (drop from (memory_of region cpu.old bytes.now argument.now))) } }
+    requires limit { n ≤ copy_limit }
+    requires to_fits { to + n ≤ 512 }
+    requires goes { IsSome (bytes_at (bare 0 core.old bytes.now argument.now) (pointed region word) n) }
+    ensures value { option_and_then (with_contents (bare 0 core.old bytes.now argument.now) StackBytes to) (bytes_at (bare 0 core.old bytes.now argument.now) (pointed region word) n) ≡ Some (bare 0 core.new bytes.now argument.now) }
+    ensures registers { core.new.registers ≡ core.old.registers }
 {
     match region {
-        Region::Record => put(&mut cpu.stack, to, &bytes[from..from + n]),
-        Region::Argument => put(&mut cpu.stack, to, &argument[from..from + n]),
-        Region::Stack => move_within(&mut cpu.stack, to, from, n),
+        Region::Record => {
+            let start = place_at(region, word, n, bytes.len());
+            put_part(&mut core.stack, to, bytes, start, n);
+        }
+        Region::Argument => {
+            let start = place_at(region, word, n, argument.len());
+            put_part(&mut core.stack, to, argument, start, n);
+        }
+        Region::Stack => {
+            let start = place_at(region, word, n, 512);
+            move_within(&mut core.stack, to, start, n);
+        }
     }
 }
 
-/// Copies n bytes from one pointer to another.
-fn copy<A: Allocator>(
-    code: &Code<A>,
-    cpu: &mut Cpu,
+/// The n bytes at an address come to another.
+#[tactic(auto, using(crate::proofs::Copying::pasted_to, crate::proofs::Copying::pasted_from, crate::proofs::Copying::none_to_argument))]
+fn copy(
+    core: &mut Core,
     bytes: &mut [u8],
     argument: &[u8],
-    env: Env,
-    to: (Region, i64),
-    from: (Region, i64),
-    count: u64,
-) -> Option<Insn>
-    requires place { cpu.old.place < unit_limit }
+    to: (Region, u64),
+    from: (Region, u64),
+    n: usize,
+)
     requires bytes_fit { length bytes.old ≤ record_limit }
     requires argument_fits { length argument.now ≤ argument_limit }
-    ensures { Leads code.now (copy_of to.0 to.1 from.0 from.1 count (config_of cpu.old bytes.old argument.now env)) (config_of cpu.old bytes.old argument.now env) (config_of cpu.new bytes.new argument.now env) result }
+    requires limit { n ≤ copy_limit }
+    requires goes { IsSome (pasted (bare 0 core.old bytes.old argument.now) (pointed to.0 to.1) (pointed from.0 from.1) n) }
+    ensures value { pasted (bare 0 core.old bytes.old argument.now) (pointed to.0 to.1) (pointed from.0 from.1) n ≡ Some (bare 0 core.new bytes.new argument.now) }
+    ensures registers { core.new.registers ≡ core.old.registers }
 {
-    if count > COPY_LIMIT {
-        return None;
-    }
-    let n = count as usize;
-    let to_place = place_at(to.0, to.1, n, cpu.memory(bytes, argument, to.0).len())?;
-    let from_place = place_at(from.0, from.1, n, cpu.memory(bytes, argument, from.0).len())?;
     match to.0 {
         Region::Record => {
-            let next = cpu.go(code, cpu.place + 1)?;
-            copy_to_record(bytes, to_place, cpu, argument, from.0, from_place, n);
-            cpu.answer(env, Helper::Copy, count);
-            Some(next)
+            let place = place_at(to.0, to.1, n, bytes.len());
+            copy_to_record(core, bytes, argument, place, from.0, from.1, n);
         }
-        Region::Argument => None,
+        Region::Argument => unreachable!(),
         Region::Stack => {
-            let next = cpu.go(code, cpu.place + 1)?;
-            copy_to_stack(cpu, to_place, bytes, argument, from.0, from_place, n);
-            cpu.answer(env, Helper::Copy, count);
-            Some(next)
+            let place = place_at(to.0, to.1, n, 512);
+            copy_to_stack(core, bytes, argument, place, from.0, from.1, n);
         }
     }
 }
 
-/// A call of the helper that copies: R1 is where to, R2 is where from, and R3 is how many bytes.
-pub fn step_copy<A: Allocator>(
-    code: &Code<A>,
-    cpu: &mut Cpu,
-    bytes: &mut [u8],
-    argument: &[u8],
-    env: Env,
-) -> Option<Insn>
-    requires place { cpu.old.place < unit_limit }
+/// A call of the helper that copies: R1 is where to, R2 is where from, and R3 is how many bytes. The
+/// regions are those into which R1 and R2 point.
+pub fn do_copy(core: &mut Core, bytes: &mut [u8], argument: &[u8], to: Region, from: Region)
     requires bytes_fit { length bytes.old ≤ record_limit }
     requires argument_fits { length argument.now ≤ argument_limit }
-    ensures { Leads code.now (helper_call (config_of cpu.old bytes.old argument.now env) Helper.Copy) (config_of cpu.old bytes.old argument.now env) (config_of cpu.new bytes.new argument.now env) result }
+    requires limit { slice_index core.old.registers 3 ≤ copy_limit }
+    requires goes { IsSome (pasted (bare 0 core.old bytes.old argument.now) (pointed to (slice_index core.old.registers 1)) (pointed from (slice_index core.old.registers 2)) (slice_index core.old.registers 3)) }
+    ensures { (env : EnvOf) → Copies to from core.old core.new bytes.old bytes.new argument.now env }
 {
-    let Value::Pointer(to, to_offset) = cpu.register(1) else {
-        return None;
-    };
-    let Value::Pointer(from, from_offset) = cpu.register(2) else {
-        return None;
-    };
-    let Value::Number(count) = cpu.register(3) else {
-        return None;
-    };
+    let to_word = core.registers[1];
+    let from_word = core.registers[2];
+    let count = core.registers[3];
     copy(
-        code,
-        cpu,
+        core,
         bytes,
         argument,
-        env,
-        (to, to_offset),
-        (from, from_offset),
-        count,
-    )
+        (to, to_word),
+        (from, from_word),
+        count as usize,
+    );
+    core.registers[0] = count;
 }

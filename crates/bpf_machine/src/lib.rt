@@ -1,25 +1,23 @@
-//! Machines that run programs on a record.
+//! The machines that run programs on a record.
 //!
-//! `run_checked` runs any code, accepted or not. It tests each instruction before it does anything of
-//! it, and stops where one has no effect. `run` runs accepted programs alone, with registers that are
-//! bare words and without those tests.
+//! `run` runs accepted programs alone: each of its registers is one bare word, and nothing is tested that
+//! was proved of the program. `run_checked`, which is that of `bpf_checked`, runs any code, accepted or
+//! not, and tests each instruction before it does anything of it.
 #![tactic(auto)]
 
+mod access;
 mod arithmetic;
+mod begin;
 mod calls;
-mod checked;
 mod copies;
-mod cpu;
-mod ends;
-mod jumps;
-mod loads;
-mod memory;
+mod cores;
 mod places;
-mod steps;
-mod stores;
-mod values;
-mod words;
+mod reaching;
+mod ready;
+mod regions;
+mod running;
+mod turns;
 
-pub use checked::{Checked, run_checked};
-pub use ends::Ended;
-pub use words::running::run;
+pub use bpf_checked::{Checked, run_checked};
+pub use bpf_helpers::Ended;
+pub use running::run;

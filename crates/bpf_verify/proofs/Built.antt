@@ -11,11 +11,12 @@ use Rattle.bpf_insn.specs.Code.{fetch, slots, unit_count, units_of}
 use Rattle.bpf_helpers.specs.declared.values.Env.{Env}
 use Rattle.bpf_helpers.specs.Helpers.{numbered}
 use Rattle.bpf_helpers.specs.Runs.{start, IsInput}
+use Rattle.bpf_flow.specs.States.{IsConfig}
+use Rattle.bpf_flow.specs.Steps.{HasNext, HasJump, distance_of}
+use Rattle.bpf_flow.specs.Steps.{CanFlow}
 use Rattle.bpf_verify.specs.declared.fault.VerifyFault.TheVariants.{NoHelper, FallsOff, JumpOut, JumpIntoWide}
-use Rattle.bpf_verify.specs.States.{IsConfig}
-use Rattle.bpf_verify.specs.Steps.{HasNext, HasJump, distance_of}
 use Rattle.bpf_verify.specs.declared.fault.VerifyFault.{VerifyFault}
-use Rattle.bpf_verify.specs.Structure.{first_of, frame_fault, helper_fault, jump_fault, end_fault, insn_fault, unit_fault, CanFlow, IsBuilt}
+use Rattle.bpf_verify.specs.Structure.{first_of, frame_fault, helper_fault, jump_fault, end_fault, insn_fault, unit_fault, IsBuilt}
 
 first_none : (a b : Option VerifyFault) → first_of a b ≡ None → a ≡ None
 first_none None b e = refl
@@ -104,7 +105,7 @@ behind_first (StoreImm n b off k) is = one_unit (StoreImm n b off k) is
 behind_first (Store n b off s) is = one_unit (Store n b off s) is
 behind_first (Wide d n) is = further (Some (Wide d n)) (None ∷ slots is) 1 (further None (slots is) 0 (first_begins is))
 
--- n units behind u
+-- n units after u
 passed : ℕ → ℕ → ℕ
 passed zero n = n
 passed (suc u) n = suc (passed u n)
@@ -114,7 +115,7 @@ unfolding passed
 passed_is zero n = omega arith
 passed_is (suc u) n = let e : passed u n ≡ u + n = passed_is u n in omega arith
 
--- behind an instruction the next one begins, or the code ends
+-- after an instruction the next one begins, or the code ends
 behind : (code : List Insn) (u : ℕ) (i : Insn) → fetch code u ≡ Some i → Behind (slots code) (passed u (units_of i))
 unfolding passed
 behind [] u i e = let f : ⊥ = cc in absurd f

@@ -19,9 +19,9 @@ use Rattle.bpf_helpers.specs.declared.helpers.Helper.{Helper}
 use Rattle.bpf_helpers.specs.declared.helpers.Helper.TheVariants.{Reply, Now, Present, Who, Copy}
 use Rattle.bpf_helpers.specs.Helpers.{Answer, answer_of}
 use Rattle.bpf_helpers.specs.Runs.{AreBytes}
-use Rattle.bpf_verify.specs.States.{IsConfig}
+use Rattle.bpf_flow.specs.States.{IsConfig}
 use Rattle.bpf_helpers.proofs.Lengths.{allowed, length_splice, inside_at, length_low, taken, mapped, moved}
-use Rattle.bpf_verify.proofs.Memories.{contents_bytes, drop_bytes}
+use Rattle.bpf_flow.proofs.Memories.{contents_bytes, drop_bytes}
 
 -- ---- bytes
 

@@ -8,15 +8,16 @@ use Rattle.std.proofs.lemmas.Option.{same_Some}
 use Rattle.bpf_insn.specs.declared.insn.Insn.{Insn}
 use Rattle.bpf_insn.specs.Code.{fetch, slots, unit_count, units_of}
 use Rattle.bpf_helpers.specs.Machine.{Config, effect, exit_code, arrives, step, ended}
-use Rattle.bpf_verify.specs.declared.state.State.{State}
-use Rattle.bpf_verify.specs.States.{States, state_at, Fits, IsConfig}
-use Rattle.bpf_verify.specs.Steps.{Edges, Sound, Flows, FitsSome, distance_of}
+use Rattle.bpf_flow.specs.declared.state.State.{State}
+use Rattle.bpf_flow.specs.States.{Fits, IsConfig}
+use Rattle.bpf_flow.specs.Steps.{Edges, Sound, Flows, FitsSome, distance_of}
+use Rattle.bpf_verify.specs.States.{States, state_at}
 use Rattle.bpf_verify.specs.Structure.{IsBuilt}
 use Rattle.bpf_verify.specs.Verified.{FitsAt, GoesOn, Consistent}
 use Rattle.bpf_verify.specs.Visits.{AreStates, Joins, Follows, Grows, Adds, Arrived, ConsistentAt, VisitedAt}
+use Rattle.bpf_flow.proofs.Jumping.{natural}
 use Rattle.bpf_verify.proofs.Built.{can_flow, next_begins, jump_begins, distance_forward}
 use Rattle.bpf_verify.proofs.Configs.{keeps_config}
-use Rattle.bpf_verify.proofs.Jumping.{natural}
 
 pub get_same : (xs : States) (i : ℕ) (s : State) → i < length xs → state_at (slice_set xs i (Some s)) i ≡ Some s
 get_same [] i s h = absurd (omega arith)

@@ -8,11 +8,11 @@ use Rattle.bpf_insn.specs.declared.insn.Test.{Test}
 use Rattle.bpf_insn.specs.declared.insn.Width.{Width}
 use Rattle.bpf_insn.specs.declared.insn.Operand.{Operand}
 use Rattle.bpf_insn.specs.declared.insn.Insn.TheVariants.{Alu, Unary, Branch, Jump, JumpFar, Call, Exit, Load, LoadSigned, StoreImm, Store, Wide}
-use Rattle.bpf_verify.specs.declared.state.State.{State}
-use Rattle.bpf_verify.specs.declared.state.Way.{Way}
-use Rattle.bpf_verify.specs.declared.state.Way.TheVariants as way
+use Rattle.bpf_flow.specs.declared.state.State.{State}
+use Rattle.bpf_flow.specs.declared.state.Way.{Way}
+use Rattle.bpf_flow.specs.declared.state.Way.TheVariants as way
+use Rattle.bpf_flow.specs.Steps.{Flows, HasNext, HasJump, GoesNext, GoesJump, IsPlain, edges_of}
 use Rattle.bpf_verify.specs.States.{States, state_at}
-use Rattle.bpf_verify.specs.Steps.{Flows, HasNext, HasJump, GoesNext, GoesJump, IsPlain, edges_of}
 use Rattle.bpf_verify.specs.Visits.{Keeps, Ready}
 use Rattle.bpf_verify.proofs.Growing.{get_other}
 

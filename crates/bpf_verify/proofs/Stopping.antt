@@ -4,8 +4,8 @@ use Rattle.std.proofs.lemmas.Option.{same_Some}
 use Rattle.bpf_insn.specs.declared.insn.Insn.{Insn}
 use Rattle.bpf_helpers.specs.Machine.{Config}
 use Rattle.bpf_helpers.specs.Runs.{start, Reaches}
-use Rattle.bpf_verify.specs.declared.fault.FlowFault.{FlowFault}
-use Rattle.bpf_verify.specs.declared.fault.FlowFault.TheVariants as flow
+use Rattle.bpf_flow.specs.declared.fault.FlowFault.{FlowFault}
+use Rattle.bpf_flow.specs.declared.fault.FlowFault.TheVariants as flow
 use Rattle.bpf_verify.specs.Fault.{placed_fault}
 use Rattle.bpf_verify.specs.declared.fault.VerifyFault.{VerifyFault}
 use Rattle.bpf_verify.specs.States.{States}

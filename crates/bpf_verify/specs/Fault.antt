@@ -1,8 +1,8 @@
 -- The faults of instructions that are reached, and the text of a fault (own).
 use Rattle.std.specs.Prelude.{ℕ, List, Option, Some, None, codes}
 use Rattle.bpf_insn.specs.Decoding.{with_place}
-use Rattle.bpf_verify.specs.declared.fault.FlowFault.{FlowFault}
-use Rattle.bpf_verify.specs.declared.fault.FlowFault.TheVariants as flow
+use Rattle.bpf_flow.specs.declared.fault.FlowFault.{FlowFault}
+use Rattle.bpf_flow.specs.declared.fault.FlowFault.TheVariants as flow
 use Rattle.bpf_verify.specs.declared.fault.VerifyFault.{VerifyFault}
 use Rattle.bpf_verify.specs.declared.fault.VerifyFault.TheVariants.{NoMemory, Empty, FrameWritten, NoHelper, Backward, JumpOut, JumpIntoWide, FallsOff, Unset, HelperArgument, ExitNotNumber, NotPointer, PointerOp, PointerRange, PointerStored, ArgumentWritten, OutOfRecord, OutOfArgument, OutOfStack}
 
@@ -19,6 +19,28 @@ placed_fault flow.ArgumentWritten at = ArgumentWritten at
 placed_fault flow.OutOfRecord at = OutOfRecord at
 placed_fault flow.OutOfArgument at = OutOfArgument at
 placed_fault flow.OutOfStack at = OutOfStack at
+
+-- the unit that a fault names
+abbrev pub place_of : VerifyFault → Option ℕ
+place_of NoMemory = None
+place_of Empty = None
+place_of (FrameWritten at) = Some at
+place_of (NoHelper at) = Some at
+place_of (Backward at) = Some at
+place_of (JumpOut at) = Some at
+place_of (JumpIntoWide at) = Some at
+place_of (FallsOff at) = Some at
+place_of (Unset at) = Some at
+place_of (HelperArgument at) = Some at
+place_of (ExitNotNumber at) = Some at
+place_of (NotPointer at) = Some at
+place_of (PointerOp at) = Some at
+place_of (PointerRange at) = Some at
+place_of (PointerStored at) = Some at
+place_of (ArgumentWritten at) = Some at
+place_of (OutOfRecord at) = Some at
+place_of (OutOfArgument at) = Some at
+place_of (OutOfStack at) = Some at
 
 -- a name, and in brackets a place where there is one
 abbrev pub placed_text : List ℕ → Option ℕ → List ℕ

@@ -4,7 +4,7 @@ use Rattle.bpf_insn.specs.declared.insn.Insn.{Insn}
 use Rattle.bpf_helpers.specs.declared.values.Env.{Env}
 use Rattle.bpf_helpers.specs.Machine.{Config}
 use Rattle.bpf_helpers.specs.Runs.{start, IsInput, Reaches}
-use Rattle.bpf_verify.specs.declared.fault.FlowFault.{FlowFault}
+use Rattle.bpf_flow.specs.declared.fault.FlowFault.{FlowFault}
 use Rattle.bpf_verify.specs.declared.fault.VerifyFault.{VerifyFault}
 use Rattle.bpf_verify.specs.declared.fault.VerifyFault.TheVariants.{NoMemory, Empty, FrameWritten, NoHelper, Backward, JumpOut, JumpIntoWide, FallsOff, Unset, HelperArgument, ExitNotNumber, NotPointer, PointerOp, PointerRange, PointerStored, ArgumentWritten, OutOfRecord, OutOfArgument, OutOfStack}
 use Rattle.bpf_verify.specs.Fault.{placed_fault}

@@ -1,5 +1,5 @@
 -- What is wrong with an instruction, reached or not, and why a code is refused (own).
-use Rattle.std.specs.Prelude.{ℕ, ◌≡◌, ◌≢◌, ◌≤ℤ◌, ⊤, ◌+◌, ◌<◌, ◌⊎◌, ◌==◌, nat_le, if◌then◌else◌, ℤ, pos, negsuc, List, [], Option, Some, None, IsSome}
+use Rattle.std.specs.Prelude.{ℕ, ◌≡◌, ◌≢◌, ⊤, ◌+◌, ◌<◌, ◌⊎◌, ◌==◌, nat_le, if◌then◌else◌, ℤ, pos, negsuc, List, [], Option, Some, None, IsSome}
 use Rattle.std.specs.Option.{option_and_then, is_some}
 use Rattle.bpf_insn.specs.declared.insn.Insn.{Insn}
 use Rattle.bpf_insn.specs.declared.insn.Insn.TheVariants.{Alu, Unary, Branch, Jump, JumpFar, Call, Exit, Load, LoadSigned, StoreImm, Store, Wide}
@@ -92,16 +92,3 @@ IsMet code (OutOfStack at) = IsSome (fetch code at)
 -- Why a code is refused: its structure is at fault, or else the fault was met in the pass over its instructions.
 abbrev pub IsRefused : List Insn → VerifyFault → Type 0
 IsRefused code fault = IsMisbuilt code fault ⊎ (IsBuilt code × IsMet code fault)
-
--- R10 is not written, jumps lead forward, and helpers are there.
-abbrev pub CanFlow : Insn → Type 0
-CanFlow (Alu op w d s) = d ≢ 10
-CanFlow (Unary op w d) = d ≢ 10
-CanFlow (Branch t w d s off) = pos 0 ≤ℤ off
-CanFlow (Jump off) = pos 0 ≤ℤ off
-CanFlow (JumpFar off) = pos 0 ≤ℤ off
-CanFlow (Call id) = IsSome (numbered id)
-CanFlow (Load n d b off) = d ≢ 10
-CanFlow (LoadSigned n d b off) = d ≢ 10
-CanFlow (Wide d n) = d ≢ 10
-CanFlow i = ⊤

@@ -7,8 +7,9 @@ use Rattle.bpf_helpers.specs.declared.values.Env.{Env}
 use Rattle.bpf_helpers.specs.Machine.{Config, step, ended}
 use Rattle.bpf_helpers.specs.Runs.{start, IsInput}
 use Rattle.bpf_range.specs.declared.kinds.Kind.{Kind}
-use Rattle.bpf_verify.specs.declared.state.State.{State}
-use Rattle.bpf_verify.specs.States.{States, state_at, IsConfig, Fits, kind_in}
+use Rattle.bpf_flow.specs.declared.state.State.{State}
+use Rattle.bpf_flow.specs.States.{IsConfig, Fits, kind_in}
+use Rattle.bpf_verify.specs.States.{States, state_at}
 
 -- The kind that the state at a unit gives a register, where a state stands there.
 abbrev pub kind_at : States → ℕ → ℕ → Option Kind

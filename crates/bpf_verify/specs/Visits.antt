@@ -3,9 +3,10 @@ use Rattle.std.specs.Prelude.{ℕ, ◌≡◌, ◌<◌, ◌≤◌, ◌⊎◌, Boo
 use Rattle.bpf_insn.specs.declared.insn.Insn.{Insn}
 use Rattle.bpf_insn.specs.Code.{fetch, unit_count, units_of}
 use Rattle.bpf_helpers.specs.Machine.{Config, ended}
-use Rattle.bpf_verify.specs.declared.state.State.{State}
-use Rattle.bpf_verify.specs.States.{States, state_at, Fits}
-use Rattle.bpf_verify.specs.Steps.{Edges, Flows, distance_of}
+use Rattle.bpf_flow.specs.declared.state.State.{State}
+use Rattle.bpf_flow.specs.States.{Fits}
+use Rattle.bpf_flow.specs.Steps.{Edges, Flows, distance_of}
+use Rattle.bpf_verify.specs.States.{States, state_at}
 use Rattle.bpf_verify.specs.Verified.{FitsAt, GoesOn}
 
 -- There is a place for each unit, and states stand where instructions begin alone.
@@ -31,7 +32,7 @@ pub record Settles (old new : States) (next to : ℕ) (edges : Edges) : Type 0 w
   pub first : Follows old between next edges.next
   pub second : Follows between new to edges.jump
 
--- The instruction with what is known before it is taken: what is known behind it is added where it goes on.
+-- The instruction with what is known before it is taken: what is known after it is added where it goes on.
 pub record Visited (i : Insn) (s : State) (old new : States) (next to : ℕ) : Type 0 where
   pub edges : Edges
   pub flows : Flows i s edges

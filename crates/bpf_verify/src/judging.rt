@@ -49,7 +49,7 @@ pub fn examine<A: Allocator + Copy>(alloc: A, code: Code<A>) -> Result<Examined<
 ///
 /// The structure comes first: each instruction is tested, the lowest first, whether anything reaches it or
 /// not. Then each instruction that is reached is taken once, the lowest first, with what is known before it;
-/// its first fault is told. `NoMemory` comes only behind the structure.
+/// its first fault is told. `NoMemory` comes only where the structure has no fault.
 pub fn verify<A: Allocator + Copy>(
     alloc: A,
     code: Code<A>,

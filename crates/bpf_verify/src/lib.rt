@@ -6,32 +6,23 @@
 //! within as many steps as it has instructions.
 #![tactic(auto)]
 
-mod alu;
-mod branches;
-mod calls;
 mod examined;
 mod fault;
 mod flat;
-mod flow;
-mod joining;
 mod judging;
-mod loads;
-mod memory;
 mod noted;
-mod numbers;
 mod pass;
 mod refused;
-mod state;
 mod structure;
 mod table;
 mod verified;
 mod visits;
 
+pub use bpf_flow::State;
 pub use examined::Examined;
 pub use fault::VerifyFault;
 pub use flat::Flat;
 pub use judging::{examine, verify};
 pub use refused::Refused;
-pub use state::State;
 pub use table::States;
 pub use verified::Verified;

@@ -3,7 +3,7 @@ ghost use Rattle.std.specs.Prelude.{◌≡◌, slice_set, replicate, Some, None}
 ghost use base.Fml.{ftrue};
 ghost use Rattle.bpf_verify.specs.States.{States as StateList};
 
-use crate::state::State;
+use bpf_flow::State;
 use std::marker::Model;
 
 /// The states of a program, by unit, as clauses see them. It has none itself and owns nothing.

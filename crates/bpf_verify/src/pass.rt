@@ -3,13 +3,13 @@
 ghost use Rattle.std.specs.Prelude.{◌≡◌, ◌<◌, ◌+◌, ℕ, Bool, length, replicate, Some, None, IfOk};
 ghost use Rattle.std.specs.Option.{option_map};
 ghost use Rattle.std.specs.Box.{box_value};
-ghost use Rattle.bpf_verify.specs.States.{state_at, Fits};
+ghost use Rattle.bpf_flow.specs.States.{Fits};
+ghost use Rattle.bpf_verify.specs.States.{state_at};
 ghost use Rattle.bpf_verify.specs.Visits.{Joins, Keeps, Ready};
 
-use crate::joining::join_states;
 use crate::noted::Noted;
-use crate::state::State;
 use crate::table::States;
+use bpf_flow::{State, join_states};
 use std::alloc::{AllocError, Allocator};
 
 /// The states that are known, as clauses see them, and those that are kept: all, or those of the units ahead.

@@ -5,7 +5,7 @@ ghost use Rattle.std.specs.Option.{option_map};
 ghost use Rattle.std.specs.Box.{box_value};
 ghost use Rattle.bpf_verify.specs.States.{state_at};
 
-use crate::state::State;
+use bpf_flow::State;
 use std::alloc::{AllocError, Allocator, Global};
 use std::marker::Model;
 

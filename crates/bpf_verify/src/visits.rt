@@ -4,22 +4,20 @@ ghost use Rattle.std.specs.Prelude.{◌≡◌, ◌≢◌, ◌<◌, ◌≤◌, �
 ghost use Rattle.std.specs.Box.{box_value};
 ghost use Rattle.bpf_insn.specs.Code.{units_of, unit_count};
 ghost use Rattle.bpf_insn.specs.Spelling.{HasSpelling, IsOperand};
-ghost use Rattle.bpf_verify.specs.declared.state.State.{State as StateOf};
+ghost use Rattle.bpf_flow.specs.declared.state.State.{State as StateOf};
+ghost use Rattle.bpf_flow.specs.Steps.{distance_of, edges_of, GoesNext, GoesJump, HasNext, HasJump, IsPlain, CanFlow};
 ghost use Rattle.bpf_verify.specs.Flats.{StandsFor, AreFlats};
-ghost use Rattle.bpf_verify.specs.Steps.{distance_of, edges_of, GoesNext, GoesJump, HasNext, HasJump, IsPlain};
-ghost use Rattle.bpf_verify.specs.Structure.{CanFlow, IsBuilt, IsMet};
+ghost use Rattle.bpf_verify.specs.Structure.{IsBuilt, IsMet};
 ghost use Rattle.bpf_verify.specs.Stopped.{Halts, Stays, IsStopped};
 ghost use Rattle.bpf_verify.specs.Verified.{IsVerified, Starts};
 ghost use Rattle.bpf_verify.specs.Visits.{AreStates, Adds, ConsistentAt, Keeps, Ready, Settles, Visited, VisitedAt};
 
-use crate::branches::flow_branch;
-use crate::fault::{FlowFault, VerifyFault};
+use crate::fault::VerifyFault;
 use crate::flat::{Flat, flat_of, flat_plain};
-use crate::flow::flow;
 use crate::noted::Noted;
 use crate::pass::Pass;
-use crate::state::{State, Way};
 use crate::table::States;
+use bpf_flow::{FlowFault, State, Way, flow, flow_branch};
 use bpf_insn::{Code, Insn, Operand, Test, Width};
 use std::alloc::{AllocError, Allocator};
 
@@ -36,7 +34,7 @@ fn distance(insn: Insn) -> i64
     }
 }
 
-/// Adds what is known behind an instruction to the unit to which it goes on, where it goes one way at most.
+/// Adds what is known after an instruction to the unit to which it goes on, where it goes one way at most.
 fn settle<A: Allocator + Copy>(
     pass: &mut Pass<A>,
     way: Way,
@@ -58,7 +56,7 @@ fn settle<A: Allocator + Copy>(
     }
 }
 
-/// Takes an instruction that is no conditional jump: what is known behind it is added where it goes on.
+/// Takes an instruction that is no conditional jump: what is known after it is added where it goes on.
 fn visit_plain<A: Allocator + Copy>(
     pass: &mut Pass<A>,
     insn: Insn,
@@ -145,16 +143,16 @@ fn visit_insn<A: Allocator + Copy>(
         };
         return match visit_branch(pass, test, width, dst, src, next, to, state, target) {
             Ok(()) => Ok(()),
-            Err(fault) => Err(fault.at(at)),
+            Err(fault) => Err(VerifyFault::placed(fault, at)),
         };
     }
     match visit_plain(pass, insn, next, to, state) {
         Ok(()) => Ok(()),
-        Err(fault) => Err(fault.at(at)),
+        Err(fault) => Err(VerifyFault::placed(fault, at)),
     }
 }
 
-/// Takes the instruction at a unit, if a state stands there: what is known behind it is added where it goes on. The result is what
+/// Takes the instruction at a unit, if a state stands there: what is known after it is added where it goes on. The result is what
 /// stands at the unit, made ready.
 fn visit<A: Allocator + Copy>(
     alloc: A,

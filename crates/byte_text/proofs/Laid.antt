@@ -112,7 +112,7 @@ whole_hex bs h = whole_append (codes "hex:") (encode_lower bs) (whole_name (code
 reads_hex : (bs : List ℕ) → IsBytes bs → part_bytes (codes "hex:" ++ encode_lower bs) ≡ Some bs
 reads_hex bs h = ap result_ok (decode_of-encode_lower bs h)
 
--- ---- parts behind a first one
+-- ---- parts after a first one
 
 IsBytes-take : (n : ℕ) (bs : List ℕ) → IsBytes bs → IsBytes (take n bs)
 IsBytes-take zero bs h i = omega arith
@@ -134,7 +134,7 @@ follows_none front whole =
     ap all_bytes (whole [])
     ∙ ap (λ (x : List ℕ). joined (part_bytes x) (Some [])) (append-nil front)
 
--- a part, and what follows it, behind a comma
+-- a part, and what follows it, after a comma
 follows_part : (part text bytes more : List ℕ) → IsWhole part → part_bytes part ≡ Some bytes → Follows text more → Follows (44 ∷ (part ++ text)) (bytes ++ more)
 follows_part part text bytes more whole is later front first =
     ap all_bytes (first (44 ∷ (part ++ text)))

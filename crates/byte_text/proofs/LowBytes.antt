@@ -36,7 +36,7 @@ low_bytes-number_in (b ∷ bs) h =
     let high : (b + 256 * number_in bs) / 256 ≡ number_in bs = omega arith in
     rw (low, high) (ap (λ (xs : List ℕ). b ∷ xs) (low_bytes-number_in bs (rest_bytes b bs h)))
 
--- of eight bytes those behind the first
+-- of eight bytes those after the first
 pub rest-small : (bs : List ℕ) → IsBytes bs → length bs ≤ 8 → number_in (take (length bs - 1) (drop 1 bs)) < 2 ^ 56
 rest-small bs h len = subst (λ (xs : List ℕ). number_in xs < 2 ^ 56) (sym (take_rest bs 1)) (by_list bs h len)
   where

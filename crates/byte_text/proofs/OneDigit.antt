@@ -6,7 +6,7 @@ use Rattle.std.proofs.lemmas.Str.Parse.{digit_from_value}
 use Rattle.byte_text.specs.Numbers.{number_of}
 use Rattle.byte_text.proofs.Decimals.{number_is, no_number, read_back}
 
--- a digit is the decimal of its value, by which it stands behind 0
+-- a digit is the decimal of its value, by which it stands after 0
 digit_here : (c d : ℕ) → d ≤ 9 → c ≡ 48 + d → c ∷ [] ≡ decimal d
 digit_here c d h is = ap (λ (b : ℕ). b ∷ []) is ∙ sym (decimal_digit d (omega arith))
 

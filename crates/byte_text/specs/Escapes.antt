@@ -14,7 +14,7 @@ with_byte None bytes = None
 with_byte (Some b) None = None
 with_byte (Some b) (Some bs) = Some (b ∷ bs)
 
--- the byte for which a letter stands behind a backslash
+-- the byte for which a letter stands after a backslash
 abbrev pub sign_of : ℕ → Option ℕ
 sign_of c =
     cond (c == 115) (Some 32)
@@ -24,7 +24,7 @@ sign_of c =
     (cond (c == 46) (Some 46)
     (cond (c == 44) (Some 44) None)))))
 
--- The bytes of what is left of a text, by where its reading stands: between two bytes, behind a backslash, behind `\x`, or behind the
+-- The bytes of what is left of a text, by where its reading stands: between two bytes, after a backslash, after `\x`, or after the
 -- first digit of those.
 abbrev pub bytes_left : Reading → List ℕ → Option (List ℕ)
 bytes_left Plain [] = Some []
@@ -36,7 +36,7 @@ bytes_left Escape (c ∷ cs) = cond (c == 120) (bytes_left High cs) (with_byte (
 bytes_left High (c ∷ cs) = option_and_then (λ high. bytes_left (Low high) cs) (hex_digit_value c)
 bytes_left (Low high) (c ∷ cs) = with_byte (option_map (λ low. 16 * high + low) (hex_digit_value c)) (bytes_left Plain cs)
 
--- the bytes of what is left behind one step
+-- the bytes of what is left after one step
 abbrev pub after_step : Step → List ℕ → Option (List ℕ)
 after_step Refused cs = None
 after_step (Goes reading) cs = bytes_left reading cs

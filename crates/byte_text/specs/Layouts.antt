@@ -95,7 +95,7 @@ HasRoom (kinds.Number number) len = width_of number ≤ len
 HasRoom kinds.Text len = ⊤
 HasRoom kinds.Hex len = ⊤
 
--- bytes as parts of these kinds, with a comma between two, and one before the first where these stand behind others
+-- bytes as parts of these kinds, with a comma between two, and one before the first where these stand after others
 abbrev pub laid : Bool → List Kind → List ℕ → List ℕ
 laid behind [] bytes = []
 laid behind (kind ∷ others) bytes = part_by behind kind bytes ++ laid true others (left_by kind bytes)

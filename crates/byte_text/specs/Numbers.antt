@@ -15,7 +15,7 @@ number_of most text = written most text (digits_value 10 text)
 abbrev pub negated : ℕ → ℕ
 negated n = cond (n == 0) 0 (18446744073709551616 - n)
 
--- the word of 64 bits of the signed number that a text is: such a decimal, behind a minus sign where it is below zero
+-- the word of 64 bits of the signed number that a text is: such a decimal, after a minus sign where it is below zero
 abbrev pub signed_of : List ℕ → Option ℕ
 signed_of [] = None
 signed_of (c ∷ cs) =

@@ -16,7 +16,7 @@ abbrev pub onto : List ℕ → List (List ℕ) → List (List ℕ)
 onto front [] = front ∷ []
 onto front (part ∷ parts) = (front ++ part) ∷ parts
 
--- The parts of a text, cut at each comma that no backslash escapes. The text may begin behind a backslash.
+-- The parts of a text, cut at each comma that no backslash escapes. The text may begin after a backslash.
 abbrev pub parts_of : Bool → List ℕ → List (List ℕ)
 parts_of escape [] = [] ∷ []
 parts_of true (c ∷ cs) = onto (c ∷ []) (parts_of false cs)
@@ -50,13 +50,13 @@ part_bytes text =
     (cond (starts_with nat_eq text (codes "u32:")) (number_bytes 4 4294967295 (drop 4 text))
     (cond (starts_with nat_eq text (codes "u64:")) (number_bytes 8 18446744073709551615 (drop 4 text)) (other_bytes text))))
 
--- bytes behind bytes, where there are both
+-- bytes after bytes, where there are both
 abbrev pub joined : Option (List ℕ) → Option (List ℕ) → Option (List ℕ)
 joined None later = None
 joined (Some front) None = None
 joined (Some front) (Some later) = Some (front ++ later)
 
--- the bytes of parts, one behind another
+-- the bytes of parts, one after another
 abbrev pub all_bytes : List (List ℕ) → Option (List ℕ)
 all_bytes [] = Some []
 all_bytes (part ∷ parts) = joined (part_bytes part) (all_bytes parts)
@@ -84,7 +84,7 @@ text_of_bytes (b ∷ bs) =
 
 -- ---- what a reader leaves
 
--- The bytes of a text, where it has any, go behind others.
+-- The bytes of a text, where it has any, go after others.
 abbrev pub Puts : Option (List ℕ) → Bool → List ℕ → List ℕ → Type 0
 Puts None true old new = ⊥
 Puts None false old new = ⊤

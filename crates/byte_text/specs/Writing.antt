@@ -1,4 +1,4 @@
--- What stands behind what was written, where not all of a text was.
+-- What is written after what was there, where not all of a text was.
 use Rattle.std.specs.Prelude.{ℕ, ◌<◌, List, length, take, Option}
 use Rattle.std.specs.Io.KnownBytes.{Appends}
 

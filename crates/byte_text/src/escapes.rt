@@ -8,18 +8,19 @@ ghost use Rattle.byte_text.specs.declared.escapes.Reading.TheVariants.{Plain};
 use memchr::memchr;
 use std::alloc::{AllocError, Allocator};
 
-const DIGITS: [u8; 16] = *b"0123456789abcdef";
+/// The digits of hex, with lower-case letters.
+pub const DIGITS: [u8; 16] = *b"0123456789abcdef";
 
 // Where the reading of a text stands.
 #[derive(Clone, Copy)]
 enum Reading {
     // Between two bytes.
     Plain,
-    // Behind a backslash.
+    // After a backslash.
     Escape,
-    // Behind `\x`.
+    // After `\x`.
     High,
-    // Behind `\x` and its first digit, which has this value.
+    // After `\x` and its first digit, which has this value.
     Low(u8),
 }
 
@@ -34,7 +35,7 @@ enum Step {
     Byte(u8),
 }
 
-// Puts the bytes for which a text stands behind others, and tells whether it stands for any.
+// Puts the bytes for which a text stands after others, and tells whether it stands for any.
 pub(crate) fn read_escapes<A: Allocator>(
     text: &[u8],
     bytes: &mut Vec<u8, A>,
@@ -47,7 +48,7 @@ pub(crate) fn read_escapes<A: Allocator>(
     }
 }
 
-// Puts a text that stands for itself behind others.
+// Puts a text that stands for itself after others.
 fn put_all<A: Allocator>(text: &[u8], bytes: &mut Vec<u8, A>) -> Result<bool, AllocError>
     ensures { IfOk result (λ good. Puts (Some text.now) good bytes.old.items bytes.new.items) }
 {
@@ -115,7 +116,7 @@ fn is_plain(reading: Reading) -> bool
     }
 }
 
-// The byte for which a letter stands behind a backslash.
+// The byte for which a letter stands after a backslash.
 fn sign(c: u8) -> Option<u8>
     ensures { result ≡ sign_of c }
 {

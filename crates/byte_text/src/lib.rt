@@ -9,6 +9,7 @@ mod parts;
 mod text;
 mod writing;
 
+pub use escapes::DIGITS;
 pub use layouts::{Kind, Layout, Number, read_layout, show_by};
 pub use numbers::read_number;
 pub use text::{read_text, show_text};

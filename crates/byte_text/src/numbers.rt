@@ -106,7 +106,7 @@ pub(crate) fn show_signed<A: Allocator>(word: u64, text: &mut Vec<u8, A>) -> Res
     show_number(u64::MAX - word + 1, text)
 }
 
-// Puts the low bytes of a number behind others, the lowest first.
+// Puts the low bytes of a number after others, the lowest first.
 pub(crate) fn put_number<A: Allocator>(
     number: u64,
     width: usize,

@@ -12,7 +12,7 @@ use hex::FromHexError;
 use memchr::memchr2;
 use std::alloc::{AllocError, Allocator};
 
-// A text as far as the first comma that no backslash escapes, and what is left behind it, where there is one.
+// A text as far as the first comma that no backslash escapes, and what is left after it, where there is one.
 pub(crate) fn first_part(text: &[u8]) -> (&[u8], Option<&[u8]>)
     ensures { parts_of false text.now ≡ result.0.now ∷ parts_left result.1 }
 {
@@ -36,7 +36,7 @@ fn cut_part(text: &[u8]) -> (&[u8], Option<&[u8]>)
     (text, None)
 }
 
-// Puts the bytes for which a part stands behind others, and tells whether it stands for any.
+// Puts the bytes for which a part stands after others, and tells whether it stands for any.
 pub(crate) fn read_part<A: Allocator + Copy>(
     alloc: A,
     text: &[u8],

@@ -85,7 +85,7 @@ no_report causes reports.TooLong h = absurd h
 no_report causes reports.OutputTooLong h = absurd h
 no_report causes reports.NoMemory h = absurd h
 
--- the files and the program's file, behind the number of workers
+-- the files and the program's file, after the number of workers
 pub files_before : (form : Form) (given : Given) (workers : Bor (List ℕ)) (is_image : Bool) (fault : ReportFault)
     → IsSome (workers_of workers.now) → IsCaused (program_causes form given is_image) fault → HasCause (ready_causes form given workers is_image) (report_fault fault)
 files_before form given workers is_image reports.BadHex number h = absurd h
@@ -101,7 +101,7 @@ files_before form given workers is_image reports.TooLong number h = absurd h
 files_before form given workers is_image reports.OutputTooLong number h = absurd h
 files_before form given workers is_image reports.NoMemory number h = tt
 
--- an image whose program gets no number, behind the words and the files
+-- an image whose program gets no number, after the words and the files
 pub submitted_fault : (form : Form) (given : Given) (workers : Bor (List ℕ)) (is_image : Bool) (image : List ℕ) (fault : ServeFault)
     → IsSome (workers_of workers.now) → Opens form given → IsFileImage is_image given.file.items image → HasCause (submit_causes image) fault → HasCause (ready_causes form given workers is_image) fault
 submitted_fault form given workers is_image image NotText number opens is h = h
@@ -158,7 +158,7 @@ unready_fault n form given workers is_image time input Write h = h
 unready_fault n form given workers is_image time input Saved h = h
 unready_fault n form given workers is_image time input NoMemory h = h
 
--- tasks that are not all done, behind the lines
+-- tasks that are not all done, after the lines
 pub doing_fault : (n : Notation Global) (time : Option TimeOfDay) (batch : Batch) (input : List ℕ) (words : List (RunWords Global)) (tasks : List (Task Global)) (fault : ServeFault)
     → AreShortTasks n time input words → tasks ≡ map (task_for batch.program) words → HasCause (doing_causes batch tasks) fault → HasCause (task_causes n time batch (Some input)) fault
 doing_fault n time batch input words tasks fault are is h = go fault (subst (λ (ts : List (Task Global)). HasCause (doing_causes batch ts) fault) is h)

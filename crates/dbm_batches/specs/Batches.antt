@@ -133,7 +133,7 @@ ready_causes form given workers is_image = record (only_report (record no_causes
   submitting = λ fault. IsSome (workers_of workers.now) × (Opens form given × ((image : List ℕ) × (IsFileImage is_image given.file.items image × (submit_causes image).submitting fault)));
 }
 
--- Not all tasks are done, for another reason than want of memory, which has a name of its own.
+-- Not all tasks are done, though memory was left: where none is, the fault has a name of its own.
 abbrev pub IsUndone : Batch → List (Task Global) → PoolFault → Type 0
 IsUndone batch tasks jobs.NoMemory = ⊥
 IsUndone batch tasks fault = (calls : List (CallsState Global)) × IsPoolFault batch.database.size batch.registry.programs tasks batch.workers fault calls

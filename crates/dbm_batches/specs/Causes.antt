@@ -37,7 +37,7 @@ only_report causes = record {
 abbrev pub no_wish_causes : WishCauses
 no_wish_causes = only_report no_causes
 
--- A fault of what comes of a wish has its cause, and is never want of memory, which has a name of its own.
+-- A fault of what comes of a wish has its cause. Where no memory is left, the fault has a name of its own.
 abbrev pub IsReported : Causes → ReportFault → Type 0
 IsReported causes reports.NoMemory = ⊥
 IsReported causes fault = IsCaused causes fault

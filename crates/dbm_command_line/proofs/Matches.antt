@@ -51,7 +51,7 @@ pub tool_is_free : is_simple_and_free tool ≡ true
 unfolding clap_on_literals
 tool_is_free = refl
 
--- an error of `clap` with one of these kinds, or for want of memory, as the fault that it becomes
+-- an error of `clap` with one of these kinds, or where no memory is left, as the fault that it becomes
 pub refused_for : {T : Type 0} (r : Result T ToolFault) (e : Error) (kinds : Kinds) → HasKind kinds e → IsErrAnd r (IsFaultOf e) → IfErr r (IsRefusedFor kinds)
 refused_for (Ok x) e kinds has is = tt
 refused_for (Err (Refused kept)) e kinds (inl memory) is = absurd (is.1 memory)

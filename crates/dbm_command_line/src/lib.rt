@@ -18,7 +18,7 @@ pub use crate::wish::{Ask, Request, Wish};
 use dbm_words::access;
 use std::alloc::Global;
 
-/// What the words behind the program's name ask, and how its database is come by.
+/// What the words after the program's name ask, and how its database is come by.
 ///
 /// # Errors
 /// `Refused` where they are no words of the command line, or ask for help or the version; the error in it has the text for the

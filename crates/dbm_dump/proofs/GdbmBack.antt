@@ -30,7 +30,7 @@ use Rattle.dbm_lines.proofs.CutTexts.{piece_first}
 use Rattle.dbm_dump.proofs.Free.{IsFree, free, free-append, free-base64, free-decimal}
 use Rattle.dbm_dump.proofs.PlainBack.{line_reads}
 
--- what lines give behind a step
+-- what lines give after a step
 abbrev reads_on : Option Next → List ℕ → Option Read
 reads_on steps rest = read_on steps (λ s. read s (pieces_of 10 rest))
 

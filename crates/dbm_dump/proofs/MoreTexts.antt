@@ -26,7 +26,7 @@ pub text_some : (bytes : List ℕ) → eqb (length bytes) 0 ≡ false → text_l
 text_some [] h = absurd (false≢true (sym h))
 text_some (b ∷ bs) h = refl
 
--- three texts, one behind another
+-- three texts, one after another
 pub three : (old one two three' : List ℕ) (a b c : List ℕ) → one ≡ old ++ a → two ≡ one ++ b → three' ≡ two ++ c → three' ≡ old ++ (a ++ (b ++ c))
 three old one two three' a b c p q r =
     r ∙ ap (λ (t : List ℕ). t ++ c) (q ∙ ap (λ (t : List ℕ). t ++ b) p) ∙ append_assoc (old ++ a) b c ∙ append_assoc old a (b ++ c)

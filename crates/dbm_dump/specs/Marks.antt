@@ -8,7 +8,7 @@ use Rattle.dbm_script.specs.Numbers.{number_of}
 use Rattle.dbm_dump.specs.declared.marks.Mark.{Mark}
 use Rattle.dbm_dump.specs.declared.marks.Mark.TheVariants.{Len, Count, Note, Text, Bad}
 
--- what stands behind a text with which a line begins
+-- what follows a text with which a line begins
 abbrev pub behind : List ℕ → List ℕ → Option (List ℕ)
 behind front line = cond (bytes_eq (take (length front) line) front) (Some (drop (length front) line)) None
 
@@ -16,7 +16,7 @@ abbrev pub number_in : Option (List ℕ) → Option ℕ
 number_in None = None
 number_in (Some digits) = number_of 18446744073709551615 digits
 
--- the number behind a text with which a line begins
+-- the number after a text with which a line begins
 abbrev pub number_behind : List ℕ → List ℕ → Option ℕ
 number_behind front line = number_in (behind front line)
 

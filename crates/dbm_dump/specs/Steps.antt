@@ -61,7 +61,7 @@ pairs_step left (c ∷ cs) = cond (bytes_eq (c ∷ cs) plain_end) (closes left) 
 abbrev pub is_full : ℕ → List ℕ → Bool
 is_full len text = nat_le len (length text / 4 * 3)
 
--- the bytes of a datum that is a key, or a value behind a key
+-- the bytes of a datum that is a key, or a value after a key
 abbrev pub closed : ℕ → Role → List ℕ → Option Next
 closed seen Key bytes = Some (goes (Between seen (Value bytes)))
 closed seen (Value key) bytes =
@@ -97,7 +97,7 @@ within_step seen role len text line mark.Note = Some (goes (Within seen role len
 within_step seen role len text line mark.Text = grown seen role len (text ++ line)
 within_step seen role len text line mark.Bad = None
 
--- a line behind the end
+-- a line after the end
 abbrev pub over_step : Mark → Option Next
 over_step (mark.Len n) = None
 over_step (mark.Count n) = None

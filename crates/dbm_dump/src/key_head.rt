@@ -6,7 +6,7 @@ use std::fmt;
 const HEAD_LEN: usize = 32;
 
 /// The first bytes of a key, and how many there are in all. It prints as text in quotes where these bytes are one, and else in hex, with two
-/// dots behind a key that goes on.
+/// dots after a key that goes on.
 #[derive(Clone, Copy, Debug)]
 pub struct KeyHead {
     bytes: [u8; 32],

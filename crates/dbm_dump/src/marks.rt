@@ -72,14 +72,14 @@ fn number_in(digits: &[u8]) -> Option<u64>
     read_number(digits, u64::MAX)
 }
 
-/// The number behind a text with which a line begins, where it is so.
+/// The number after a text with which a line begins, where it is so.
 pub fn number_behind(front: &[u8], line: &[u8]) -> Option<u64>
     ensures { result ≡ number_behind front.now line.now }
 {
     number_in(behind(front, line)?)
 }
 
-// What stands behind a text with which a line begins, where it does so.
+// What follows a text with which a line begins, where it does so.
 fn behind<'a>(front: &[u8], line: &'a [u8]) -> Option<&'a [u8]>
     ensures { option_map (λ rest. rest.now) result ≡ behind front.now line.now }
 {

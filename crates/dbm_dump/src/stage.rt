@@ -306,7 +306,7 @@ fn within_step(
     }
 }
 
-// A text, and a line behind it.
+// A text, and a line after it.
 fn longer(text: Part, line: &[u8]) -> Result<Part, AllocError>
     ensures { IfOk result (λ longer. longer ≡ text ++ line.now) }
 {
@@ -378,7 +378,7 @@ fn closed(seen: u64, role: Role, bytes: Bytes<Global>) -> Option<Next>
     }
 }
 
-// A line behind the end.
+// A line after the end.
 fn over_step(mark: Mark) -> Option<Next>
     ensures { result ≡ spec.over_step mark }
 {

@@ -95,7 +95,7 @@ fn pages_line(size: PageSize) -> &'static [u8]
     }
 }
 
-// A number in decimal behind a text.
+// A number in decimal after a text.
 fn show_number(number: usize, text: &mut Vec<u8>) -> Result<(), AllocError>
     ensures { OnOk result (text.new.items ≡ text.old.items ++ decimal number) }
 {
@@ -103,7 +103,7 @@ fn show_number(number: usize, text: &mut Vec<u8>) -> Result<(), AllocError>
     text.extend_from_slice(digits.format(number).as_bytes())
 }
 
-// The line of a pair behind a text.
+// The line of a pair after a text.
 fn show_pair(key: &[u8], value: &[u8], text: &mut Vec<u8>) -> Result<(), AllocError>
     ensures text { OnOk result (text.new.items ≡ text.old.items ++ pair_line (key.now, value.now)) }
     ensures bytes { AreBytes (key.now, value.now) }
@@ -130,7 +130,7 @@ fn gdbm_dump(alloc: Global, pairs: &[(Bytes<Global>, Bytes<Global>)]) -> Result<
     Ok(text)
 }
 
-// A key and a value in gdbm's format behind a text.
+// A key and a value in gdbm's format after a text.
 fn show_data(alloc: Global, key: &[u8], value: &[u8], text: &mut Vec<u8>) -> Result<(), AllocError>
     ensures text { OnOk result (text.new.items ≡ text.old.items ++ spec.gdbm_pair (key.now, value.now)) }
     ensures good { OnOk result (IsGood (key.now, value.now)) }
@@ -139,7 +139,7 @@ fn show_data(alloc: Global, key: &[u8], value: &[u8], text: &mut Vec<u8>) -> Res
     show_datum(alloc, value, text)
 }
 
-// The length of some bytes, and then their base64 in a line, behind a text. No bytes have no line.
+// The length of some bytes, and then their base64 in a line, after a text. No bytes have no line.
 fn show_datum(alloc: Global, bytes: &[u8], text: &mut Vec<u8>) -> Result<(), AllocError>
     ensures text { OnOk result (text.new.items ≡ text.old.items ++ spec.datum_lines bytes.now) }
     ensures bytes { IsBytes bytes.now }
@@ -170,7 +170,7 @@ fn redis_dump(
     Ok(text)
 }
 
-// The command SET of a key and a value behind a text.
+// The command SET of a key and a value after a text.
 fn show_set(key: &[u8], value: &[u8], text: &mut Vec<u8>) -> Result<(), AllocError>
     ensures { OnOk result (text.new.items ≡ text.old.items ++ spec.redis_pair (key.now, value.now)) }
 {
@@ -179,7 +179,7 @@ fn show_set(key: &[u8], value: &[u8], text: &mut Vec<u8>) -> Result<(), AllocErr
     show_bulk(value, text)
 }
 
-// The length of some bytes, and then the bytes, behind a text.
+// The length of some bytes, and then the bytes, after a text.
 fn show_bulk(bytes: &[u8], text: &mut Vec<u8>) -> Result<(), AllocError>
     ensures { OnOk result (text.new.items ≡ text.old.items ++ spec.bulk bytes.now) }
 {

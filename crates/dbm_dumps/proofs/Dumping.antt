@@ -28,7 +28,7 @@ pub unreadable : (o : Option Stage) (mode : Mode) (form : Form) (given : Given) 
 unreadable None mode form given input is = tt
 unreadable (Some start) mode form given input is = absurd (none-some start (sym is))
 
--- files that do not open, and want of memory, behind the format
+-- after the format: files that do not open, and no memory left
 pub shut_dump : (o : Option Format) (format : Format) (form : Form) (given : Given) (fault : ReportFault) → o ≡ Some format → IsCaused (opening_causes form given) fault
     → HasDumpCause (dump_causes o form given) (Report fault)
 shut_dump o format form given fault is h = subst (λ (option : Option Format). HasDumpCause (dump_causes option form given) (Report fault)) (sym is) h

@@ -46,7 +46,7 @@ pub record Loads (start : Stage) (mode : Mode) (input : Option (List ℕ)) (repo
   pub status_is : report.status ≡ 0
   pub written : report.database ≡ Some after
 
--- a dump is not loaded into a database; a reader that fails and want of memory have names of their own
+-- a dump is not loaded into a database; a reader that fails, and no memory left, have names of their own
 abbrev pub IsUnloaded : Stage → Mode → Database → List ℕ → DumpFault → Type 0
 IsUnloaded start mode db bytes dump.Read = ⊥
 IsUnloaded start mode db bytes dump.NoMemory = ⊥

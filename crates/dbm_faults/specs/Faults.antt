@@ -1,6 +1,6 @@
 -- The faults of what a run calls, as faults of the run.
-use Rattle.dbm_files.specs.declared.fault.FilesFault.{FilesFault}
-use Rattle.dbm_files.specs.declared.fault.FilesFault.TheVariants as files
+use Rattle.dbm_places.specs.declared.fault.FilesFault.{FilesFault}
+use Rattle.dbm_places.specs.declared.fault.FilesFault.TheVariants as files
 use Rattle.dbm_script.specs.declared.tasks.TasksFault.{TasksFault}
 use Rattle.dbm_script.specs.declared.tasks.TasksFault.TheVariants as tasks
 use Rattle.prog_registry.specs.declared.fault.RegFault.{RegFault}
@@ -29,7 +29,7 @@ abbrev pub tasks_fault : TasksFault → ServeFault
 tasks_fault (tasks.BadLine number) = BadLine number
 tasks_fault tasks.NoMemory = NoMemory
 
--- the fault of an image
+-- the fault of a program image
 abbrev pub submit_fault : RegFault → ServeFault
 submit_fault reg.NoMemory = NoMemory
 submit_fault (reg.Decode fault) = Submit (reg.Decode fault)

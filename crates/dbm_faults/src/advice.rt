@@ -47,7 +47,7 @@ pub fn look_for(fault: ServeFault) -> Look {
     }
 }
 
-/// The sentence behind a fault: what it is about, and what to do. Where a second look by `look_for` has found something, that is told
+/// The sentence after a fault: what it is about, and what to do. Where a second look by `look_for` has found something, that is told
 /// instead (`finding_sentence`). `None` where nothing can be said of the words.
 pub fn sentence_of<'a>(
     alloc: Global,

@@ -4,7 +4,7 @@ ghost use Rattle.dbm_faults.specs.declared.fault.ServeFault.TheVariants.{NoMemor
 
 use dbm_dump::DumpFault;
 use dbm_dumps::DumpsFault;
-use dbm_files::FilesFault;
+use dbm_places::FilesFault;
 use dbm_reports::ReportFault;
 use dbm_script::TasksFault;
 use prog_registry::RegFault;
@@ -14,7 +14,7 @@ use std::fmt;
 use store_shared::CloseFault;
 use worker_pool::PoolFault;
 
-/// Why a wish was not served. It prints as the text that stands behind `dbm: ` on standard error.
+/// Why a wish was not served. It prints as the text that stands after `dbm: ` on standard error.
 #[derive(Clone, Copy, Debug)]
 pub enum ServeFault {
     /// A word of the command line is not UTF-8.
@@ -51,7 +51,7 @@ pub enum ServeFault {
     Close(CloseFault),
     /// Standard output could not be written, and nothing was changed.
     Write,
-    /// Standard output could not be written behind a change, which stands. It prints as `Write` does.
+    /// Standard output could not be written after a change, which stands. It prints as `Write` does.
     Saved,
     /// No memory is left.
     NoMemory,

@@ -2,7 +2,7 @@
 
 use crate::finding::{Finding, Matter};
 use crate::sentence::{Part, Sentence, plain, with_four, with_one, with_three, with_two};
-use dbm_files::folder_of;
+use dbm_places::folder_of;
 use dbm_words::Words;
 use sdbm_files::OpenFault;
 

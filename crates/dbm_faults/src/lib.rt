@@ -1,4 +1,4 @@
-//! Why a run of the program fails, and the sentences that stand on standard error behind a fault and beside an answer: values, which the
+//! Why a run of the program fails, and the sentences that stand on standard error after a fault and beside an answer: values, which the
 //! program prints.
 #![tactic(auto)]
 

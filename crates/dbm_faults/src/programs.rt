@@ -91,7 +91,7 @@ pub fn decode_sentence<'a>(words: &Words<'a>, fault: DecodeFault) -> Option<Sent
     }
 }
 
-// What to do where the image is a text.
+// What to do where the program image is a text.
 fn if_text(subject: Subject) -> &'static str {
     match subject {
         Subject::Disasm => "If it is a text, dbm asm makes its image",

@@ -21,7 +21,7 @@ const NO_BLANK: &str = "is neither . nor a number below 65536 without leading ze
 const NO_TIME: &str = "is neither now, now-ms nor a number below 18446744073709551616";
 
 const NO_EVERY: &str =
-    "is neither a number of lines, from 1 on, nor one of seconds with an s behind it, as 5s";
+    "is neither a number of lines, from 1 on, nor one of seconds with an s after it, as 5s";
 
 const NO_COUNT: &str = "is no number below 4294967296";
 

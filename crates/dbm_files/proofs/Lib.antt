@@ -1,2 +1,1 @@
 pub mod SaveMoments
-pub mod Examples

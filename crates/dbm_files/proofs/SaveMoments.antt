@@ -59,6 +59,39 @@ module _ {D : Type 0} (moment : D → ℕ) (left_since : D → ℕ → Image →
       → LeavesOnly moment left_since mid new (λ c. (stands_for c ≡ renewed) × CanEnd c) → StandFor after may_leave new
   finished mid new renewed is_after counts so = λ c now. (so.each c (counts (moment mid) c so.later now)).0 ∙ is_after
 
+-- ---- a plan that is committed, and then done
+
+module _ {D : Type 0} (moment : D → ℕ) (left_since : D → ℕ → Image → Type 0) (may_leave : D → Image → Type 0) (image : Image) (plan : List ℕ) (old : D) where
+  -- what a crash may leave at any moment of a save by this plan
+  abbrev pub EverPlanned : Image → Type 0
+  EverPlanned = Ever moment left_since may_leave (files image) (renewed_files plan image) old
+
+  -- the redo file was settled; the room was tried; the plan was staged, and marked
+  module _ (read : stands_for image ≡ files image) (settled : D) (settling : LeavesOnly moment left_since old settled (λ c. may_leave old c ⊎ ((stands_for c ≡ stands_for image) × CanEnd c))) where
+    pub when_settled : LeavesOnly moment left_since old settled EverPlanned
+    when_settled = recovering moment left_since may_leave (files image) (renewed_files plan image) old settled image read settling
+
+    module _ (first : Image) (same : files first ≡ stands_for image) (tried : D) (trying : LeavesOnly moment left_since settled tried (λ c. (stands_for c ≡ files first) × CanEnd c)) where
+      pub when_tried : LeavesOnly moment left_since old tried EverPlanned
+      when_tried = staging moment left_since may_leave (files image) (renewed_files plan image) old settled tried first (same ∙ read) when_settled trying
+
+      module _ (second : Image) (still : files second ≡ files first) (staged : D) (storing : LeavesOnly moment left_since tried staged (λ c. (stands_for c ≡ files second) × CanEnd c)) where
+        pub when_staged : LeavesOnly moment left_since old staged EverPlanned
+        when_staged = staging moment left_since may_leave (files image) (renewed_files plan image) old tried staged second (still ∙ same ∙ read) when_tried storing
+
+        pub when_marked : (third : Image) → files third ≡ files second → (marked : D) → LeavesOnly moment left_since staged marked (λ c. IsOldOrNew (files third) (renewed_files plan third) c × CanEnd c) → LeavesOnly moment left_since old marked EverPlanned
+        when_marked third kept marked marking =
+            let unchanged : files third ≡ files image = kept ∙ still ∙ same ∙ read in
+            committing moment left_since may_leave (files image) (renewed_files plan image) old staged marked third (renewed_files plan third) unchanged (renews plan third image unchanged) when_staged marking
+
+  -- the mark was written, and the plan is done in both files
+  module _ (marked new : D) (seen : Image) (same : files seen ≡ files image) (ending : LeavesOnly moment left_since marked new (λ c. (stands_for c ≡ renewed_files plan seen) × CanEnd c)) where
+    pub when_done : LeavesOnly moment left_since old marked EverPlanned → LeavesOnly moment left_since old new EverPlanned
+    when_done before = finishing moment left_since may_leave (files image) (renewed_files plan image) old marked new (renewed_files plan seen) (renews plan seen image same) before ending
+
+    pub stands_done : ((t : ℕ) (c : Image) → t ≤ moment new → may_leave new c → left_since new t c) → StandFor (renewed_files plan image) may_leave new
+    stands_done counts = finished moment left_since may_leave (files image) (renewed_files plan image) old marked new (renewed_files plan seen) (renews plan seen image same) counts ending
+
 -- ---- a plan that saves a database
 
 module _ {D : Type 0} (moment : D → ℕ) (left_since : D → ℕ → Image → Type 0) (may_leave : D → Image → Type 0) (before : List ℕ × List ℕ) (db : Database) (old : D) where

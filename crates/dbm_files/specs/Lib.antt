@@ -1,4 +1,1 @@
-pub mod Names
-pub mod Faults
-pub mod Sides
 pub mod Saving

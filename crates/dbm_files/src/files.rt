@@ -5,15 +5,14 @@ ghost use Rattle.sdbm_addr.specs.Pairs.{page_bytes};
 ghost use Rattle.sdbm_saves.specs.Redo.{files, CanEnd, IsPlan, Knows};
 ghost use Rattle.sdbm_saves.specs.Recording.{image_of, part_image};
 
-use crate::absent::is_special;
-use crate::fault::FilesFault;
-use crate::host::{RealFiles, folder_of, forget_redo};
-use crate::links::resolve;
-use crate::lock::{lock_to_read, lock_to_write};
-use crate::names::{DIR_LIMIT, FileBytes, Names, PROGRAM_LIMIT, Part, Place, names_of, sources};
+use crate::host::{RealFiles, forget_redo};
 use crate::peeking::{Guard, UnreadPages};
 use crate::saving::{Change, Saved, save_change, save_plan};
-use crate::side::{Side, SideFault, open_beside, side_fault};
+use dbm_places::{
+    DIR_LIMIT, FileBytes, FilesFault, Names, PROGRAM_LIMIT, RunPlace, Side, SideFault, SourceKind,
+    folder_of, is_special, lock_to_read, lock_to_write, names_of, open_beside, resolve, side_fault,
+    sources,
+};
 use sdbm_addr::PageSize;
 use sdbm_files::{Image, ReadPages};
 use sdbm_saves::{
@@ -28,7 +27,7 @@ use std::rt::Files;
 use std::time::{Clock, Duration};
 
 /// A redo file of the program has at most this many bytes: those of both files at their limits, new and old, in blocks of 1,024 with
-/// nine bytes before each, behind twenty-nine.
+/// nine bytes before each, and twenty-nine at the start.
 const REDO_LIMIT: u64 = 2_696_151_069;
 
 /// How many bytes of BASE.pag are read at once: whole pages of either size.
@@ -36,9 +35,9 @@ const PIECE: usize = 262_144;
 
 /// What was read for a run, and where it may change its database, what is held for that.
 #[derive(Drop)]
-pub struct Taken {
+pub struct RunFiles {
     pub bytes: FileBytes,
-    pub held: Option<Held>,
+    pub held: Option<LockedFiles>,
     /// A `.pag` of which nothing was read, for a run that wants one page of it.
     pub unread: Option<UnreadPages>,
 }
@@ -46,7 +45,7 @@ pub struct Taken {
 /// A database that a run may change: the names of its files, the bytes of a redo file that is not marked, and its lock. Others wait
 /// until that is dropped.
 #[derive(Drop)]
-pub struct Held {
+pub struct LockedFiles {
     pub names: Names,
     pub redo: Vec<u8>,
     pub lock: File,
@@ -64,10 +63,10 @@ pub struct Held {
 /// these files, or none that a save has left. Nothing is written at a fault, but for a save that was being ended.
 pub fn take_files<R: Files<File = File> + Clock + AllocGlobal>(
     rt: &R,
-    place: Place<'_>,
+    place: RunPlace<'_>,
     peeks: bool,
     patience: Option<Duration>,
-) -> Result<Taken, FilesFault> {
+) -> Result<RunFiles, FilesFault> {
     let Some(base) = place.base else {
         return Ok(read_whole(read_files(rt, place, false)?, None));
     };
@@ -84,8 +83,8 @@ pub fn take_files<R: Files<File = File> + Clock + AllocGlobal>(
 }
 
 // Files that were read whole.
-fn read_whole(bytes: FileBytes, held: Option<Held>) -> Taken {
-    Taken {
+fn read_whole(bytes: FileBytes, held: Option<LockedFiles>) -> RunFiles {
+    RunFiles {
         bytes,
         held,
         unread: None,
@@ -95,35 +94,35 @@ fn read_whole(bytes: FileBytes, held: Option<Held>) -> Taken {
 // Reads the files of a run that may change its database, and keeps their lock.
 fn take_to_write<R: Files<File = File> + Clock + AllocGlobal>(
     rt: &R,
-    place: Place<'_>,
+    place: RunPlace<'_>,
     names: Names,
     peeks: bool,
     patience: Option<Duration>,
-) -> Result<Taken, FilesFault> {
+) -> Result<RunFiles, FilesFault> {
     let lock = lock_to_write(rt, names.lock.as_str(), names.pages.as_str(), patience)?;
     if peeks && let Some((bytes, redo, unread)) = peek(rt, place, &names, Guard::Writer) {
-        return Ok(Taken {
+        return Ok(RunFiles {
             bytes,
-            held: Some(Held { names, redo, lock }),
+            held: Some(LockedFiles { names, redo, lock }),
             unread: Some(unread),
         });
     }
     let (bytes, redo) = read_database(rt, place, &names)?;
-    Ok(read_whole(bytes, Some(Held { names, redo, lock })))
+    Ok(read_whole(bytes, Some(LockedFiles { names, redo, lock })))
 }
 
 // Reads the files of a run that changes nothing, but for `.pag`, and keeps the lock where there is one. None where all has to be read.
 fn peek_to_read<R: Files<File = File> + Clock + AllocGlobal>(
     rt: &R,
-    place: Place<'_>,
+    place: RunPlace<'_>,
     names: &Names,
     patience: Option<Duration>,
-) -> Result<Option<Taken>, FilesFault> {
+) -> Result<Option<RunFiles>, FilesFault> {
     let guard = Guard::of_reader(rt.alloc(), read_lock(rt, names, patience)?, names)?;
     let Some((bytes, _redo, unread)) = peek(rt, place, names, guard) else {
         return Ok(None);
     };
-    Ok(Some(Taken {
+    Ok(Some(RunFiles {
         bytes,
         held: None,
         unread: Some(unread),
@@ -133,7 +132,7 @@ fn peek_to_read<R: Files<File = File> + Clock + AllocGlobal>(
 // The files of a run but for `.pag`, and the bytes of a redo file that is not marked. None where all has to be read.
 fn peek<R: Files<File = File> + AllocGlobal>(
     rt: &R,
-    place: Place<'_>,
+    place: RunPlace<'_>,
     names: &Names,
     guard: Guard,
 ) -> Option<(FileBytes, Vec<u8>, UnreadPages)> {
@@ -159,25 +158,25 @@ fn peek<R: Files<File = File> + AllocGlobal>(
 /// As `take_files`.
 pub fn take_rest<R: Files<File = File> + Clock + AllocGlobal>(
     rt: &R,
-    place: Place<'_>,
-    taken: Taken,
+    place: RunPlace<'_>,
+    taken: RunFiles,
     patience: Option<Duration>,
-) -> Result<Taken, FilesFault> {
-    let Taken {
+) -> Result<RunFiles, FilesFault> {
+    let RunFiles {
         bytes,
         held,
         unread,
     } = taken;
     let program = bytes.program;
-    let place = Place {
+    let place = RunPlace {
         file: None,
         ..place
     };
     if let Some(held) = held {
-        let Held { names, lock, .. } = held;
+        let LockedFiles { names, lock, .. } = held;
         let (read, redo) = read_again(rt, place, &names)?;
         let bytes = FileBytes { program, ..read };
-        return Ok(read_whole(bytes, Some(Held { names, redo, lock })));
+        return Ok(read_whole(bytes, Some(LockedFiles { names, redo, lock })));
     }
     let lock = match unread {
         Some(unread) => unread.into_lock(),
@@ -191,7 +190,7 @@ pub fn take_rest<R: Files<File = File> + Clock + AllocGlobal>(
 // Reads the files of a run that changes nothing, under its lock where it has one.
 fn read_rest<R: Files<File = File> + Clock + AllocGlobal>(
     rt: &R,
-    place: Place<'_>,
+    place: RunPlace<'_>,
     lock: Option<File>,
     patience: Option<Duration>,
 ) -> Result<FileBytes, FilesFault> {
@@ -213,10 +212,10 @@ fn read_rest<R: Files<File = File> + Clock + AllocGlobal>(
 /// As `take_files`, but for its lock.
 pub fn read_again<R: Files<File = File> + AllocGlobal>(
     rt: &R,
-    place: Place<'_>,
+    place: RunPlace<'_>,
     names: &Names,
 ) -> Result<(FileBytes, Vec<u8>), FilesFault> {
-    let place = Place {
+    let place = RunPlace {
         base: names.pages.as_str().strip_suffix(".pag"),
         ..place
     };
@@ -226,7 +225,7 @@ pub fn read_again<R: Files<File = File> + AllocGlobal>(
 // Reads the files of a run that changes nothing, under a lock where there is one.
 fn read_under_lock<R: Files<File = File> + Clock + AllocGlobal>(
     rt: &R,
-    place: Place<'_>,
+    place: RunPlace<'_>,
     names: &Names,
     patience: Option<Duration>,
 ) -> Result<FileBytes, FilesFault> {
@@ -252,7 +251,7 @@ fn read_lock<R: Files<File = File> + Clock>(
 // Reads the files of a run that changes nothing, and then lets its lock go.
 fn read_held<R: Files<File = File> + AllocGlobal>(
     rt: &R,
-    place: Place<'_>,
+    place: RunPlace<'_>,
     names: &Names,
     _lock: Option<File>,
 ) -> Result<FileBytes, FilesFault> {
@@ -262,7 +261,7 @@ fn read_held<R: Files<File = File> + AllocGlobal>(
 // The database of a run, and the bytes of its redo file where that is not marked.
 fn read_database<R: Files<File = File> + AllocGlobal>(
     rt: &R,
-    place: Place<'_>,
+    place: RunPlace<'_>,
     names: &Names,
 ) -> Result<(FileBytes, Vec<u8>), FilesFault> {
     let redo = read_redo(rt, names)?;
@@ -294,7 +293,7 @@ fn read_database<R: Files<File = File> + AllocGlobal>(
 }
 
 // Whether a file would be longer than it may be, once the save is ended that was cut off.
-fn is_too_long(place: Place<'_>, redo: &[u8]) -> bool {
+fn is_too_long(place: RunPlace<'_>, redo: &[u8]) -> bool {
     match lengths_after(redo) {
         Some((pages, directory)) => {
             pages as u64 > place.pages_limit || directory as u64 > DIR_LIMIT
@@ -318,10 +317,10 @@ fn keep_plan<R: Files<File = File>>(rt: &R, names: &Names) -> io::Result<()> {
     Ok(())
 }
 
-// What files stand for behind whose marked plan a save was cut off, beside the bytes of a program.
+// What files stand for where a save was cut off once its plan was marked, beside the bytes of a program.
 fn lay_over(
     alloc: Global,
-    place: Place<'_>,
+    place: RunPlace<'_>,
     found: Found,
     program: Vec<u8>,
 ) -> Result<(FileBytes, Vec<u8>), FilesFault>
@@ -374,7 +373,7 @@ fn read_redo<R: Files<File = File> + AllocGlobal>(
 // where a file has more bytes than it may, and `NoMemory`.
 fn read_files<R: Files + AllocGlobal>(
     rt: &R,
-    place: Place<'_>,
+    place: RunPlace<'_>,
     peeks: bool,
 ) -> Result<FileBytes, FilesFault> {
     let alloc = rt.alloc();
@@ -385,11 +384,11 @@ fn read_files<R: Files + AllocGlobal>(
     };
     for source in sources(alloc, place)? {
         let (name, limit) = (source.name.as_str(), source.limit);
-        match source.part {
-            Part::Dir => read.directory = read_file(rt, name, limit, source.may_be_absent)?,
-            Part::Pag if peeks => (),
-            Part::Pag => read.pages = read_pages(rt, name, limit, place.page_size)?,
-            Part::Program => read.program = read_file(rt, name, limit, source.may_be_absent)?,
+        match source.kind {
+            SourceKind::Dir => read.directory = read_file(rt, name, limit, source.may_be_absent)?,
+            SourceKind::Pag if peeks => (),
+            SourceKind::Pag => read.pages = read_pages(rt, name, limit, place.page_size)?,
+            SourceKind::Program => read.program = read_file(rt, name, limit, source.may_be_absent)?,
         }
     }
     Ok(read)
@@ -468,10 +467,10 @@ fn read_piece<F: Read>(file: &mut F, room: &mut [u8]) -> Result<usize, FilesFaul
     Ok(count)
 }
 
-// Reads a piece behind the others, and says whether more may stand behind it: a piece that is not full is the last.
+// Reads a piece after the others, and says whether more may stand after it: a piece that is not full is the last.
 fn push_piece(pages: &mut ReadPages<Global>, piece: &[u8], limit: u64) -> Result<bool, FilesFault>
     requires { length pages.old.bytes % page_bytes pages.old.size ≡ 0 }
-    ensures behind { OnOk result (pages.new ≡ with_piece pages.old piece.now) }
+    ensures after { OnOk result (pages.new ≡ with_piece pages.old piece.now) }
     ensures whole { IfOk result (λ more. more ≡ true → length pages.new.bytes % page_bytes pages.new.size ≡ 0) }
 {
     let total = (pages.len() as u64).saturating_add(piece.len() as u64);
@@ -507,7 +506,7 @@ fn read_all<F: Read + Drop>(alloc: Global, file: F, limit: u64) -> Result<Vec<u8
     Ok(bytes)
 }
 
-// Reads the next bytes of a file, at most so many, behind others.
+// Reads the next bytes of a file, at most so many, after others.
 fn read_up_to<F: Read>(file: &mut F, most: u64, bytes: &mut Vec<u8>) -> Result<(), FilesFault> {
     match file.take(most).read_to_end(bytes) {
         Ok(_) => Ok(()),

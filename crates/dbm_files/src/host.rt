@@ -2,8 +2,7 @@
 ghost use Rattle.std.specs.Prelude.{◌≡◌, IfErr};
 ghost use Rattle.sdbm_saves.specs.declared.disk.DiskError.TheVariants.{Failed};
 
-use crate::names::Names;
-use crate::side::{Side, make, make_directory, make_redo, open_beside};
+use dbm_places::{Names, Side, folder_of, make, make_directory, make_redo, open_beside};
 use sdbm_saves::{CallLog, DiskError, File as Part, Host};
 use std::fs::{self, File, OpenFile, OpenOptions};
 use std::io::{self, ErrorKind};
@@ -16,15 +15,6 @@ fn name_of(names: &Names, part: Part) -> &str {
         Part::Pages => names.pages.as_str(),
         Part::Directory => names.directory.as_str(),
         Part::Redo => names.redo.as_str(),
-    }
-}
-
-/// The folder in which a file lies.
-pub fn folder_of(name: &str) -> &str {
-    match name.rsplit_once('/') {
-        Some(("", _)) => "/",
-        Some((folder, _)) => folder,
-        None => ".",
     }
 }
 
@@ -105,8 +95,8 @@ impl<'a, R: Files<File = File>> OpenFiles<'a, R> {
     }
 
     // Syncs a file, and the folder with its name. A file that this run has not written is synced too: an earlier run may have been
-    // killed behind a write. One that is not there has nothing to sync, and one that may not be written fails here and not in the
-    // midst of a commit.
+    // killed after a write. One that is not there has nothing to sync, and one that may not be written fails here and not in the
+    // middle of a commit.
     fn keep(&mut self, part: Part) -> io::Result<()> {
         match self.slot(part) {
             Some(file) => file.sync_data()?,

@@ -2,9 +2,7 @@
 ghost use Rattle.std.specs.Prelude.{◌≡◌, ◌+◌, ◌*◌, ◌<◌, ◌≤◌, ℕ, length, get_or, IfOk};
 ghost use Rattle.sdbm_addr.specs.Pairs.{page_bytes};
 
-use crate::absent::{is_absent, is_special};
-use crate::fault::FilesFault;
-use crate::names::Names;
+use dbm_places::{FilesFault, Names, is_absent, is_special};
 use sdbm_addr::PageSize;
 use std::alloc::{AllocError, Global};
 use std::fs::{self, File};
@@ -50,7 +48,7 @@ impl Guard {
 }
 
 impl UnreadPages {
-    /// Opens a `.pag` of at most so many bytes. None where it cannot be read so: who reads all of it finds out why.
+    /// Opens a `.pag` of at most so many bytes. None where it cannot be read so: a run that reads all of it finds out why.
     pub fn open<R: Files<File = File>>(
         rt: &R,
         name: &str,

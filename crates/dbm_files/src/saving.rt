@@ -6,11 +6,11 @@ ghost use Rattle.sdbm_saves.specs.Disk.{LeavesOnly};
 ghost use Rattle.sdbm_saves.specs.Redo.{files, renewed_files, CanEnd, IsCommitted, IsOldOrNew, IsPlan, IsSettled, Knows};
 ghost use Rattle.sdbm_saves.specs.Saves.{IsOldOrSaved, IsSaved};
 ghost use Rattle.dbm_files.specs.Saving.{StandFor};
-ghost use Rattle.dbm_files.specs.declared.fault.FilesFault.TheVariants as fault;
+ghost use Rattle.dbm_places.specs.declared.fault.FilesFault.TheVariants as fault;
 ghost use Rattle.dbm_files.specs.declared.saving.Saved.TheVariants as saved;
 
-use crate::fault::FilesFault;
 use byte_text::write_all;
+use dbm_places::FilesFault;
 use sdbm_files::Image;
 use sdbm_saves::{Disk, ReadFiles, commit, finish, plan_read, recover, stage, try_room};
 use std::alloc::Global;
@@ -43,7 +43,7 @@ pub struct Change<'a> {
 /// # Errors
 /// `FileTooLong` where a file has 2^32 bytes or more or would have, `NoMemory`, and `WriteFile` where the disk has failed, with nothing
 /// printed; where it failed at the mark the save may be committed or not. `Write` where the lines could not be printed, or only their
-/// first bytes: the change stands then. What fails behind the mark is no fault, and the save is `Pending`: the next run ends it. So that a
+/// first bytes: the change stands then. What fails after the mark is no fault, and the save is `Pending`: the next run ends it. So that a
 /// full disk is found before, the room is tried that the files may want.
 pub fn save_change<D: Disk, W: Write>(
     alloc: Global,

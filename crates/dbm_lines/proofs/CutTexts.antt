@@ -35,12 +35,12 @@ piece_open (c ∷ cs) rest h =
     ∙ ap (onto_first c) (piece_open cs rest (All-tail (λ b. eqb b 10 ≡ false) c cs h))
     ∙ onto-prepended c cs (pieces_of 10 rest)
 
--- a line, and more behind its end
+-- a line, and more after its end
 pub piece_first : (line rest : List ℕ) → IsPiece line → pieces_of 10 (line ++ 10 ∷ rest) ≡ line ∷ pieces_of 10 rest
 piece_first line rest h = slice_split_at is_end line 10 rest h refl
 
 -- A text is known by what was read and what is left of a reader: it is that of a line as far as it was read, and what is read and left
--- behind it.
+-- after it.
 abbrev pub SameText : List ℕ → Option (List ℕ) → List ℕ → List ℕ → Option (List ℕ) → Type 0
 SameText rest₀ None line rest known = Unit {0}
 SameText rest₀ (Some more₀) line rest None = ⊥

@@ -1,4 +1,4 @@
--- The lines of a reader. Behind the last LF stands one more, which may be empty.
+-- The lines of a reader. After the last LF stands one more, which may be empty.
 use Rattle.std.specs.Prelude.{◌≡◌, ℕ, ◌<◌, ◌==◌, ◌++◌, Bool, true, false, cond, List, [], ◌∷◌, length, Option, Some, None, option_map, ⊤}
 use Rattle.std.specs.List.{All}
 use Rattle.std.specs.Io.KnownBytes.{IsAtEnd}
@@ -25,7 +25,7 @@ Gives (Some (l ∷ ls)) false line new = ⊥
 abbrev pub IsPiece : List ℕ → Type 0
 IsPiece text = All (λ b. (b == 10) ≡ false) text
 
--- what was read, as far as its first end of a line, or all of it where it has none, goes behind a text
+-- what was read, as far as its first end of a line, or all of it where it has none, goes after a text
 abbrev pub TakesPiece : Bool → List ℕ → List ℕ → List ℕ → List ℕ → Type 0
 TakesPiece true rest old new rest' = (piece : List ℕ) × (IsPiece piece × ((rest ≡ piece ++ 10 ∷ rest') × (new ≡ old ++ piece)))
 TakesPiece false rest old new rest' = IsPiece rest × ((rest' ≡ []) × (new ≡ old ++ rest))

@@ -68,7 +68,7 @@ impl Lines {
         self.ended
     }
 
-    /// Puts the next line of the reader, without its end, in place of `line`, and tells whether there is one. Behind the last LF
+    /// Puts the next line of the reader, without its end, in place of `line`, and tells whether there is one. After the last LF
     /// stands one more, which may be empty. No more is read than it takes to have the line.
     ///
     /// # Errors
@@ -102,7 +102,7 @@ impl Lines {
         }
     }
 
-    // Puts what was read, up to the next LF, behind a text, and tells whether there is one.
+    // Puts what was read, up to the next LF, after a text, and tells whether there is one.
     fn take_piece(&mut self, line: &mut Vec<u8>) -> Result<bool, AllocError>
         ensures taken { IfOk result (λ found. TakesPiece found self.old.rest line.old.items line.new.items self.new.rest) }
         ensures same { self.new.ended ≡ self.old.ended }

@@ -20,7 +20,7 @@ use Rattle.dbm_listings.specs.Streams.{IsSplit}
 pub appends_both : (a b c : Option (List ℕ)) (x y z : List ℕ) → Appends a b x → Appends b c y → z ≡ x ++ y → Appends a c z
 appends_both a b c x y z p q e = subst (Appends a c) (sym e) (Appends-trans a b c x y p q)
 
--- a part behind a text that was written
+-- a part after a text that was written
 pub part_behind : (a b c : Option (List ℕ)) (t u v : List ℕ) → Appends a b t → WritesPart b c u → v ≡ t ++ u → WritesPart a c v
 part_behind a b c t u v p q e =
     subst (WritesPart a c) (sym e)
@@ -44,7 +44,7 @@ part_within a c u w v q e =
 pub nothing_part : (a : Option (List ℕ)) (text : List ℕ) → 0 < length text → WritesPart a a text
 nothing_part a text some = record { count = 0; within = some; appends = Appends-nil a }
 
--- a text is written behind another
+-- a text is written after another
 pub split_more : (a b c : Option (List ℕ)) (room more made left text all : List ℕ) → IsSplit a b room text → made ≡ room ++ more → all ≡ text ++ more → IsSplit b c left made → IsSplit a c left all
 split_more a b c room more made left text all before is_made is_all after = record {
   written = before.written ++ after.written;
@@ -52,7 +52,7 @@ split_more a b c room more made left text all before is_made is_all after = reco
   together = is_all ∙ ap (λ (xs : List ℕ). xs ++ more) before.together ∙ append_assoc before.written room more ∙ ap (λ (xs : List ℕ). before.written ++ xs) (sym is_made ∙ after.together) ∙ sym (append_assoc before.written after.written left);
 }
 
--- a row that was made behind the room's, and of which not all was written
+-- a row that was made after the room's, and of which not all was written
 pub part_of_step : (old mid new : Option (List ℕ)) (room row made first rest all : List ℕ) → IsSplit old mid room first → made ≡ room ++ row → all ≡ (first ++ row) ++ rest → WritesPart mid new made → WritesPart old new all
 part_of_step old mid new room row made first rest all before is_made is_all part =
     let together : first ++ row ≡ before.written ++ made =

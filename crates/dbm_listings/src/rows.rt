@@ -14,7 +14,7 @@ use std::alloc::{AllocError, Allocator};
 pub enum Listing {
     /// Key and value in a line.
     Pairs,
-    /// The bytes of the key and of the value, a zero byte behind each.
+    /// The bytes of the key and of the value, a zero byte after each.
     RawPairs,
     /// An object in a line.
     Objects,
@@ -137,7 +137,7 @@ fn show_key<A: Allocator>(
     Ok(text.push(b'\n')?)
 }
 
-// The bytes of a key and a value, a zero byte behind each.
+// The bytes of a key and a value, a zero byte after each.
 fn show_raw_pair<A: Allocator>(
     key: &[u8],
     value: &[u8],

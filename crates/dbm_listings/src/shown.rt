@@ -18,7 +18,7 @@ pub enum Shown<'a> {
     Stats,
 }
 
-/// Puts what a line shows of a database behind a text, and tells whether its prefix is bytes; where it is not, nothing is put there.
+/// Puts what a line shows of a database after a text, and tells whether its prefix is bytes; where it is not, nothing is put there.
 ///
 /// # Errors
 /// `AllocError` where no memory is left.
@@ -41,7 +41,7 @@ pub fn show_listing(
     }
 }
 
-// Puts a row for each pair whose key begins with a prefix behind a text, and tells whether the prefix is bytes.
+// Puts a row for each pair whose key begins with a prefix after a text, and tells whether the prefix is bytes.
 fn put_rows(
     alloc: Global,
     notation: &Notation<Global>,

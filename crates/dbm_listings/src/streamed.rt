@@ -34,7 +34,7 @@ const TEXT_LIMIT: usize = 0x8000_0000_0000_0000;
 ///
 /// # Errors
 /// `Unreported` with the faults of `open_asked`, and then nothing was written: with `NoMemory` also where the rows have 2^63 bytes or
-/// more. `Write` where the writer fails, or where no memory is left for a row behind those that were written: the first bytes of the
+/// more. `Write` where the writer fails, or where no memory is left for a row after those that were written: the first bytes of the
 /// rows were.
 pub fn serve_rows<W: Write>(
     alloc: Global,

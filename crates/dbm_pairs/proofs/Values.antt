@@ -21,7 +21,7 @@ pub shows_none : (raw : Bool) (n : Notation Global) (before : Database) (command
 shows_none false n before command report shows = shows.1.1
 shows_none true n before command report shows = shows.written
 
--- standard input is read behind the opening
+-- standard input is read after the opening
 pub input_fault : (n : Notation Global) (store : Store) (given : Given) (input : Option (List ℕ)) (fault : ReportFault) → MayRead n store given → IsCaused (input_causes input) fault → IsCaused (input_store_causes n store given input) fault
 input_fault n store given input BadHex opens h = absurd h
 input_fault n store given input BadText opens h = absurd h

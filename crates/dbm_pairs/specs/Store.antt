@@ -42,7 +42,7 @@ words_by n store value = store_words (word_asked store.raw_key n store.key.now) 
 abbrev pub MayRead : Notation Global → Store → Given → Type 0
 MayRead n store given = (command_of n (words_by n store (codes ".")) ≢ None) × Opens store.form given
 
--- standard input is read behind the words and the files
+-- standard input is read after the words and the files
 abbrev pub input_store_causes : Notation Global → Store → Given → Option (List ℕ) → Causes
 input_store_causes n store given input = record (command_causes n store.form given (words_by n store (codes "."))) {
   reading = MayRead n store given;

@@ -179,7 +179,7 @@ fn store_word(
     Ok(change(alloc, notation, image, command, None)?)
 }
 
-// A store of all of standard input, which is read behind the words and the files.
+// A store of all of standard input, which is read after the words and the files.
 fn store_input<R: Read>(
     alloc: Global,
     notation: &Notation<Global>,

@@ -1,9 +1,9 @@
--- What is said of an image changes no file.
+-- What is said of a program image changes no file.
 use Rattle.std.proofs.Common.{◌≡◌, ℕ, List, None, inl, inr}
 use Rattle.dbm_reports.specs.declared.report.Report.{Report}
 use Rattle.dbm_programs.specs.Judging.{Judges}
 
--- what is said of an image changes no file
+-- what is said of a program image changes no file
 pub judged_alone : (image : List ℕ) (report : Report) → Judges image report → report.database ≡ None
 judged_alone image report (inl h) = h.1.written
 judged_alone image report (inr h) = h.1.1.written

@@ -20,7 +20,7 @@ abbrev pub AsmAsks : List Row → Asm → Type 0
 AsmAsks rows asm =
     IsWord (codes "FILE") rows asm.file
 
--- the image of the one code that a text denotes, in hex, in a line
+-- the program image of the one code that a text denotes, in hex, in a line
 pub record IsAssembled (text line : List ℕ) : Type 0 where
   pub code : List Insn
   pub denotes : Denotes text code

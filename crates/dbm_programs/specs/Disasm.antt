@@ -21,7 +21,7 @@ abbrev pub DisasmAsks : List Row → Disasm → Type 0
 DisasmAsks rows disasm =
     IsWord (codes "FILE") rows disasm.file
 
--- a text of the code that an image spells
+-- a text of the code that a program image spells
 pub record IsDisassembled (image text : List ℕ) : Type 0 where
   pub code : List Insn
   pub is_image : IsImage code image

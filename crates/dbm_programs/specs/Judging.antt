@@ -28,7 +28,7 @@ pub record EndsAs (last report : Report) : Type 0 where
   pub status_is : report.status ≡ last.status
   pub written : report.database ≡ last.database
 
--- Rows, and then what is said of an image without them.
+-- Rows, and then what is said of a program image without them.
 abbrev pub EndsJudged : List ℕ → Report → Type 0
 EndsJudged image report = (last : Report) × (Judges image last × EndsAs last report)
 

@@ -78,7 +78,7 @@ pub fn verify_command<'a>(alloc: Global) -> Result<Command<'a>, AllocError>
     subcommand(alloc, "verify", about, notes, args)
 }
 
-// With `explain` the line of `verify_file` stands behind the program's instructions with what is known before each; of a file that is
+// With `explain` the line of `verify_file` stands after the program's instructions with what is known before each; of a file that is
 // the image of no program there is this line alone.
 impl Subcommand for Verify<'_> {
     ghost use Rattle.std.specs.Prelude.{false};
@@ -127,7 +127,7 @@ fn source_of(file: &[u8], is_image: bool) -> Option<&str> {
     str::from_utf8(file).ok()
 }
 
-// What is said of an image.
+// What is said of a program image.
 fn explain_image(alloc: Global, image: &[u8], source: Option<&str>) -> Result<Report, AllocError>
     ensures { IfOk result (IsExplained image.now) }
 {
@@ -138,7 +138,7 @@ fn explain_image(alloc: Global, image: &[u8], source: Option<&str>) -> Result<Re
     }
 }
 
-// What is said of the code of an image.
+// What is said of the code of a program image.
 fn explain_code(
     alloc: Global,
     code: Code<Global>,
@@ -175,7 +175,7 @@ fn explain_examined(
     behind(rows, printed(line))
 }
 
-// What is said of a refused code of an image.
+// What is said of a refused code of a program image.
 fn explain_refusal(
     alloc: Global,
     program: Refused<Global>,
@@ -190,7 +190,7 @@ fn explain_refusal(
     behind(rows, last)
 }
 
-// Rows, and the line that is said behind them.
+// Rows, and the line that is said after them.
 fn behind(rows: String, last: Report) -> Result<Report, AllocError>
     ensures { IfOk result (EndsAs last) }
 {

@@ -24,7 +24,7 @@ pub opened_as : (part : Part) (kind : KeyBytes) (size : PageSize) (opened : Opti
 opened_as part kind size None directory kinds sizes page others = tt
 opened_as part kind size (Some db) directory kinds sizes page others = record { kind_is = kinds; size_is = sizes; directory = directory; page = page; others = others }
 
--- a number stands first, and the others behind it
+-- a number stands first, and the others after it
 pub at_first : (x : ℕ) (xs : List ℕ) → Contains (x ∷ xs) x
 at_first x xs = (0, omega arith, refl)
 

@@ -78,7 +78,7 @@ IsLongScript input = IfSome input (λ bytes. 16777216 < length bytes)
 abbrev pub input_causes : Option (List ℕ) → Causes
 input_causes input = record no_causes { reading = ⊤; long = IsLongScript input }
 
--- the text of no program: the fault has a line, and is not want of memory
+-- the text of no program: the fault has a line, and is not `NoMemory`
 abbrev pub IsUnassembled : List ℕ → AsmFault → Type 0
 IsUnassembled file fault = IsUtf8 file × (DenotesNone file × (IsLineOf fault.kind fault.line × (fault.kind ≢ kinds.NoMemory)))
 

@@ -32,7 +32,7 @@ pub record IsOpened (form : Form) (given : Given) (db : Database) : Type 0 where
 abbrev pub Opens : Form → Given → Type 0
 Opens form given = (db : Database) × IsOpened form given db
 
--- Why the files do not open. Want of memory has a name of its own.
+-- Why the files do not open. Where no memory is left the fault has a name of its own.
 abbrev pub IsShut : Form → Given → OpenFault → Type 0
 IsShut form given opening.NoMemory = ⊥
 IsShut form given reason = IsOpenFault (key_bytes_of form.unsigned) (page_size_of form.wide) given.dir.items given.pag.bytes reason

@@ -89,7 +89,7 @@ OnDatabase form given P = (db : Database) × (IsOpened form given db × P db)
 
 -- ---- programs
 
--- an image of the one code that a text denotes
+-- a program image of the one code that a text denotes
 pub record IsTextImage (text image : List ℕ) : Type 0 where
   pub code : List Insn
   pub denotes : Denotes text code
@@ -101,7 +101,7 @@ abbrev pub IsFileImage : Bool → List ℕ → List ℕ → Type 0
 IsFileImage true file image = image ≡ file
 IsFileImage false file image = IsTextImage file image
 
--- why an image gets no number, in a line, with a status
+-- why a program image gets no number, in a line, with a status
 pub record Refuses (fault : RegFault) (status : ℕ) (database : Option Database) (report : Report) : Type 0 where
   pub text_is : report.text.items ≡ (codes "refused " ++ fault_text fault) ++ 10 ∷ []
   pub status_is : report.status ≡ status

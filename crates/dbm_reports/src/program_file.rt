@@ -47,7 +47,7 @@ pub fn file_image(alloc: Global, file: &[u8], is_image: bool) -> Result<Vec<u8>,
     text_image(alloc, file)
 }
 
-/// The line that says why an image gets no number, with a status, and the database that is to be written. Memory that runs
+/// The line that says why a program image gets no number, with a status, and the database that is to be written. Memory that runs
 /// out has no such line.
 ///
 /// # Errors

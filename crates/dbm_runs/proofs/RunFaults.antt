@@ -25,7 +25,7 @@ use Rattle.dbm_script.specs.declared.notations.Notation.{Notation}
 use Rattle.dbm_reports.specs.declared.report.Report.{Report}
 use Rattle.dbm_script.specs.declared.run_words.RunWords.{RunWords}
 
--- no cause but want of memory
+-- no cause but that no memory was left
 no_fault : (causes : Causes) (fault : ReportFault) → IsCaused no_causes fault → IsCaused causes fault
 no_fault causes BadHex h = absurd h
 no_fault causes BadText h = absurd h
@@ -40,7 +40,7 @@ no_fault causes TooLong h = absurd h
 no_fault causes OutputTooLong h = absurd h
 no_fault causes NoMemory h = h
 
--- the program's file, behind the opening
+-- the program's file, after the opening
 pub opened_fault : (form : Form) (given : Given) (is_image : Bool) (fault : ReportFault) → Opens form given → IsCaused (file_causes is_image given.file.items) fault → IsCaused (program_causes form given is_image) fault
 opened_fault form given true fault opens h = no_fault (program_causes form given true) fault h
 opened_fault form given false BadHex opens h = h

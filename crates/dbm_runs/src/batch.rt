@@ -20,7 +20,7 @@ use std::alloc::{AllocError, Global};
 pub const EACH_CORE: &str = "cores";
 
 /// A program is to be run on the records of many keys by so many workers, each run as a line on standard input says: the program
-/// of a text, or with `image` that of an image.
+/// of a text, or with `image` that of a program image.
 #[derive(Clone, Copy, Debug)]
 pub struct Batch<'a> {
     pub base: &'a str,

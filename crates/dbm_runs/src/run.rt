@@ -148,7 +148,7 @@ pub fn run_command<'a>(alloc: Global) -> Result<Command<'a>, AllocError>
 }
 
 // The database is written after the run. Where the program gets no number, the report says why, as a line of a script would that
-// submits its image first.
+// submits its program image first.
 impl Subcommand for Run<'_> {
     ghost use Rattle.std.specs.Prelude.{false, true};
     ghost use Rattle.dbm_runs.specs.Run.{run_in};

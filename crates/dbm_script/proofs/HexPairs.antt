@@ -1,4 +1,4 @@
--- Pairs of digits, lane by lane, and texts in hex that stand behind one another.
+-- Pairs of digits, lane by lane, and texts in hex that follow one another.
 use Rattle.std.proofs.Common.{◌≡◌, ◌∙◌, ℕ, zero, suc, ◌+◌, ◌*◌, ◌%◌, ◌<◌, ◌≤◌, List, [], ◌∷◌, ◌++◌, Some, None, Result, Ok, Err, length, map, refl, sym, ap, arith}
 use Rattle.std.specs.Simd.Lanes.{Each1}
 use Rattle.std.specs.Result.{result_ok}
@@ -42,9 +42,9 @@ small_lanes i (a ∷ b ∷ rest) out e fits =
     let read = pair_read a b i (hex_digit_value a) (hex_digit_value b) (decode_pairs (i + 2) rest) out e in
     (small_digit a read.h fits.0 read.high_is, (small_digit b read.l fits.1.0 read.low_is, small_lanes (i + 2) rest read.bytes read.rest_is fits.1.1))
 
--- ---- texts behind one another
+-- ---- texts one after another
 
--- two digits and the bytes behind them
+-- two digits and the bytes after them
 read_pair : (a b i : ℕ) (rest : List ℕ) (h l : ℕ) (bytes : List ℕ) → hex_digit_value a ≡ Some h → hex_digit_value b ≡ Some l → decode_pairs (i + 2) rest ≡ Ok bytes → decode_pairs i (a ∷ b ∷ rest) ≡ Ok ((h * 16 + l) ∷ bytes)
 unfolding decode_pairs
 read_pair a b i rest h l bytes ea eb er = rw (ea, eb, er) refl

@@ -20,7 +20,7 @@ use Rattle.dbm_script.specs.declared.notations.Notation.TheVariants.{Hex, Text, 
 no_space : (c v : ℕ) → hex_digit_value c ≡ Some v → eqb c 32 ≡ false
 no_space c v h = false_from_ne_true _ (λ e. none-some v (ap hex_digit_value (sym (eqb-true c 32 e)) ∙ h))
 
--- a pair of digits, and those behind it
+-- a pair of digits, and those after it
 pub record IsRead (high low : Option ℕ) (rest : Result (List ℕ) FromHexError) : Type 0 where
   pub h : ℕ
   pub l : ℕ

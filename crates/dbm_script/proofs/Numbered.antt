@@ -51,7 +51,7 @@ denied old new image (Verify fault) told refuses =
     (refuses.0, (refuses.1.0, ⊎_elim (λ (h : RecallsIn old image fault new). h.programs) (λ (h : Keeps old image fault new). h.programs) refuses.1.1))
 denied old new image Full told refuses = (refuses.0.is_new, ((refuses.1.0, refuses.1.1.0), ap (λ (r : Registered). r.programs) refuses.1.1.1))
 
--- the text of an answer, behind a text
+-- the text of an answer, after a text
 abbrev pub Answers : Registered → List ℕ → Registered → List ℕ → List ℕ → Type 0
 Answers old image new before after =
     script.Adds before after (λ added. (told : Verdict) × AnswersImage old.programs image told added new.programs)
@@ -74,7 +74,7 @@ pub both_ok : {T E P Q R : Type 0} (r : Result T E) → (P → Q → R) → OnOk
 both_ok (Ok x) f p q = f p q
 both_ok (Err e) f p q = tt
 
--- a line that submits an image
+-- a line that submits a program image
 pub image_line : (A : Type 0) (n : Notation A) (db : Database) (programs programs' : List Accepted) (ask : Option (Ask A)) (image before after : List ℕ) → ask ≡ Some (Program image)
     → script.Adds before after (λ added. (told : Verdict) × AnswersImage programs image told added programs')
     → script.Adds before after (λ added. (told : Option Verdict) × script.AnswersLine A n (script.stage db programs) ask told added (script.stage db programs'))

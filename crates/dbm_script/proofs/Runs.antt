@@ -48,7 +48,7 @@ one_more A n s mid s' done line told text new before adds =
     subst (λ (t : List ℕ). RunsLines A n s (done ++ line ∷ []) (told ++ adds.holds.0) t s') (sym adds.is)
     (RunsLines-append A n s mid s' done (line ∷ []) told adds.holds.0 text adds.added before adds.holds.1)
 
--- the line that was next is done, and those behind it are left
+-- the line that was next is done, and those after it are left
 pub next_done : (done : List (List ℕ)) (line : List ℕ) (left after all : List (List ℕ)) → done ++ left ≡ all → left ≡ line ∷ after → (done ++ line ∷ []) ++ after ≡ all
 next_done done line left after all is first = append_assoc done (line ∷ []) after ∙ ap (λ (ls : List (List ℕ)). done ++ ls) (sym first) ∙ is
 
@@ -110,7 +110,7 @@ AnswersRun-unique A n db (Some command) t u a b x y = AnswersCommand-unique A n 
 same_stage : (x y : Stage) → x.db ≡ y.db → x.programs ≡ y.programs → x ≡ y
 same_stage x y d p = λ i. record { db = d i; programs = p i }
 
--- what a line does, and the text of its answer, are determined by what is told of its image
+-- what a line does, and the text of its answer, are determined by what is told of its program image
 AnswersLine-unique : (A : Type 0) (n : Notation A) (s : Stage) (ask : Option (Ask A)) (told : Option Verdict) (t u : List ℕ) (a b : Stage)
     → AnswersLine A n s ask told t a → AnswersLine A n s ask told u b → (t ≡ u) × (a ≡ b)
 AnswersLine-unique A n s None told t u a b x y = (x.1.0 ∙ sym y.1.0, x.1.1 ∙ sym y.1.1)

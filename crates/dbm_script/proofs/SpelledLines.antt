@@ -9,7 +9,7 @@ pub lines_left : (after : Option (Bor (List ℕ))) → is_some after ≡ true �
 lines_left None goes = let f : ⊥ = cc in absurd f
 lines_left (Some text) goes = let long = length-slice_split (λ b. eqb b 10) text.now in omega arith
 
--- a line goes behind those before it, with its end, where others are left
+-- a line goes after those before it, with its end, where others are left
 pub next_line : (f : List ℕ → List ℕ) (text mid new line whole : List ℕ) (left rest : List (List ℕ)) → left ≡ line ∷ rest → 0 < length rest → mid ≡ text ++ f line → new ≡ mid ++ 10 ∷ []
     → text ++ join_with_byte 10 (map f left) ≡ whole → new ++ join_with_byte 10 (map f rest) ≡ whole
 next_line f text mid new line whole left [] first more is end goes = absurd (search (rules, more))

@@ -23,7 +23,7 @@ are_values (v ∷ vs) c = is_same (value_read v) (hex_digit_value c) && are_valu
 abbrev pub lane_passes : Bool → Bool
 lane_passes test = nat_le 128 (cond test 255 0)
 
--- by how much a digit stands behind 0, and a letter behind a, among 256
+-- by how much a digit stands after 0, and a letter after a, among 256
 abbrev pub behind_zero : ℕ → ℕ
 behind_zero c = (c + 208) % 256
 

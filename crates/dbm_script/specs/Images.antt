@@ -12,14 +12,14 @@ use Rattle.prog_registry.specs.declared.fault.RegFault.TheVariants.{NoMemory, De
 abbrev pub Verdict : Type 0
 Verdict = Result Accepted RegFault
 
--- The image is there, at one place, which is its number, and nothing changes.
+-- The program image is there, at one place, which is its number, and nothing changes.
 pub record IsThere (programs : List Accepted) (image : List ℕ) (p : Accepted) (id : ℕ) (programs' : List Accepted) : Type 0 where
   pub stands : slice_get programs id ≡ Some p
   pub spelled : image_in p ≡ image
   pub only : (other : ℕ) → StandsAt programs image other → id ≡ other
   pub same : programs' ≡ programs
 
--- The program of a new image goes behind the others, and its number is how many there were.
+-- The program of a new image goes after the others, and its number is how many there were.
 pub record GoesBehind (programs : List Accepted) (image : List ℕ) (p : Accepted) (id : ℕ) (programs' : List Accepted) : Type 0 where
   pub is_new : IsNew programs image
   pub room : length programs < program_limit
@@ -30,7 +30,7 @@ pub record GoesBehind (programs : List Accepted) (image : List ℕ) (p : Accepte
 abbrev pub Numbers : List Accepted → List ℕ → Accepted → ℕ → List Accepted → Type 0
 Numbers programs image p id programs' = IsThere programs image p id programs' ⊎ GoesBehind programs image p id programs'
 
--- why a new image gets no number
+-- why a new program image gets no number
 abbrev pub Denies : List Accepted → List ℕ → RegFault → Type 0
 Denies programs image NoMemory = ⊥
 Denies programs image (Decode fault) = IsUndecoded image fault

@@ -27,7 +27,7 @@ run_of (Some key) (Some prog) (Some arg) (Some blank) None = None
 run_of (Some key) (Some prog) (Some arg) (Some blank) (Some now) =
     Some (Run (record { key = key; prog = prog; arg = arg; blank = blank; now = now }))
 
--- what the words of a line ask; an image is in hex in each notation
+-- what the words of a line ask; a program image is in hex in each notation
 abbrev pub ask_of : {A : Type 0} → Notation A → List (List ℕ) → Option (Ask A)
 ask_of notation [] = None
 ask_of notation (word ∷ []) = plain (command_of notation (word ∷ []))

@@ -36,7 +36,7 @@ abbrev pub AnswersRun : (A : Type 0) → Notation A → Database → Option (Com
 AnswersRun A notation db None text db' = (text ≡ codes "refused NoProgram") × (db' ≡ db)
 AnswersRun A notation db (Some command) text db' = AnswersCommand A notation db command text db'
 
--- What one line does, by what it asks and what is told of the image that it submits, and the text of its answer. A line that asks
+-- What one line does, by what it asks and what is told of the program image that it submits, and the text of its answer. A line that asks
 -- nothing does nothing.
 abbrev pub AnswersLine : (A : Type 0) → Notation A → Stage → Option (Ask A) → Option Verdict → List ℕ → Stage → Type 0
 AnswersLine A notation s None told text s' = (told ≡ None) × ((text ≡ codes "bad line") × (s' ≡ s))
@@ -63,7 +63,7 @@ abbrev pub RunsScript : (A : Type 0) → Notation A → Database → List ℕ �
 RunsScript A notation db input told text db' =
     (programs : List Accepted) × RunsLines A notation (stage db []) (pieces_of 10 input) told text (stage db' programs)
 
--- A script writes this text and leads to this database, page by page. By what is told of the images that its lines submit, it writes
+-- A script writes this text and leads to this database, page by page. By what is told of the program images that its lines submit, it writes
 -- no other text and leads to no other database.
 pub record IsScriptRun (A : Type 0) (notation : Notation A) (db : Database) (input text : List ℕ) (db' : Database) : Type 0 where
   pub told : List (Option Verdict)

@@ -67,7 +67,7 @@ abbrev pub IsBadLine : (A : Type 0) → Notation A → List ℕ → Type 0
 IsBadLine A notation [] = ⊥
 IsBadLine A notation (c ∷ cs) = task_of notation (pieces_of 32 (c ∷ cs)) ≡ None
 
--- A line's task goes behind others, where the line is good: an empty one has none.
+-- A line's task goes after others, where the line is good: an empty one has none.
 abbrev pub AddsTask : (A : Type 0) → Notation A → List ℕ → Bool → List (RunWords A) → List (RunWords A) → Type 0
 AddsTask A notation line true old new = (added : List (RunWords A)) × (AskTasks A notation (line ∷ []) added × (new ≡ old ++ added))
 AddsTask A notation line false old new = IsBadLine A notation line

@@ -5,6 +5,7 @@ ghost use Rattle.dbm_script.specs.Digits.{are_values, joined, lane_value, value_
 ghost use Rattle.std.specs.Result.{result_ok};
 ghost use Rattle.hex.specs.Hex.{decode_of, decode_pairs, encode_lower, encode_with, hex_digit_value};
 
+use byte_text::DIGITS;
 use std::alloc::{AllocError, Allocator};
 use std::simd::prelude::*;
 
@@ -121,9 +122,6 @@ fn look_up(table: &[u8; 256], digit: u8) -> u8
 {
     table[usize::from(digit)]
 }
-
-// The digits, with lower-case letters.
-const DIGITS: [u8; 16] = *b"0123456789abcdef";
 
 /// Writes bytes after a text, in lower-case hex.
 ///

@@ -81,7 +81,7 @@ fn read_short(word: &[u8], room: &mut [u8; SHORT]) -> Option<usize>
     Some(count)
 }
 
-// Answers the words of a fetch behind its name.
+// Answers the words of a fetch after its name.
 fn fetch_directly<A: Allocator + Copy>(
     alloc: A,
     notation: &Notation<A>,
@@ -121,7 +121,7 @@ fn answer_fetch<A: Allocator + Copy>(
     }
 }
 
-// Answers the words of a store behind its name.
+// Answers the words of a store after its name.
 fn store_directly<A: Allocator + Copy>(
     notation: &Notation<A>,
     image: &mut Image<A>,
@@ -175,7 +175,7 @@ fn answer_store<A: Allocator + Copy>(
     Ok(true)
 }
 
-// Answers the words of a run behind its name.
+// Answers the words of a run after its name.
 fn run_directly<A: Allocator + Copy>(
     alloc: A,
     notation: &Notation<A>,

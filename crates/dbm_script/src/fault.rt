@@ -1,4 +1,4 @@
-//! Why a script gave no image.
+//! Why a script gave no database.
 ghost use Rattle.std.specs.Prelude.{◌≡◌};
 ghost use Rattle.dbm_script.specs.declared.fault.LinesFault.TheVariants.{NoMemory};
 
@@ -7,7 +7,7 @@ use std::alloc::AllocError;
 use std::error::Error;
 use std::fmt;
 
-/// Why a script gave no image. It prints as its name.
+/// Why a script gave no database. It prints as its name.
 #[derive(Clone, Copy, Debug, PartialEq, Eq)]
 pub enum ScriptFault {
     /// The reader failed.

@@ -37,7 +37,7 @@ fn show_number<A: Allocator>(id: u32, text: &mut Vec<u8, A>) -> Result<(), Alloc
     text.extend_from_slice(digits.format(id).as_bytes())
 }
 
-/// Writes after a text why an image gets no number.
+/// Writes after a text why a program image gets no number.
 ///
 /// # Errors
 /// `AllocError` where there is no memory for it, or where the refusal is that memory ran out. The text is of no use then.

@@ -1,6 +1,7 @@
 //! Scripts: texts whose lines are commands on a store, and the text of their answers.
 #![tactic(auto)]
 
+mod answering;
 mod answers;
 mod commands;
 mod digits;
@@ -18,6 +19,7 @@ mod shorthand;
 mod streams;
 mod tasks;
 
+pub use answering::answer_command;
 pub use answers::{Answer, show_answer, show_reply};
 pub use byte_text::read_number;
 pub use commands::read_command;
@@ -29,7 +31,7 @@ pub use numbers::read_blank;
 pub use pieces::first_piece;
 pub use run_words::{RunWords, WordFault, read_run_words};
 pub use running::{RunAsk, answer_run, command_of_run};
-pub use script::{answer_command, answer_line, run_lines, run_script, run_spelled};
+pub use script::{answer_line, run_lines, run_script, run_spelled};
 pub use shorthand::{Lines, TimeOfDay, spell_line, spell_out};
 pub use streams::{SCRIPT_LIMIT, read_all};
 pub use tasks::{TasksFault, read_tasks};

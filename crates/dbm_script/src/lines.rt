@@ -28,7 +28,7 @@ pub enum Ask<A: Allocator> {
 }
 
 /// What a line asks in a notation, where it asks anything. A space parts two words, and no more words are looked at than decide what is
-/// asked. An image is in hex in each notation.
+/// asked. A program image is in hex in each notation.
 ///
 /// # Errors
 /// `AllocError` where there is no memory for what is asked.
@@ -54,7 +54,7 @@ pub fn read_line<A: Allocator + Copy>(
     read_long(alloc, notation, name, first, second, rest)
 }
 
-// What a name and two words ask with those behind them.
+// What a name and two words ask with those after them.
 fn read_long<A: Allocator + Copy>(
     alloc: A,
     notation: &Notation<A>,

@@ -2,8 +2,8 @@
 ghost use Rattle.std.specs.Prelude.{◌≡◌, IfOk, OnOk, option_map, slice_get};
 ghost use Rattle.dbm_script.specs.Script.{Adds, AnswersRun, run_command};
 
+use crate::answering::answer_one;
 use crate::notations::Notation;
-use crate::script::answer_one;
 use prog_registry::{ProgId, Registry};
 use sdbm_addr::Bytes;
 use sdbm_files::Image;

@@ -1,16 +1,15 @@
 //! Scripts: all that is read, run as one session, and the text of the answers.
-ghost use Rattle.std.specs.Prelude.{◌≡◌, ◌<◌, ◌≤◌, List, ℕ, Option, Some, IfOk, OnOk, OnErr, IfErr, IfSome, IsErrOf, ◌∷◌, [], length};
+ghost use Rattle.std.specs.Prelude.{◌≡◌, ◌<◌, ◌≤◌, List, ℕ, Option, Some, IfOk, OnOk, IfErr, IfSome, IsErrOf, ◌∷◌, [], length};
 ghost use Rattle.std.specs.Io.KnownBytes.{Appends, Keeps};
 ghost use Rattle.byte_text.specs.Writing.{WritesPart};
 ghost use Rattle.sdbm_addr.specs.Database.{Database};
 ghost use Rattle.dbm_script.specs.Pieces.{pieces_of};
 ghost use Rattle.dbm_script.specs.Lines.{ask_of};
-ghost use Rattle.dbm_script.specs.Answers.{IsAnswerTo};
 ghost use Rattle.dbm_script.specs.Shorthand.{spelled};
 ghost use Rattle.dbm_script.specs.Images.{Verdict};
-ghost use Rattle.dbm_script.specs.Script.{AnswersExceed, IsScriptRun, RunsLines, AnswersCommand, AnswersLine, Adds, stage};
+ghost use Rattle.dbm_script.specs.Script.{AnswersExceed, IsScriptRun, RunsLines, AnswersLine, Adds, stage};
 
-use crate::answers::{Answer, show_answer};
+use crate::answering::answer_one;
 use crate::direct::answer_directly;
 use crate::fault::{LinesFault, ScriptFault};
 use crate::images::answer_image;
@@ -25,17 +24,12 @@ use prog_registry::Registry;
 use sdbm_files::Image;
 use std::alloc::{AllocError, Allocator};
 use std::io::{Read, Write};
-use store_cmd::{Command, check};
-use store_moves::act;
 
-/// The session of all commands of a script.
-const SCRIPT_SESSION: u64 = 0;
-
-/// Reads a script in a notation, runs all its lines on an image as session 0, writes the answers, and gives the image after it.
+/// Reads a script in a notation, runs all its lines on a database as session 0, writes the answers, and gives the database after it.
 ///
 /// # Errors
 /// `Read` where the reader fails, `TooLong` above 16,777,216 bytes, `Write` where the writer fails or takes no byte, and `NoMemory`.
-/// The image is gone then. Unless the fault is `Write`, nothing was written.
+/// The database is gone then. Unless the fault is `Write`, nothing was written.
 pub fn run_script<A: Allocator + Copy, R: Read, W: Write>(
     alloc: A,
     notation: &Notation<A>,
@@ -60,11 +54,11 @@ pub fn run_script<A: Allocator + Copy, R: Read, W: Write>(
     Ok(after)
 }
 
-/// Runs the lines of a script in a notation on an image as session 0: the image after them, and the text of their answers, which is to have at most
+/// Runs the lines of a script in a notation on a database as session 0: the database after them, and the text of their answers, which is to have at most
 /// so many bytes. Programs that lines submit are kept from line to line, and no longer.
 ///
 /// # Errors
-/// `OutputTooLong` at the first line with whose answer there are more bytes, and `NoMemory`. The image is gone then.
+/// `OutputTooLong` at the first line with whose answer there are more bytes, and `NoMemory`. The database is gone then.
 pub fn run_lines<A: Allocator + Copy>(
     alloc: A,
     notation: &Notation<A>,
@@ -96,7 +90,7 @@ pub fn run_lines<A: Allocator + Copy>(
 /// is kept than a line.
 ///
 /// # Errors
-/// `OutputTooLong` at the first line with whose answer there are more bytes, and `NoMemory`. The image is gone then.
+/// `OutputTooLong` at the first line with whose answer there are more bytes, and `NoMemory`. The database is gone then.
 pub fn run_spelled<A: Allocator + Copy>(
     alloc: A,
     notation: &Notation<A>,
@@ -198,42 +192,5 @@ fn answer_ask<A: Allocator + Copy>(
         Ask::Plain(command) => answer_one(alloc, notation, image, command, text),
         Ask::Program(bytes) => answer_image(alloc, registry, bytes.as_slice(), text),
         Ask::Run(run) => answer_run(alloc, notation, image, registry, run, text),
-    }
-}
-
-// Answers a command, and writes the answer after a text.
-pub(crate) fn answer_one<A: Allocator + Copy>(
-    alloc: A,
-    notation: &Notation<A>,
-    image: &mut Image<A>,
-    command: Command<A>,
-    text: &mut Vec<u8, A>,
-) -> Result<(), AllocError>
-    ensures answer { OnOk result (Adds text.old.items text.new.items (λ added. AnswersCommand A notation.now image.old command added image.new)) }
-    ensures kept { OnOk result ((image.new.kind ≡ image.old.kind) × (image.new.size ≡ image.old.size)) }
-{
-    let answer = answer_command(alloc, image, command)?;
-    show_answer(alloc, notation, &answer, text)
-}
-
-/// Answers a command on a database as session 0. No trail is kept.
-///
-/// # Errors
-/// `AllocError` where there is no memory left for it. The database is as it was then.
-pub fn answer_command<A: Allocator + Copy>(
-    alloc: A,
-    image: &mut Image<A>,
-    command: Command<A>,
-) -> Result<Answer<A>, AllocError>
-    ensures answer { IfOk result (λ answer. IsAnswerTo A image.old command answer image.new) }
-    ensures kept { OnOk result ((image.new.kind ≡ image.old.kind) × (image.new.size ≡ image.old.size)) }
-    ensures err { OnErr result (image.new ≡ image.old) }
-{
-    if let Err(fault) = check(&command, image.page_size()) {
-        return Ok(Answer::Refused(fault));
-    }
-    match act(alloc, image, SCRIPT_SESSION, command) {
-        Ok(entry) => Ok(Answer::Replied(entry)),
-        Err((error, _command)) => Err(error),
     }
 }

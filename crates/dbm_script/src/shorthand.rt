@@ -141,7 +141,7 @@ fn spell_time<A: Allocator>(
     text.extend_from_slice(line)
 }
 
-// Writes two texts, the one behind the other, after a third.
+// Writes two texts, the one after the other, after a third.
 fn put_both<A: Allocator>(
     first: &[u8],
     second: &[u8],

@@ -52,7 +52,7 @@ pub fn read_tasks<A: Allocator + Copy>(
     Ok(tasks)
 }
 
-// Puts the task of a line behind others, and tells whether the line is good: one that is empty has none.
+// Puts the task of a line after others, and tells whether the line is good: one that is empty has none.
 fn add_task<A: Allocator + Copy>(
     alloc: A,
     notation: &Notation<A>,

@@ -18,7 +18,7 @@ use Rattle.dbm_scripts.specs.Playing.{output_limit, IsOverlong, alone_causes, nu
 use Rattle.dbm_reports.specs.Causes.{Causes, IsCaused, input_causes, lines_fault}
 use Rattle.dbm_scripts.specs.Script.{script_in}
 
--- standard input is read behind the opening
+-- standard input is read after the opening
 pub input_fault : (n : Notation Global) (form : Form) (given : Given) (time : Option TimeOfDay) (input : Option (List ℕ)) (most : ℕ) (fault : ReportFault) → Opens form given → IsCaused (input_causes input) fault → IsCaused (script_causes n form given time input most) fault
 input_fault n form given time input most BadHex opens h = h
 input_fault n form given time input most BadText opens h = h
@@ -48,7 +48,7 @@ alone_fault n form time input most TooLong h = h
 alone_fault n form time input most OutputTooLong h = absurd h
 alone_fault n form time input most NoMemory h = h
 
--- a script that was read is played behind other steps
+-- a script that was read is played after other steps
 pub played_fault : (causes : Causes) (n : Notation Global) (db : Database) (input : Option (List ℕ)) (most : ℕ) (fault : ReportFault) → (IsOverlong n db input most → causes.overlong) → IsCaused (play_causes n db input most) fault → IsCaused causes fault
 played_fault causes n db input most BadHex f h = absurd h
 played_fault causes n db input most BadText f h = absurd h
@@ -73,7 +73,7 @@ pub unnumbered : (n : Option ℕ) (causes : ℕ → Causes) → n ≡ None → I
 unnumbered None causes is = tt
 unnumbered (Some n) causes is = absurd (none-some n (sym is))
 
--- what comes behind a number
+-- what comes after a number
 pub numbered : (n : Option ℕ) (m : ℕ) (causes : ℕ → Causes) (fault : ReportFault) → n ≡ Some m → IsCaused (causes m) fault → IsCaused (numbered_causes n causes) fault
 numbered n m causes fault is h = subst (λ (o : Option ℕ). IsCaused (numbered_causes o causes) fault) (sym is) h
 
@@ -83,7 +83,7 @@ pub unlimited : (n : Notation Global) (base : Option (Bor (List ℕ))) (script :
 unlimited n None script given input is = unnumbered (output_limit script.max_output) (alone_causes n script.form script.time input) is
 unlimited n (Some base) script given input is = unnumbered (output_limit script.max_output) (script_causes n script.form given script.time input) is
 
--- what comes behind the limit of a script on an empty database, and on one of files
+-- what comes after the limit of a script on an empty database, and on one of files
 pub caused_alone : (n : Notation Global) (script : Script) (given : Given) (input : Option (List ℕ)) (most : ℕ) (fault : ReportFault) → script.base ≡ None → output_limit script.max_output ≡ Some most
     → IsCaused (alone_causes n script.form script.time input most) fault → IsCaused (script_in n script.base script given input).causes fault
 caused_alone n script given input most fault none is h =

@@ -50,7 +50,7 @@ MaySave [] db = ⊤
 MaySave (saved ∷ []) db = saved ≡ db
 MaySave (saved ∷ other ∷ others) db = ⊥
 
--- a database was saved behind those that were saved before, or nothing was
+-- a database was saved after those that were saved before, or nothing was
 pub record SavesMaybe (saved saved' : Option (List Database)) (db : Database) : Type 0 where
   pub saves : List Database
   pub may : MaySave saves db
@@ -70,13 +70,13 @@ AnswersAs false false n s line text saves s' = MaySave saves s'.db × AnswersScr
 abbrev pub AnswersLine : Notation Global → Stage → List ℕ → List ℕ → List Database → Stage → Type 0
 AnswersLine n s line text saves s' = AnswersAs (is_save line) (is_own line) n s line text saves s'
 
--- a line was answered, and what it saves stands behind what was saved before
+-- a line was answered, and what it saves stands after what was saved before
 pub record Answered (n : Notation Global) (s : Stage) (line text : List ℕ) (saved saved' : Option (List Database)) (s' : Stage) : Type 0 where
   pub saves : List Database
   pub answers : AnswersLine n s line text saves s'
   pub kept : Saves saved saved' saves
 
--- the first of some lines, and those behind it, for which Rest stands
+-- the first of some lines, and those after it, for which Rest stands
 pub record OneThen (n : Notation Global) (s : Stage) (line text : List ℕ) (saves : List Database) (Rest : Stage → List ℕ → List Database → Type 0) : Type 0 where
   pub first : List ℕ
   pub rest : List ℕ
@@ -93,7 +93,7 @@ abbrev pub RunsSession : Notation Global → Stage → List (List ℕ) → List 
 RunsSession n s [] text saves s' = (text ≡ []) × ((saves ≡ []) × (s' ≡ s))
 RunsSession n s (line ∷ lines) text saves s' = OneThen n s line text saves (λ mid rest later. RunsSession n mid lines rest later s')
 
--- All lines were answered on a database: their answers stand behind what a writer had, and the databases that were saved behind those
+-- All lines were answered on a database: their answers stand after what a writer had, and the databases that were saved after those
 -- that were saved before. The last of them is the one to which the lines lead.
 pub record Ends (n : Notation Global) (db : Database) (lines : List (List ℕ)) (old new : Option (List ℕ)) (saved saved' : Option (List Database)) (after : Database) : Type 0 where
   pub text : List ℕ
@@ -104,7 +104,7 @@ pub record Ends (n : Notation Global) (db : Database) (lines : List (List ℕ)) 
   pub kept : Saves saved saved' (saves ++ after ∷ [])
 
 -- The first lines were answered and no other was: of their answers the first bytes were written, or all, and what they save was saved. Where a
--- save failed behind them, that may be saved too.
+-- save failed after them, that may be saved too.
 pub record Stops (n : Notation Global) (db : Database) (lines : List (List ℕ)) (old new : Option (List ℕ)) (saved saved' : Option (List Database)) : Type 0 where
   pub done : List (List ℕ)
   pub behind : List (List ℕ)
@@ -132,7 +132,7 @@ AreSpelled [] (full ∷ fulls) = ⊥
 AreSpelled (line ∷ lines) [] = ⊥
 AreSpelled (line ∷ lines) (full ∷ fulls) = ((time : Option TimeOfDay) × (full ≡ spelled_line OfScript time line)) × AreSpelled lines fulls
 
--- Lines did on a database what they do as one script, and its answers stand behind what a writer had.
+-- Lines did on a database what they do as one script, and its answers stand after what a writer had.
 pub record RunsAsScript (n : Notation Global) (db : Database) (lines : List (List ℕ)) (old new : Option (List ℕ)) (after : Database) : Type 0 where
   pub fulls : List (List ℕ)
   pub spelled : AreSpelled lines fulls

@@ -10,7 +10,7 @@ use std::alloc::{AllocError, Global};
 /// What stands for a line that scripts do not have.
 #[derive(Drop)]
 pub enum Own {
-    /// A text, which was put behind another.
+    /// A text, which was put after another.
     Shown,
     /// A line of a script.
     Line(Vec<u8>),
@@ -32,11 +32,11 @@ pub trait Host {
     fn time(&mut self) -> Option<TimeOfDay>
         ensures { saved self.new ≡ saved self.old };
 
-    /// Whether the database is to be saved behind a line, which may have asked a change.
+    /// Whether the database is to be saved after a line, which may have asked a change.
     fn is_due(&mut self, asks_change: bool) -> bool
         ensures { saved self.new ≡ saved self.old };
 
-    /// What stands for a line that scripts do not have: a text that it puts behind another, or a line of a script that submits a program.
+    /// What stands for a line that scripts do not have: a text that it puts after another, or a line of a script that submits a program.
     ///
     /// # Errors
     /// `AllocError` where no memory is left.

@@ -11,14 +11,11 @@ use crate::host::{Host, Own};
 use crate::lines::{asks_change, is_own, is_save};
 use byte_text::write_all;
 use dbm_lines::Lines;
-use dbm_script::{Lines as Whose, Notation, answer_line, spell_line};
+use dbm_script::{Lines as Whose, Notation, SCRIPT_LIMIT, answer_line, spell_line};
 use prog_registry::Registry;
 use sdbm_files::Image;
 use std::alloc::{AllocError, Global};
 use std::io::{Read, Write};
-
-/// A line has at most this many bytes, as a script does.
-const LINE_LIMIT: usize = 16_777_216;
 
 // What a session works on: the database, and the programs that its lines have submitted.
 #[derive(Drop)]
@@ -30,7 +27,7 @@ struct Session {
 /// Answers the lines of a reader in a notation on a database, until there are no more, and gives the database after them, which is
 /// saved then. The answer to each line is written and flushed before the next line is read. A line `save` saves the database, and is
 /// answered `saved` once that is committed; `help` and lines that begin with `.` are the host's; every other line is answered as in a
-/// script, whose programs are kept to the end. A save that the host finds due comes behind a line and before its answer.
+/// script, whose programs are kept to the end. A save that the host finds due comes after a line and before its answer.
 ///
 /// # Errors
 /// `Read` where the reader fails, `TooLong` where a line has more than 16,777,216 bytes, `Write` where the writer fails, `Save` where
@@ -54,7 +51,7 @@ pub fn run_session<R: Read, W: Write, H: Host>(
     let (mut line, mut text) = (Vec::new(alloc), Vec::new(alloc));
     for _turn in 0..u64::MAX {
         host.ask(lines.has_ended());
-        if !lines.next(reader, &mut line, LINE_LIMIT)? {
+        if !lines.next(reader, &mut line, SCRIPT_LIMIT)? {
             return end(session, host);
         }
         session = answer_next(alloc, notation, session, host, line.as_slice(), &mut text)?;
@@ -124,7 +121,7 @@ fn answer_next<H: Host>(
     Ok(session)
 }
 
-// Saves the database behind a line, where the host finds that due.
+// Saves the database after a line, where the host finds that due.
 fn save_if_due<H: Host>(
     image: &Image<Global>,
     host: &mut H,

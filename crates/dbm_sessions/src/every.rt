@@ -7,9 +7,9 @@ use dbm_script::read_number;
 pub enum Every {
     /// At its end alone.
     Never,
-    /// Behind the line with which so many lines have asked changes since the last save.
+    /// After the line with which so many lines have asked changes since the last save.
     Changes(u64),
-    /// Behind the first line that is answered so many seconds after the last save, where lines have asked changes since.
+    /// After the first line that is answered so many seconds after the last save, where lines have asked changes since.
     Seconds(u64),
 }
 

@@ -31,7 +31,7 @@ pub enum OwnLine<'a> {
     Bad,
 }
 
-/// What such a line asks. A prefix is the word behind its name.
+/// What such a line asks. A prefix is the word after its name.
 pub fn read_own(line: &[u8]) -> OwnLine<'_> {
     if line == b"help".as_slice() || line == b".help".as_slice() {
         return OwnLine::Help;
@@ -57,7 +57,7 @@ pub fn read_own(line: &[u8]) -> OwnLine<'_> {
     }
 }
 
-/// Puts what such a line asks behind a text. One that asks nothing is answered `bad line`, as in a script.
+/// Puts what such a line asks after a text. One that asks nothing is answered `bad line`, as in a script.
 ///
 /// # Errors
 /// `AllocError` where no memory is left.
@@ -82,7 +82,7 @@ pub fn show_own(
     Ok(())
 }
 
-/// The line of a script that submits the program of a text. Where it is the text of none, there is no such line, and a line behind `text`
+/// The line of a script that submits the program of a text. Where it is the text of none, there is no such line, and a line after `text`
 /// names the fault.
 ///
 /// # Errors

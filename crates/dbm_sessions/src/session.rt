@@ -63,7 +63,7 @@ pub fn session_command<'a>(alloc: Global) -> Result<Command<'a>, AllocError>
     ensures { IfOk result (IsSubcommand spec.session) }
 {
     let every =
-        "Save behind N lines that ask changes, or with Ns behind the first line after N seconds";
+        "Save after N lines that ask changes, or with Ns after the first line after N seconds";
     let clock = "Take now and now-ms as NOW of a line: the time when it is answered";
     let args = vec![in alloc;
         base(alloc),

@@ -2,7 +2,8 @@
 
 use crate::shell::Shell;
 use dbm_faults::ServeFault;
-use dbm_files::{FileBytes, FilesFault, Place, Taken};
+use dbm_files::RunFiles;
+use dbm_places::{FileBytes, FilesFault, RunPlace};
 use dbm_reports::{Given, ReportFault, notation_by, open};
 use dbm_script::Notation;
 use dbm_session::{SessionFault, run_session};
@@ -24,15 +25,15 @@ use std::time::Clock;
 pub fn serve_session<R: Runtime<File = File> + Clock + AllocGlobal, I: Read>(
     rt: &R,
     session: Session<'_>,
-    place: Place<'_>,
-    taken: Taken,
+    place: RunPlace<'_>,
+    taken: RunFiles,
     reader: &mut I,
 ) -> Result<(), ServeFault> {
     let notation = notation_by(rt.alloc(), session.notation)?;
     let Some(every) = read_every(session.save_every) else {
         return Err(ServeFault::Report(ReportFault::BadNumber));
     };
-    let Taken { bytes, held, .. } = taken;
+    let RunFiles { bytes, held, .. } = taken;
     let Some(held) = held else {
         return Err(ServeFault::WriteFile);
     };
@@ -56,7 +57,7 @@ fn opened(
     Ok(open(alloc, &given, session.form)?)
 }
 
-// Answers the lines. Behind a fault it says how many of them are lost.
+// Answers the lines. After a fault it says how many of them are lost.
 fn answer_lines<R: Runtime<File = File> + Clock + AllocGlobal, I: Read>(
     rt: &R,
     notation: &Notation<Global>,

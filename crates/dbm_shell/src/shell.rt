@@ -3,7 +3,8 @@ ghost use Rattle.std.specs.Prelude.{◌≡◌, IfOk, IfSome, codes, nat_eq, true
 ghost use Rattle.std.specs.List.{starts_with};
 
 use dbm_faults::ServeFault;
-use dbm_files::{FilesFault, Names, Place, Saved, read_again, read_program, save_files};
+use dbm_files::{Saved, read_again, read_program, save_files};
+use dbm_places::{FilesFault, Names, RunPlace};
 use dbm_reports::is_too_long;
 use dbm_script::{Notation, TimeOfDay};
 use dbm_session::{Host, Own};
@@ -22,7 +23,7 @@ use std::time::{Clock, Duration, SystemTime, UNIX_EPOCH};
 #[derive(Drop)]
 pub struct Shell<'a, R: Runtime> {
     rt: &'a R,
-    place: Place<'a>,
+    place: RunPlace<'a>,
     names: &'a Names,
     notation: &'a Notation<Global>,
     every: Every,
@@ -38,7 +39,7 @@ impl<'a, R: Runtime<File = File> + Clock + AllocGlobal> Shell<'a, R> {
     /// That of a session of which no line was read. With `clock` its lines may ask the time of day.
     pub fn new(
         rt: &'a R,
-        place: Place<'a>,
+        place: RunPlace<'a>,
         names: &'a Names,
         notation: &'a Notation<Global>,
         every: Every,
@@ -72,7 +73,7 @@ impl<'a, R: Runtime<File = File> + Clock + AllocGlobal> Shell<'a, R> {
         now.saturating_sub(saved_at).as_secs()
     }
 
-    // The line that submits the program in a file of this name, or none, where a line behind the text says why.
+    // The line that submits the program in a file of this name, or none, where a line after the text says why.
     fn program(&self, name: &[u8], text: &mut Vec<u8>) -> Result<Option<Vec<u8>>, AllocError>
         ensures { IfOk result (λ line. IfSome line (λ full. starts_with nat_eq full.items (codes "program ") ≡ true)) }
     {

@@ -21,7 +21,7 @@ text_more old start now row f n more is this =
     more ∙ ap (λ (text : List ℕ). text ++ row) is ∙ ap (λ (text : List ℕ). (start ++ flat_map f (range_with_len 0 n)) ++ text) this
     ∙ append_assoc start (flat_map f (range_with_len 0 n)) (f n) ∙ ap (λ (text : List ℕ). start ++ text) (sym (rows_more f n))
 
--- seven parts of a text, one behind another
+-- seven parts of a text, one after another
 pub seven_parts : (t0 t1 t2 t3 t4 t5 t6 t7 a b c d e f g : List ℕ) → t0 ≡ [] → t1 ≡ t0 ++ a → t2 ≡ t1 ++ b → t3 ≡ t2 ++ c → t4 ≡ t3 ++ d → t5 ≡ t4 ++ e → t6 ≡ t5 ++ f → t7 ≡ t6 ++ g
     → t7 ≡ a ++ b ++ c ++ d ++ e ++ f ++ g
 seven_parts t0 t1 t2 t3 t4 t5 t6 t7 a b c d e f g none p q r s t u v =

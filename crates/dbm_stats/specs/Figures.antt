@@ -10,7 +10,7 @@ use Rattle.dbm_stats.specs.Json.{field, next_field}
 
 -- ---- text
 
--- a number behind what it counts, in a line
+-- a number after what it counts, in a line
 abbrev pub row : List ℕ → ℕ → List ℕ
 row label n = label ++ (decimal n ++ 10 ∷ [])
 
@@ -24,7 +24,7 @@ file_rows s =
     row (codes "pages with pairs         ") s.used ++ row (codes "pages without (holes)    ") s.holes ++ row (codes "bytes of .dir            ") s.dir_bytes
     ++ row (codes "bytes of .pag            ") s.pag_bytes ++ row (codes "bytes of .pag, widened   ") s.wide_bytes
 
--- a quotient to one place behind the point, cut off; a number of none is 0
+-- a quotient to one place after the point, cut off; a number of none is 0
 abbrev pub quotient : ℕ → ℕ → List ℕ
 quotient sum n = decimal (sum / max n 1) ++ (46 ∷ decimal (sum % max n 1 * 10 / max n 1))
 

@@ -2,7 +2,7 @@
 use Rattle.std.specs.Prelude.{ℕ, ◌++◌, ◌==◌, ◌||◌, cond, decimal, List, [], ◌∷◌}
 use Rattle.std.specs.List.{flat_map}
 
--- a character of a string of printable ASCII: a quote and a backslash stand behind a backslash
+-- a character of a string of printable ASCII: a quote and a backslash stand after a backslash
 abbrev pub escaped : ℕ → List ℕ
 escaped c = cond (c == 34 || c == 92) (92 ∷ c ∷ []) (c ∷ [])
 
@@ -14,7 +14,7 @@ quoted text = 34 ∷ (flat_map escaped text ++ 34 ∷ [])
 abbrev pub field : List ℕ → ℕ → List ℕ
 field name n = 34 ∷ (name ++ (34 ∷ 58 ∷ decimal n))
 
--- a field behind others
+-- a field after others
 abbrev pub next_field : List ℕ → ℕ → List ℕ
 next_field name n = 44 ∷ field name n
 

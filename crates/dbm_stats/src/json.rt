@@ -39,7 +39,7 @@ fn show_character<A: Allocator>(byte: u8, text: &mut Vec<u8, A>) -> Result<(), A
     Ok(text.push(byte)?)
 }
 
-// Whether a character stands behind a backslash: a quote or a backslash.
+// Whether a character stands after a backslash: a quote or a backslash.
 fn is_special(byte: u8) -> bool
     ensures { result ≡ (byte == 34 || byte == 92) }
 {
@@ -64,7 +64,7 @@ pub fn show_field<A: Allocator>(
     text.extend_from_slice(digits.format(number).as_bytes())
 }
 
-/// Adds such a field behind others.
+/// Adds such a field after others.
 ///
 /// # Errors
 /// `AllocError` where no memory is left for it. First bytes of it may have been added.

@@ -6,7 +6,7 @@ use itoa::Buffer;
 use sdbm_stats::{Depths, PageRoom, PairTotals, Stats};
 use std::alloc::{AllocError, Allocator};
 
-// A number behind its label.
+// A number after its label.
 fn show_row<A: Allocator>(
     label: &[u8],
     number: u64,
@@ -84,7 +84,7 @@ pub fn show_depths<A: Allocator>(
     show_row(b"greatest depth           ", depths.greatest as u64, text)
 }
 
-// A quotient to one place behind the point, cut off.
+// A quotient to one place after the point, cut off.
 fn show_quotient<A: Allocator>(
     sum: u64,
     count: u32,

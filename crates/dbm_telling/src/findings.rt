@@ -1,7 +1,7 @@
 //! Which file a fault of the files was about, and the system's own reason: the files are looked at once more.
 
 use dbm_faults::{Finding, Matter, Reason};
-use dbm_files::{Names, Side, Source, doubt_of, folder_of, is_special};
+use dbm_places::{Names, Side, Source, doubt_of, folder_of, is_special};
 use std::fs::{self, File, OpenOptions};
 use std::io::{self, ErrorKind, Read};
 use std::rt::Files;

@@ -1,10 +1,11 @@
-//! What the program prints on standard error behind a fault and beside an answer, and what it keeps for that of standard input and output.
+//! What the program prints on standard error after a fault and beside an answer, and what it keeps for that of standard input and output.
 #![tactic(auto)]
 
 mod findings;
 mod kept;
 mod progress;
 mod telling;
+mod terminal;
 mod told;
 mod waiting;
 
@@ -14,5 +15,6 @@ pub use telling::{
     advise, note_absent, note_object, note_pending, note_refusal, note_that, note_unsaved,
     note_waiting_save,
 };
+pub use terminal::is_terminal;
 pub use told::Told;
-pub use waiting::{is_terminal, take_and_tell};
+pub use waiting::take_and_tell;

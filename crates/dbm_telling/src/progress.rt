@@ -1,7 +1,7 @@
 //! How far a command is that takes its time, as it says at a terminal.
 
-use crate::waiting::is_at_terminal;
-use dbm_files::{names_of, resolve};
+use crate::terminal::is_at_terminal;
+use dbm_places::{names_of, resolve};
 use std::fs::{self, File};
 use std::io::{self, Read};
 use std::rt::Runtime;

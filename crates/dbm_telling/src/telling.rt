@@ -1,4 +1,4 @@
-//! What is printed on standard error behind a fault, and beside an answer.
+//! What is printed on standard error after a fault, and beside an answer.
 
 use crate::findings::{find_object, find_too_long, find_unread, find_unsafe, find_unwritten};
 use crate::told::Told;
@@ -6,13 +6,13 @@ use dbm_faults::{
     Finding, Look, Sentence, ServeFault, absent_note, finding_sentence, look_for, memory_sentence,
     object_note, pending_note, refusal_note, sentence_of, unsaved_note,
 };
-use dbm_files::{has_no_files, names_of, resolve, sources};
+use dbm_places::{has_no_files, names_of, resolve, sources};
 use dbm_words::Words;
 use std::alloc::AllocError;
 use std::fs::File;
 use std::rt::Runtime;
 
-// Prints a sentence behind a text. Where standard error fails, nobody is told.
+// Prints a sentence after a text. Where standard error fails, nobody is told.
 fn say<R: Runtime>(rt: &R, before: &str, sentence: Sentence<'_>) {
     let _ = eprintln!(rt; "{before}{sentence}");
 }

@@ -1,13 +1,13 @@
 //! What of a request the notes and the sentences take.
 
-use dbm_files::Place;
+use dbm_places::RunPlace;
 use dbm_words::{NotationOptions, Words};
 
 /// What of a request the notes and the sentences take. It names no wish, so they are not checked anew where one changes.
 #[derive(Clone, Copy)]
 pub struct Told<'a> {
     /// What it says of its files.
-    pub place: Place<'a>,
+    pub place: RunPlace<'a>,
     /// The words that a sentence may show.
     pub words: Words<'a>,
     /// How its bytes are written.

@@ -1,8 +1,10 @@
 //! A run that waits for the lock of its database, and says so.
 
 use crate::progress::{Work, tell_reading, tell_work};
+use crate::terminal::is_at_terminal;
 use dbm_faults::wait_note;
-use dbm_files::{FilesFault, Place, Taken, names_of, resolve, take_files};
+use dbm_files::{RunFiles, take_files};
+use dbm_places::{FilesFault, RunPlace, names_of, resolve};
 use std::fs::{self, File};
 use std::os::unix::fs::MetadataExt;
 use std::rt::Runtime;
@@ -18,12 +20,12 @@ const SILENT_WAIT: u64 = 500;
 /// Those of `take_files`.
 pub fn take_and_tell<R: Runtime<File = File> + Clock + AllocGlobal>(
     rt: &R,
-    place: Place<'_>,
+    place: RunPlace<'_>,
     peeks: bool,
     patience: Option<Duration>,
     verbose: bool,
     work: Option<Work>,
-) -> Result<Taken, FilesFault> {
+) -> Result<RunFiles, FilesFault> {
     tell_reading(rt, work, place.base);
     let taken = take_patiently(rt, place, peeks, patience, verbose)?;
     tell_work(rt, work, taken.bytes.pages.len() as u64);
@@ -33,11 +35,11 @@ pub fn take_and_tell<R: Runtime<File = File> + Clock + AllocGlobal>(
 // The same, but of its work nothing is said.
 fn take_patiently<R: Runtime<File = File> + Clock + AllocGlobal>(
     rt: &R,
-    place: Place<'_>,
+    place: RunPlace<'_>,
     peeks: bool,
     patience: Option<Duration>,
     verbose: bool,
-) -> Result<Taken, FilesFault> {
+) -> Result<RunFiles, FilesFault> {
     let silent = Duration::from_millis(SILENT_WAIT);
     let rest = match patience {
         Some(patience) if patience <= silent => return take_files(rt, place, peeks, Some(patience)),
@@ -53,22 +55,6 @@ fn take_patiently<R: Runtime<File = File> + Clock + AllocGlobal>(
             take_files(rt, place, peeks, rest)
         }
         taken => taken,
-    }
-}
-
-/// Whether standard error is a terminal, where the system tells that.
-pub fn is_at_terminal<R: Runtime<File = File> + AllocGlobal>(rt: &R) -> bool {
-    is_terminal(rt, 2)
-}
-
-/// Whether a descriptor is that of a terminal, where the system tells that.
-pub fn is_terminal<R: Runtime<File = File> + AllocGlobal>(rt: &R, descriptor: u32) -> bool {
-    let Ok(link) = format!(in rt.alloc(); "/proc/self/fd/{descriptor}") else {
-        return false;
-    };
-    match fs::read_link(rt, link.as_str()) {
-        Ok(path) => path.as_str().starts_with("/dev/pts/") || path.as_str().starts_with("/dev/tty"),
-        Err(_) => false,
     }
 }
 

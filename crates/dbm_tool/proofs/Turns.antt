@@ -18,7 +18,7 @@ use Rattle.dbm_faults.specs.declared.fault.ServeFault.TheVariants.{FileTooLong, 
 use Rattle.dbm_batches.specs.Causes.{HasCause}
 use Rattle.dbm_tool.specs.Outcomes.{IsOutcome, IsUnservedBy, failed, outcome_by}
 use Rattle.dbm_tool.specs.Services.{Service, dumping, noted, reporting}
-use Rattle.dbm_tool.specs.declared.outcome.Outcome.{Outcome}
+use Rattle.dbm_tool.specs.declared.outcome.WishOutcome.{WishOutcome}
 use Rattle.dbm_tool.proofs.Faults.{raised, raised_dump}
 
 pub keeps_all : (known : Option (List ℕ)) → Keeps known known
@@ -65,30 +65,30 @@ turned service writes reads input left old new f causes (Err unserved.Write) lif
 turned service writes reads input left old new f causes (Err unserved.TooLong) lift ok err gives unread = failed_by service writes reads input left old new FileTooLong err unread
 
 -- a subcommand that is no batch
-pub reported : (known : Known) (writes reads : Bool) (input left old new : Option (List ℕ)) (came : Result Served (Unserved ReportFault)) (outcome : Outcome) → outcome ≡ outcome_by report_fault came
+pub reported : (known : Known) (writes reads : Bool) (input left old new : Option (List ℕ)) (came : Result Served (Unserved ReportFault)) (outcome : WishOutcome) → outcome ≡ outcome_by report_fault came
     → IfOk came (λ (served : Served). IsPrinted known.reports old new served.status served.database) → IfErr came (IsUnserved known.reports (IsCaused known.causes) old new)
     → IfOk came (λ (served : Served). is_some served.database ≡ writes) → (reads ≡ false → left ≡ input) → IsOutcome (reporting known) writes reads input left old new outcome
 reported known writes reads input left old new came outcome is ok err gives unread =
-    subst (λ (o : Outcome). IsOutcome (reporting known) writes reads input left old new o) (sym is)
+    subst (λ (o : WishOutcome). IsOutcome (reporting known) writes reads input left old new o) (sym is)
     (turned (reporting known) writes reads input left old new report_fault (IsCaused known.causes) came (λ fault caused. raised (reporting known).causes fault caused) ok err gives unread)
 
 -- `dump` or `load`
-pub dumped : (known : DumpKnown) (writes reads : Bool) (input left old new : Option (List ℕ)) (came : Result Served (Unserved DumpsFault)) (outcome : Outcome) → outcome ≡ outcome_by dumps_fault came
+pub dumped : (known : DumpKnown) (writes reads : Bool) (input left old new : Option (List ℕ)) (came : Result Served (Unserved DumpsFault)) (outcome : WishOutcome) → outcome ≡ outcome_by dumps_fault came
     → IfOk came (λ (served : Served). IsPrinted known.reports old new served.status served.database) → IfErr came (IsUnserved known.reports (HasDumpCause known.causes) old new)
     → IfOk came (λ (served : Served). is_some served.database ≡ writes) → (reads ≡ false → left ≡ input) → IsOutcome (dumping known) writes reads input left old new outcome
 dumped known writes reads input left old new came outcome is ok err gives unread =
-    subst (λ (o : Outcome). IsOutcome (dumping known) writes reads input left old new o) (sym is)
+    subst (λ (o : WishOutcome). IsOutcome (dumping known) writes reads input left old new o) (sym is)
     (turned (dumping known) writes reads input left old new dumps_fault (HasDumpCause known.causes) came (λ fault caused. raised_dump known fault caused) ok err gives unread)
 
 -- a batch, which reads standard input
-pub batched : (service : Service) (writes : Bool) (input left old new : Option (List ℕ)) (came : Result Served (Unserved ServeFault)) (outcome : Outcome) → outcome ≡ outcome_by (λ fault. fault) came
+pub batched : (service : Service) (writes : Bool) (input left old new : Option (List ℕ)) (came : Result Served (Unserved ServeFault)) (outcome : WishOutcome) → outcome ≡ outcome_by (λ fault. fault) came
     → IfOk came (λ (served : Served). IsPrinted service.reports old new served.status served.database) → IfErr came (IsUnserved service.reports (HasCause service.causes) old new)
     → IfOk came (λ (served : Served). is_some served.database ≡ writes) → IsOutcome service writes true input left old new outcome
 batched service writes input left old new came outcome is ok err gives =
-    subst (λ (o : Outcome). IsOutcome service writes true input left old new o) (sym is)
+    subst (λ (o : WishOutcome). IsOutcome service writes true input left old new o) (sym is)
     (turned service writes true input left old new (λ fault. fault) (HasCause service.causes) came (λ fault caused. caused) ok err gives (λ never. cc))
 
 -- an outcome in the notation that is asked
-pub noted_outcome : (o : Option (Notation Global)) (n : Notation Global) (known : Notation Global → Service) (writes reads : Bool) (input left old new : Option (List ℕ)) (outcome : Outcome)
+pub noted_outcome : (o : Option (Notation Global)) (n : Notation Global) (known : Notation Global → Service) (writes reads : Bool) (input left old new : Option (List ℕ)) (outcome : WishOutcome)
     → o ≡ Some n → IsOutcome (known n) writes reads input left old new outcome → IsOutcome (noted o known) writes reads input left old new outcome
 noted_outcome o n known writes reads input left old new outcome is h = subst (λ (m : Option (Notation Global)). IsOutcome (noted m known) writes reads input left old new outcome) (sym is) h

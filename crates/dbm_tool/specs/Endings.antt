@@ -6,7 +6,7 @@ use Rattle.dbm_tool.specs.declared.ending.Ending.{Ending}
 use Rattle.dbm_tool.specs.declared.ending.Ending.TheVariants.{Served, Refused, Failed}
 use Rattle.dbm_faults.specs.declared.fault.ServeFault.{ServeFault}
 use Rattle.dbm_faults.specs.declared.fault.ServeFault.TheVariants as fault
-use Rattle.dbm_tool.specs.declared.outcome.Outcome.{Outcome}
+use Rattle.dbm_tool.specs.declared.outcome.WishOutcome.{WishOutcome}
 
 -- help and the version are no fault
 abbrev pub IsRefusalStatus : ToolFault → ℕ → Type 0
@@ -22,7 +22,7 @@ ending_by (Some fault) status = Failed fault
 ending_by None status = Served status
 
 -- the fault of an outcome, or its status where it has none
-abbrev pub IsEndingOf : Outcome → Ending → Type 0
+abbrev pub IsEndingOf : WishOutcome → Ending → Type 0
 IsEndingOf outcome ending = ending ≡ ending_by outcome.err outcome.status
 
 -- An ending stays as it is when it is told, but for a refusal or help that cannot be printed.

@@ -12,7 +12,7 @@ use Rattle.dbm_faults.specs.declared.fault.ServeFault.{ServeFault}
 use Rattle.dbm_faults.specs.declared.fault.ServeFault.TheVariants.{FileTooLong, Write}
 use Rattle.dbm_batches.specs.Causes.{HasCause}
 use Rattle.dbm_tool.specs.Services.{Service, service_for}
-use Rattle.dbm_tool.specs.declared.outcome.Outcome.{Outcome}
+use Rattle.dbm_tool.specs.declared.outcome.WishOutcome.{WishOutcome}
 
 -- A wish is served: the text of what comes of it was written, the status is its own, and so is the database that is to be written.
 abbrev pub IsServed : Wish → Given → Option (List ℕ) → Option (List ℕ) → Option (List ℕ) → ℕ → Option Database → Type 0
@@ -30,7 +30,7 @@ abbrev pub IsUnserved : Wish → Given → Option (List ℕ) → Option (List �
 IsUnserved wish given input old new fault = IsUnservedBy (service_for wish given input) old new fault
 
 -- All that is known of an outcome: what is printed and what is to be written, or the fault; what is left of standard input.
-pub record IsOutcome (service : Service) (writes reads : Bool) (input left old new : Option (List ℕ)) (outcome : Outcome) : Type 0 where
+pub record IsOutcome (service : Service) (writes reads : Bool) (input left old new : Option (List ℕ)) (outcome : WishOutcome) : Type 0 where
   pub served : IsNone outcome.err → IsPrinted service.reports old new outcome.status outcome.database
   pub fault : IfSome outcome.err (IsUnservedBy service old new)
   pub unread : reads ≡ false → left ≡ input
@@ -39,11 +39,11 @@ pub record IsOutcome (service : Service) (writes reads : Bool) (input left old n
   pub none : IfSome outcome.err (λ fault. outcome.database ≡ None)
 
 -- the outcome of a fault
-abbrev pub failed : ServeFault → Outcome
+abbrev pub failed : ServeFault → WishOutcome
 failed fault = record { err = Some fault; status = 2; database = None }
 
 -- what a subcommand comes to, as the outcome of a wish
-abbrev pub outcome_by : {F : Type 0} → (F → ServeFault) → Result Served (Unserved F) → Outcome
+abbrev pub outcome_by : {F : Type 0} → (F → ServeFault) → Result Served (Unserved F) → WishOutcome
 outcome_by f (Ok served) = record { err = None; status = served.status; database = served.database }
 outcome_by f (Err (unserved.Unreported fault)) = failed (f fault)
 outcome_by f (Err unserved.Write) = failed Write

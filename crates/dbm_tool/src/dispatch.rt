@@ -5,7 +5,7 @@ ghost use Rattle.dbm_faults.specs.Faults.{dumps_fault, report_fault};
 ghost use Rattle.dbm_tool.specs.Outcomes.{IsOutcome, failed, outcome_by};
 ghost use Rattle.dbm_tool.specs.Services.{reads_input, service_for, service_in};
 
-use crate::outcome::{FAULT, Outcome};
+use crate::outcome::{FAULT, WishOutcome};
 use dbm_batches::serve_batch;
 use dbm_command_line::Wish;
 use dbm_dumps::DumpsFault;
@@ -25,7 +25,7 @@ pub fn serve_wish<T: Threads + Wait + Sync, R: Read, W: Write>(
     given: &Given,
     reader: &mut R,
     writer: &mut W,
-) -> Outcome
+) -> WishOutcome
     ensures { IsOutcome (service_for wish.entry given.now (R.remaining reader.old)) (writes_files wish.entry) (reads_input wish.entry) (R.remaining reader.old) (R.remaining reader.new) (W.contents writer.old) (W.contents writer.new) result }
 {
     match notation_by(alloc, wish.notation()) {
@@ -43,7 +43,7 @@ fn serve_in<T: Threads + Wait + Sync, R: Read, W: Write>(
     given: &Given,
     reader: &mut R,
     writer: &mut W,
-) -> Outcome
+) -> WishOutcome
     ensures { IsOutcome (service_in n.now wish.entry given.now (R.remaining reader.old)) (writes_files wish.entry) (reads_input wish.entry) (R.remaining reader.old) (R.remaining reader.new) (W.contents writer.old) (W.contents writer.new) result }
 {
     match wish {
@@ -70,7 +70,7 @@ fn serve_in<T: Threads + Wait + Sync, R: Read, W: Write>(
 }
 
 // What a subcommand comes to.
-fn outcome_of(came: Result<Served, Unserved<ReportFault>>) -> Outcome
+fn outcome_of(came: Result<Served, Unserved<ReportFault>>) -> WishOutcome
     ensures { result ≡ outcome_by report_fault came }
 {
     match came {
@@ -82,7 +82,7 @@ fn outcome_of(came: Result<Served, Unserved<ReportFault>>) -> Outcome
 }
 
 // What `dump` or `load` comes to.
-fn outcome_of_dump(came: Result<Served, Unserved<DumpsFault>>) -> Outcome
+fn outcome_of_dump(came: Result<Served, Unserved<DumpsFault>>) -> WishOutcome
     ensures { result ≡ outcome_by dumps_fault came }
 {
     match came {
@@ -94,7 +94,7 @@ fn outcome_of_dump(came: Result<Served, Unserved<DumpsFault>>) -> Outcome
 }
 
 // What a batch comes to.
-fn outcome_of_batch(came: Result<Served, Unserved<ServeFault>>) -> Outcome
+fn outcome_of_batch(came: Result<Served, Unserved<ServeFault>>) -> WishOutcome
     ensures { result ≡ outcome_by (λ fault. fault) came }
 {
     match came {
@@ -105,21 +105,21 @@ fn outcome_of_batch(came: Result<Served, Unserved<ServeFault>>) -> Outcome
     }
 }
 
-fn served_outcome(served: Served) -> Outcome
+fn served_outcome(served: Served) -> WishOutcome
     ensures { result ≡ record { err = None; status = served.status; database = served.database } }
 {
     let Served { status, database } = served;
-    Outcome {
+    WishOutcome {
         err: None,
         status,
         database,
     }
 }
 
-fn failed(fault: ServeFault) -> Outcome
+fn failed(fault: ServeFault) -> WishOutcome
     ensures { result ≡ failed fault }
 {
-    Outcome {
+    WishOutcome {
         err: Some(fault),
         status: FAULT,
         database: None,

@@ -2,7 +2,7 @@
 ghost use Rattle.std.specs.Prelude.{◌≡◌};
 ghost use Rattle.dbm_tool.specs.Endings.{IsEndingOf, IsExitStatus, IsRefusalStatus};
 
-use crate::outcome::{FAULT, Outcome};
+use crate::outcome::{FAULT, WishOutcome};
 use dbm_command_line::ToolFault;
 use dbm_faults::ServeFault;
 
@@ -18,7 +18,7 @@ pub enum Ending {
 }
 
 /// What an outcome comes to, once its files have been written.
-pub fn ending_of(outcome: &Outcome) -> Ending
+pub fn ending_of(outcome: &WishOutcome) -> Ending
     ensures { IsEndingOf outcome.now result }
 {
     match outcome.err {

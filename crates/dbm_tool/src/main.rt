@@ -14,7 +14,8 @@ mod serve;
 use clock::{read_clock, read_time};
 use dbm_command_line::{Ask, Request, ToolFault, Wish, read_words};
 use dbm_faults::ServeFault;
-use dbm_files::{Held, Place, Saved, Taken, has_no_files, save_files, take_rest};
+use dbm_files::{LockedFiles, RunFiles, Saved, save_files, take_rest};
+use dbm_places::{RunPlace, has_no_files};
 use dbm_reports::{Given, NOT_RUN, ReportFault};
 use dbm_script::{Lines, read_number};
 use dbm_shell::serve_session;
@@ -62,7 +63,7 @@ fn read_args<R: Runtime + AllocGlobal>(rt: &R) -> Result<Vec<String>, ServeFault
     }
 }
 
-// Reads the words behind the program's name, serves what they ask, and tells what went wrong.
+// Reads the words after the program's name, serves what they ask, and tells what went wrong.
 fn run<R: Runtime<File = File> + AllocGlobal + Threads + Wait + Sync>(
     rt: &R,
     args: &[String],
@@ -102,8 +103,8 @@ fn run<R: Runtime<File = File> + AllocGlobal + Threads + Wait + Sync>(
     }
 }
 
-// Says what stands behind an answer that may not be what was meant: files that are not there, an object in place of an image, a program
-// that is refused, the lines of a script that ask nothing, and a save that is not done in its files. Behind a bad line it says too where
+// Says what follows an answer that may not be what was meant: files that are not there, an object in place of an image, a program
+// that is refused, the lines of a script that ask nothing, and a save that is not done in its files. After a bad line it says too where
 // lines end in CR.
 fn note<R: Runtime<File = File> + AllocGlobal, I: Read>(
     rt: &R,
@@ -143,7 +144,7 @@ fn note_line_end<R: Runtime, I: Read>(rt: &R, lines: Lines, input: &Kept<I>) {
 }
 
 // Serves what is asked once it is plain that its base is a name, for how long it waits, and that its files are there where they have to be.
-// The lock, where there is one, is held to the end. What writes is refused first where standard output cannot be written: behind the
+// The lock, where there is one, is held to the end. What writes is refused first where standard output cannot be written: after the
 // change its answer would be lost.
 fn serve_request<R: Runtime<File = File> + AllocGlobal + Threads + Wait + Sync, I: Read>(
     rt: &R,
@@ -180,7 +181,7 @@ fn serve_request<R: Runtime<File = File> + AllocGlobal + Threads + Wait + Sync, 
 // How the files of a request are taken.
 #[derive(Clone, Copy)]
 struct Taking<'a> {
-    place: Place<'a>,
+    place: RunPlace<'a>,
     patience: Option<Duration>,
 }
 
@@ -217,7 +218,7 @@ fn serve_timed<R: Runtime<File = File> + AllocGlobal + Threads + Wait + Sync, I:
     rt: &R,
     wish: Wish<'_>,
     taking: Taking<'_>,
-    taken: Taken,
+    taken: RunFiles,
     reader: &mut Kept<I>,
 ) -> Result<Ending, ServeFault> {
     let Some(unit) = wish.time_asked() else {
@@ -233,7 +234,7 @@ fn serve_staffed<R: Runtime<File = File> + AllocGlobal + Threads + Wait + Sync, 
     rt: &R,
     wish: Wish<'_>,
     taking: Taking<'_>,
-    taken: Taken,
+    taken: RunFiles,
     reader: &mut Kept<I>,
 ) -> Result<Ending, ServeFault> {
     if !wish.asks_cores() {
@@ -263,7 +264,7 @@ fn serve_peeked<R: Runtime<File = File> + AllocGlobal + Threads + Wait + Sync, I
     rt: &R,
     wish: Wish<'_>,
     taking: Taking<'_>,
-    taken: Taken,
+    taken: RunFiles,
     reader: &mut Kept<I>,
 ) -> Result<Ending, ServeFault> {
     if taken.unread.is_none() {
@@ -294,10 +295,10 @@ fn with_lines_timed<'a, R: Runtime>(rt: &R, wish: Wish<'a>) -> Result<Wish<'a>, 
 fn serve_taken<R: Runtime<File = File> + AllocGlobal + Threads + Wait + Sync, I: Read>(
     rt: &R,
     wish: Wish<'_>,
-    taken: Taken,
+    taken: RunFiles,
     reader: &mut Kept<I>,
 ) -> Result<Ending, ServeFault> {
-    let Taken { bytes, held, .. } = taken;
+    let RunFiles { bytes, held, .. } = taken;
     let given = given_of(bytes);
     match held {
         Some(held) => serve_change(rt, wish, given, held, reader),
@@ -317,11 +318,11 @@ fn serve_change<R: Runtime<File = File> + AllocGlobal + Threads + Wait + Sync, I
     rt: &R,
     wish: Wish<'_>,
     given: Given,
-    held: Held,
+    held: LockedFiles,
     reader: &mut Kept<I>,
 ) -> Result<Ending, ServeFault> {
     let alloc = rt.alloc();
-    let Held {
+    let LockedFiles {
         names,
         redo,
         lock: _lock,

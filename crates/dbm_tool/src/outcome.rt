@@ -9,7 +9,7 @@ pub const FAULT: u8 = 2;
 
 /// What came of a wish: the fault, where there was one, the status, and the database where its files are to be written.
 #[derive(Drop)]
-pub struct Outcome {
+pub struct WishOutcome {
     pub err: Option<ServeFault>,
     pub status: u8,
     pub database: Option<Image<Global>>,

@@ -10,7 +10,7 @@ ghost use Rattle.dbm_tool.specs.Services.{service_in};
 use byte_text::write_all;
 use dbm_command_line::{Ask, Wish};
 use dbm_faults::ServeFault;
-use dbm_files::{Held, Saved, Taken, UnreadPages, save_part};
+use dbm_files::{LockedFiles, RunFiles, Saved, UnreadPages, save_part};
 use dbm_programs::refusal_of;
 use dbm_quick::{
     Asked, Quick, asked_by_delete, asked_by_fetch, asked_by_run, asked_by_store, has_own_pairs,
@@ -44,7 +44,7 @@ pub fn may_be_quick(ask: &Ask<'_>) -> bool {
 pub fn serve_quick<R: Runtime<File = File> + AllocGlobal, I: Read>(
     rt: &R,
     wish: Wish<'_>,
-    taken: &Taken,
+    taken: &RunFiles,
     reader: &mut Kept<I>,
 ) -> Result<Option<Quick>, ServeFault> {
     let Some(unread) = &taken.unread else {
@@ -87,7 +87,7 @@ pub fn serve_quick<R: Runtime<File = File> + AllocGlobal, I: Read>(
 // Saves what a command has come to, where there is something to save, and prints its lines then.
 fn save_quick<R: Runtime<File = File> + AllocGlobal, I: Read>(
     rt: &R,
-    held: &Held,
+    held: &LockedFiles,
     part: Part<'_>,
     size: PageSize,
     quick: &Quick,

@@ -4,7 +4,7 @@ ghost use Rattle.dbm_command_line.specs.Wishes.{base_of, file_of, writes_files};
 ghost use Rattle.sdbm_files.specs.Limits.{pag_limit};
 
 use dbm_command_line::{Ask, Request, Wish};
-use dbm_files::{FileBytes, Place};
+use dbm_places::{FileBytes, RunPlace};
 use dbm_reports::Given;
 use dbm_sessions::Session;
 use dbm_telling::{Told, Work};
@@ -13,13 +13,13 @@ use sdbm_addr::PageSize;
 use sdbm_files::PAG_LIMIT;
 
 /// What a wish says of its files.
-pub fn place_of<'a>(wish: &Wish<'a>) -> Place<'a>
+pub fn place_of<'a>(wish: &Wish<'a>) -> RunPlace<'a>
     ensures base { option_map (λ text. text.now) result.base ≡ base_of wish.now }
     ensures file { option_map (λ text. text.now) result.file ≡ file_of wish.now }
     ensures writes { result.writes ≡ writes_files wish.now }
     ensures limit { result.pages_limit ≡ pag_limit }
 {
-    Place {
+    RunPlace {
         base: wish.base(),
         file: wish.file(),
         writes: wish.writes(),
@@ -92,7 +92,7 @@ fn told_of_session<'a>(session: &Session<'a>) -> Told<'a> {
 }
 
 /// What a request says of its files.
-pub fn place_asked<'a>(ask: &Ask<'a>) -> Place<'a> {
+pub fn place_asked<'a>(ask: &Ask<'a>) -> RunPlace<'a> {
     match ask {
         Ask::Wish(wish) => place_of(wish),
         Ask::Session(session) => place_of_session(session),
@@ -100,8 +100,8 @@ pub fn place_asked<'a>(ask: &Ask<'a>) -> Place<'a> {
 }
 
 // What a session says of its files.
-fn place_of_session<'a>(session: &Session<'a>) -> Place<'a> {
-    Place {
+fn place_of_session<'a>(session: &Session<'a>) -> RunPlace<'a> {
+    RunPlace {
         base: Some(session.base),
         file: None,
         writes: true,

@@ -5,7 +5,7 @@ ghost use Rattle.dbm_tool.specs.Outcomes.{IsServed, IsUnserved};
 ghost use Rattle.dbm_tool.specs.Services.{reads_input};
 
 use crate::dispatch::serve_wish;
-use crate::outcome::Outcome;
+use crate::outcome::WishOutcome;
 use dbm_command_line::Wish;
 use dbm_reports::Given;
 use std::alloc::Global;
@@ -33,7 +33,7 @@ pub fn serve<T: Threads + Wait + Sync, R: Read, W: Write>(
     given: &Given,
     reader: &mut R,
     writer: &mut W,
-) -> Outcome
+) -> WishOutcome
     ensures served { IsNone result.err → IsServed wish.entry given.now (R.remaining reader.old) (W.contents writer.old) (W.contents writer.new) result.status result.database }
     ensures fault { IfSome result.err (IsUnserved wish.entry given.now (R.remaining reader.old) (W.contents writer.old) (W.contents writer.new)) }
     ensures unread { reads_input wish.entry ≡ false → R.remaining reader.new ≡ R.remaining reader.old }

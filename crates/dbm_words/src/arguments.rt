@@ -28,7 +28,7 @@ pub fn null<'a>(alloc: Global) -> Arg<'a>
     ensures rule { rule_of result ≡ spec.null_flag }
     ensures local { result.global ≡ false }
 {
-    let help = "Print raw bytes, a zero byte behind each, for xargs -0";
+    let help = "Print raw bytes, a zero byte after each, for xargs -0";
     flag(alloc, "null", help).short('0')
 }
 

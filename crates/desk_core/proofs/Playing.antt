@@ -11,8 +11,8 @@ use Rattle.store_cmd.specs.History.{History}
 use Rattle.store_cmd.proofs.MovesLemmas.{Replies-from_Moves}
 use Rattle.desk_core.specs.declared.events.Event.{Event}
 use Rattle.desk_core.specs.declared.events.Event.TheVariants as event
-use Rattle.desk_core.specs.declared.events.Outcome.TheVariants as outcome
-use Rattle.desk_core.specs.declared.events.Outcome.{Outcome}
+use Rattle.desk_core.specs.declared.events.EventOutcome.TheVariants as outcome
+use Rattle.desk_core.specs.declared.events.EventOutcome.{EventOutcome}
 use Rattle.store_moves.specs.Leads.{state_of}
 use Rattle.desk_core.specs.Desk.{DeskState, IsSound}
 use Rattle.store_moves.specs.Acts.{Acts, ActsInTurn}
@@ -20,7 +20,7 @@ use Rattle.desk_core.specs.Events.{Hands, Does, Plays, GoesOn, OnAsk, OnConvert,
 use Rattle.store_moves.proofs.Acting.{Acts-count}
 
 -- one event more
-pub Plays-push : {A : Type 0} (s mid s' : DeskState A) (h held h' : Hands A) (es : List (Event A)) (outs : List (Outcome A)) (e : Event A) (out : Outcome A)
+pub Plays-push : {A : Type 0} (s mid s' : DeskState A) (h held h' : Hands A) (es : List (Event A)) (outs : List (EventOutcome A)) (e : Event A) (out : EventOutcome A)
     → Plays s h es outs mid held → Does mid held e out s' h' → IsSound s' → Plays s h (es ++ e ∷ []) (outs ++ out ∷ []) s' h'
 Plays-push {A} s mid s' h held h' [] [] e out p d ok =
     let same : held ≡ h = λ i u. p.1 u i in
@@ -70,7 +70,7 @@ GoesOn-trans {A} s mid s' p q =
     goes_on s s' (p.added ++ q.added) (q.entries ∙ ap (λ (es : List (Entry A)). es ++ q.added) p.entries ∙ append_assoc s.entries p.added q.added)
     (ActsInTurn-append s.database mid.database s'.database p.added q.added p.acts q.acts)
 
-on_ask : {A : Type 0} (s s' : DeskState A) (h h' : Hands A) (session : ℕ) (command : Command A) (out : Outcome A) → OnAsk s h session command out s' h' → GoesOn s s'
+on_ask : {A : Type 0} (s s' : DeskState A) (h h' : Hands A) (session : ℕ) (command : Command A) (out : EventOutcome A) → OnAsk s h session command out s' h' → GoesOn s s'
 on_ask s s' h h' session command (outcome.Asked u) p = unchanged s s' p.1.1.0.1.1.entries p.1.1.0.1.1.database
 on_ask s s' h h' session command (outcome.Answered reply) p = one_more s s' (record { session = session; command = Count; reply = reply }) p.0.1.1.entries (Acts-count s.database s'.database session reply p.0.1.1.reply_is p.0.1.1.database)
 on_ask s s' h h' session command (outcome.AskRefused fault) p = same s s' p.1.0
@@ -84,7 +84,7 @@ on_ask s s' h h' session command outcome.Abandoned p = absurd p
 on_ask s s' h h' session command outcome.AbandonRefused p = absurd p
 on_ask s s' h h' session command outcome.NoHand p = absurd p
 
-on_convert : {A : Type 0} (s s' : DeskState A) (t : ℕ) (out : Outcome A) → OnConvert s t out s' → GoesOn s s'
+on_convert : {A : Type 0} (s s' : DeskState A) (t : ℕ) (out : EventOutcome A) → OnConvert s t out s' → GoesOn s s'
 on_convert s s' t (outcome.Asked u) p = absurd p
 on_convert s s' t (outcome.Answered reply) p = absurd p
 on_convert s s' t (outcome.AskRefused fault) p = absurd p
@@ -98,7 +98,7 @@ on_convert s s' t outcome.Abandoned p = absurd p
 on_convert s s' t outcome.AbandonRefused p = absurd p
 on_convert s s' t outcome.NoHand p = absurd p
 
-on_finish : {A : Type 0} (s s' : DeskState A) (h h' : Hands A) (t : ℕ) (out : Outcome A) → OnFinish s h t out s' h' → GoesOn s s'
+on_finish : {A : Type 0} (s s' : DeskState A) (h h' : Hands A) (t : ℕ) (out : EventOutcome A) → OnFinish s h t out s' h' → GoesOn s s'
 on_finish s s' h h' t (outcome.Asked u) p = absurd p
 on_finish s s' h h' t (outcome.Answered reply) p = absurd p
 on_finish s s' h h' t (outcome.AskRefused fault) p = absurd p
@@ -112,7 +112,7 @@ on_finish s s' h h' t outcome.Abandoned p = absurd p
 on_finish s s' h h' t outcome.AbandonRefused p = absurd p
 on_finish s s' h h' t outcome.NoHand p = same s s' p.1.0
 
-on_abandon : {A : Type 0} (s s' : DeskState A) (t : ℕ) (out : Outcome A) → OnAbandon s t out s' → GoesOn s s'
+on_abandon : {A : Type 0} (s s' : DeskState A) (t : ℕ) (out : EventOutcome A) → OnAbandon s t out s' → GoesOn s s'
 on_abandon s s' t (outcome.Asked u) p = absurd p
 on_abandon s s' t (outcome.Answered reply) p = absurd p
 on_abandon s s' t (outcome.AskRefused fault) p = absurd p
@@ -126,7 +126,7 @@ on_abandon s s' t outcome.Abandoned p = unchanged s s' p.entries p.database
 on_abandon s s' t outcome.AbandonRefused p = same s s' p.1
 on_abandon s s' t outcome.NoHand p = absurd p
 
-does : {A : Type 0} (s s' : DeskState A) (h h' : Hands A) (e : Event A) (out : Outcome A) → Does s h e out s' h' → GoesOn s s'
+does : {A : Type 0} (s s' : DeskState A) (h h' : Hands A) (e : Event A) (out : EventOutcome A) → Does s h e out s' h' → GoesOn s s'
 does s s' h h' (event.Ask session command) out p = on_ask s s' h h' session command out p
 does s s' h h' (event.Work t) out p = same s s' p.1
 does s s' h h' (event.Convert t) out p = on_convert s s' t.0 out p.0
@@ -134,7 +134,7 @@ does s s' h h' (event.Finish t) out p = on_finish s s' h h' t.0 out p
 does s s' h h' (event.Abandon t) out p = on_abandon s s' t.0 out p.0
 
 -- what is played adds entries in turn
-pub GoesOn-from_Plays : {A : Type 0} (s s' : DeskState A) (h h' : Hands A) (es : List (Event A)) (outs : List (Outcome A)) → Plays s h es outs s' h' → GoesOn s s'
+pub GoesOn-from_Plays : {A : Type 0} (s s' : DeskState A) (h h' : Hands A) (es : List (Event A)) (outs : List (EventOutcome A)) → Plays s h es outs s' h' → GoesOn s s'
 GoesOn-from_Plays s s' h h' [] [] p = same s s' p.0
 GoesOn-from_Plays s s' h h' [] (o ∷ outs) p = absurd p
 GoesOn-from_Plays s s' h h' (e ∷ es) [] p = absurd p

@@ -6,8 +6,8 @@ use Rattle.store_cmd.specs.declared.Entry.{Entry}
 use Rattle.store_cmd.specs.History.{History}
 use Rattle.desk_core.specs.declared.events.Event.{Event}
 use Rattle.desk_core.specs.declared.events.Event.TheVariants as event
-use Rattle.desk_core.specs.declared.events.Outcome.{Outcome}
-use Rattle.desk_core.specs.declared.events.Outcome.TheVariants as outcome
+use Rattle.desk_core.specs.declared.events.EventOutcome.{EventOutcome}
+use Rattle.desk_core.specs.declared.events.EventOutcome.TheVariants as outcome
 use Rattle.desk_core.specs.declared.events.InHand.{InHand}
 use Rattle.desk_core.specs.declared.events.InHand.TheVariants as hand
 use Rattle.desk_core.specs.declared.Asked.TheVariants as asked
@@ -43,7 +43,7 @@ is_done (Some (hand.Job j)) = false
 is_done (Some (hand.Done d)) = true
 
 -- An asked job comes to hand under its ticket, in place of anything there.
-abbrev pub OnAsk : {A : Type 0} → DeskState A → Hands A → ℕ → Command A → Outcome A → DeskState A → Hands A → Type 0
+abbrev pub OnAsk : {A : Type 0} → DeskState A → Hands A → ℕ → Command A → EventOutcome A → DeskState A → Hands A → Type 0
 OnAsk {A} s h session command (outcome.Asked t) s' h' = (j : Ticketed A) × ((j.ticket ≡ t.0) × (Asks s session command (asked.Job j) s' × Put h t.0 (Some (hand.Job j)) h'))
 OnAsk s h session command (outcome.Answered reply) s' h' = Asks s session command (asked.Answered reply) s' × Stay h h'
 OnAsk s h session command (outcome.AskRefused fault) s' h' = IsAskFault s command fault × ((s' ≡ s) × Stay h h')
@@ -58,7 +58,7 @@ OnAsk s h session command outcome.AbandonRefused s' h' = ⊥
 OnAsk s h session command outcome.NoHand s' h' = ⊥
 
 -- A job in hand is made a done, which is seen as the same.
-abbrev pub OnWork : {A : Type 0} → Hands A → ℕ → Outcome A → Hands A → Type 0
+abbrev pub OnWork : {A : Type 0} → Hands A → ℕ → EventOutcome A → Hands A → Type 0
 OnWork {A} h t outcome.Worked h' = (j : Ticketed A) × ((h t ≡ Some (hand.Job j)) × Put h t (Some (hand.Done j)) h')
 OnWork {A} h t outcome.WorkRefused h' = (j : Ticketed A) × ((h t ≡ Some (hand.Job j)) × Stay h h')
 OnWork h t outcome.NoHand h' = (is_job (h t) ≡ false) × Stay h h'
@@ -72,7 +72,7 @@ OnWork h t (outcome.FinishRefused fault) h' = ⊥
 OnWork h t outcome.Abandoned h' = ⊥
 OnWork h t outcome.AbandonRefused h' = ⊥
 
-abbrev pub OnConvert : {A : Type 0} → DeskState A → ℕ → Outcome A → DeskState A → Type 0
+abbrev pub OnConvert : {A : Type 0} → DeskState A → ℕ → EventOutcome A → DeskState A → Type 0
 OnConvert s t outcome.Converted s' = Converts s t s'
 OnConvert s t (outcome.ConvertRefused fault) s' = IsConvertFault s t fault × (s' ≡ s)
 OnConvert s t (outcome.Asked u) s' = ⊥
@@ -87,7 +87,7 @@ OnConvert s t outcome.AbandonRefused s' = ⊥
 OnConvert s t outcome.NoHand s' = ⊥
 
 -- A done in hand is finished, and then out of hand; one that is refused stays.
-abbrev pub OnFinish : {A : Type 0} → DeskState A → Hands A → ℕ → Outcome A → DeskState A → Hands A → Type 0
+abbrev pub OnFinish : {A : Type 0} → DeskState A → Hands A → ℕ → EventOutcome A → DeskState A → Hands A → Type 0
 OnFinish {A} s h t (outcome.Finished reply) s' h' = (d : Ticketed A) × ((h t ≡ Some (hand.Done d)) × (Finishes s d reply s' × Put h t None h'))
 OnFinish {A} s h t (outcome.FinishRefused fault) s' h' = (d : Ticketed A) × ((h t ≡ Some (hand.Done d)) × (IsFinishFault s d fault × ((s' ≡ s) × Stay h h')))
 OnFinish s h t outcome.NoHand s' h' = (is_done (h t) ≡ false) × ((s' ≡ s) × Stay h h')
@@ -101,7 +101,7 @@ OnFinish s h t (outcome.ConvertRefused fault) s' h' = ⊥
 OnFinish s h t outcome.Abandoned s' h' = ⊥
 OnFinish s h t outcome.AbandonRefused s' h' = ⊥
 
-abbrev pub OnAbandon : {A : Type 0} → DeskState A → ℕ → Outcome A → DeskState A → Type 0
+abbrev pub OnAbandon : {A : Type 0} → DeskState A → ℕ → EventOutcome A → DeskState A → Type 0
 OnAbandon s t outcome.Abandoned s' = Abandons s t s'
 OnAbandon s t outcome.AbandonRefused s' = (ticket_of s t ≡ None) × (s' ≡ s)
 OnAbandon s t (outcome.Asked u) s' = ⊥
@@ -116,7 +116,7 @@ OnAbandon s t (outcome.FinishRefused fault) s' = ⊥
 OnAbandon s t outcome.NoHand s' = ⊥
 
 -- what an event does, and what comes of it, in the state and with the hands that there are
-abbrev pub Does : {A : Type 0} → DeskState A → Hands A → Event A → Outcome A → DeskState A → Hands A → Type 0
+abbrev pub Does : {A : Type 0} → DeskState A → Hands A → Event A → EventOutcome A → DeskState A → Hands A → Type 0
 Does s h (event.Ask session command) out s' h' = OnAsk s h session command out s' h'
 Does s h (event.Work t) out s' h' = OnWork h t.0 out h' × (s' ≡ s)
 Does s h (event.Convert t) out s' h' = OnConvert s t.0 out s' × Stay h h'
@@ -124,7 +124,7 @@ Does s h (event.Finish t) out s' h' = OnFinish s h t.0 out s' h'
 Does s h (event.Abandon t) out s' h' = OnAbandon s t.0 out s' × Stay h h'
 
 -- events one after another, each with its outcome, and the desk sound after each
-abbrev pub Plays : {A : Type 0} → DeskState A → Hands A → List (Event A) → List (Outcome A) → DeskState A → Hands A → Type 0
+abbrev pub Plays : {A : Type 0} → DeskState A → Hands A → List (Event A) → List (EventOutcome A) → DeskState A → Hands A → Type 0
 Plays s h [] [] s' h' = (s' ≡ s) × Stay h h'
 Plays s h [] (out ∷ outs) s' h' = ⊥
 Plays s h (e ∷ es) [] s' h' = ⊥

@@ -28,7 +28,7 @@ pub enum Event<A: Allocator> {
 
 /// What comes of an event.
 #[derive(Drop)]
-pub enum Outcome<A: Allocator> {
+pub enum EventOutcome<A: Allocator> {
     /// A ticket was opened, and its job is in hand.
     Asked(Ticket),
     /// The command was answered at once.
@@ -74,7 +74,7 @@ impl<A: Allocator + Copy> Desk<A> {
     ///
     /// # Errors
     /// `AllocError` where no memory is left for the outcomes and what is in hand, which is taken first. The desk is then as it was.
-    pub fn play(&mut self, events: &[Event<A>]) -> Result<Vec<Outcome<A>, A>, AllocError>
+    pub fn play(&mut self, events: &[Event<A>]) -> Result<Vec<EventOutcome<A>, A>, AllocError>
         ensures plays { IfOk result (λ outcomes. (last : Hands A) × Plays self.old no_hands events.now outcomes.items self.new last) }
         ensures goes_on { IfOk result (λ _. GoesOn self.old self.new) }
         ensures err { OnErr result (self.new ≡ self.old) }
@@ -91,7 +91,7 @@ impl<A: Allocator + Copy> Desk<A> {
     }
 
     // Does what one event says.
-    fn happen(&mut self, hands: &mut ByTicket<A>, event: &Event<A>) -> Outcome<A>
+    fn happen(&mut self, hands: &mut ByTicket<A>, event: &Event<A>) -> EventOutcome<A>
         requires { 1 ≤ spare hands.old }
         ensures does { Does self.old (get nat_eq hands.old) event.now result self.new (get nat_eq hands.new) }
         ensures spare { spare hands.old ≤ spare hands.new + 1 }
@@ -100,13 +100,13 @@ impl<A: Allocator + Copy> Desk<A> {
             Event::Ask(session, command) => self.ask_in_hand(hands, *session, command),
             Event::Work(ticket) => work_in_hand(hands, *ticket),
             Event::Convert(ticket) => match self.convert(*ticket) {
-                Ok(()) => Outcome::Converted,
-                Err(fault) => Outcome::ConvertRefused(fault),
+                Ok(()) => EventOutcome::Converted,
+                Err(fault) => EventOutcome::ConvertRefused(fault),
             },
             Event::Finish(ticket) => self.finish_in_hand(hands, *ticket),
             Event::Abandon(ticket) => match self.abandon(*ticket) {
-                Ok(()) => Outcome::Abandoned,
-                Err(_) => Outcome::AbandonRefused,
+                Ok(()) => EventOutcome::Abandoned,
+                Err(_) => EventOutcome::AbandonRefused,
             },
         }
     }
@@ -117,7 +117,7 @@ impl<A: Allocator + Copy> Desk<A> {
         hands: &mut ByTicket<A>,
         session: u64,
         command: &SharedCommand<A>,
-    ) -> Outcome<A>
+    ) -> EventOutcome<A>
         requires { 1 ≤ spare hands.old }
         ensures does { OnAsk self.old (get nat_eq hands.old) session command.now result self.new (get nat_eq hands.new) }
         ensures spare { spare hands.old ≤ spare hands.new + 1 }
@@ -126,10 +126,10 @@ impl<A: Allocator + Copy> Desk<A> {
             Ok(Asked::Job(job)) => {
                 let ticket = job.ticket();
                 put(hands, ticket, InHand::Job(job));
-                Outcome::Asked(ticket)
+                EventOutcome::Asked(ticket)
             }
-            Ok(Asked::Answered(reply)) => Outcome::Answered(reply),
-            Err(fault) => Outcome::AskRefused(fault),
+            Ok(Asked::Answered(reply)) => EventOutcome::Answered(reply),
+            Err(fault) => EventOutcome::AskRefused(fault),
         }
     }
 
@@ -150,41 +150,41 @@ impl<A: Allocator + Copy> Desk<A> {
     }
 
     // Finishes what is done and in hand under a ticket.
-    fn finish_in_hand(&mut self, hands: &mut ByTicket<A>, ticket: Ticket) -> Outcome<A>
+    fn finish_in_hand(&mut self, hands: &mut ByTicket<A>, ticket: Ticket) -> EventOutcome<A>
         requires { 1 ≤ spare hands.old }
         ensures does { OnFinish self.old (get nat_eq hands.old) ticket.0 result self.new (get nat_eq hands.new) }
         ensures spare { spare hands.old ≤ spare hands.new + 1 }
     {
         let Some(done) = take_done(hands, ticket) else {
-            return Outcome::NoHand;
+            return EventOutcome::NoHand;
         };
         match self.finish(done) {
-            Ok(reply) => Outcome::Finished(reply),
+            Ok(reply) => EventOutcome::Finished(reply),
             Err((fault, done)) => {
                 put(hands, ticket, InHand::Done(done));
-                Outcome::FinishRefused(fault)
+                EventOutcome::FinishRefused(fault)
             }
         }
     }
 }
 
 // Works the job in hand under a ticket.
-fn work_in_hand<A: Allocator + Copy>(hands: &mut ByTicket<A>, ticket: Ticket) -> Outcome<A>
+fn work_in_hand<A: Allocator + Copy>(hands: &mut ByTicket<A>, ticket: Ticket) -> EventOutcome<A>
     requires { 1 ≤ spare hands.old }
     ensures does { OnWork (get nat_eq hands.old) ticket.0 result (get nat_eq hands.new) }
     ensures spare { spare hands.old ≤ spare hands.new + 1 }
 {
     let Some(job) = take_job(hands, ticket) else {
-        return Outcome::NoHand;
+        return EventOutcome::NoHand;
     };
     match job.work() {
         Ok(done) => {
             put(hands, ticket, InHand::Done(done));
-            Outcome::Worked
+            EventOutcome::Worked
         }
         Err((_, job)) => {
             put(hands, ticket, InHand::Job(job));
-            Outcome::WorkRefused
+            EventOutcome::WorkRefused
         }
     }
 }

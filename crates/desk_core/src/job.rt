@@ -5,7 +5,6 @@ ghost use Rattle.store_moves.specs.Works.{HasEnd};
 ghost use Rattle.store_moves.specs.Leads.{does_change};
 ghost use Rattle.store_moves.specs.Worked.{IsWorked};
 
-use crate::page_copy::PageCopy;
 use hold_modes::Ticket;
 use sdbm_addr::KeyBytes;
 use sdbm_dir::Place;
@@ -13,7 +12,7 @@ use sdbm_split::Plan;
 use std::alloc::{AllocError, Allocator};
 use std::marker::Model;
 use store_cmd::{Reply, SharedCommand};
-use store_moves::{Worked, work_on};
+use store_moves::{PageCopy, Worked, work_on};
 
 /// What stands under an open ticket: who asked what, the place to which the key leads in a database whose keys hash so, and the
 /// page as it was.

@@ -17,16 +17,14 @@ ghost use Rattle.desk_core.specs.Calls.{refusal_of};
 mod events;
 mod job;
 mod look;
-mod page_copy;
 mod step;
 
-pub use events::{Event, Outcome};
+pub use events::{Event, EventOutcome};
 pub use hold_modes::Ticket;
 use hold_modes::{Hold, Holds};
 use job::Open;
 pub use job::{Done, Job};
 pub use look::{Look, PutFault, Seen};
-use page_copy::PageCopy;
 use sdbm_addr::Bytes;
 use sdbm_dir::Place;
 use sdbm_files::Image;
@@ -34,8 +32,8 @@ use slab::Slab;
 use std::alloc::{AllocError, Allocator};
 use std::marker::Model;
 pub use step::Stepped;
-use store_cmd::{Command, KeptEntry, Opening, Reply, SharedCommand, SizeFault, Trail, check};
-use store_moves::{key_in, put_in};
+use store_cmd::{Command, KeptEntry, Opening, Reply, SharedCommand, SizeFault, Trail, check_sizes};
+use store_moves::{PageCopy, key_in, put_in};
 
 /// The core of a store, seen as its database, the opening and the entries of its trail, what is open under each ticket, the ticket
 /// that is opened next, the holds, and the most entries and open tickets that there may be.
@@ -182,7 +180,7 @@ impl<A: Allocator + Copy> Desk<A> {
         ensures told { IfErr result (λ fault. fault ≢ AskFault.NoMemory) }
     {
         let command = command.command();
-        if let Err(fault) = check(command, self.image.page_size()) {
+        if let Err(fault) = check_sizes(command, self.image.page_size()) {
             return Err(ask_fault(fault));
         }
         if self.limit <= self.trail.entries.len() + self.tickets.len() {

@@ -7,14 +7,13 @@ ghost use Rattle.desk_core.specs.Jobs.{worked};
 ghost use Rattle.desk_core.specs.Calls.{MayAsk, IsAsked, IsAskFault, IsStill, Steps, MayPut, IsPutFault};
 
 use crate::job::{Open, work_asked};
-use crate::page_copy::PageCopy;
 use crate::step::Stepped;
 use crate::{AskFault, Desk};
 use sdbm_dir::Place;
 use std::alloc::{AllocError, Allocator};
 use std::marker::Model;
 use store_cmd::SharedCommand;
-use store_moves::Worked;
+use store_moves::{PageCopy, Worked};
 
 /// A command that was looked up, to be worked without the desk, seen as what would stand under its ticket. It has none: it holds no page
 /// and no room in the trail.

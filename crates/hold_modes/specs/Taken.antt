@@ -13,7 +13,7 @@ abbrev pub held_in : Option (LruCache ℕ (ℕ × Hold)) → List Held
 held_in None = []
 held_in (Some holds) = map held_of holds.entries
 
--- nothing is pushed out for want of room
+-- there is room, so nothing is pushed out
 abbrev pub IsUnbounded : Option (LruCache ℕ (ℕ × Hold)) → Type 0
 IsUnbounded None = ⊤
 IsUnbounded (Some holds) = holds.cap ≡ 2 ^ 64 - 1

@@ -3,8 +3,7 @@ ghost use Rattle.std.specs.Prelude.{◌≡◌, ◌↔◌, true, IsTrue, IsErr, O
 ghost use Rattle.std.specs.List.{list_any, position};
 ghost use Rattle.hold_modes.specs.Held.{bars, is_beside, is_of, is_shared, is_updating, held_by, without, made_exclusive, obeys_rule};
 
-use crate::holds::Busy;
-use crate::modes::{Held, Hold, Ticket, compatible};
+use crate::modes::{Busy, Held, Hold, Ticket, compatible};
 use std::alloc::Allocator;
 
 // Whether the page is held in a mode that bars this one.

@@ -5,13 +5,9 @@ ghost use Rattle.hold_modes.specs.Held.{bars, is_of, is_shared, is_updating, hel
 
 use crate::few::{convert, find, is_barred, release};
 use crate::indexed::{Indexed, make_index};
-use crate::modes::{Held, Hold, Ticket};
+use crate::modes::{Busy, Held, Hold, Ticket};
 use std::alloc::{AllocError, Allocator, Global};
 use std::marker::Model;
-
-/// Another ticket holds the page, so that the hold cannot be had.
-#[derive(Clone, Copy, Debug, PartialEq, Eq)]
-pub struct Busy;
 
 /// Why a page could not be taken.
 #[derive(Clone, Copy, Debug, PartialEq, Eq)]

@@ -3,8 +3,7 @@ ghost use Rattle.std.specs.Prelude.{◌≡◌, ◌↔◌, ◌++◌, ◌∷◌, [
 ghost use Rattle.std.specs.List.{list_any};
 ghost use Rattle.hold_modes.specs.Held.{bars, is_of, is_shared, is_updating, held_by, without, made_exclusive, obeys_rule};
 
-use crate::holds::Busy;
-use crate::modes::{Held, Hold, Ticket};
+use crate::modes::{Busy, Held, Hold, Ticket};
 use crate::pages::Pages;
 use crate::taken::Taken;
 use std::alloc::{AllocError, Allocator};

@@ -9,5 +9,5 @@ mod pages;
 mod taken;
 mod uses;
 
-pub use holds::{Busy, HoldFault, Holds};
-pub use modes::{Held, Hold, Ticket};
+pub use holds::{HoldFault, Holds};
+pub use modes::{Busy, Held, Hold, Ticket};

@@ -1,5 +1,5 @@
 //! The three modes of a hold, and which may stand together.
-ghost use Rattle.std.specs.Prelude.{◌≡◌};
+ghost use Rattle.std.specs.Prelude.{◌≡◌, false, true};
 ghost use Rattle.hold_modes.specs.Held.{are_compatible};
 
 /// How a page is held.
@@ -36,3 +36,7 @@ pub fn compatible(one: Hold, other: Hold) -> bool
         _ => false,
     }
 }
+
+/// Another ticket holds the page, so that the hold cannot be had.
+#[derive(Clone, Copy, Debug, PartialEq, Eq)]
+pub struct Busy;

@@ -42,7 +42,7 @@ pub record IsSized (image : List ℕ) : Type 0 where
   pub whole : IsWhole image
   pub short : IsShort image
 
--- Why an image gives no accepted program. Memory may run out behind the tests of the length.
+-- Why an image gives no accepted program. Memory may run out after the tests of the length.
 abbrev pub Condemns : List ℕ → RegFault → Type 0
 Condemns image NoMemory = IsSized image
 Condemns image (Decode fault) = IsUndecoded image fault

@@ -15,7 +15,7 @@ pub record Registered : Type 0 where
 
 -- ---- a number is given
 
--- The program of a new image goes behind the others, and its number is how many there were.
+-- The program of a new image goes after the others, and its number is how many there were.
 pub record Adds (old : Registered) (image : List ℕ) (id : ℕ) (new : Registered) : Type 0 where
   pub is_new : IsNew old.programs image
   pub unjudged : verdict_on old.recent.verdicts image ≡ None

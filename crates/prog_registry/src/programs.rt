@@ -85,7 +85,7 @@ impl<A: Allocator> Programs<A> {
         self.list.len() == PROGRAM_LIMIT
     }
 
-    /// Adds the program of a new image behind the others, where there is room. All growths come first, so
+    /// Adds the program of a new image after the others, where there is room. All growths come first, so
     /// without memory nothing changes.
     pub fn add(&mut self, image: &[u8], program: Verified<A>) -> Result<u32, AllocError>
     where

@@ -57,7 +57,7 @@ page-c = refl
 page-a : page_number (hash_prefix 2 97) ≡ 1
 page-a = refl
 
--- ten zeros are the word numbered 1023; a one behind nine zeros leads to page 512
+-- ten zeros are the word numbered 1023; a one after nine zeros leads to page 512
 number-zeros : word_number (hash_prefix 10 0) ≡ 1023
 number-zeros = refl
 

@@ -56,7 +56,7 @@ IsDirectory-faultless bytes f = IsDirectory-from_bits bytes low parents
       | false ↦ λ e. absurd (f.closed (n, record { is_set = t; below = l; parent = e }))
     ] refl
 
--- a longer list, zeros behind the same bytes
+-- a longer list, zeros after the same bytes
 pub padded : (old new : List ℕ) (size len : ℕ) → len ≡ length old → length old ≤ size → length new ≡ size
     → ((k : ℕ) (d : ℕ) → k < size → k < len → get_or new k d ≡ get_or old k d) → ((k : ℕ) (d : ℕ) → len ≤ k → k < size → get_or new k d ≡ 0)
     → (k : ℕ) → get_or new k 0 ≡ get_or old k 0

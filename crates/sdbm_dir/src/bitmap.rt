@@ -86,7 +86,7 @@ fn is_orphan_bit(bytes: &[u8], bit: u32) -> bool
     bit > 0 && is_set(bytes, bit) && !is_set(bytes, (bit - 1) / 2)
 }
 
-/// A copy of bytes, with zeros behind it up to a whole block, or the error where no memory is left for it.
+/// A copy of bytes, with zeros after it up to a whole block, or the error where no memory is left for it.
 pub fn whole_blocks<A: Allocator>(alloc: A, bytes: &[u8]) -> Result<Vec<u8, A>, AllocError>
     requires { length bytes.now ≤ 2 ^ 28 }
     ensures blocks { IfOk result (λ made. length made.items % 4096 ≡ 0) }

@@ -1,4 +1,4 @@
--- Pages in the bytes of a file: where they stand, and what bytes behind them change.
+-- Pages in the bytes of a file: where they stand, and what bytes after them change.
 use Rattle.std.proofs.Common.{◌≡◌, ℕ, ◌+◌, ◌*◌, ◌-◌, ◌/◌, ◌%◌, ◌<◌, ◌≤◌, min, List, [], ◌++◌, length, length-drop, take, drop, get_or, sym, ap, ◌∙◌, subst, arith}
 use Rattle.std.proofs.lemmas.List.{append-nil, take-append-le, drop-append-le, take_all, get_or-take, get_or-drop}
 use Rattle.std.proofs.Math.Seq.{take-add}
@@ -43,7 +43,7 @@ pub start_below : (size : PageSize) (n : ℕ) → n * page_bytes size ≤ (n + 1
 start_below Small n = omega arith
 start_below Wide n = omega arith
 
--- bytes behind whole pages leave them
+-- bytes after whole pages leave them
 pub page_before : (size : PageSize) (pag bytes : List ℕ) (n : ℕ) → (n + 1) * page_bytes size ≤ length pag → page_at size (pag ++ bytes) n ≡ page_at size pag n
 page_before size pag bytes n inside =
     let start = n * page_bytes size in
@@ -51,7 +51,7 @@ page_before size pag bytes n inside =
     let room : (n + 1) * page_bytes size - start ≤ length (drop start pag) = omega (arith, length-drop start pag, inside) in
     ap (λ (l : List ℕ). take ((n + 1) * page_bytes size - start) l) (drop-append-le start pag bytes from) ∙ take-append-le ((n + 1) * page_bytes size - start) (drop start pag) bytes room
 
--- a page behind so many is the next one
+-- a page after so many is the next one
 pub page_behind : (size : PageSize) (pag bytes : List ℕ) (n : ℕ) → length pag ≡ n * page_bytes size → length bytes ≡ page_bytes size → page_at size (pag ++ bytes) n ≡ bytes
 page_behind size pag bytes n long is_page =
     part_read (pag ++ bytes) pag bytes [] (n * page_bytes size) ((n + 1) * page_bytes size) (ap (λ (l : List ℕ). pag ++ l) (sym (append-nil bytes))) (sym long)

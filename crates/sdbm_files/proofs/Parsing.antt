@@ -1,4 +1,4 @@
--- Pages that are parsed one behind the other.
+-- Pages that are parsed one after the other.
 use Rattle.std.proofs.Common.{◌≡◌, ◌≢◌, ℕ, ◌+◌, ◌*◌, ◌%◌, ◌<◌, ◌≤◌, List, [], ◌++◌, length, length-append, true, false, cond, Option, Some, None, is_some, unwrap_or, inl, inr, refl, sym, ap, ◌∙◌, subst, arith, eqb}
 use Rattle.std.proofs.lemmas.Bool.{cases_eq, cond-true, cond-false, eq-eqb}
 use Rattle.std.specs.FinMap as map
@@ -33,7 +33,7 @@ bad_before size pag bytes n fault bad = record {
 
 -- ---- the pages that are parsed
 
--- bytes behind leave what was parsed
+-- more bytes leave what was parsed
 parsed_before : (size : PageSize) (entries : List (ℕ × Content)) (count : ℕ) (bad next : Option (ℕ × PageFault)) (pag bytes : List ℕ) → EndsAt size (pag ++ bytes) count next
     → AreParsed size entries count bad pag → AreParsed size entries count next (pag ++ bytes)
 parsed_before size entries count bad next pag bytes ends are = record {
@@ -126,7 +126,7 @@ parsed_rest size entries count bad pag rest whole short are = parsed_before size
         omega (arith, one_page size (length pag) count all, length-append pag rest, short)
     ends (Some b) h = bad_before size pag rest b.0 b.1 h
 
--- bytes behind a bad page
+-- bytes after a bad page
 parsed_past : (size : PageSize) (entries : List (ℕ × Content)) (count : ℕ) (bad : Option (ℕ × PageFault)) (pag bytes : List ℕ) → is_some bad ≡ true
     → AreParsed size entries count bad pag → AreParsed size entries count bad (pag ++ bytes)
 parsed_past size entries count bad pag bytes some are = parsed_before size entries count bad bad pag bytes (ends bad some are.ends) are
@@ -144,7 +144,7 @@ same_count size entries count total pag all are =
     counts Small m n h = omega arith
     counts Wide m n h = omega arith
 
--- no page behind those that were parsed has pairs
+-- no page after those that were parsed has pairs
 none_past : (size : PageSize) (entries : List (ℕ × Content)) (count total : ℕ) (bad : Option (ℕ × PageFault)) (pag : List ℕ) → length pag ≡ total * page_bytes size
     → AreParsed size entries count bad pag → pairs_under entries total ≡ []
 none_past size entries count total bad pag all are = are.past total (counts size count total (subst (λ (k : ℕ). count * page_bytes size ≤ k) all are.inside))
@@ -181,7 +181,7 @@ module _ (size : PageSize) (old new : List (ℕ × Content)) (raw more : ℕ →
       there : (q : ℕ) → q ≢ total → more q ≡ raw q
       there q other = has none q ∙ cond-false _ _ _ (other_number total q (λ same. other (sym same)))
 
--- bytes behind so many pages leave them
+-- bytes after so many pages leave them
 pub known_before : (size : PageSize) (entries : List (ℕ × Content)) (raw : ℕ → Option (List ℕ)) (total : ℕ) (pag bytes : List ℕ) → total * page_bytes size ≤ length pag
     → AreKnown size entries raw total pag → AreKnown size entries raw total (pag ++ bytes)
 known_before size entries raw total pag bytes inside are = record {
@@ -238,7 +238,7 @@ module _ (size : PageSize) (old new : List (ℕ × Content)) (raw more : ℕ →
       stays (Some c) has some spelled =
           subst (AreKept size) (sym (pages_of-put old new total (Some c) c.pairs has (some_put c some))) (AreKept-put_page size (pages_of old) total c.pairs spelled.page parsed.pages)
 
--- a page is none, or stands behind one that is none
+-- a page is none, or stands after one that is none
 module _ (size : PageSize) (entries : List (ℕ × Content)) (raw more : ℕ → Option (List ℕ)) (count total : ℕ) (kept : Option (List ℕ)) (bytes : List ℕ) (long : length bytes ≡ page_bytes size) (has : HasRaw raw more total kept) (is : unwrap_or kept (bytes_of_page size []) ≡ bytes) where
   known_unparsed : (bad : Option (ℕ × PageFault)) (pag : List ℕ) → length pag ≡ total * page_bytes size → AreTaken size entries raw count bad total pag → AreKnown size entries more (total + 1) (pag ++ bytes)
   known_unparsed bad pag all are =

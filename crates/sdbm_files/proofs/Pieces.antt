@@ -14,7 +14,7 @@ with_bytes read bytes = record { size = read.size; bytes = bytes }
 pub piece_none : (read : PagRead) (piece : List ℕ) (n : ℕ) → n ≡ 0 → read ≡ with_piece read (take n piece)
 piece_none read piece n none = sym (ap (with_bytes read) (ap (λ (k : ℕ). read.bytes ++ take k piece) none ∙ append-nil read.bytes))
 
--- two pieces one behind the other
+-- two pieces one after the other
 pub piece_more : (read middle new : PagRead) (first second both : List ℕ) → middle ≡ with_piece read first → new ≡ with_piece middle second → first ++ second ≡ both → new ≡ with_piece read both
 piece_more read middle new first second both before is parts =
     is ∙ ap (λ (r : PagRead). with_piece r second) before ∙ ap (with_bytes read) (append_assoc read.bytes first second ∙ ap (λ (l : List ℕ). read.bytes ++ l) parts)

@@ -17,7 +17,7 @@ pub record PagRead : Type 0 where
   pub size : PageSize
   pub bytes : List ℕ
 
--- with a piece behind what was read
+-- with a piece after what was read
 abbrev pub with_piece : PagRead → List ℕ → PagRead
 with_piece read piece = record { size = read.size; bytes = read.bytes ++ piece }
 

@@ -34,7 +34,7 @@ use pages::{
     Pages, copy_pairs, count_pairs, grow_all, lend_pairs, mark_all, put_page, put_pages,
     replace_page, sort_lent, sort_pairs, store_pair, write_record,
 };
-pub use reading::ReadPages;
+pub use reading::{BLOCK, ReadPages};
 use sdbm_addr::{Bytes, KeyBytes, Mode, PageSize, hash};
 use sdbm_dir::{Dir, Place};
 use sdbm_page::SharedPage;

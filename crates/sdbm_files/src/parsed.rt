@@ -31,7 +31,7 @@ pub struct Parsed<A: Allocator> {
     pub raw: Raw<A>,
     /// How many pages were parsed.
     pub count: usize,
-    /// The page behind those, where it is none. No further one is parsed.
+    /// The page after those, where it is none. No further one is parsed.
     pub bad: Option<(usize, PageFault)>,
 }
 
@@ -78,7 +78,7 @@ impl<A: Allocator + Copy> Parsed<A> {
         }
     }
 
-    // Keeps the page that bytes spell behind the others.
+    // Keeps the page that bytes spell after the others.
     fn keep(
         &mut self,
         alloc: A,

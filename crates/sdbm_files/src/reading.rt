@@ -9,11 +9,11 @@ use sdbm_addr::PageSize;
 use std::alloc::{AllocError, Allocator};
 use std::marker::Model;
 
-/// How many bytes a block has.
-const BLOCK: usize = 1024;
+/// How many bytes a block has, which is what a save compares and writes at once.
+pub const BLOCK: usize = 1024;
 
 /// A `.pag` file as far as it was read, seen as the size of its pages and all its bytes so far. It keeps the pages that have pairs,
-/// the bytes of a page where they are not its own, and those behind the last whole page, so a hole takes no memory;
+/// the bytes of a page where they are not its own, and those after the last whole page, so a hole takes no memory;
 /// `Image::open_read` opens the database over the same pages.
 #[derive(Drop)]
 pub struct ReadPages<A: Allocator> {
@@ -80,8 +80,8 @@ impl<A: Allocator + Copy> ReadPages<A> {
         self.len % self.size.bytes() == 0
     }
 
-    /// Reads the next piece of the file, behind whole pages. It takes memory for the pages of the piece that have pairs, for the bytes
-    /// of a page where they are not its own, and for those behind the last whole page. Pages of zeros take none.
+    /// Reads the next piece of the file, after whole pages. It takes memory for the pages of the piece that have pairs, for the bytes
+    /// of a page where they are not its own, and for those after the last whole page. Pages of zeros take none.
     ///
     /// # Errors
     /// `AllocError` where no memory is left. The first pages of the piece may be read then.
@@ -115,7 +115,7 @@ impl<A: Allocator + Copy> ReadPages<A> {
         Ok(())
     }
 
-    // Reads the bytes behind the last whole page. Where no memory is left nothing was read.
+    // Reads the bytes after the last whole page. Where no memory is left nothing was read.
     fn push_rest(&mut self, rest: &[u8]) -> Result<(), AllocError>
         requires whole { length self.old.bytes % page_bytes self.old.size ≡ 0 }
         requires short { length self.old.bytes + length rest.now < 2 ^ 63 }

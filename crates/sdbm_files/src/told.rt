@@ -22,7 +22,7 @@ impl Told {
         Told {}
     }
 
-    /// These bytes behind the others.
+    /// These bytes after the others.
     pub(crate) fn more(&self, bytes: &[u8]) -> Told
         ensures { result.bytes ≡ self.now.bytes ++ bytes.now }
     {

@@ -1,4 +1,4 @@
-//! Where the bytes of a page lie: those of a small page in the page itself, so that who has found the page waits for no other memory
+//! Where the bytes of a page lie: those of a small page in the page itself, so a reader that has found the page waits for no other memory
 //! before it reads them; those of a wide one in memory of their own.
 ghost use Rattle.std.specs.Prelude.{◌≡◌, ◌≤◌, length, replicate, slice_range, IfOk};
 ghost use Rattle.std.specs.Borrow.{sem};

@@ -30,7 +30,7 @@ effect_same Redo Pages xs zs x offsets datas = refl
 effect_same Redo Directory xs zs x offsets datas = refl
 effect_same Redo Redo xs zs x offsets datas = refl
 
--- what stands behind a change does not touch it
+-- what follows a change does not touch it
 module _ (xs ys : List ℕ) (whole : span_of xs ≤ length xs) where
   size_append : size_of (xs ++ ys) ≡ size_of xs
   size_append = number_append xs ys 5 (omega (arith, whole))

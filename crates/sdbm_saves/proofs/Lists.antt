@@ -91,7 +91,7 @@ resized_elsewhere at n k x y same = record {
         (λ past. get_or_past (resized k y) i 0 (omega (arith, past, length-resized k y)) ∙ sym (get_or_past (resized k x) i 0 (omega (arith, past, length-resized k x))))
         (cases_lt i k)
 
--- the bytes behind the first
+-- the bytes after the first
 pub behind_first : (x y : List ℕ) → length y ≡ length x → ((i : ℕ) → 1 ≤ i → get_or y i 0 ≡ get_or x i 0) → drop 1 y ≡ drop 1 x
 behind_first x y same_length same = ext_get_or 0 (drop 1 y) (drop 1 x) (omega (arith, length-drop 1 y, length-drop 1 x, same_length))
     (λ i below. get_or-drop 1 y i 0 ∙ same (1 + i) (omega arith) ∙ sym (get_or-drop 1 x i 0))

@@ -1,4 +1,4 @@
--- What a crash leaves of the mark, and what is behind it.
+-- What a crash leaves of the mark, and what follows it.
 use Rattle.std.proofs.Common.{◌≡◌, ◌≢◌, ◌⊎◌, inl, inr, ⊎_elim, ℕ, ◌+◌, ◌≤◌, List, [], ◌∷◌, ◌++◌, length, drop, get_or, refl, sym, ◌∙◌, ap, subst, arith}
 use Rattle.std.proofs.lemmas.Bool.{cases_eq}
 use Rattle.std.proofs.lemmas.Bool.Decides.{nat_tests}
@@ -27,7 +27,7 @@ stays_within step keeps d c within = record {
   mark = λ unmarked marked. ⊎_elim (λ same. unmarked (sym same ∙ marked)) (λ none. absurd (omega (arith, none, marked))) (keeps d.redo c.redo within.stepped);
 }
 
--- what a mark leaves behind it
+-- what a mark leaves after it
 pub behind_mark : (value : ℕ) (d c : Image) → 1 ≤ length d.redo → Within Redo (Torn 0 (value ∷ [])) d c → drop 1 c.redo ≡ drop 1 d.redo
 behind_mark value d c long within =
     let torn : Torn 0 (value ∷ []) d.redo c.redo = within.stepped in
@@ -37,11 +37,11 @@ behind_mark value d c long within =
 pub nothing_to_end : (c : Image) → mark_of c ≢ 1 → CanEnd c
 nothing_to_end c unmarked = λ marked. absurd (unmarked marked)
 
--- the plan behind a mark knows the files that it knew
+-- the plan after a mark knows the files that it knew
 pub knows_still : (plan : List ℕ) (c : Image) → IsPlan plan → drop 1 c.redo ≡ plan → Knows plan (files c) → CanEnd c
 knows_still plan c is_plan behind knows = λ marked. subst (λ (l : List ℕ). IsPlan l × Knows l (files c)) (sym behind) (is_plan, knows)
 
--- an image with this plan behind its mark, whatever a crash made of the mark
+-- an image with this plan after its mark, whatever a crash made of the mark
 pub torn_mark : (value : ℕ) (d c : Image) → 1 ≤ length d.redo → Within Redo (Torn 0 (value ∷ [])) d c → (stands_for c ≡ files d) ⊎ (stands_for c ≡ renewed_files (drop 1 d.redo) d)
 torn_mark value d c long within =
     let behind : drop 1 c.redo ≡ drop 1 d.redo = behind_mark value d c long within in
@@ -108,7 +108,7 @@ module _ (plan : List ℕ) (first : Image) where
       (λ again. again ∙ ap (λ (l : List ℕ). renewed_files (drop 1 l) d) redo_is ∙ alike.same ∙ ap (λ (o : Image). renewed_files plan o) is)
       (torn_mark 0 d c long within)
 
-  -- while a plan is written behind a mark that is not set
+  -- while a plan is written after a mark that is not set
   pub staging : (d c : Image) → files d ≡ files first → mark_of d ≢ 1 → StaysUnmarked d c → (stands_for c ≡ files first) × CanEnd c
   staging d c same unmarked stays = (when_unmarked c (stays.mark unmarked) ∙ stays.files ∙ same, nothing_to_end c (stays.mark unmarked))
 

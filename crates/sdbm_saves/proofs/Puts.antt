@@ -1,4 +1,4 @@
--- Bytes that a draft puts into a file, one part behind the other.
+-- Bytes that a draft puts into a file, one part after the other.
 use Rattle.std.proofs.Common.{◌≡◌, ◌≢◌, ⊎_elim, inl, inr, ℕ, ◌+◌, ◌-◌, ◌<◌, ◌≤◌, ◌^◌, min, List, [], ◌++◌, length, take, drop, get_or, refl, sym, ◌∙◌, ap, subst, arith, length-append}
 use Rattle.std.proofs.lemmas.List.{ext_get_or, get_or_append_left, get_or-append_right, get_or-take, get_or-drop, get_or_past, length-take, drop_all, append-nil}
 use Rattle.std.proofs.lemmas.Bool.{cases_lt}
@@ -10,7 +10,7 @@ use Rattle.sdbm_saves.specs.Drafts.{change_bytes, length_in, FitsIn, AreChanges,
 use Rattle.sdbm_saves.proofs.Lists.{length-written, written_before, written_inside, written_after, length-resized, read_resized}
 use Rattle.sdbm_saves.proofs.Drafts.{written_same, one_more, replayed_one_more, offset_spelled, size_spelled, was_spelled, length_spelled, file_spelled, effect_own, effect_other}
 
--- bytes written behind others are both written at once
+-- bytes written after others are both written at once
 module _ (at : ℕ) (front back x : List ℕ) (room : at + length (front ++ back) ≤ length x) where
   both_long : length (front ++ back) ≡ length front + length back
   both_long = length-append front back

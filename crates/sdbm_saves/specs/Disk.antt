@@ -40,7 +40,7 @@ pub record Torn (at : ℕ) (bytes old new : List ℕ) : Type 0 where
   pub no_longer : length new ≤ max (length old) (at + length bytes)
 
 -- After a change of the length that a crash cuts short: some length between, and below the new one the same bytes or zeros. Whatever
--- stands behind the new length.
+-- stands after the new length.
 pub record TornLength (n : ℕ) (old new : List ℕ) : Type 0 where
   pub same : (i : ℕ) → i < n → get_or new i 0 ≡ get_or old i 0
   pub no_shorter : min n (length old) ≤ length new

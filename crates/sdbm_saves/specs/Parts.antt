@@ -47,7 +47,7 @@ pub record HasPages (db : Database) (numbers : List ℕ) (whole : ℕ) (old new 
   pub named : (n : ℕ) → Contains numbers n → (n + 1) * page_bytes db.size ≤ whole → ReadsPage db.size new n (bytes_of_page db.size (pairs_at db n))
   pub others : (n : ℕ) → (Contains numbers n → ⊥) → (n + 1) * page_bytes db.size ≤ whole → SamePage db.size n old new
 
--- the pages with these numbers read as these bytes, one page behind the other
+-- the pages with these numbers read as these bytes, one page after the other
 abbrev pub ReadPages : PageSize → List ℕ → List ℕ → List ℕ → Type 0
 ReadPages size numbers pages pag = (j i : ℕ) → j < length numbers → i < page_bytes size → get_or pages (j * page_bytes size + i) 0 ≡ get_or pag (get_or numbers j 0 * page_bytes size + i) 0
 

@@ -1,6 +1,6 @@
 -- What a redo file stands for. It is a mark of one byte (1 where the save is committed) and the plan of the save: eight bytes that
 -- every plan begins with, the new lengths of the pages and of the directory, their old lengths, the number of the changes, and the
--- changes, with nothing behind them. A change is a file (0 for the pages, else the directory), an offset, a length, the bytes, and
+-- changes, with nothing after them. A change is a file (0 for the pages, else the directory), an offset, a length, the bytes, and
 -- those that stood there, where a byte past the end of a file counts as zero. A number is four bytes, the low one first.
 -- A redo log that is marked by one write and done again as often as it takes, with the image of each block before and after it: Gray and
 -- Reuter, Transaction Processing (1993), chapters 9 and 10.
@@ -41,7 +41,7 @@ span_of change = 9 + (size_of change + size_of change)
 abbrev pub rest_of : List ℕ → List ℕ
 rest_of change = drop (span_of change) change
 
--- what stands behind so many changes
+-- what follows so many changes
 abbrev pub rest_after : ℕ → List ℕ → List ℕ
 rest_after zero changes = changes
 rest_after (suc n) changes = rest_after n (rest_of changes)
@@ -113,7 +113,7 @@ mark_of image = get_or image.redo 0 0
 abbrev pub stands_for : Image → List ℕ × List ℕ
 stands_for image = if mark_of image == 1 then renewed_files (drop 1 image.redo) image else files image
 
--- one of the changes of a plan, with what stands behind it
+-- one of the changes of a plan, with what follows it
 pub record IsChangeOf (plan change : List ℕ) : Type 0 where
   pub index : ℕ
   pub counted : index < count_of plan
@@ -154,7 +154,7 @@ pub record Knows (plan : List ℕ) (both : List ℕ × List ℕ) : Type 0 where
   pub directory : IsBetween (old_length Directory plan) (new_length Directory plan) (length both.1)
   pub bytes : (change : List ℕ) → IsChangeOf plan change → KnowsBlock plan change (data_in both (file_of change))
 
--- A save that was cut off behind its mark can be ended: behind the mark there is a whole plan, which knows the files. Where there is no
+-- A save that was cut off after its mark can be ended: after the mark there is a whole plan, which knows the files. Where there is no
 -- mark nothing is to be ended.
 abbrev pub CanEnd : Image → Type 0
 CanEnd image = mark_of image ≡ 1 → IsPlan (drop 1 image.redo) × Knows (drop 1 image.redo) (files image)
@@ -165,13 +165,13 @@ pub record IsSettled {D : Type 0} (seen : D → Image) (may_leave : D → Image 
   pub left_unmarked : (c : Image) → may_leave disk c → mark_of c ≢ 1
   pub kept : (c : Image) → may_leave disk c → files c ≡ files (seen disk)
 
--- a plan stands behind a mark that is not set, and all of it is on the disk
+-- a plan stands after a mark that is not set, and all of it is on the disk
 pub record IsStaged {D : Type 0} (plan : List ℕ) (seen : D → Image) (may_leave : D → Image → Type 0) (disk : D) : Type 0 where
   pub unmarked : mark_of (seen disk) ≢ 1
   pub behind : (seen disk).redo ≡ mark_of (seen disk) ∷ plan
   pub durable : Only (seen disk) (may_leave disk)
 
--- a plan stands behind a mark that is set, and all of it is on the disk: the save is committed
+-- a plan stands after a mark that is set, and all of it is on the disk: the save is committed
 pub record IsCommitted {D : Type 0} (plan : List ℕ) (seen : D → Image) (may_leave : D → Image → Type 0) (disk : D) : Type 0 where
   pub marked : (seen disk).redo ≡ 1 ∷ plan
   pub durable : Only (seen disk) (may_leave disk)

@@ -6,10 +6,8 @@ ghost use Rattle.sdbm_saves.specs.Drafts.{AreChanges, HasPut, ReadsAt, length_in
 
 use crate::File;
 use crate::drafting::{Draft, part_of, push};
+use sdbm_files::BLOCK;
 use std::alloc::{AllocError, Allocator};
-
-/// What is compared and written at once, in bytes.
-pub(crate) const BLOCK: usize = 1024;
 
 // The changes that make the bytes of a file from an offset on the new ones, block by block: each block that does not read so. The old bytes
 // that stood there may be fewer, and zeros follow them.
@@ -96,7 +94,7 @@ fn is_same(one: &[u8], other: &[u8]) -> bool
     one == other
 }
 
-// Whether these bytes and zeros behind them are a block.
+// Whether these bytes and zeros after them are a block.
 fn is_padded(kept: &[u8], block: &[u8]) -> bool
     ensures { IsTrue result ↔ ((i : ℕ) → i < length block.now → get_or block.now i 0 ≡ get_or kept.now i 0) }
 {

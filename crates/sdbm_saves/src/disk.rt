@@ -65,7 +65,7 @@ pub trait Disk {
         ensures cause { HasCause (has_failed self.old) (has_failed self.new) result };
 
     /// Cuts a file to a length, or makes it longer by zeros. Until a sync of this file, a crash may leave some length between, and
-    /// whatever behind the new one.
+    /// any bytes past the new one.
     fn resize(&mut self, file: File, len: usize) -> Result<(), DiskError>
         ensures resized { OnOk result (seen self.new ≡ put file (resized len (content file (seen self.old))) (seen self.old)) }
         ensures crash { Follows (Within file (TornLength len)) (may_leave self.old) (may_leave self.new) }

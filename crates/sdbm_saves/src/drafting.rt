@@ -3,8 +3,7 @@ ghost use Rattle.std.specs.Prelude.{◌≡◌, ◌<◌, ◌≤◌, ◌^◌, ◌+
 ghost use Rattle.sdbm_saves.specs.Drafts.{spelled, part_of, change_bytes, plan_bytes};
 
 use crate::File;
-use crate::overlay::resized;
-use crate::plan::SIGNATURE;
+use crate::plan::{SIGNATURE, resized};
 use std::alloc::{AllocError, Allocator};
 
 /// A plan that is being made: the new lengths of both files, the changes so far, and how many they are.
@@ -41,7 +40,7 @@ pub(crate) fn part_of<A: Allocator>(
     resized(alloc, &old[at.min(old.len())..], size)
 }
 
-// Puts a change behind the others, with what stood there. Where memory runs out, a part of it may stand there, and the draft is of no
+// Puts a change after the others, with what stood there. Where memory runs out, a part of it may stand there, and the draft is of no
 // use.
 pub(crate) fn push<A: Allocator>(
     draft: &mut Draft<A>,

@@ -6,7 +6,7 @@ ghost use Rattle.sdbm_saves.specs.Recording.{image_of};
 use crate::plan::{file_of, is_plan, number, plan_in, rest_of};
 use crate::{File, Found};
 
-/// Whether what a save left that was cut off behind its mark can be ended: behind the mark there is a whole plan, and it knows the files.
+/// Whether what a save left that was cut off after its mark can be ended: after the mark there is a whole plan, and it knows the files.
 /// Each byte of a block that it plans is as it was before that save or as it is to be, and each length is the old one, the new one, or
 /// between. So an older copy of the files, those of another database, and files that another program has written meanwhile are told from
 /// what a crash leaves. Where there is no mark there is nothing to end, and it is so.

@@ -24,7 +24,7 @@ pub use marked::{Marked, plan_marked};
 pub use overlay::read_through;
 pub use part::{Part, plan_part};
 pub use plan::{is_plan, lengths_after, plan_in};
-pub use planning::PlanFault;
+pub use planning::SavePlanFault;
 pub use reading::{ReadFiles, plan_read};
 pub use recorded::{Before, Found, FoundPart, FoundRead, Host, Past, Recorded, Unknown};
 pub use redo::{commit, finish, recover, stage};

@@ -1,6 +1,6 @@
 // The plan of a save that has read the pages that may have changed, and no others.
 ghost use Rattle.std.specs.Prelude.{◌≡◌, ◌<◌, ◌^◌, ◌*◌, ◌⊎◌, ℕ, List, length, IfOk, IfErr, IfSome, IsNone};
-ghost use Rattle.sdbm_saves.specs.declared.planning.PlanFault.TheVariants.{TooLong};
+ghost use Rattle.sdbm_saves.specs.declared.planning.SavePlanFault.TheVariants.{TooLong};
 ghost use Rattle.sdbm_saves.specs.Saves.{AreFilesFor, IsSaving, IsTooLong};
 ghost use Rattle.sdbm_saves.specs.Parts.{IsMarkedIn};
 ghost use Rattle.sdbm_addr.specs.Pairs.{page_bytes};
@@ -9,7 +9,7 @@ use crate::blocks::draft_bytes;
 use crate::drafting::{Draft, assemble};
 use crate::part::{MOST, draft_parts};
 use crate::planning::LIMIT;
-use crate::{File, PlanFault};
+use crate::{File, SavePlanFault};
 use sdbm_files::Image;
 use std::alloc::Allocator;
 
@@ -22,7 +22,7 @@ pub struct Marked<'a> {
     pub len: usize,
     /// The numbers of the pages that may have changed.
     pub numbers: &'a [u32],
-    /// The bytes of these pages in the file, one page behind the other; a byte past its end counts as zero.
+    /// The bytes of these pages in the file, one page after the other; a byte past its end counts as zero.
     pub pages: &'a [u8],
 }
 
@@ -38,7 +38,7 @@ pub fn plan_marked<A: Allocator + Copy>(
     alloc: A,
     old: Marked<'_>,
     image: &Image<A>,
-) -> Result<Option<Vec<u8, A>>, PlanFault>
+) -> Result<Option<Vec<u8, A>>, SavePlanFault>
     requires pages { length old.pages.now ≡ length old.numbers.now * page_bytes image.now.size }
 
     ensures plan { IfOk result (λ plan. IfSome plan (λ plan. (pag : List ℕ) → IsMarkedIn old.entry image.now pag → IsSaving image.now plan.items pag old.entry.directory.now)) }
@@ -49,13 +49,13 @@ pub fn plan_marked<A: Allocator + Copy>(
     let pages = count as usize * image.page_size().bytes();
     let directory = image.directory_bytes();
     if pages >= LIMIT || directory.len() >= LIMIT {
-        return Err(PlanFault::TooLong);
+        return Err(SavePlanFault::TooLong);
     }
     if old.len >= LIMIT || old.directory.len() >= LIMIT {
-        return Err(PlanFault::TooLong);
+        return Err(SavePlanFault::TooLong);
     }
     if old.numbers.len() > MOST {
-        return Err(PlanFault::TooLong);
+        return Err(SavePlanFault::TooLong);
     }
     let mut draft = Draft {
         pages,

@@ -1,15 +1,15 @@
 // What the files of a save that was cut off stand for, where they may not be written.
 ghost use Rattle.std.specs.Prelude.{◌≡◌, ◌≢◌, ◌≤◌, ◌+◌, length, IfOk};
 ghost use Rattle.sdbm_saves.specs.Disk.{resized, written};
-ghost use Rattle.sdbm_saves.specs.Redo.{file_of, offset_of, size_of, data_of, span_of, effect, renewed, files, stands_for, IsPlan, CanEnd};
+ghost use Rattle.sdbm_saves.specs.Redo.{file_of, offset_of, size_of, span_of, effect, renewed, files, stands_for, IsPlan, CanEnd};
 ghost use Rattle.sdbm_saves.specs.Recording.{image_of};
 ghost use Rattle.sdbm_saves.specs.declared.disk.File.TheVariants.{Redo};
 
-use crate::plan::{file_of, number, plan_in, rest_of};
+use crate::plan::{file_of, number, plan_in, resized, rest_of};
 use crate::{File, Found};
 use std::alloc::{AllocError, Allocator, Global};
 
-/// What three files stand for, in memory, for a reader that may not write them: where a save was cut off behind its mark, the data files
+/// What three files stand for, in memory, for a reader that may not write them: where a save was cut off after its mark, the data files
 /// with its plan laid over them, else copies of them. There is no redo file in it. It takes memory for both data files.
 ///
 /// # Errors
@@ -60,22 +60,6 @@ fn lay_over<A: Allocator>(
         rest = rest_of(rest);
     }
     Ok(laid)
-}
-
-// The bytes cut to a length, or made longer by zeros.
-pub(crate) fn resized<A: Allocator>(
-    alloc: A,
-    old: &[u8],
-    len: usize,
-) -> Result<Vec<u8, A>, AllocError>
-    ensures { IfOk result (λ next. next.items ≡ resized len old.now) }
-{
-    if len <= old.len() {
-        return Ok(old[..len].to_vec(alloc)?);
-    }
-    let mut next = old.to_vec(alloc)?;
-    next.resize(len, 0)?;
-    Ok(next)
 }
 
 // Does a change, where it is one of this file.

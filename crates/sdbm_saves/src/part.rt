@@ -1,7 +1,7 @@
 // The plan of a save that has read one page of the pages, and not the rest.
 ghost use Rattle.std.specs.Prelude.{◌≡◌, ◌≢◌, ◌<◌, ◌≤◌, ◌^◌, ◌+◌, ◌*◌, ◌%◌, ◌↔◌, ◌⊎◌, ℕ, List, [], length, get_or, Contains, IsTrue, IfOk, IfErr, IfSome, IsNone, OnOk};
 ghost use Rattle.sdbm_saves.specs.declared.disk.File.TheVariants.{Pages};
-ghost use Rattle.sdbm_saves.specs.declared.planning.PlanFault.TheVariants.{TooLong};
+ghost use Rattle.sdbm_saves.specs.declared.planning.SavePlanFault.TheVariants.{TooLong};
 ghost use Rattle.sdbm_saves.specs.Redo.{replayed, IsPlan, Knows};
 ghost use Rattle.sdbm_saves.specs.Drafts.{AreChanges};
 ghost use Rattle.sdbm_saves.specs.Saves.{AreFilesFor, IsSaving, IsTooLong};
@@ -11,9 +11,9 @@ ghost use Rattle.sdbm_addr.specs.Database.{Database, IsDatabase, pairs_at};
 
 use crate::blocks::draft_bytes;
 use crate::drafting::{Draft, assemble};
-use crate::overlay::resized;
+use crate::plan::resized;
 use crate::planning::LIMIT;
-use crate::{File, PlanFault};
+use crate::{File, SavePlanFault};
 use sdbm_files::Image;
 use std::alloc::{AllocError, Allocator};
 
@@ -48,7 +48,7 @@ pub fn plan_part<A: Allocator + Copy>(
     old: Part<'_>,
     numbers: &[u32],
     image: &Image<A>,
-) -> Result<Option<Vec<u8, A>>, PlanFault>
+) -> Result<Option<Vec<u8, A>>, SavePlanFault>
     requires page { length old.page.now ≡ page_bytes image.now.size }
     requires whole { old.len % page_bytes image.now.size ≡ 0 }
     requires covers { (n : ℕ) → pairs_at image.now n ≢ [] → Contains numbers.now n }
@@ -61,10 +61,10 @@ pub fn plan_part<A: Allocator + Copy>(
     let pages = old.len.max(image.pag_len() as usize);
     let directory = image.directory_bytes();
     if pages >= LIMIT || directory.len() >= LIMIT {
-        return Err(PlanFault::TooLong);
+        return Err(SavePlanFault::TooLong);
     }
     if old.directory.len() >= LIMIT || numbers.len() > MOST {
-        return Err(PlanFault::TooLong);
+        return Err(SavePlanFault::TooLong);
     }
     let mut draft = Draft {
         pages,
@@ -126,7 +126,7 @@ fn page_before<'a>(old: Part<'a>, number: u32, zeros: &'a [u8]) -> &'a [u8]
     zeros
 }
 
-// The changes that make the pages with these numbers those of a database, behind those of a draft that does not touch the pages. A page that
+// The changes that make the pages with these numbers those of a database, after those of a draft that does not touch the pages. A page that
 // the new file has no room for is passed over.
 pub(crate) fn draft_parts<A: Allocator + Copy>(
     alloc: A,

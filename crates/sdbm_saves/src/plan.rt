@@ -1,12 +1,13 @@
-// The plan of a save, behind the mark of a redo file. See specs/Redo.antt for its bytes.
-ghost use Rattle.std.specs.Prelude.{◌≡◌, ◌≢◌, ◌*◌, ◌<◌, ◌≤◌, ◌^◌, ◌+◌, ◌↔◌, ℕ, length, take, drop, get_or, IsTrue, IfSome, IsNone, OnOk};
-ghost use Rattle.sdbm_saves.specs.Disk.{Image, content, put, written, Torn, Within, Through, HasCause};
+// The plan of a save, after the mark of a redo file. See specs/Redo.antt for its bytes.
+ghost use Rattle.std.specs.Prelude.{◌≡◌, ◌≢◌, ◌*◌, ◌<◌, ◌≤◌, ◌^◌, ◌+◌, ◌↔◌, ℕ, length, take, drop, get_or, IsTrue, IfSome, IsNone, OnOk, IfOk};
+ghost use Rattle.sdbm_saves.specs.Disk.{content, put, resized, written, Torn, Within, Through, HasCause};
 ghost use Rattle.sdbm_saves.specs.declared.disk.File.TheVariants.{Pages, Directory};
 ghost use Rattle.sdbm_saves.specs.Redo.{number_at, data_file, file_of, offset_of, size_of, data_of, span_of, rest_of, new_length, count_of, replayed_image, renewed_image, signature, Fits, IsPlan, Alike};
 
 use crate::{Disk, DiskError, File};
+use std::alloc::{AllocError, Allocator};
 
-const MARKED: u8 = 1;
+pub(crate) const MARKED: u8 = 1;
 
 /// What every plan begins with.
 pub(crate) const SIGNATURE: [u8; 8] = *b"sdbmred2";
@@ -36,7 +37,7 @@ pub(crate) fn file_of(change: &[u8]) -> File
     }
 }
 
-// What stands behind the change that these bytes begin with.
+// What follows the change that these bytes begin with.
 pub(crate) fn rest_of(change: &[u8]) -> &[u8]
     requires { span_of change.now ≤ length change.now }
     ensures { result.now ≡ rest_of change.now }
@@ -71,7 +72,7 @@ fn is_signed(plan: &[u8]) -> bool
 }
 
 /// Whether the bytes are a plan: it begins as every plan does, each of its changes stands whole in them, and within the new length of
-/// its file, and nothing stands behind the last.
+/// its file, and nothing follows the last.
 pub fn is_plan(plan: &[u8]) -> bool
     ensures { IsTrue result ↔ IsPlan plan.now }
 {
@@ -89,7 +90,7 @@ pub fn is_plan(plan: &[u8]) -> bool
     rest.is_empty()
 }
 
-/// The plan of a redo file that is marked: the bytes behind its first one, where that is 1. `None` where there is no redo
+/// The plan of a redo file that is marked: the bytes after its first one, where that is 1. `None` where there is no redo
 /// file, or a save was cut off before it was committed.
 pub fn plan_in(redo: &[u8]) -> Option<&[u8]>
     ensures some { IfSome result (λ plan. (get_or redo.now 0 0 ≡ 1) × (plan.now ≡ drop 1 redo.now)) }
@@ -159,4 +160,20 @@ pub(crate) fn replay<D: Disk>(disk: &mut D, plan: &[u8]) -> Result<(), DiskError
     disk.resize(File::Pages, pages)?;
     disk.resize(File::Directory, directory)?;
     replay_changes(disk, plan)
+}
+
+// The bytes cut to a length, or made longer by zeros.
+pub(crate) fn resized<A: Allocator>(
+    alloc: A,
+    old: &[u8],
+    len: usize,
+) -> Result<Vec<u8, A>, AllocError>
+    ensures { IfOk result (λ next. next.items ≡ resized len old.now) }
+{
+    if len <= old.len() {
+        return Ok(old[..len].to_vec(alloc)?);
+    }
+    let mut next = old.to_vec(alloc)?;
+    next.resize(len, 0)?;
+    Ok(next)
 }

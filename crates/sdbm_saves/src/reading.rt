@@ -1,18 +1,18 @@
 // The plan of a save whose pages were read piece by piece.
 ghost use Rattle.std.specs.Prelude.{◌≡◌, ◌<◌, ◌≤◌, ◌^◌, ◌+◌, ◌*◌, ◌↔◌, ℕ, List, length, IsTrue, IfOk, IfErr, IfSome, IsNone, OnOk};
 ghost use Rattle.sdbm_saves.specs.declared.disk.File.TheVariants.{Pages};
-ghost use Rattle.sdbm_saves.specs.declared.planning.PlanFault.TheVariants.{TooLong};
+ghost use Rattle.sdbm_saves.specs.declared.planning.SavePlanFault.TheVariants.{TooLong};
 ghost use Rattle.sdbm_saves.specs.Drafts.{AreChanges, HasPut};
 ghost use Rattle.sdbm_saves.specs.Saves.{AreFilesFor, IsSaving, IsTooLong};
 ghost use Rattle.sdbm_addr.specs.Pairs.{page_bytes};
 ghost use Rattle.sdbm_addr.specs.Database.{IsDatabase};
 ghost use Rattle.sdbm_addr.specs.Files.{first_pages};
 
-use crate::blocks::{BLOCK, draft_block, draft_bytes};
+use crate::blocks::{draft_block, draft_bytes};
 use crate::drafting::{Draft, assemble};
 use crate::planning::LIMIT;
-use crate::{File, PlanFault};
-use sdbm_files::{Image, ReadPages};
+use crate::{File, SavePlanFault};
+use sdbm_files::{BLOCK, Image, ReadPages};
 use std::alloc::{AllocError, Allocator};
 
 /// Both data files of a database as they were read.
@@ -36,7 +36,7 @@ pub fn plan_read<A: Allocator + Copy>(
     alloc: A,
     old: ReadFiles<'_, A>,
     image: &Image<A>,
-) -> Result<Option<Vec<u8, A>>, PlanFault>
+) -> Result<Option<Vec<u8, A>>, SavePlanFault>
     ensures plan { IfOk result (λ plan. IfSome plan (λ plan. IsSaving image.now plan.items old.entry.pages.now.bytes old.entry.directory.now)) }
     ensures none { IfOk result (λ plan. IsNone plan → AreFilesFor image.now old.entry.pages.now.bytes old.entry.directory.now) }
     ensures too_long { IfErr result (λ fault. fault ≡ TooLong → IsTooLong image.now old.entry.pages.now.bytes old.entry.directory.now) }
@@ -45,10 +45,10 @@ pub fn plan_read<A: Allocator + Copy>(
     let pages = count as usize * image.page_size().bytes();
     let directory = image.directory_bytes();
     if old.pages.len() >= LIMIT || old.directory.len() >= LIMIT {
-        return Err(PlanFault::TooLong);
+        return Err(SavePlanFault::TooLong);
     }
     if pages >= LIMIT || directory.len() >= LIMIT {
-        return Err(PlanFault::TooLong);
+        return Err(SavePlanFault::TooLong);
     }
     let mut draft = Draft {
         pages,

@@ -1,15 +1,13 @@
-// A save by a redo file: the plan behind a mark that is not set, the mark, the plan done in both data files, no mark.
+// A save by a redo file: the plan after a mark that is not set, the mark, the plan done in both data files, no mark.
 ghost use Rattle.std.specs.Prelude.{◌≡◌, ◌≢◌, ◌⊎◌, ◌≤◌, ◌∷◌, [], length, drop, OnOk, IsErrOf};
 ghost use Rattle.sdbm_saves.specs.Disk.{Image, put, Only, Torn, Within, Through, LeavesOnly, HasCause};
 ghost use Rattle.sdbm_saves.specs.Redo.{IsPlan, Knows, CanEnd, files, renewed_files, mark_of, stands_for, IsSettled, IsStaged, IsCommitted, StaysUnmarked, IsOldOrNew};
 ghost use Rattle.sdbm_saves.specs.declared.disk.File.TheVariants.{Redo};
 
-use crate::plan::{plan_in, replay};
+use crate::plan::{MARKED, plan_in, replay};
 use crate::{Disk, DiskError, File};
 
 const UNMARKED: u8 = 0;
-
-const MARKED: u8 = 1;
 
 // Writes the mark, and keeps it.
 fn mark<D: Disk>(disk: &mut D, value: u8) -> Result<(), DiskError>
@@ -25,7 +23,7 @@ fn mark<D: Disk>(disk: &mut D, value: u8) -> Result<(), DiskError>
     disk.sync(File::Redo)
 }
 
-// Writes a plan into a new redo file, behind a byte that is no mark, and keeps it.
+// Writes a plan into a new redo file, after a byte that is no mark, and keeps it.
 fn write_plan<D: Disk>(disk: &mut D, plan: &[u8]) -> Result<(), DiskError>
     requires { IsSettled D.seen D.may_leave disk.old }
 

@@ -1,4 +1,4 @@
-// Whether the disk has room for what a save does behind its mark.
+// Whether the disk has room for what a save does after its mark.
 ghost use Rattle.std.specs.Prelude.{◌≡◌, ◌≤◌, ◌*◌, ◌^◌, ◌↔◌, length, All, IsTrue, OnOk};
 ghost use Rattle.sdbm_saves.specs.Disk.{Through, LeavesOnly, HasCause};
 ghost use Rattle.sdbm_saves.specs.Redo.{span_of, IsPlan, CanEnd, files, stands_for, IsSettled, StaysUnmarked};
@@ -8,7 +8,7 @@ use crate::plan::{file_of, number, rest_of};
 use crate::{Disk, DiskError, File};
 
 /// What a file system gives a file at once, in bytes. Where it gives less or more, the room that is tried is too small or too large.
-const BLOCK: usize = 4096;
+const DISK_BLOCK: usize = 4096;
 
 /// More blocks than these are not tried: a redo file of more bytes is none that is read.
 const MOST: usize = 658_000;
@@ -40,7 +40,7 @@ pub fn try_room<D: Disk>(disk: &mut D, plan: &[u8]) -> Result<(), DiskError>
     if blocks == 0 {
         return Ok(());
     }
-    try_blocks(disk, blocks.saturating_add(1 + plan.len() / BLOCK))
+    try_blocks(disk, blocks.saturating_add(1 + plan.len() / DISK_BLOCK))
 }
 
 // Writes a zero into each of so many blocks of a new redo file, and takes it away.
@@ -55,7 +55,7 @@ fn try_blocks<D: Disk>(disk: &mut D, blocks: usize) -> Result<(), DiskError>
 {
     let blocks = blocks.min(MOST);
     disk.clear()?;
-    disk.resize(File::Redo, blocks * BLOCK)?;
+    disk.resize(File::Redo, blocks * DISK_BLOCK)?;
     fill(disk, blocks)?;
     disk.clear()
 }
@@ -70,7 +70,7 @@ fn fill<D: Disk>(disk: &mut D, blocks: usize) -> Result<(), DiskError>
     ensures cause { HasCause (D.has_failed disk.old) (D.has_failed disk.new) result }
 {
     for index in 0..blocks {
-        disk.write_at(File::Redo, index * BLOCK, &[0])?;
+        disk.write_at(File::Redo, index * DISK_BLOCK, &[0])?;
     }
     Ok(())
 }
@@ -87,8 +87,8 @@ fn new_blocks(plan: &[u8], file: File) -> usize
     for index in 0..count {
         if file_of(rest) == file && wants_room(plan, rest) {
             let at = number(rest, 1);
-            let first = next.max(at / BLOCK);
-            next = first.max((at + number(rest, 5)).div_ceil(BLOCK));
+            let first = next.max(at / DISK_BLOCK);
+            next = first.max((at + number(rest, 5)).div_ceil(DISK_BLOCK));
             blocks = blocks.saturating_add(next - first);
         }
         rest = rest_of(rest);

@@ -31,7 +31,7 @@ use Rattle.sdbm_stats.specs.Shapes.{filled, tenth, page_depth, shape_of}
 use Rattle.sdbm_stats.specs.Depths.{depths_of}
 use Rattle.sdbm_stats.specs.Fullest.{AreFullest, room_on}
 use Rattle.sdbm_stats.specs.declared.totals.PairTotals.{PairTotals}
-use Rattle.sdbm_stats.specs.declared.shapes.PageShape.{PageShape}
+use Rattle.sdbm_stats.specs.declared.totals.PageShape.{PageShape}
 use Rattle.sdbm_stats.specs.declared.depths.Depths.{Depths}
 use Rattle.sdbm_stats.specs.declared.fullest.PageRoom.{PageRoom}
 use Rattle.sdbm_stats.proofs.UsedPages.{all_below, below_next, few_below, pages_below}

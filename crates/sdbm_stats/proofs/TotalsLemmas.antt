@@ -12,7 +12,7 @@ use Rattle.sdbm_addr.proofs.PairLemmas.{few_pairs}
 use Rattle.sdbm_stats.specs.Totals.{greatest, totals_of, joined, AreBelow}
 use Rattle.sdbm_stats.specs.Shapes.{filled, shape_of}
 use Rattle.sdbm_stats.specs.declared.totals.PairTotals.{PairTotals}
-use Rattle.sdbm_stats.specs.declared.shapes.PageShape.{PageShape}
+use Rattle.sdbm_stats.specs.declared.totals.PageShape.{PageShape}
 
 greatest_from : {X : Type 0} (f : X → ℕ) (m : ℕ) (xs : List X) → fold (λ a x. max a (f x)) m xs ≡ max m (greatest f xs)
 greatest_from f m [] = omega arith

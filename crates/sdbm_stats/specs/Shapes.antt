@@ -6,7 +6,7 @@ use Rattle.sdbm_addr.specs.Directory.{depth_of}
 use Rattle.sdbm_addr.specs.Pairs.{Pair, footprint, page_bytes}
 use Rattle.sdbm_addr.specs.Database.{Database}
 use Rattle.sdbm_stats.specs.Totals.{totals_of}
-use Rattle.sdbm_stats.specs.declared.shapes.PageShape.{PageShape}
+use Rattle.sdbm_stats.specs.declared.totals.PageShape.{PageShape}
 
 -- how many bytes of a page are not free: those of its pairs and offsets, and of the count of offsets
 abbrev pub filled : List Pair → ℕ

@@ -3,7 +3,7 @@ ghost use Rattle.std.specs.Prelude.{◌≡◌, ◌≤◌, ◌==◌, ◌^◌, IfO
 ghost use Rattle.std.specs.List.{count_by, range_with_len};
 ghost use Rattle.sdbm_stats.specs.Shapes.{tenth};
 
-use crate::shapes::PageShape;
+use crate::totals::PageShape;
 use sdbm_addr::PageSize;
 use std::alloc::{AllocError, Allocator};
 

@@ -2,7 +2,7 @@
 ghost use Rattle.std.specs.Prelude.{◌≡◌, ◌≤◌, ◌^◌, length, map as map_list};
 ghost use Rattle.sdbm_stats.specs.Depths.{depths_of};
 
-use crate::shapes::PageShape;
+use crate::totals::PageShape;
 
 /// How many bits of a hash lead to pages: the fewest, the most, and the sum over all pages. All are 0 where there is no page.
 #[derive(Clone, Copy, Debug, PartialEq, Eq)]

@@ -4,7 +4,7 @@ ghost use Rattle.std.specs.List.Sorted.{IsSortedByKey};
 ghost use Rattle.std.specs.Ordering.{nat_cmp};
 ghost use Rattle.sdbm_stats.specs.Fullest.{AreFullest, room_on};
 
-use crate::shapes::PageShape;
+use crate::totals::PageShape;
 use sdbm_addr::PageSize;
 use std::alloc::{AllocError, Allocator};
 

@@ -20,11 +20,11 @@ pub use fullest::PageRoom;
 use fullest::fullest_of;
 use sdbm_addr::PageSize;
 use sdbm_files::Image;
-use shapes::{PageShape, shapes_of};
+use shapes::shapes_of;
 use splits::count_splits;
 use std::alloc::{AllocError, Allocator};
 pub use totals::PairTotals;
-use totals::all_totals;
+use totals::{PageShape, all_totals};
 
 /// What a database has, in numbers.
 #[derive(Drop)]

@@ -6,21 +6,10 @@ ghost use Rattle.sdbm_addr.specs.Database.{IsDatabase};
 ghost use Rattle.sdbm_stats.specs.Totals.{AreBelow};
 ghost use Rattle.sdbm_stats.specs.Shapes.{filled, shape_of};
 
-use crate::totals::{PairTotals, page_totals};
+use crate::totals::{PageShape, page_totals};
 use sdbm_files::Image;
 use sdbm_page::{Page, SharedPage};
 use std::alloc::{AllocError, Allocator};
-
-/// A page that has pairs, in numbers.
-#[derive(Clone, Copy, Debug, PartialEq, Eq)]
-pub struct PageShape {
-    pub number: u32,
-    /// How many bits of a hash lead to it.
-    pub depth: u8,
-    /// How many of its bytes are not free.
-    pub filled: u32,
-    pub totals: PairTotals,
-}
 
 /// The pages that have pairs, in the order of their numbers.
 ///

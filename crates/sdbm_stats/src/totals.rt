@@ -6,7 +6,6 @@ ghost use Rattle.sdbm_addr.specs.Database.{Database};
 ghost use Rattle.sdbm_stats.specs.Totals.{AreBelow, joined, totals_of};
 ghost use Rattle.sdbm_stats.specs.Shapes.{shape_of};
 
-use crate::shapes::PageShape;
 use sdbm_page::Page;
 use std::alloc::Allocator;
 
@@ -86,4 +85,15 @@ pub fn all_totals(shapes: &[PageShape]) -> PairTotals
         totals = join(totals, shape.totals);
     }
     totals
+}
+
+/// A page that has pairs, in numbers.
+#[derive(Clone, Copy, Debug, PartialEq, Eq)]
+pub struct PageShape {
+    pub number: u32,
+    /// How many bits of a hash lead to it.
+    pub depth: u8,
+    /// How many of its bytes are not free.
+    pub filled: u32,
+    pub totals: PairTotals,
 }

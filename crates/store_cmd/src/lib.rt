@@ -13,6 +13,7 @@ mod opening;
 mod program;
 mod shared;
 
+use bpf_helpers::ARGUMENT_LIMIT;
 pub use opening::Opening;
 pub use program::Program;
 use sdbm_addr::{Bytes, Mode, PageSize};
@@ -49,9 +50,6 @@ pub enum Command<A: Allocator> {
     /// The number of pairs.
     Count,
 }
-
-/// The most bytes of the argument of a run.
-pub const ARGUMENT_LIMIT: usize = 1024;
 
 /// What the store answers.
 #[derive(Drop)]
@@ -117,7 +115,7 @@ pub struct Trail<A: Allocator> {
 /// Tests a command's size, for a database of pages of this size: `PairTooLarge` where the key has more bytes together with the
 /// value to be stored, or with the blank of a run, than a pair may have, and then `ArgTooLong` where the argument of a run has
 /// more than 1,024. No memory is taken.
-pub fn check<A: Allocator>(command: &Command<A>, size: PageSize) -> Result<(), SizeFault>
+pub fn check_sizes<A: Allocator>(command: &Command<A>, size: PageSize) -> Result<(), SizeFault>
     ensures ok { IsOk result ↔ IsSmall size command.now }
     ensures err { IfErr result (IsSizeFault size command.now) }
 {

@@ -18,7 +18,7 @@ use Rattle.store_cmd.specs.declared.Reply.{Reply}
 use Rattle.store_cmd.specs.declared.Reply.TheVariants.{Ran}
 use Rattle.store_cmd.specs.Command.{IsSmall}
 use Rattle.store_cmd.specs.Answers.{env_of, saves, removes}
-use Rattle.store_moves.specs.declared.work.Site.{Site}
+use Rattle.store_moves.specs.declared.worked.Site.{Site}
 use Rattle.store_moves.specs.declared.runs.RunInput.{RunInput}
 use Rattle.store_moves.specs.declared.in_place.Copied.{Copied}
 use Rattle.store_moves.specs.Works.{PageResult, works, key_of, HasKey, HasEnd, EndsOn, leaf_alone}

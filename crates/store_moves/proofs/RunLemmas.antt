@@ -17,8 +17,8 @@ use Rattle.bpf_helpers.proofs.Lengths.{Ends-length}
 use Rattle.store_cmd.specs.declared.Reply.{Reply}
 use Rattle.store_cmd.specs.declared.Reply.TheVariants as reply
 use Rattle.store_cmd.specs.Answers.{env_of, saves, removes}
-use Rattle.store_moves.specs.declared.work.Worked.{Worked}
-use Rattle.store_moves.specs.declared.work.Site.{Site}
+use Rattle.store_moves.specs.declared.worked.Worked.{Worked}
+use Rattle.store_moves.specs.declared.worked.Site.{Site}
 use Rattle.store_moves.specs.declared.runs.RunInput.{RunInput}
 use Rattle.store_moves.specs.Works.{PageResult, placed, stored_unless, in_place, leaf_alone, left_on, ran_on, as_ran, run_on, change_of}
 use Rattle.store_moves.specs.Worked.{IsWorked, takes_memory, page_on, stored_on, run_by, outcome_on, outcome_of_blank, left_at, IsRunAt, stored_from, IsRunAnew, WantsAnew}

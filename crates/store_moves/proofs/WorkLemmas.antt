@@ -22,7 +22,7 @@ use Rattle.store_cmd.specs.declared.Command.{Command}
 use Rattle.store_cmd.specs.declared.Command.TheVariants.{Fetch, Store, Delete, Run, Count}
 use Rattle.store_cmd.specs.declared.Reply.TheVariants as reply
 use Rattle.store_moves.specs.Works.{PageResult, works, fetched, is_kept, stored_unless, stored_first, placed, deleted, leaf_alone, change_of, pairs_lent, IsRun}
-use Rattle.store_moves.specs.declared.work.Site.{Site}
+use Rattle.store_moves.specs.declared.worked.Site.{Site}
 use Rattle.store_moves.specs.Worked.{stored_on, takes_memory, is_change}
 
 -- a store is let through exactly where it is not refused

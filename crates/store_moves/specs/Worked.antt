@@ -10,8 +10,8 @@ use Rattle.store_cmd.specs.declared.Command.{Command}
 use Rattle.store_cmd.specs.declared.Command.TheVariants as commands
 use Rattle.store_cmd.specs.declared.Reply.{Reply}
 use Rattle.store_cmd.specs.declared.Reply.TheVariants.{Found, Missing, Stored, Exists, Crowded, Deleted, Ran, Count}
-use Rattle.store_moves.specs.declared.work.Worked.{Worked}
-use Rattle.store_moves.specs.declared.work.Site.{Site}
+use Rattle.store_moves.specs.declared.worked.Worked.{Worked}
+use Rattle.store_moves.specs.declared.worked.Site.{Site}
 use Rattle.store_moves.specs.declared.runs.RunInput.{RunInput}
 use Rattle.store_moves.specs.Works.{PageResult, change_of, is_kept, stored_unless, leaf_alone, stored_by, run_on, EndsOn, outcome_there, outcome_anew}
 

@@ -11,22 +11,23 @@ ghost use Rattle.store_moves.specs.Leads.{IsPlaceOf, FillsNone, MayChange, chang
 ghost use Rattle.store_moves.specs.Rewrites.{command_of};
 ghost use Rattle.store_moves.specs.Wants.{WantsMemory};
 ghost use Rattle.store_moves.specs.Worked.{IsWorked, takes_memory};
-ghost use Rattle.store_moves.specs.Works.{works, HasKey, HasEnd, key_of, change_of, pairs_lent, IsRun};
+ghost use Rattle.store_moves.specs.Works.{works, HasKey, HasEnd, key_of, change_of, IsRun};
 
 use crate::in_place::{run_in_place, run_input_in_place, store_in_place, try_store};
+use crate::pages::page_at;
 use crate::runs::{RunInput, ran};
-use crate::work::{Worked, work_on};
+use crate::work::work_on;
+use crate::worked::Worked;
 use bpf_machine::Ended;
 use sdbm_addr::Mode;
 use sdbm_dir::Place;
 use sdbm_files::Image;
-use sdbm_page::Page;
 use sdbm_split::Plan;
 use std::alloc::{AllocError, Allocator};
 use store_cmd::{Command, Entry, Reply};
 
 /// Does a session's command on a database of which no trail is kept, and gives the entry that a trail would have. The command is
-/// one that `check` takes for the page size of the database.
+/// one that `check_sizes` takes for the page size of the database.
 ///
 /// # Errors
 /// `AllocError` where no memory is left, and never where the reply would be `Missing`, `Exists`, `Crowded` or a `Count`. The
@@ -183,7 +184,7 @@ pub fn key_in<A: Allocator>(command: &Command<A>) -> &[u8]
 }
 
 /// What a session's command comes to on its page as it stands; the database is only read. The command is no count and is one that
-/// `check` takes for the page size of the database, and the place is that to which its key leads (`Image::place`).
+/// `check_sizes` takes for the page size of the database, and the place is that to which its key leads (`Image::place`).
 ///
 /// # Errors
 /// `AllocError` where no memory is left for the value that was found, for the pages that the command would change, or for the page
@@ -207,17 +208,6 @@ pub fn work_at<A: Allocator + Copy>(
     let size = image.page_size();
     let page = page_at(image, place.page);
     work_on(alloc, page, place, kind, size, session, command)
-}
-
-/// The page with a number, where it has pairs.
-pub(crate) fn page_at<A: Allocator + Copy>(image: &Image<A>, number: u32) -> Option<&Page<A>>
-    ensures pairs { pairs_lent result ≡ pairs_at image.now number }
-    ensures size { IfSome result (λ page. page.now.size ≡ image.now.size) }
-{
-    match image.page(number) {
-        None => None,
-        Some(page) => Some(page.page()),
-    }
 }
 
 /// Puts in what becomes of the page of a place: installs the plan, or does nothing where there is none. The plan is one that may be

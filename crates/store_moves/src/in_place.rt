@@ -12,9 +12,10 @@ ghost use Rattle.store_moves.specs.Works.{key_of, HasKey, IsRun};
 ghost use Rattle.store_moves.specs.Acts.{IsPutIn};
 ghost use Rattle.store_moves.specs.Rewrites.{IsRunCopied, command_of};
 
-use crate::action::page_at;
+use crate::pages::page_at;
 use crate::runs::{REMOVED, RunInput, SAVED, env_of};
-use crate::work::{input_of, pair_of};
+use crate::work::input_of;
+use crate::worked::pair_of;
 use bpf_machine::{Ended, run};
 use sdbm_addr::Mode;
 use sdbm_dir::Place;
@@ -86,7 +87,7 @@ pub fn try_store<A: Allocator + Copy>(
 }
 
 /// Does a session's run without taking memory, and tells how its program ended, as `run_input_in_place` does. The command is a run that
-/// `check` takes for the page size of the database.
+/// `check_sizes` takes for the page size of the database.
 pub fn run_in_place<A: Allocator + Copy>(
     image: &mut Image<A>,
     place: Place,

@@ -3,10 +3,16 @@
 
 mod action;
 mod in_place;
+mod page_copy;
+mod pages;
 mod runs;
+mod stores;
 mod work;
+mod worked;
 
 pub use action::{act, act_run, act_store, key_in, put_in, work_at};
 pub use in_place::{is_run, run_in_place, try_store};
+pub use page_copy::PageCopy;
 pub use runs::{RunInput, ran};
-pub use work::{Worked, work_on};
+pub use work::work_on;
+pub use worked::Worked;

@@ -10,8 +10,9 @@ ghost use Rattle.store_moves.specs.Works.{as_ran, change_of, IsPageOfKey, pairs_
 ghost use Rattle.store_cmd.specs.declared.Reply.TheVariants as Reply;
 ghost use Rattle.store_moves.specs.Worked.{IsWorked, run_by, EndsBy, IsRunAt, IsRunAnew, WantsAnew, takes_memory};
 
-use crate::work::{Site, Worked, changed, pair_of, store_in, unchanged};
-use bpf_helpers::Env;
+use crate::stores::store_in;
+use crate::worked::{Site, Worked, changed, pair_of, unchanged};
+use bpf_helpers::{Env, RECORD_LIMIT};
 use bpf_machine::{Ended, run};
 use bpf_verify::Verified;
 use sdbm_addr::Mode;
@@ -23,9 +24,6 @@ use store_cmd::Reply;
 pub(crate) const SAVED: u64 = 1;
 
 pub(crate) const REMOVED: u64 = 2;
-
-// The most bytes of a record, which are those of a pair of a wide page.
-const RECORD_LIMIT: usize = 8008;
 
 /// What a run is told and lent: the session and the time, its key, its program and argument, and the length of the blank on which
 /// it runs where the key isn't there.

@@ -1,36 +1,21 @@
 //! What a command comes to, from the page of its key alone: its reply, and what becomes of the page. Nothing is changed here.
-ghost use Rattle.std.specs.Prelude.{◌≡◌, ◌+◌, ◌≤◌, ◌<◌, length, remove, [], true, IfOk, IfSome, IfNone, OnOk, OnErr, Some, None};
-ghost use Rattle.std.specs.Option.{option_map};
-ghost use Rattle.sdbm_addr.specs.Pairs.{HasDistinctKeys, IsPlace, pair_limit, value_of};
+ghost use Rattle.std.specs.Prelude.{◌≡◌, ◌+◌, ◌<◌, length, remove, true, IfOk, IfSome, OnOk, OnErr, Some};
+ghost use Rattle.sdbm_addr.specs.Pairs.{HasDistinctKeys, value_of};
 ghost use Rattle.store_cmd.specs.declared.Command.TheVariants.{Run};
-ghost use Rattle.store_moves.specs.Works.{works, fetched, deleted, stored_first, HasEnd, change_of, IsWorkable, IsPageOfKey, pairs_lent, IsRun};
-ghost use Rattle.store_moves.specs.Worked.{IsWorked, stored_on, takes_memory};
+ghost use Rattle.store_moves.specs.Works.{works, fetched, deleted, HasEnd, IsWorkable, pairs_lent, IsRun};
+ghost use Rattle.store_moves.specs.Worked.{IsWorked, takes_memory};
 
 use crate::runs::{RunInput, run_on};
-use sdbm_addr::{Bytes, KeyBytes, Mode, PageSize};
+use crate::stores::store_in;
+use crate::worked::{Site, Worked, changed, pair_of, unchanged};
+use sdbm_addr::{Bytes, KeyBytes, PageSize};
 use sdbm_dir::Place;
 use sdbm_page::{Page, SharedPage};
-use sdbm_split::{Plan, PlanFault, plan_store};
 use std::alloc::{AllocError, Allocator};
 use store_cmd::{Command, Reply};
 
-/// What a command comes to: its reply, and what becomes of its page, where that changes.
-#[derive(Drop)]
-pub struct Worked<A: Allocator> {
-    pub reply: Reply<A>,
-    pub change: Option<Plan<A>>,
-}
-
-/// Where a page lies: its place, in a database whose keys hash so and whose pages are so large.
-#[derive(Clone, Copy)]
-pub struct Site {
-    pub place: Place,
-    pub kind: KeyBytes,
-    pub size: PageSize,
-}
-
 /// Works a session's command out on the page of its place, or on none where that has no pairs. The command is no count and is one
-/// that `check` takes for this page size; the place is that to which its key leads in a database whose keys hash so, and the page is
+/// that `check_sizes` takes for this page size; the place is that to which its key leads in a database whose keys hash so, and the page is
 /// the one there. Nothing is changed.
 ///
 /// # Errors
@@ -93,24 +78,6 @@ pub(crate) fn input_of<A: Allocator>(session: u64, command: &Command<A>) -> RunI
     }
 }
 
-// The page and the number of the pair of a key, where it has one.
-pub(crate) fn pair_of<'p, A: Allocator>(
-    page: Option<&'p Page<A>>,
-    key: &[u8],
-) -> Option<(&'p Page<A>, usize)>
-    ensures page { IfSome result (λ found. page.entry ≡ Some found.0) }
-    ensures place { IfSome result (λ found. IsPlace found.0.now.pairs key.now found.1) }
-    ensures absent { IfNone result (value_of (pairs_lent page.entry) key.now ≡ None) }
-{
-    let Some(page) = page else {
-        return None;
-    };
-    match page.find(key) {
-        Some(i) => Some((page, i)),
-        None => None,
-    }
-}
-
 // The reply to a fetch, which copies the value alone.
 fn fetch<A: Allocator + Copy>(
     alloc: A,
@@ -164,98 +131,4 @@ fn without_pair<A: Allocator + Copy>(
     let mut made = page.try_clone()?;
     made.remove(i);
     Ok(made)
-}
-
-// The reply to a store, and the plan for it.
-pub(crate) fn store_in<A: Allocator + Copy>(
-    alloc: A,
-    page: Option<&Page<A>>,
-    site: Site,
-    key: &[u8],
-    value: &[u8],
-    mode: Mode,
-) -> Result<Worked<A>, AllocError>
-    requires size { IfSome page (λ p. p.now.size ≡ site.size) }
-    requires small { length key.now + length value.now ≤ pair_limit site.size }
-    requires placed { IsPageOfKey site.place site.kind site.size (pairs_lent page) key.now }
-    ensures worked { IfOk result (IsWorked (stored_on site (pairs_lent page.entry) key.now value.now mode)) }
-    ensures err { OnErr result (takes_memory (stored_on {A = A} site (pairs_lent page.entry) key.now value.now mode).reply ≡ true) }
-{
-    match page {
-        Some(page) => store_beside(alloc, page, site, key, value, mode),
-        None => store_first(alloc, site.size, key, value),
-    }
-}
-
-// The same on a page that has pairs.
-fn store_beside<A: Allocator + Copy>(
-    alloc: A,
-    page: &Page<A>,
-    site: Site,
-    key: &[u8],
-    value: &[u8],
-    mode: Mode,
-) -> Result<Worked<A>, AllocError>
-    requires size { page.now.size ≡ site.size }
-    requires small { length key.now + length value.now ≤ pair_limit site.size }
-    requires placed { IsPageOfKey site.place site.kind site.size page.now.pairs key.now }
-    ensures worked { IfOk result (IsWorked (stored_on site page.now.pairs key.now value.now mode)) }
-    ensures err { OnErr result (takes_memory (stored_on {A = A} site page.now.pairs key.now value.now mode).reply ≡ true) }
-{
-    match plan_store(alloc, page, site.place, site.kind, key, value, mode) {
-        Ok(plan) => Ok(Worked {
-            reply: Reply::Stored,
-            change: Some(plan),
-        }),
-        Err(PlanFault::Exists) => Ok(unchanged(Reply::Exists)),
-        Err(PlanFault::Crowded) => Ok(unchanged(Reply::Crowded)),
-        Err(PlanFault::NoMemory) => Err(AllocError),
-    }
-}
-
-// The same where there is no page: its first pair has room, whatever it is.
-fn store_first<A: Allocator + Copy>(
-    alloc: A,
-    size: PageSize,
-    key: &[u8],
-    value: &[u8],
-) -> Result<Worked<A>, AllocError>
-    requires { length key.now + length value.now ≤ pair_limit size }
-    ensures { IfOk result (IsWorked (stored_first size key.now value.now)) }
-{
-    let mut made = Page::empty(alloc, size)?;
-    made.add(key, value);
-    let leaf = SharedPage::new(alloc, made)?;
-    Ok(changed(alloc, Reply::Stored, leaf))
-}
-
-// A reply that leaves the page as it is.
-pub(crate) fn unchanged<A: Allocator>(reply: Reply<A>) -> Worked<A>
-    ensures reply { result.reply ≡ reply }
-    ensures change { result.change ≡ None }
-{
-    Worked {
-        reply,
-        change: None,
-    }
-}
-
-// A reply after which the page is another, without a split.
-pub(crate) fn changed<A: Allocator + Copy>(
-    alloc: A,
-    reply: Reply<A>,
-    leaf: SharedPage<A>,
-) -> Worked<A>
-    ensures reply { result.reply ≡ reply }
-    ensures change { option_map change_of result.change ≡ Some (record { leaf = leaf; twins = []; bits = [] }) }
-{
-    let change = Plan {
-        leaf,
-        twins: Vec::new(alloc),
-        bits: Vec::new(alloc),
-    };
-    Worked {
-        reply,
-        change: Some(change),
-    }
 }

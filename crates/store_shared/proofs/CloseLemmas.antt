@@ -42,7 +42,7 @@ AreOwn-none {A} made = record { given = All-nil (λ (c : CallsState A). c.number
 
 pub ruleset Here = (slice_get-get_or)
 
--- what stands behind a list
+-- what follows a list
 slice_get-behind : {X : Type 0} (front : List X) (x : X) (rest : List X) → slice_get (front ++ x ∷ rest) (length front) ≡ Some x
 slice_get-behind [] x rest = refl
 slice_get-behind (y ∷ ys) x rest = slice_get-behind ys x rest
@@ -55,7 +55,7 @@ pub calls_more : {A : Type 0} (n : ℕ) (xs : List (Entry A)) (i : ℕ) (d : Ent
 calls_more {A} n xs i d h y_s =
     ap (calls_of n) (take_more xs i d h) ∙ (filter-append (λ (e : Entry A). e.session == n) (take i xs) (slice_index_or xs i d ∷ []) ∙ rw y_s refl)
 
--- an entry of the session stands in the trail behind so many of its calls, and not in them: they are others
+-- an entry of the session stands in the trail after so many of its calls, and not in them: they are others
 pub calls_apart : {A : Type 0} (n : ℕ) (xs made : List (Entry A)) (i at : ℕ) (d : Entry A) → i < length xs → at ≤ length made → calls_of n (take i xs) ≡ take at made → ((slice_index_or xs i d).session == n) ≡ true → slice_get made at ≢ Some (slice_index_or xs i d) → calls_of n xs ≢ made
 calls_apart {A} n xs made i at d within few same its_own other whole =
     let p : Entry A → Bool = λ e. e.session == n in

@@ -35,7 +35,7 @@ pub record AreOwn {A : Type 0} (made : ℕ) (handed : List (CallsState A)) : Typ
   pub given : All (λ (calls : CallsState A). calls.number < made) handed
   pub distinct : AreDistinct handed
 
--- what is wrong with the number of one that is handed in behind others
+-- what is wrong with the number of one that is handed in after others
 abbrev pub IsStrange : {A : Type 0} → ℕ → List (CallsState A) → ℕ → CloseFault → Type 0
 IsStrange made others number (Stranger s) = (number ≡ s) × (made ≤ number)
 IsStrange made others number (Double s) = (number ≡ s) × ((number < made) × (is_among number others ≡ true))
@@ -90,7 +90,7 @@ AreFollowed {A} entries handed counts = (k : ℕ) (d : CallsState A) → k < len
 abbrev pub AreWhole : {A : Type 0} → List (CallsState A) → List ℕ → ℕ → Type 0
 AreWhole {A} handed counts n = (k : ℕ) (d : CallsState A) → k < n → slice_index_or counts k 0 ≡ length (slice_index_or handed k d).calls
 
--- an entry is the next call of a session, behind so many
+-- an entry is the next call of a session, after so many
 pub record IsNext {A : Type 0} (calls : CallsState A) (count : ℕ) (entry : Entry A) (next : ℕ) : Type 0 where
   pub next_is : next ≡ count + 1
   pub session_is : entry.session ≡ calls.number

@@ -4,7 +4,7 @@ use Rattle.store_cmd.specs.declared.Command.{Command}
 use Rattle.store_cmd.specs.declared.Reply.{Reply}
 use Rattle.store_cmd.specs.declared.Refusal.{Refusal}
 use Rattle.store_cmd.specs.declared.Entry.{Entry}
-use Rattle.store_shared.specs.declared.serving.Served.{Served}
+use Rattle.store_shared.specs.declared.serving.Committed.{Committed}
 use Rattle.store_cmd.specs.Command.{IsSmall}
 use Rattle.store_shared.specs.Shared.{SessionState, with_call, IsReplyTo, IsRefusal}
 
@@ -20,13 +20,13 @@ AreCalls s [] (out ∷ outs) s' = ⊥
 AreCalls s (command ∷ commands) [] s' = ⊥
 AreCalls {A} s (command ∷ commands) (out ∷ outs) s' = (mid : SessionState A) × (IsCall s command out mid × AreCalls mid commands outs s')
 
--- the outcomes of these calls stand behind those that were there
+-- the outcomes of these calls stand after those that were there
 pub record AreAnswered {A : Type 0} (s : SessionState A) (commands : List (Command A)) (old : List (Result (Reply A) Refusal)) (s' : SessionState A) (new : List (Result (Reply A) Refusal)) : Type 0 where
   pub outcomes : List (Result (Reply A) Refusal)
   pub added : new ≡ old ++ outcomes
   pub calls : AreCalls s commands outcomes s'
 
 -- what was served is added to the entries, and what came of the call to the outcomes
-abbrev pub IsNoted : {A : Type 0} → Result (Served A) Refusal → List (Entry A) → List (Entry A) → List (Result (Reply A) Refusal) → List (Result (Reply A) Refusal) → Type 0
+abbrev pub IsNoted : {A : Type 0} → Result (Committed A) Refusal → List (Entry A) → List (Entry A) → List (Result (Reply A) Refusal) → List (Result (Reply A) Refusal) → Type 0
 IsNoted (Ok served) entries entries' outcomes outcomes' = (entries' ≡ entries ++ served.entry ∷ []) × (outcomes' ≡ outcomes ++ Ok served.reply ∷ [])
 IsNoted (Err refusal) entries entries' outcomes outcomes' = (entries' ≡ entries) × (outcomes' ≡ outcomes ++ Err refusal ∷ [])

@@ -6,13 +6,13 @@ ghost use Rattle.store_shared.specs.Shared.{entry_of, session_of, IsReplyTo, IsN
 ghost use Rattle.store_shared.specs.Groups.{AreAnswered, IsNoted};
 
 use crate::passing::{Stepping, answer, is_long, kept, step_in};
-use crate::serving::{Served, another_owner};
+use crate::serving::{Committed, another_owner};
 use crate::store::{Core, Gate, Store};
 use sdbm_addr::PageSize;
 use std::alloc::Allocator;
 use std::sync::{MutexGuard, Wait};
 use std::vec::IntoIter;
-use store_cmd::{Command, KeptEntry, Refusal, Reply, SharedCommand, SizeFault, check};
+use store_cmd::{Command, KeptEntry, Refusal, Reply, SharedCommand, SizeFault, check_sizes};
 
 /// Who makes calls: a session with this number, in a store with pages of this size.
 #[derive(Clone, Copy)]
@@ -26,7 +26,7 @@ pub(crate) struct Maker<A> {
 #[derive(Drop)]
 struct Made<'s, A: Allocator> {
     held: Option<MutexGuard<'s, Core<A>>>,
-    ended: Result<Served<A>, Refusal>,
+    ended: Result<Committed<A>, Refusal>,
 }
 
 /// Makes the calls of a session in their order, adds an entry for each that is answered, and tells what came of each.
@@ -112,7 +112,7 @@ fn test_size<A: Allocator>(command: &Command<A>, size: PageSize) -> Result<(), R
     ensures small { OnOk result (IsSmall size command.now) }
     ensures refused { IfErr result (IsRefusal size command.now) }
 {
-    match check(command, size) {
+    match check_sizes(command, size) {
         Ok(()) => Ok(()),
         Err(SizeFault::PairTooLarge) => Err(Refusal::PairTooLarge),
         Err(SizeFault::ArgTooLong) => Err(Refusal::ArgTooLong),
@@ -133,7 +133,7 @@ fn hold<'s, R: Wait, A: Allocator + Copy, G: Gate>(
 
 // Adds the entry of a call that was answered, and its outcome. Their places are there.
 fn note<A: Allocator>(
-    ended: Result<Served<A>, Refusal>,
+    ended: Result<Committed<A>, Refusal>,
     entries: &mut Vec<KeptEntry<A>, A>,
     outcomes: &mut Vec<Result<Reply<A>, Refusal>, A>,
 )
@@ -146,7 +146,7 @@ fn note<A: Allocator>(
     ensures outcomes_room { vec_capacity outcomes.new ≡ vec_capacity outcomes.old }
 {
     match ended {
-        Ok(Served { reply, entry }) => {
+        Ok(Committed { reply, entry }) => {
             entries.push_reserved(entry);
             outcomes.push_reserved(Ok(reply));
         }

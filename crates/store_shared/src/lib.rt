@@ -5,6 +5,7 @@
 mod close;
 mod fault_text;
 mod grouping;
+mod life;
 mod one_pass;
 mod passing;
 mod serving;
@@ -12,5 +13,6 @@ mod session;
 mod store;
 
 pub use close::CloseFault;
+pub use life::{Closed, SessionFault};
 pub use session::{Calls, Session};
-pub use store::{Closed, Gate, NoGate, SessionFault, Store};
+pub use store::{Gate, NoGate, Store};

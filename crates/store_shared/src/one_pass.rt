@@ -72,7 +72,7 @@ fn follow<A: Allocator + Copy>(
     Some(counts)
 }
 
-// How many calls of a session there are with an entry that is the next of them, behind so many.
+// How many calls of a session there are with an entry that is the next of them, after so many.
 fn next_count<A: Allocator>(calls: &Calls<A>, count: usize, entry: &KeptEntry<A>) -> Option<usize>
     ensures { IfSome result (IsNext calls.now count entry.now) }
 {

@@ -5,7 +5,7 @@ ghost use Rattle.store_moves.specs.Works.{HasKey, IsRun};
 ghost use Rattle.store_shared.specs.Shared.{entry_of, IsReplyTo, IsNotForSize};
 ghost use Rattle.store_shared.specs.Passing.{IsStepped, IsPassed, IsLooked, IsTriedStep};
 
-use crate::serving::{Served, another_owner, by_ticket, refusal_of, wait};
+use crate::serving::{Committed, another_owner, by_ticket, refusal_of, wait};
 use crate::store::{Core, Gate, Store};
 use desk_core::{AskFault, Desk, Look, PutFault, Seen, Stepped};
 use std::alloc::Allocator;
@@ -52,7 +52,7 @@ pub(crate) fn answer<R: Wait, A: Allocator + Copy, G: Gate>(
     session: u64,
     jobs: bool,
     command: SharedCommand<A>,
-) -> Result<Served<A>, Refusal>
+) -> Result<Committed<A>, Refusal>
     ensures reply { IfOk result (λ served. IsReplyTo session command served.reply) }
     ensures entry { IfOk result (λ served. served.entry ≡ entry_of session command served.reply) }
     ensures refused { IfErr result IsNotForSize }
@@ -82,7 +82,7 @@ fn by_step<R: Wait, A: Allocator + Copy, G: Gate>(
     store: &Store<A, G>,
     session: u64,
     command: SharedCommand<A>,
-) -> Result<Served<A>, Refusal>
+) -> Result<Committed<A>, Refusal>
     ensures reply { IfOk result (λ served. IsReplyTo session command served.reply) }
     ensures entry { IfOk result (λ served. served.entry ≡ entry_of session command served.reply) }
     ensures refused { IfErr result IsNotForSize }
@@ -97,7 +97,7 @@ pub(crate) fn kept<A: Allocator>(
     session: u64,
     command: SharedCommand<A>,
     ended: Result<Stepped<A>, Refusal>,
-) -> Result<Served<A>, Refusal>
+) -> Result<Committed<A>, Refusal>
     requires stepped { IfOk ended (IsStepped session command) }
     requires refused { IfErr ended IsNotForSize }
     ensures reply { IfOk result (λ served. IsReplyTo session command served.reply) }
@@ -110,14 +110,18 @@ pub(crate) fn kept<A: Allocator>(
     }
 }
 
-// The reply to who asked, and the entry with a copy of it.
-fn served<A: Allocator>(session: u64, command: SharedCommand<A>, stepped: Stepped<A>) -> Served<A>
+// The reply to the session that asked, and the entry with a copy of it.
+fn served<A: Allocator>(
+    session: u64,
+    command: SharedCommand<A>,
+    stepped: Stepped<A>,
+) -> Committed<A>
     requires { stepped.copy ≡ stepped.reply }
     ensures reply { result.reply ≡ stepped.reply }
     ensures entry { result.entry ≡ entry_of session command stepped.reply }
 {
     let Stepped { reply, copy } = stepped;
-    Served {
+    Committed {
         reply,
         entry: KeptEntry::new(session, command, copy),
     }
@@ -169,7 +173,7 @@ fn by_look<R: Wait, A: Allocator + Copy, G: Gate>(
     alloc: A,
     session: u64,
     command: SharedCommand<A>,
-) -> Result<Served<A>, Refusal>
+) -> Result<Committed<A>, Refusal>
     requires keyed { HasKey command }
     ensures reply { IfOk result (λ served. IsReplyTo session command served.reply) }
     ensures entry { IfOk result (λ served. served.entry ≡ entry_of session command served.reply) }

@@ -16,7 +16,7 @@ use store_cmd::{KeptEntry, Refusal, Reply, SharedCommand};
 
 /// A call that was answered: its reply, and its entry with a copy of that.
 #[derive(Drop)]
-pub(crate) struct Served<A: Allocator> {
+pub(crate) struct Committed<A: Allocator> {
     pub(crate) reply: Reply<A>,
     pub(crate) entry: KeptEntry<A>,
 }
@@ -42,7 +42,7 @@ pub(crate) fn by_ticket<R: Wait, A: Allocator + Copy, G: Gate>(
     alloc: A,
     session: u64,
     command: SharedCommand<A>,
-) -> Result<Served<A>, Refusal>
+) -> Result<Committed<A>, Refusal>
     ensures reply { IfOk result (λ served. IsReplyTo session command served.reply) }
     ensures entry { IfOk result (λ served. served.entry ≡ entry_of session command served.reply) }
     ensures refused { IfErr result IsNotForSize }
@@ -54,7 +54,7 @@ pub(crate) fn by_ticket<R: Wait, A: Allocator + Copy, G: Gate>(
     }
 }
 
-/// One owner of a command more, for who keeps its call.
+/// One owner of a command more, for the session that keeps its call.
 pub(crate) fn another_owner<A: Allocator>(
     command: &SharedCommand<A>,
 ) -> Result<SharedCommand<A>, Refusal>
@@ -68,13 +68,13 @@ pub(crate) fn another_owner<A: Allocator>(
 }
 
 // A count that was answered. It takes no memory.
-fn counted<A: Allocator>(session: u64, command: SharedCommand<A>, reply: Reply<A>) -> Served<A>
+fn counted<A: Allocator>(session: u64, command: SharedCommand<A>, reply: Reply<A>) -> Committed<A>
     requires { (n : ℕ) × (reply ≡ replies.Count n) }
     ensures reply { result.reply ≡ reply }
     ensures entry { result.entry ≡ entry_of session command reply }
 {
     match reply {
-        Reply::Count(count) => Served {
+        Reply::Count(count) => Committed {
             reply: Reply::Count(count),
             entry: KeptEntry::new(session, command, Reply::Count(count)),
         },
@@ -138,7 +138,7 @@ fn serve<R: Wait, A: Allocator + Copy, G: Gate>(
     session: u64,
     command: SharedCommand<A>,
     job: Job<A>,
-) -> Result<Served<A>, Refusal>
+) -> Result<Committed<A>, Refusal>
     ensures reply { IfOk result (λ served. served.reply ≡ (worked job.asked).reply) }
     ensures entry { IfOk result (λ served. served.entry ≡ entry_of session command served.reply) }
     ensures ends { OnOk result (HasEnd job.asked.page.pairs job.asked.session job.asked.command) }
@@ -154,7 +154,7 @@ fn serve<R: Wait, A: Allocator + Copy, G: Gate>(
     let reply = finish(rt, store, done)?;
     store.gate.after(session);
     let entry = KeptEntry::new(session, command, copy);
-    Ok(Served { reply, entry })
+    Ok(Committed { reply, entry })
 }
 
 // Waits until a ticket may have been closed, which is noted under the lock.

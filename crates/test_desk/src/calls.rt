@@ -2,7 +2,7 @@
 
 use crate::bench::{Hands, InHand, put, take};
 use desk_core::{
-    AskFault, Asked, ConvertFault, Desk, Done, FinishFault, Job, NoTicket, Outcome, Ticket,
+    AskFault, Asked, ConvertFault, Desk, Done, EventOutcome, FinishFault, Job, NoTicket, Ticket,
 };
 use std::alloc::Allocator;
 use store_cmd::{Reply, SharedCommand};
@@ -22,19 +22,19 @@ pub enum Call<A: Allocator> {
 /// What comes of a call, and the call, where it was refused and may be made again.
 #[derive(Drop)]
 pub struct Came<A: Allocator> {
-    pub outcome: Outcome<A>,
+    pub outcome: EventOutcome<A>,
     pub refused: Option<Call<A>>,
 }
 
 impl<A: Allocator> Came<A> {
-    fn of(outcome: Outcome<A>) -> Self {
+    fn of(outcome: EventOutcome<A>) -> Self {
         Came {
             outcome,
             refused: None,
         }
     }
 
-    fn refused(outcome: Outcome<A>, call: Call<A>) -> Self {
+    fn refused(outcome: EventOutcome<A>, call: Call<A>) -> Self {
         Came {
             outcome,
             refused: Some(call),
@@ -43,11 +43,11 @@ impl<A: Allocator> Came<A> {
 }
 
 /// Whether there was no memory for a call.
-pub fn lacks_memory<A: Allocator>(outcome: &Outcome<A>) -> bool {
+pub fn lacks_memory<A: Allocator>(outcome: &EventOutcome<A>) -> bool {
     match outcome {
-        Outcome::AskRefused(fault) => *fault == AskFault::NoMemory,
-        Outcome::WorkRefused => true,
-        Outcome::FinishRefused(fault) => *fault == FinishFault::NoMemory,
+        EventOutcome::AskRefused(fault) => *fault == AskFault::NoMemory,
+        EventOutcome::WorkRefused => true,
+        EventOutcome::FinishRefused(fault) => *fault == FinishFault::NoMemory,
         _ => false,
     }
 }
@@ -97,9 +97,12 @@ fn come_of_step<A: Allocator + Copy>(
     command: SharedCommand<A>,
 ) -> Came<A> {
     match step(desk, session, command) {
-        Ok(reply) => Came::of(Outcome::Answered(reply)),
+        Ok(reply) => Came::of(EventOutcome::Answered(reply)),
         Err((fault, command)) => {
-            Came::refused(Outcome::AskRefused(fault), Call::Step(session, command))
+            Came::refused(
+                EventOutcome::AskRefused(fault),
+                Call::Step(session, command),
+            )
         }
     }
 }
@@ -115,12 +118,12 @@ fn come_of_ask<A: Allocator + Copy>(
         Ok(Asked::Job(job)) => {
             let ticket = job.ticket();
             put(hands, hand, InHand::Job(job));
-            Came::of(Outcome::Asked(ticket))
+            Came::of(EventOutcome::Asked(ticket))
         }
-        Ok(Asked::Answered(reply)) => Came::of(Outcome::Answered(reply)),
+        Ok(Asked::Answered(reply)) => Came::of(EventOutcome::Answered(reply)),
         Err((fault, command)) => {
             Came::refused(
-                Outcome::AskRefused(fault),
+                EventOutcome::AskRefused(fault),
                 Call::Ask(hand, session, command),
             )
         }
@@ -132,18 +135,18 @@ fn come_of_work<A: Allocator + Copy>(hands: &mut Hands<A>, hand: usize) -> Came<
         Some(InHand::Job(job)) => job,
         Some(done) => {
             put(hands, hand, done);
-            return Came::of(Outcome::NoHand);
+            return Came::of(EventOutcome::NoHand);
         }
-        None => return Came::of(Outcome::NoHand),
+        None => return Came::of(EventOutcome::NoHand),
     };
     match work(job) {
         Ok(done) => {
             put(hands, hand, InHand::Done(done));
-            Came::of(Outcome::Worked)
+            Came::of(EventOutcome::Worked)
         }
         Err(job) => {
             put(hands, hand, InHand::Job(job));
-            Came::refused(Outcome::WorkRefused, Call::Work(hand))
+            Came::refused(EventOutcome::WorkRefused, Call::Work(hand))
         }
     }
 }
@@ -157,30 +160,30 @@ fn come_of_finish<A: Allocator + Copy>(
         Some(InHand::Done(done)) => done,
         Some(job) => {
             put(hands, hand, job);
-            return Came::of(Outcome::NoHand);
+            return Came::of(EventOutcome::NoHand);
         }
-        None => return Came::of(Outcome::NoHand),
+        None => return Came::of(EventOutcome::NoHand),
     };
     match finish(desk, done) {
-        Ok(reply) => Came::of(Outcome::Finished(reply)),
+        Ok(reply) => Came::of(EventOutcome::Finished(reply)),
         Err((fault, done)) => {
             put(hands, hand, InHand::Done(done));
-            Came::refused(Outcome::FinishRefused(fault), Call::Finish(hand))
+            Came::refused(EventOutcome::FinishRefused(fault), Call::Finish(hand))
         }
     }
 }
 
 fn come_of_convert<A: Allocator + Copy>(desk: &mut Desk<A>, ticket: Ticket) -> Came<A> {
     match convert(desk, ticket) {
-        Ok(()) => Came::of(Outcome::Converted),
-        Err(fault) => Came::of(Outcome::ConvertRefused(fault)),
+        Ok(()) => Came::of(EventOutcome::Converted),
+        Err(fault) => Came::of(EventOutcome::ConvertRefused(fault)),
     }
 }
 
 fn come_of_abandon<A: Allocator + Copy>(desk: &mut Desk<A>, ticket: Ticket) -> Came<A> {
     match abandon(desk, ticket) {
-        Ok(()) => Came::of(Outcome::Abandoned),
-        Err(NoTicket) => Came::of(Outcome::AbandonRefused),
+        Ok(()) => Came::of(EventOutcome::Abandoned),
+        Err(NoTicket) => Came::of(EventOutcome::AbandonRefused),
     }
 }
 

@@ -3,14 +3,12 @@
 use crate::bench::Bench;
 use crate::calls::{Call, Came, lacks_memory, make_call};
 use crate::views::{show_outcome, view};
-use desk_core::{Desk, Outcome};
+use desk_core::{Desk, EventOutcome};
 use sdbm_files::Image;
 use std::alloc::{AllocError, Allocator, Global};
 use std::fmt::Write;
 use store_cmd::SharedCommand;
-use test_lines::{fill, show_command, show_pairs};
-
-const MOST_TIMES: usize = 4000;
+use test_lines::{MOST_TIMES, fill, show_command, show_pairs};
 
 const MORE: &str = " with more memory";
 
@@ -65,7 +63,7 @@ fn call_with<A: Allocator + Copy>(
 
 fn outcome_text<A: Allocator>(
     global: Global,
-    outcome: &Outcome<A>,
+    outcome: &EventOutcome<A>,
     times: usize,
 ) -> Result<String, AllocError> {
     let mut out = String::new(global);

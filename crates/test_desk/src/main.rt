@@ -21,30 +21,27 @@
 //! | `place KEY` | page, depth and bit |
 //! | `page NUMBER` | the pairs of the page, in their order |
 //! | `write` | the bytes of both files |
-//! | `lists SEED COUNT LENGTH` | `COUNT lists agree`: so many random lists of so many events, with five steps behind each, on desks of their own and on a plain model, with what came among them; or the first difference |
 //! | `# TEXT` | the line itself |
 //!
 //! An event is a line from `ask` to `abandon` but for `done`, where a hand is a ticket and `ask` has
-//! none. Behind the word `lean` a line is for a desk in a heap, and its call is made with more and
+//! none. After the word `lean` a line is for a desk in a heap, and its call is made with more and
 //! more memory until there is enough, with 16 bytes more each time. `with more memory` says that there was not
-//! at first, and each time the call came back and the desk was as before. A random list begins with the database that the one
-//! before it left, or with an empty one.
+//! at first, and each time the call came back and the desk was as before.
 #![tactic(auto)]
 
 mod bench;
 mod calls;
 mod lean;
 mod lines;
-mod random;
 mod report;
 mod views;
 
 use bench::Bench;
 use linked_list_allocator::LocalHeap;
-use random::show_lists;
 use report::show_line;
 use std::alloc::{AllocError, Allocator, Global};
 use std::io;
+use test_lines::read_all;
 
 // The answer to a line, by desks in a heap where it is lean, or of its own.
 fn answer<A: Allocator + Copy>(
@@ -54,7 +51,6 @@ fn answer<A: Allocator + Copy>(
 ) -> Result<String, AllocError> {
     match line.split_once(' ') {
         Some(("lean", rest)) => show_line(lean, rest),
-        Some(("lists", words)) => show_lists(ample.global, words),
         _ => show_line(ample, line),
     }
 }
@@ -83,15 +79,6 @@ fn answer_in<A: Allocator + Copy>(
     let mut lean = Bench::new(global, alloc, Some(heap))?;
     let mut ample = Bench::new(global, global, None)?;
     answer_all(&mut lean, &mut ample, text)
-}
-
-fn read_all(rt: &HostRuntime) -> io::Result<String> {
-    let mut text = String::new(rt.alloc());
-    for line in rt.lines(rt.alloc()) {
-        text.push_str(line?.as_str())?;
-        text.push_str("\n")?;
-    }
-    Ok(text)
 }
 
 fn main(rt: HostRuntime) -> io::Result<()> {

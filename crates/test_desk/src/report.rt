@@ -7,14 +7,14 @@ use crate::views::{
     show_count, show_desk_pairs, show_done, show_files, show_outcome, show_page_of, show_place,
     show_trail,
 };
-use desk_core::{Desk, Event, Outcome};
+use desk_core::{Desk, Event, EventOutcome};
 use sdbm_addr::{KeyBytes, PageSize};
 use sdbm_files::{Image, OpenFault};
 use std::alloc::{AllocError, Allocator};
 use std::mem;
 use test_lines::{read_bytes, read_file, read_kind, read_size, same_trail};
 
-// How keys hash and the size of pages, and the words behind.
+// How keys hash and the size of pages, and the words after.
 fn read_shape(words: &str) -> Option<(KeyBytes, PageSize, &str)> {
     let (kind, rest) = words.split_once(' ')?;
     let (size, rest) = rest.split_once(' ')?;
@@ -75,7 +75,7 @@ fn done<A: Allocator + Copy>(bench: &Bench<A>, hand: &str) -> Option<String> {
 fn play_all<A: Allocator + Copy>(
     desk: &mut Desk<A>,
     events: &[Event<A>],
-) -> Result<Vec<Outcome<A>, A>, AllocError> {
+) -> Result<Vec<EventOutcome<A>, A>, AllocError> {
     desk.play(events)
 }
 
@@ -112,7 +112,7 @@ fn trail<A: Allocator + Copy>(bench: &Bench<A>) -> Option<String> {
     Some(out)
 }
 
-// What the database that stayed is, by a word and the words behind.
+// What the database that stayed is, by a word and the words after.
 fn image_text<A: Allocator + Copy>(bench: &Bench<A>, word: &str, rest: &str) -> Option<String> {
     let image = bench.image.as_ref()?;
     let mut out = String::new(bench.global);

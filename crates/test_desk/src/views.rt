@@ -1,6 +1,6 @@
 //! What desks and databases are, as text.
 
-use desk_core::{Desk, Done, Outcome};
+use desk_core::{Desk, Done, EventOutcome};
 use sdbm_files::{Image, MemSink};
 use sdbm_page::Page;
 use std::alloc::{AllocError, Allocator, Global};
@@ -11,20 +11,20 @@ use test_lines::{show_bytes, show_command, show_file, show_pairs, show_reply};
 /// Writes what comes of a call or of an event.
 pub fn show_outcome<A: Allocator>(
     out: &mut String,
-    outcome: &Outcome<A>,
+    outcome: &EventOutcome<A>,
 ) -> Result<(), AllocError> {
     match outcome {
-        Outcome::Asked(ticket) => write!(out, "ticket {}", ticket.0),
-        Outcome::Answered(reply) | Outcome::Finished(reply) => show_reply(out, reply),
-        Outcome::AskRefused(fault) => write!(out, "refused {fault:?}"),
-        Outcome::Worked => out.push_str("worked"),
-        Outcome::WorkRefused => out.push_str("refused NoMemory"),
-        Outcome::Converted => out.push_str("converted"),
-        Outcome::ConvertRefused(fault) => write!(out, "refused {fault:?}"),
-        Outcome::FinishRefused(fault) => write!(out, "refused {fault:?}"),
-        Outcome::Abandoned => out.push_str("abandoned"),
-        Outcome::AbandonRefused => out.push_str("refused NoTicket"),
-        Outcome::NoHand => out.push_str("nothing in hand"),
+        EventOutcome::Asked(ticket) => write!(out, "ticket {}", ticket.0),
+        EventOutcome::Answered(reply) | EventOutcome::Finished(reply) => show_reply(out, reply),
+        EventOutcome::AskRefused(fault) => write!(out, "refused {fault:?}"),
+        EventOutcome::Worked => out.push_str("worked"),
+        EventOutcome::WorkRefused => out.push_str("refused NoMemory"),
+        EventOutcome::Converted => out.push_str("converted"),
+        EventOutcome::ConvertRefused(fault) => write!(out, "refused {fault:?}"),
+        EventOutcome::FinishRefused(fault) => write!(out, "refused {fault:?}"),
+        EventOutcome::Abandoned => out.push_str("abandoned"),
+        EventOutcome::AbandonRefused => out.push_str("refused NoTicket"),
+        EventOutcome::NoHand => out.push_str("nothing in hand"),
     }
 }
 

@@ -2,10 +2,10 @@
 
 use crate::bench::Known;
 use crate::files::open_files;
-use crate::parse::{cut, number};
 use sdbm_files::OpenFault;
 use std::alloc::{AllocError, Global};
 use std::fmt::Write;
+use test_lines::{cut, number};
 
 // The first bytes, all where there are not so many.
 fn first(bytes: &[u8], count: usize) -> &[u8] {

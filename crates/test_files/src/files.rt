@@ -1,11 +1,10 @@
 //! Databases of files, and what is written of them.
 
 use crate::bench::{Bench, Known};
-use crate::parse::cut;
 use sdbm_addr::{KeyBytes, PageSize};
 use sdbm_files::{Image, MemSink, OpenFault, WriteFault};
 use std::alloc::{AllocError, Allocator, Global};
-use test_lines::{read_file, read_kind, read_size, show_file};
+use test_lines::{cut, read_file, read_kind, read_size, show_file};
 
 /// Both files of a database.
 #[derive(Drop)]

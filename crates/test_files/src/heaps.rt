@@ -2,12 +2,11 @@
 
 use crate::bench::Known;
 use crate::files::{Files, files_of, open_known, opened_text, same_files, write_both};
-use crate::parse::{bytes_of, cut, number};
 use linked_list_allocator::LocalHeap;
 use sdbm_files::{Image, MemSink, OpenFault, Sink, WriteFault};
 use std::alloc::{Allocator, Global};
 use std::fmt::Write;
-use test_lines::show_bytes;
+use test_lines::{bytes_of, cut, number, show_bytes};
 
 /// What comes of files in a heap of so many bytes, and how much of it is taken afterwards.
 pub fn within_text(global: Global, known: &Known, count: &str) -> Option<String> {

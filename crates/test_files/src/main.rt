@@ -1,32 +1,9 @@
-//! Does with pages, directories, plans and files what lines say, and prints what comes of it.
+//! Does with files of databases what lines say, and prints what comes of it.
 //!
 //! Each line of standard input is a case, and its first word says of which kind.
 //!
 //! | Line | Answer |
 //! |---|---|
-//! | `hash KIND KEY`, `mask DEPTH`, `child BIT 0`, `child BIT 1` | the number |
-//! | `size SIZE` | the bytes of a page, of its largest pair, and its most offsets |
-//! | `bytes BYTES BYTE` | the byte string with that first byte, and a copy made before |
-//! | `copies KEY=VALUE ..` | a copy of the pairs |
-//! | `check SIZE COMMAND` | `fits`, or the fault |
-//! | `plan SIZE MODE KEY KEY` | of a store beside another key, each with 600 zeros: the page, the pages split off with their numbers, and the bits; or the fault |
-//! | `dir`, `dir FILE` | `dir`: a directory without bits, or that of the bytes; or the fault |
-//! | `split HASH` | the bit that is marked, or `deep` |
-//! | `place HASH` | page, depth and bit |
-//! | `marked BIT ..` | which of the bits are marked |
-//! | `grow BIT` | `grown`, for the bit |
-//! | `bits` | the directory's bytes |
-//! | `again` | `again`: the directory of these bytes, which has the same, is the directory now |
-//! | `page SIZE` | `page`: one without pairs |
-//! | `read SIZE SEGMENTS` | `page`: that of the bytes; or the fault |
-//! | `between BYTE SEGMENTS` | the same of a small page, with that byte outside segments |
-//! | `add KEY VALUE`, `replace KEY VALUE` | `added`, or `not added` |
-//! | `remove PLACE`, `put PLACE BYTE` | `removed`; `put`: as the first byte of the value |
-//! | `find KEY`, `fits COUNT` | the place, or `none`; whether so many bytes more fit |
-//! | `pairs`, `image` | the page's size and its pairs, in their order; the page's bytes |
-//! | `list` | whether the page is as the list of the pairs that were added to it |
-//! | `keep`, `beside`, `same` | `kept`: a copy; the page and the copy change places; whether they have the same pairs |
-//! | `edits SIZE NUMBER COUNT` | how many pairs a page has after so many edits, each as of a list, and the last number |
 //! | `open KIND SIZE dir FILE pag FILE` | `count N`: the database of both files; or the fault |
 //! | `count` | how many pairs the database has, the size of its pages and the length of `.pag` |
 //! | `write` | the bytes of both files |
@@ -36,38 +13,31 @@
 //! | `heaps open COUNT`, `heaps write COUNT` | whether the database is refused in each heap up to one of more bytes than that |
 //! | `short STOP COUNT COUNT` | what comes of a write where the sinks of `.dir` and `.pag` stop after so many bytes |
 //! | `sink COUNT BYTES ..` | what a sink in a heap of so many bytes takes of each |
-//! | `whole page SIZE SEGMENTS` | the pairs of the page of the bytes, or the fault |
 //! | `whole files KIND SIZE dir FILE pag FILE` | `count N`: the database of both files; or the fault |
 //! | `full`, `free` | all memory is taken away, or given back |
 //! | `# TEXT` | the line itself |
 //!
-//! Bytes and files are as in `test_lines`. Behind the word `lean` a line is for a bench in a heap. There `widen` is called with
+//! Bytes and files are as in `test_lines`. After the word `lean` a line is for a bench in a heap. There `widen` is called with
 //! more and more memory until there is enough, with 16 bytes more each time. What is `whole` is written, read again and written
 //! a second time: `again` says that it stayed the same. The answers there but for that word are those of an independent
-//! implementation, but for 7 pages whose keys were chosen to set the same marks, and whose answers stand by construction.
+//! implementation.
 #![tactic(auto)]
 
 mod bench;
 mod cuts;
-mod dirs;
-mod edits;
 mod files;
 mod heaps;
-mod list_page;
-mod pages;
-mod parse;
-mod plans;
 mod report;
 mod sinks;
 mod whole;
 mod widening;
-mod words;
 
 use bench::Bench;
 use linked_list_allocator::LocalHeap;
 use report::show_line;
 use std::alloc::{AllocError, Allocator, Global};
 use std::io;
+use test_lines::read_all;
 
 // The answer to a line, by the bench in a heap where it is lean.
 fn answer<A: Allocator + Copy>(
@@ -105,15 +75,6 @@ fn answer_in<A: Allocator + Copy>(
     let mut lean = Bench::new(global, alloc, Some(heap));
     let mut ample = Bench::new(global, global, None);
     answer_all(&mut lean, &mut ample, text)
-}
-
-fn read_all(rt: &HostRuntime) -> io::Result<String> {
-    let mut text = String::new(rt.alloc());
-    for line in rt.lines(rt.alloc()) {
-        text.push_str(line?.as_str())?;
-        text.push_str("\n")?;
-    }
-    Ok(text)
 }
 
 fn main(rt: HostRuntime) -> io::Result<()> {

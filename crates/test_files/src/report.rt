@@ -2,15 +2,11 @@
 
 use crate::bench::Bench;
 use crate::cuts::cut_text;
-use crate::dirs::dir_line;
 use crate::files::file_line;
 use crate::heaps::{heaps_text, sink_text, within_text};
-use crate::pages::page_line;
-use crate::plans::plan_text;
 use crate::sinks::short_text;
-use crate::whole::whole_text;
+use crate::whole::files_text;
 use crate::widening::widen_text;
-use crate::words::word_line;
 use std::alloc::{AllocError, Allocator};
 use test_lines::fill;
 
@@ -31,13 +27,6 @@ fn answer<A: Allocator + Copy>(bench: &mut Bench<A>, line: &str) -> Option<Strin
         "#" => String::from_str(global, line).ok(),
         "full" => full(bench),
         "free" => free(bench),
-        "hash" | "mask" | "child" | "size" | "bytes" | "copies" | "check" => {
-            word_line(global, word, rest)
-        }
-        "plan" => plan_text(global, rest),
-        "dir" | "split" | "place" | "marked" | "grow" | "bits" | "again" => {
-            dir_line(bench, word, rest)
-        }
         "open" | "count" | "write" => file_line(bench, word, rest),
         "widen" => widen_text(bench, rest),
         "cut" => cut_text(global, bench.known.as_ref()?, rest).ok(),
@@ -45,8 +34,8 @@ fn answer<A: Allocator + Copy>(bench: &mut Bench<A>, line: &str) -> Option<Strin
         "heaps" => heaps_text(global, bench.known.as_ref()?, rest),
         "short" => short_text(global, bench.image.as_ref()?, rest),
         "sink" => sink_text(global, rest),
-        "whole" => whole_text(global, rest),
-        _ => page_line(bench, word, rest),
+        "whole" => files_text(global, rest.strip_prefix("files ")?),
+        _ => None,
     }
 }
 

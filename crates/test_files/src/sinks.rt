@@ -1,10 +1,10 @@
 //! Sinks that stop after so many bytes.
 
 use crate::files::{Files, files_of};
-use crate::parse::{cut, number};
 use sdbm_files::{Image, Sink, SinkFault, WriteFault};
 use std::alloc::{AllocError, Allocator, Global};
 use std::fmt::Write;
+use test_lines::{cut, number};
 
 // How a sink stops.
 #[derive(Clone, Copy, Debug, PartialEq, Eq)]

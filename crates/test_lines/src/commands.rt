@@ -150,7 +150,7 @@ pub fn show_reply<A: Allocator>(out: &mut String, reply: &Reply<A>) -> Result<()
     }
 }
 
-/// Writes pairs, each behind a space.
+/// Writes pairs, each after a space.
 pub fn show_pairs<A: Allocator>(
     out: &mut String,
     pairs: &[(Bytes<A>, Bytes<A>)],

@@ -2,6 +2,9 @@
 use linked_list_allocator::LocalHeap;
 use std::alloc::{AllocError, Global};
 
+/// How often a call is made with more memory each time, at most.
+pub const MOST_TIMES: usize = 4000;
+
 /// Takes all memory of a heap but for so many bytes.
 pub fn fill<'a>(
     alloc: Global,

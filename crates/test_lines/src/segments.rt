@@ -26,7 +26,7 @@ pub fn read_file(alloc: Global, text: &str) -> Option<Vec<u8>> {
     Some(bytes)
 }
 
-// Equal bytes, one behind another.
+// Equal bytes, one after another.
 #[derive(Clone, Copy)]
 struct Run {
     start: usize,
@@ -59,7 +59,7 @@ fn runs_of(alloc: Global, bytes: &[u8]) -> Result<Vec<Run>, AllocError> {
     Ok(runs)
 }
 
-// Writes equal bytes, and tells whether the next ones go on behind them in the same segment.
+// Writes equal bytes, and tells whether the next ones go on after them in the same segment.
 fn show_run(out: &mut String, run: Run, goes_on: bool) -> Result<bool, AllocError> {
     let Run { start, byte, count } = run;
     if count >= LONG_RUN {

@@ -1,7 +1,6 @@
 //! Runs on both machines.
 
-use crate::lines::{ARGUMENT_LIMIT, RECORD_LIMIT};
-use bpf_helpers::Env;
+use bpf_helpers::{ARGUMENT_LIMIT, Env, RECORD_LIMIT};
 use bpf_insn::{decode, encode};
 use bpf_machine::{Checked, run, run_checked};
 use bpf_verify::{Verified, verify};

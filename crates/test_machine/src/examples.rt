@@ -1,7 +1,8 @@
 //! Verdicts, and runs of programs that are accepted, with what the key has afterwards.
 
-use crate::lines::{ARGUMENT_LIMIT, Input, RECORD_LIMIT};
+use crate::lines::Input;
 use bpf_asm::assemble;
+use bpf_helpers::{ARGUMENT_LIMIT, RECORD_LIMIT};
 use bpf_machine::{Ended, run};
 use bpf_verify::{Verified, verify};
 use std::alloc::{AllocError, Global};

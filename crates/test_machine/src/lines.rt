@@ -5,11 +5,6 @@ use bpf_helpers::Env;
 use bpf_insn::{Code, decode};
 use std::alloc::Global;
 
-/// The longest record and argument of a run.
-pub const RECORD_LIMIT: usize = 8008;
-
-pub const ARGUMENT_LIMIT: usize = 1024;
-
 /// What is said of a line of no kind.
 pub const UNREAD: &str = "a line that cannot be read";
 
@@ -21,7 +16,7 @@ pub struct Input {
     pub argument: Vec<u8>,
 }
 
-/// Bytes, with zeros behind them.
+/// Bytes, with zeros after them.
 pub fn read_bytes(alloc: Global, word: &str) -> Option<Vec<u8>> {
     let (digits, zeros) = match word.split_once('+') {
         Some((digits, zeros)) => (digits, zeros.parse::<u16>().ok()?),
@@ -35,7 +30,7 @@ pub fn read_bytes(alloc: Global, word: &str) -> Option<Vec<u8>> {
     Some(bytes)
 }
 
-// What the helpers know, and the words behind.
+// What the helpers know, and the words after.
 fn read_env(words: &str) -> Option<(Env, &str)> {
     let (now, rest) = words.split_once(' ')?;
     let (key, rest) = rest.split_once(' ')?;
@@ -53,7 +48,7 @@ fn read_env(words: &str) -> Option<(Env, &str)> {
     Some((env, rest))
 }
 
-/// What a program is run on, and the words behind.
+/// What a program is run on, and the words after.
 pub fn read_input(alloc: Global, words: &str) -> Option<(Input, &str)> {
     let (bytes, rest) = words.split_once(' ')?;
     let (argument, rest) = rest.split_once(' ')?;

@@ -24,14 +24,14 @@
 //! | `helper NUMBER` | what is known of the number that a helper gives, or `never` where there is no such helper |
 //! | `# WORDS` | the line itself |
 //!
-//! Bytes are in hex, `.` is none, and `+N` behind them stands for N zeros more; the record that is
+//! Bytes are in hex, `.` is none, and `+N` after them stands for N zeros more; the record that is
 //! printed is the one that the run left, its last zeros written so. `KEY` is `there`, or `absent`, where
 //! the record of an example is zeros. `VALUE` is what the key has once the code has been obeyed: bytes,
 //! or `none`; such a program is verified before it runs. A range is `LO..HI`, what is known
 //! `LO..HI,VALUE,UNKNOWN`, and an edge `taken` or `untaken`; operations and tests have the names of the
 //! assembler.
 //!
-//! The first 112 images were answered by an independent machine that tests everything, the 402 behind
+//! The first 112 images were answered by an independent machine that tests everything, the 402 after
 //! them by an independent implementation of what a run of an accepted program means. The last 51 texts
 //! were answered by a model in Python, the others worked out by hand from the rules of a step, and so were the examples, whose steps an interpreter of
 //! its own counted. The first 48 lines of `transfer`, 56 of `refine`, 18 of `known` and 4 of `join` have the

@@ -1,8 +1,8 @@
 //! Measurements, and what is said of them.
 
-use crate::lines::{ARGUMENT_LIMIT, RECORD_LIMIT, UNREAD, read_bytes};
+use crate::lines::{UNREAD, read_bytes};
 use crate::programs::{counter, line};
-use bpf_helpers::Env;
+use bpf_helpers::{ARGUMENT_LIMIT, Env, RECORD_LIMIT};
 use bpf_insn::{decode, encode};
 use bpf_machine::{Checked, run, run_checked};
 use bpf_verify::{Verified, verify};

@@ -1,8 +1,8 @@
 //! Runs on the checked machine, and of accepted programs on both.
 
 use crate::both::{Tally, count_changed, count_runs};
-use crate::lines::{ARGUMENT_LIMIT, Input, RECORD_LIMIT, UNREAD, read_run};
-use bpf_helpers::Env;
+use crate::lines::{Input, UNREAD, read_run};
+use bpf_helpers::{ARGUMENT_LIMIT, Env, RECORD_LIMIT};
 use bpf_insn::Code;
 use bpf_machine::{Checked, run_checked};
 use bpf_verify::{Verified, verify};

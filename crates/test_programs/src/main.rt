@@ -9,7 +9,7 @@
 //! | `text TEXT` | the image, or the fault; `\n`, `\r` and `\t` stand for a line feed, a carriage return and a tab |
 //! | `file NAME` | the same of the text in a file of `data/` |
 //! | `program TEXT` | `accepted`, or the fault |
-//! | `ends TEXT` | the same, of the text with `mov r0, 0 / exit` behind it |
+//! | `ends TEXT` | the same, of the text with `mov r0, 0 / exit` after it |
 //! | `filled COUNT TEXT` | the same, where `*` stands for so many times `mov r0, 0` |
 //! | `kinds UNIT TEXT` | what is known of the registers before the instruction at a unit, but for those that may hold anything; `nothing` where no state stands |
 //! | `why TEXT` | why a program is refused, in a sentence |
@@ -19,15 +19,15 @@
 //! | `each FROM TO TEXT` | the answers for the first and the last number from FROM up to TO in the place of `#`, and how many are refused |
 //! | `get ID` | the text of a program, or `none` |
 //! | `counts` | how many verdicts are kept, and how many answers were given from them |
-//! | `new` | `new`; the lines behind are asked of a new registry |
+//! | `new` | `new`; the lines after are asked of a new registry |
 //! | `# WORDS` | the line itself |
 //!
-//! Images are in hex, and `.` is the empty one; `+N` behind the bytes of an offer stands for N zeros more. From `program` on a
+//! Images are in hex, and `.` is the empty one; `+N` after the bytes of an offer stands for N zeros more. From `program` on a
 //! text has ` / ` in the place of line feeds, and `.` is the empty one.
 //!
 //! The forms were confirmed by LLVM's assembler and disassembler. The first 112 images and the first 196 texts have the answers of
 //! an independent decoder and assembler. The other texts were worked out from the rules, and the last of them are the examples of
-//! `docs/ASSEMBLER.md`. Behind them stand the image of the counter and the programs of `examples/`, which `data/` has as they are
+//! `docs/ASSEMBLER.md`. After them stand the image of the counter and the programs of `examples/`, which `data/` has as they are
 //! there. Of the verdicts the first 364 have the answers of an independent verifier that was written from the rules, those from the
 //! 436th to the 471st the answers of a second one, which agrees on all, and the 3,000 from the 481st on, at the edges of every rule,
 //! those of a third. The others were worked out by hand.

@@ -15,7 +15,7 @@ fn image_of(alloc: Global, text: &str) -> Result<Option<Vec<u8>>, AllocError> {
     }
 }
 
-// Bytes, with zeros behind them.
+// Bytes, with zeros after them.
 fn read_bytes(alloc: Global, word: &str) -> Option<Vec<u8>> {
     let (digits, zeros) = match word.split_once('+') {
         Some((digits, zeros)) => (digits, zeros.parse::<u16>().ok()?),

@@ -50,7 +50,7 @@ fn show_verdict(alloc: Global, text: &str) -> Result<String, AllocError> {
     Ok(verdict)
 }
 
-// The verdict of a text behind which 0 is answered.
+// The verdict of a text after which 0 is answered.
 fn show_ended(alloc: Global, text: &str) -> Result<String, AllocError> {
     let text = format!(in alloc; "{text} / mov r0, 0 / exit")?;
     show_verdict(alloc, text.as_str())
@@ -155,7 +155,7 @@ fn show_explained(alloc: Global, text: &str, is_whole: bool) -> Result<String, A
     told.as_str().trim_end().replace(alloc, "\n", " / ")
 }
 
-/// The answer to a line, by its word and the words behind.
+/// The answer to a line, by its word and the words after.
 pub fn show_verified(alloc: Global, word: &str, rest: &str) -> Result<String, AllocError> {
     match word {
         "program" => show_verdict(alloc, rest),

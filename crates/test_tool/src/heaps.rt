@@ -1,7 +1,6 @@
 //! Scripts in heaps of each size.
 
-use crate::scripts::{answers, giving};
-use crate::streams::{Taken, run};
+use crate::streams::{Collected, answers, giving, run};
 use dbm_script::ScriptFault;
 use linked_list_allocator::LocalHeap;
 use std::alloc::Global;
@@ -10,7 +9,7 @@ use std::alloc::Global;
 // refused has another fault or wrote something, and where something stays in the heap.
 fn is_answered(global: Global, size: usize, script: &[u8], told: &[u8]) -> Option<bool> {
     let heap = LocalHeap::new(global, size).ok()?;
-    let mut writer = Taken::new(global, 4096, None);
+    let mut writer = Collected::new(global, 4096, None);
     let came = run(&heap, &mut giving(script, 4096), &mut writer);
     let said = writer.text.as_slice();
     if heap.used() != 0 {

@@ -1,22 +1,13 @@
 //! Scripts, and what they answer.
 
 use crate::heaps::heaps_text;
-use crate::streams::{EmptyLines, Given, Taken, run};
+use crate::streams::{Collected, EmptyLines, answers, giving, run};
 use crate::words::unescaped;
 use dbm_script::{Notation, ScriptFault, run_lines};
 use sdbm_addr::{KeyBytes, PageSize};
 use sdbm_files::Image;
 use std::alloc::Global;
 use std::io::ErrorKind;
-
-/// Gives a text, so many bytes a call.
-pub fn giving(text: &[u8], step: usize) -> Given<'_> {
-    Given {
-        text,
-        step,
-        fails: None,
-    }
-}
 
 // What was written, on one line.
 fn escaped(global: Global, text: &[u8]) -> Option<String> {
@@ -34,7 +25,7 @@ fn ended(global: Global, came: Result<usize, ScriptFault>, written: &[u8]) -> Op
 }
 
 fn again(global: Global, script: &[u8], read: usize, write: usize) -> Option<String> {
-    let mut writer = Taken::new(global, write, None);
+    let mut writer = Collected::new(global, write, None);
     let came = run(global, &mut giving(script, read), &mut writer);
     ended(global, came, writer.text.as_slice())
 }
@@ -51,7 +42,7 @@ fn again_line(global: Global, script: &[u8], rest: &str) -> Option<String> {
 
 fn script_text(global: Global, script: &mut String, rest: &str) -> Option<String> {
     *script = unescaped(global, rest).ok()?;
-    let mut writer = Taken::new(global, 4096, None);
+    let mut writer = Collected::new(global, 4096, None);
     let mut reader = giving(script.as_bytes(), 4096);
     let came = run(global, &mut reader, &mut writer);
     let text = escaped(global, writer.text.as_slice())?;
@@ -74,20 +65,13 @@ fn read_fault(rest: &str) -> Option<(usize, ErrorKind)> {
 fn reader_line(global: Global, script: &[u8], rest: &str) -> Option<String> {
     let mut reader = giving(script, 1);
     reader.fails = Some(read_fault(rest)?);
-    let mut writer = Taken::new(global, 4096, None);
+    let mut writer = Collected::new(global, 4096, None);
     let came = run(global, &mut reader, &mut writer);
     ended(global, came, writer.text.as_slice())
 }
 
-/// What a script answers where nothing fails.
-pub fn answers(global: Global, script: &[u8]) -> Vec<u8> {
-    let mut writer = Taken::new(global, 4096, None);
-    let _came = run(global, &mut giving(script, 4096), &mut writer);
-    writer.text
-}
-
 fn writer_line(global: Global, script: &[u8], rest: &str) -> Option<String> {
-    let mut writer = Taken::new(global, 1, Some(read_fault(rest)?));
+    let mut writer = Collected::new(global, 1, Some(read_fault(rest)?));
     let came = run(global, &mut giving(script, 4096), &mut writer);
     let all = answers(global, script);
     let which = if all.as_slice().starts_with(writer.text.as_slice()) {
@@ -106,7 +90,7 @@ fn writer_line(global: Global, script: &[u8], rest: &str) -> Option<String> {
 
 fn empty_lines(global: Global, count: &str) -> Option<String> {
     let left = count.parse::<usize>().ok()?;
-    let mut writer = Taken::new(global, 4096, None);
+    let mut writer = Collected::new(global, 4096, None);
     let came = run(global, &mut EmptyLines { left }, &mut writer);
     ended(global, came, writer.text.as_slice())
 }

@@ -50,16 +50,16 @@ impl Read for EmptyLines {
 
 /// Takes so many bytes a call, and fails once, when it has taken so many.
 #[derive(Drop)]
-pub struct Taken {
+pub struct Collected {
     pub text: Vec<u8>,
     pub step: usize,
     pub fails: Option<(usize, ErrorKind)>,
 }
 
-impl Taken {
+impl Collected {
     /// A writer that has taken nothing.
     pub fn new(global: Global, step: usize, fails: Option<(usize, ErrorKind)>) -> Self {
-        Taken {
+        Collected {
             text: Vec::new(global),
             step,
             fails,
@@ -67,7 +67,7 @@ impl Taken {
     }
 }
 
-impl Write for Taken {
+impl Write for Collected {
     fn write(&mut self, buf: &[u8]) -> io::Result<usize> {
         if let Some((most, kind)) = self.fails
             && most <= self.text.len()
@@ -89,11 +89,27 @@ impl Write for Taken {
 pub fn run<A: Allocator + Copy, R: Read>(
     alloc: A,
     reader: &mut R,
-    writer: &mut Taken,
+    writer: &mut Collected,
 ) -> Result<usize, ScriptFault> {
     let image = Image::empty(alloc, KeyBytes::Signed, PageSize::Small);
     match run_script(alloc, &Notation::Hex, reader, writer, image) {
         Ok(after) => Ok(after.count()),
         Err(fault) => Err(fault),
     }
+}
+
+/// Gives a text, so many bytes a call.
+pub fn giving(text: &[u8], step: usize) -> Given<'_> {
+    Given {
+        text,
+        step,
+        fails: None,
+    }
+}
+
+/// What a script answers where nothing fails.
+pub fn answers(global: Global, script: &[u8]) -> Vec<u8> {
+    let mut writer = Collected::new(global, 4096, None);
+    let _came = run(global, &mut giving(script, 4096), &mut writer);
+    writer.text
 }

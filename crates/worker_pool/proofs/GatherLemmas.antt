@@ -9,7 +9,7 @@ use Rattle.std.proofs.lemmas.Bool.{cases_eq, eqb-true, false_from_ne_true}
 use Rattle.worker_pool.specs.Shares.{share_of}
 use Rattle.worker_pool.proofs.ShareLemmas.{some_of, share_nil, share_push, share_length, share_front, share_take}
 
--- what was taken is each list's share of it, and the rest of each list is behind
+-- what was taken is each list's share of it, and the rest of each list is after
 abbrev pub AreTaken : {X S : Type 0} → (S → List X) → ℕ → List X → List S → List S → Type 0
 AreTaken {X} {S} view k taken lists whole = (w : ℕ) (d : S) → w < k → share_of k w taken ++ view (slice_index_or lists w d) ≡ view (slice_index_or whole w d)
 

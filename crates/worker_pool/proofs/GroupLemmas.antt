@@ -137,7 +137,7 @@ group_refused programs tasks k w at s s' replies replies' first refusal some wit
     let d = some_of tasks at within in
     tried_more programs tasks k w at s s' replies replies' first d (Some refusal) some within its_own (refused (slice_index_or tasks at d) (slice_get-get_or tasks at d within)) (same, kept) tt tried
 
--- a worker goes on behind a place of its own that it has tried
+-- a worker goes on after a place of its own that it has tried
 pub goes_on : {A : Type 0} (programs : List Accepted) (tasks : List (Task A)) (k w at : ℕ) (s : SessionState A) (replies : List (Reply A)) (first : Option (ℕ × Refusal)) (next : Option ℕ) → 0 < k → at % k ≡ w → IsNext (length tasks) at k next → HasTried programs tasks k w (at + k) s replies first → GoesOn programs tasks k w at s replies first next
 goes_on programs tasks k w at s replies first None some its_own is tried = tried_all programs tasks k w (at + k) s replies first is tried
 goes_on programs tasks k w at s replies first (Some next) some its_own is tried =

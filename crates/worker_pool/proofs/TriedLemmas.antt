@@ -59,7 +59,7 @@ round_cases k w at place its_own also below =
       ]
     ]
 
--- one call more: its task stands behind those that were run
+-- one call more: its task stands after those that were run
 called_runs : {A : Type 0} (programs : List Accepted) (ran : List (Task A)) (task : Task A) (s s' : SessionState A) (reply : Reply A) → s' ≡ with_call s (run_of programs task) reply → AreRuns programs ran s.number s.calls → AreRuns programs (ran ++ task ∷ []) s'.number s'.calls
 called_runs {A} programs ran task s s' reply is runs =
     let e : Entry A = record { session = s.number; command = run_of programs task; reply = reply } in

@@ -26,7 +26,7 @@ abbrev pub AreRunsFrom : {A : Type 0} → List Accepted → List (Task A) → �
 AreRunsFrom programs tasks k at [] = Unit {0}
 AreRunsFrom {A} programs tasks k at (command ∷ commands) = (task : Task A) × ((slice_get tasks at ≡ Some task) × ((command ≡ run_of programs task) × AreRunsFrom programs tasks k (at + k) commands))
 
--- the place behind the last of them
+-- the place after the last of them
 abbrev pub place_behind : {X : Type 0} → ℕ → ℕ → List X → ℕ
 place_behind k at [] = at
 place_behind k at (x ∷ xs) = place_behind k (at + k) xs

@@ -47,7 +47,7 @@ pub record IsCalled {A : Type 0} (command : Command A) (session : SessionState A
   pub call : session' ≡ with_call session command reply
   pub added : replies' ≡ replies ++ reply ∷ []
 
--- the first task that was refused, where one more was tried behind those that are known
+-- the first task that was refused, where one more was tried after those that are known
 abbrev pub first_with : Option (ℕ × Refusal) → ℕ → Option Refusal → Option (ℕ × Refusal)
 first_with (Some first) at refusal = Some first
 first_with None at None = None

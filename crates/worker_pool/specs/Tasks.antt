@@ -37,7 +37,7 @@ pub record IsFirstUnknown {A : Type 0} (programs : List Accepted) (tasks : List 
   pub unknown : length programs ≤ task.prog.0
   pub known : AreKnown programs (take at tasks)
 
--- Why a task is refused: as a session's call for it is, or for want of memory before that is made.
+-- Why a task is refused: as a session's call for it is, or because no memory is left before that call.
 abbrev pub IsTaskRefusal : {A : Type 0} → PageSize → Command A → Refusal → Type 0
 IsTaskRefusal size command refusal = IsRefusal size command refusal ⊎ (refusal ≡ refusals.NoMemory)
 

@@ -114,7 +114,7 @@ fn ready_more<A: Allocator + Copy, G: Gate>(
     calls
 }
 
-/// The worker's place behind one of its own, if there is one.
+/// The worker's place after one of its own, if there is one.
 pub(crate) fn place_after<A: Allocator>(
     tasks: &[Task<A>],
     at: usize,

@@ -133,7 +133,7 @@ fn take<A: Allocator>(
     }
 }
 
-// The first task that was refused, of what was known before and of a task behind that.
+// The first task that was refused, of what was known before and of a task after that.
 fn earlier(
     first: Option<(usize, Refusal)>,
     at: usize,

@@ -3,7 +3,7 @@ use Rattle.std.specs.List.{All}
 use Rattle.std.specs.FinMap as map
 use Rattle.sdbm_dir.proofs.FileLemmas.{AreDirectoryBytes-unique}
 use Rattle.sdbm_stats.specs.Totals.{AreBelow}
-use Rattle.sdbm_stats.specs.declared.shapes.PageShape.{PageShape}
+use Rattle.sdbm_stats.specs.declared.totals.PageShape.{PageShape}
 use Rattle.sdbm_stats.proofs.SplitsLemmas.{directory_short}
 use Rattle.sdbm_stats.proofs.ShapesLemmas.{few_shapes, shapes_rise, bars_is, ten_bars, fullest_is, depths_is, used_is, wide_is, holes_is, count_is}
 use Rattle.sdbm_stats.proofs.stats_of.Goals as goal

@@ -40,7 +40,7 @@ pub fn read_two_known(words: &str) -> Option<(Known, Known)> {
     Some((read_known(a)?, read_known(b)?))
 }
 
-/// An operation and its width, and the words behind.
+/// An operation and its width, and the words after.
 pub fn read_operation(words: &str) -> Option<(Op, Width, &str)> {
     let (op, rest) = words.split_once(' ')?;
     let (width, rest) = rest.split_once(' ')?;
@@ -55,7 +55,7 @@ pub struct Edge {
     pub taken: bool,
 }
 
-/// An edge, and the words behind.
+/// An edge, and the words after.
 pub fn read_jump(words: &str) -> Option<(Edge, &str)> {
     let (test, rest) = words.split_once(' ')?;
     let (width, rest) = rest.split_once(' ')?;

@@ -4,7 +4,7 @@ use Rattle.std.specs.List.{Contains}
 use Rattle.sdbm_addr.specs.Pairs.{page_bytes}
 use Rattle.sdbm_addr.specs.Layout.{bytes_of_page}
 use Rattle.sdbm_addr.specs.Database.{pairs_at}
-use Rattle.boddurci_c.proofs.Marked.{still}
+use Rattle.boddurci_marks.proofs.Marked.{still}
 use Rattle.boddurci_c.proofs.db.foreign_pages.Goals as goal
 use Rattle.boddurci_c.proofs.db.foreign_pages.Goals.{then-not-is_same+in_ok-add, else-not-is_same}
 

@@ -4,7 +4,7 @@ use Rattle.sdbm_addr.specs.declared.PageSize.{PageSize}
 use Rattle.sdbm_addr.specs.Database.{pairs_at}
 use Rattle.store_moves.specs.Leads.{IsPlaceOf}
 use Rattle.store_moves.specs.Works.{change_of, key_of}
-use Rattle.boddurci_c.specs.Growth.{has_pairs, may_grow}
+use Rattle.boddurci_marks.specs.Growth.{has_pairs, may_grow}
 use Rattle.boddurci_c.proofs.Fitting.{may_put_worked, put_worked, fits_worked}
 use Rattle.boddurci_c.proofs.Bases.{differ_either, same_db}
 use Rattle.boddurci_c.proofs.db.perform.Goals as goal

@@ -4,7 +4,7 @@ use Rattle.std.specs.Int.{cast_unsigned, w16}
 use Rattle.bpf_insn.specs.declared.fields.Fields.{Fields}
 use Rattle.bpf_insn.specs.declared.insn.Insn.{Insn}
 use Rattle.bpf_insn.specs.declared.insn.Insn.TheVariants.{Wide}
-use Rattle.bpf_insn.specs.declared.rows.UnitFault.{UnitFault}
+use Rattle.bpf_insn.specs.declared.operands.UnitFault.{UnitFault}
 use Rattle.bpf_insn.specs.Spelling.{unit_bytes}
 use Rattle.bpf_insn.proofs.RowFacts.{tells_row, tells_high, tells_number, halves_spell, zero_16, bits_again_32}
 use Rattle.bpf_insn.proofs.constant.wide_of.Goals as goal

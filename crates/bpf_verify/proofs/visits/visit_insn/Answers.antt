@@ -1,9 +1,9 @@
 use Rattle.std.proofs.Common.{◌≡◌, ◌+◌, arith, w64, to_z, of_z}
 use Rattle.std.proofs.Math.IntN.{nat_abs}
 use Rattle.std.proofs.lemmas.Int.{ints}
-use Rattle.bpf_verify.specs.Steps.{distance_of}
+use Rattle.bpf_flow.specs.Steps.{distance_of}
+use Rattle.bpf_flow.proofs.Jumping.{natural}
 use Rattle.bpf_verify.proofs.Built.{distance_forward}
-use Rattle.bpf_verify.proofs.Jumping.{natural}
 use Rattle.bpf_verify.proofs.Keeping.{plain}
 use Rattle.bpf_verify.proofs.visits.visit_insn.Goals as goal
 

@@ -1,4 +1,4 @@
-use Rattle.bpf_verify.specs.Steps.{edges_of}
+use Rattle.bpf_flow.specs.Steps.{edges_of}
 use Rattle.bpf_verify.proofs.Keeping.{goes_next, goes_jump, one_way}
 use Rattle.bpf_verify.proofs.visits.visit_plain.Goals as goal
 

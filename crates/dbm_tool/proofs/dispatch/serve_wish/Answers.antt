@@ -9,7 +9,7 @@ use Rattle.dbm_tool.specs.Outcomes.{IsOutcome, failed}
 use Rattle.std.specs.declared.alloc.Global.{Global}
 use Rattle.dbm_script.specs.declared.notations.Notation.{Notation}
 use Rattle.dbm_tool.specs.Services.{Service, notation_for, reads_input, service_for, service_in}
-use Rattle.dbm_tool.specs.declared.outcome.Outcome.{Outcome}
+use Rattle.dbm_tool.specs.declared.outcome.WishOutcome.{WishOutcome}
 use Rattle.dbm_tool.proofs.Faults.{unlaid}
 use Rattle.dbm_tool.proofs.Turns.{failed_early, keeps_all, noted_outcome}
 use Rattle.dbm_tool.proofs.dispatch.serve_wish.Goals as goal
@@ -24,7 +24,7 @@ returns-in-Err g c =
     let input : Option (List ℕ) = g.R.Read.remaining c.args.reader.now in
     let old : Option (List ℕ) = g.W.Write.contents c.args.writer.now in
     let known : Notation Global → Service = λ n. service_in n c.args.wish c.args.given.now input in
-    subst (λ (o : Outcome). IsOutcome (service_for c.args.wish c.args.given.now input) (writes_files c.args.wish) (reads_input c.args.wish) input input old old o)
+    subst (λ (o : WishOutcome). IsOutcome (service_for c.args.wish c.args.given.now input) (writes_files c.args.wish) (reads_input c.args.wish) input input old old o)
     (sym (c.failed.ensures ∙ ap failed c.from.ensures))
     (failed_early (service_for c.args.wish c.args.given.now input) (writes_files c.args.wish) (reads_input c.args.wish) input input old old (report_fault c.in-Err.fault)
     (unlaid (notation_for c.args.wish) known c.in-Err.fault

@@ -3,7 +3,7 @@ use Rattle.std.proofs.lemmas.List.{take_more, take_all}
 use Rattle.std.specs.HashMap.{get}
 use Rattle.std.specs.Map.{lookup}
 use Rattle.desk_core.specs.declared.events.Event.{Event}
-use Rattle.desk_core.specs.declared.events.Outcome.{Outcome}
+use Rattle.desk_core.specs.declared.events.EventOutcome.{EventOutcome}
 use Rattle.desk_core.specs.Desk.{DeskState, IsSound}
 use Rattle.desk_core.specs.Events.{Plays, no_hands}
 use Rattle.desk_core.proofs.Playing.{Plays-push, GoesOn-from_Plays}
@@ -14,7 +14,7 @@ loop-event-init g c =
     let hands = c.in_ok-hands.ensures in
     let outcomes = c.in_ok-outcomes.ensures in
     record {
-      plays = subst (λ (outs : List (Outcome g.row.A.Denot)). Plays c.args.self.now (no_hands {A = g.row.A.Denot}) [] outs c.args.self.now (get nat_eq c.in_ok-hands.hands)) (sym outcomes.items)
+      plays = subst (λ (outs : List (EventOutcome g.row.A.Denot)). Plays c.args.self.now (no_hands {A = g.row.A.Denot}) [] outs c.args.self.now (get nat_eq c.in_ok-hands.hands)) (sym outcomes.items)
           (refl, λ t. ap (lookup (nat_eq t)) hands.empty);
       len = outcomes.len;
       capacity = outcomes.capacity;
@@ -33,7 +33,7 @@ loop-event-preserved g c =
     (take k events) c.loop-event.outcomes.items event c.happen-outcome.result before.plays c.happen-outcome.ensures.does (subst (λ (x : DeskState g.row.A.Denot). IsSound x) c.self-in-loop-event.view_is c.self-in-loop-event.invariant.0) in
     record {
       plays = subst (λ (es : List (Event g.row.A.Denot)). Plays c.args.self.now (no_hands {A = g.row.A.Denot}) es c.push_reserved.new.self.items c.happen-outcome.new.self (get nat_eq c.happen-outcome.new.hands)) (sym more)
-          (subst (λ (outs : List (Outcome g.row.A.Denot)). Plays c.args.self.now (no_hands {A = g.row.A.Denot}) (take k events ++ event ∷ []) outs c.happen-outcome.new.self (get nat_eq c.happen-outcome.new.hands)) (sym c.push_reserved.ensures.items) played);
+          (subst (λ (outs : List (EventOutcome g.row.A.Denot)). Plays c.args.self.now (no_hands {A = g.row.A.Denot}) (take k events ++ event ∷ []) outs c.happen-outcome.new.self (get nat_eq c.happen-outcome.new.hands)) (sym c.push_reserved.ensures.items) played);
       len = c.push_reserved.ensures.len ∙ ap (λ n. n + 1) before.len;
       capacity = subst (λ n. length events ≤ n) (sym c.push_reserved.ensures.capacity) before.capacity;
       room = let room = before.room in let spent = c.happen-outcome.ensures.spare in omega arith;

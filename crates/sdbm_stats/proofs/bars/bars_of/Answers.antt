@@ -2,7 +2,7 @@ use Rattle.std.proofs.Common.{◌≡◌, ◌++◌, ◌∷◌, [], ◌==◌, ℕ,
 use Rattle.std.proofs.lemmas.List.FromFn.{map-range_with_len_more}
 use Rattle.std.specs.List.{count_by, range_with_len}
 use Rattle.sdbm_stats.specs.Shapes.{tenth}
-use Rattle.sdbm_stats.specs.declared.shapes.PageShape.{PageShape}
+use Rattle.sdbm_stats.specs.declared.totals.PageShape.{PageShape}
 use Rattle.sdbm_stats.proofs.bars.bars_of.Goals as goal
 
 pub loop-i-preserved : goal.loop-i-preserved

@@ -1,7 +1,7 @@
 use Rattle.std.proofs.Common.{◌≡◌, ◌==◌, map as map_list}
 use Rattle.std.specs.List.{count_by, range_with_len}
 use Rattle.sdbm_stats.specs.Shapes.{tenth}
-use Rattle.sdbm_stats.specs.declared.shapes.PageShape.{PageShape}
+use Rattle.sdbm_stats.specs.declared.totals.PageShape.{PageShape}
 use Rattle.sdbm_stats.proofs.bars.bars_of.Given as goal
 
 abbrev pub invariant-loop-i : goal.invariant-loop-i

@@ -2,7 +2,7 @@ use Rattle.std.proofs.Common.{◌≡◌, map as map_list}
 use Rattle.std.specs.List.{All}
 use Rattle.sdbm_stats.specs.Totals.{AreBelow}
 use Rattle.sdbm_stats.specs.Shapes.{shape_of}
-use Rattle.sdbm_stats.specs.declared.shapes.PageShape.{PageShape}
+use Rattle.sdbm_stats.specs.declared.totals.PageShape.{PageShape}
 use Rattle.sdbm_stats.proofs.UsedPages.{pages_below}
 use Rattle.sdbm_stats.proofs.shapes.shapes_of.Given as goal
 

@@ -1,9 +1,9 @@
 use Rattle.std.proofs.Common.{◌≡◌, true, Option, IfSome, is_some, sym, subst}
 use Rattle.std.specs.declared.alloc.Global.{Global}
-use Rattle.store_moves.specs.declared.work.Worked.{Worked}
+use Rattle.store_moves.specs.declared.worked.Worked.{Worked}
 use Rattle.store_moves.specs.Acts.{Acts}
 use Rattle.boddurci_c.specs.Asked.{Asked, IsWorkedOut, result_of}
-use Rattle.boddurci_c.specs.Growth.{has_pairs, may_grow}
+use Rattle.boddurci_marks.specs.Growth.{has_pairs, may_grow}
 use Rattle.boddurci_c.specs.Tickets.{IsCurrent}
 use Rattle.boddurci_c.proofs.Jobs.{may_put, put_acts, put_fits}
 use Rattle.boddurci_c.proofs.job.Job.put.Goals as goal

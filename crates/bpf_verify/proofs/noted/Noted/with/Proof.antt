@@ -20,8 +20,8 @@ use mir.Syntax.{named}
 use denote.Triple.Entry.{Res, alive}
 use denote.Triple.Walked.{says, Stays, stay_dropped, walk_of, Goes-dropped, ends_at}
 use Rattle.std.proofs.raw_atomic.Walks.{proved}
+use Rattle.bpf_flow.specs.contracts.state.State.{the_row as State}
 use Rattle.bpf_verify.specs.contracts.noted.Noted.{the_row}
-use Rattle.bpf_verify.specs.contracts.state.State.{the_row as State}
 use Rattle.bpf_verify.specs.contracts.noted.Noted.with as f
 use Rattle.bpf_verify.proofs.noted.Noted.with.Statement.{statement}
 use Rattle.bpf_verify.proofs.noted.Noted.with.Code as code

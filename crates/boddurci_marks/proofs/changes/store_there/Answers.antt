@@ -1,0 +1,17 @@
+use Rattle.std.proofs.Common.{refl}
+use Rattle.std.specs.declared.alloc.Global.{Global}
+use Rattle.store_cmd.specs.declared.Command.TheVariants.{Store}
+use Rattle.store_cmd.specs.declared.Reply.TheVariants.{Stored}
+use Rattle.store_cmd.specs.declared.Entry.{Entry}
+use Rattle.boddurci_marks.proofs.Marked.{differ_done}
+use Rattle.boddurci_marks.proofs.changes.store_there.Goals as goal
+
+pub returns-then-act_store-clause-done : goal.returns-then-act_store-clause-done
+returns-then-act_store-clause-done c = λ is. c.if-act_store.ensures.done refl 0
+
+pub returns-then-act_store-clause-differ : goal.returns-then-act_store-clause-differ
+returns-then-act_store-clause-differ c = λ is.
+    let p = c.place-place.ensures in
+    let entry : Entry Global = record { session = 0; command = Store c.args.key.now c.args.value.now c.args.mode; reply = Stored } in
+    differ_done c.args.image.now c.act_store.new.image c.args.marks.now c.add.new.self c.in-Ok.ensures.more p.database entry tt c.place-place.result
+    (record { depth = p.depth; shallow = p.shallow; low_bits = p.low_bits; bit = p.bit }) (c.if-act_store.ensures.done refl 0) (c.if-act_store.ensures.fills refl) c.in-Ok.ensures.ok

@@ -1,0 +1,46 @@
+-- Which pages may differ from those of the database that was opened, or of which the last plan was made (own).
+use Rattle.std.specs.Prelude.{◌≡◌, ◌⊎◌, ◌<◌, ◌++◌, ℕ, Bool, true, false, List, [], length, get_or, Contains, Option, Some, None, ◌+◌, ◌*◌, ◌/◌, slice_range}
+use Rattle.std.specs.List.{All}
+use Rattle.std.specs.Coded.{Coded-set}
+use Rattle.sdbm_addr.specs.Pairs.{Content, page_bytes}
+use Rattle.sdbm_addr.specs.Layout.{bytes_of_page}
+use Rattle.sdbm_split.specs.Planned.{PageChange}
+use Rattle.sdbm_addr.specs.Database.{Database, pairs_at, coded_kind, coded_size, coded_pairs, coded_database}
+
+-- a number is marked exactly where it is in the list, which has it once
+pub record AreMarked (marked : List Bool) (numbers : List ℕ) : Type 0 where
+  pub only : (n : ℕ) → get_or marked n false ≡ true → Contains numbers n
+  pub each : (i : ℕ) → i < length numbers → get_or marked (get_or numbers i 0) false ≡ true
+  pub once : (i j : ℕ) → i < j → j < length numbers → get_or numbers i 0 ≡ get_or numbers j 0 → ⊥
+
+-- there are more numbers after the others
+pub record HasMore (old new : List ℕ) : Type 0 where
+  pub more : List ℕ
+  pub is : new ≡ old ++ more
+
+-- Two databases hash keys alike, have pages of one size, and differ on these pages alone. Where there are none they are the same.
+pub record DifferOn (numbers : List ℕ) (base db : Database) : Type 0 where
+  pub kind : db.kind ≡ base.kind
+  pub size : db.size ≡ base.size
+  pub rest : (n : ℕ) → (Contains numbers n → ⊥) → pairs_at db n ≡ pairs_at base n
+  pub none : numbers ≡ [] → db ≡ base
+
+pub DifferOn-prop : (numbers : List ℕ) (base db : Database) → IsProp (DifferOn numbers base db)
+DifferOn-prop numbers base db = hlevel (Coded-set coded_kind db.kind base.kind, Coded-set coded_size db.size base.size, Coded-set coded_pairs, Coded-set coded_database db base)
+
+-- the page of each of these has a mark, or has the pairs that it had
+abbrev pub CoversTwins : Database → List (ℕ × Content) → List ℕ → Type 0
+CoversTwins db twins marks = All (λ (e : ℕ × Content). Contains marks e.0 ⊎ (e.1.pairs ≡ pairs_at db e.0)) twins
+
+-- each page to which a change gives other pairs has a mark
+abbrev pub Covers : Database → ℕ → Option PageChange → List ℕ → Type 0
+Covers db number None marks = Unit {0}
+Covers db number (Some change) marks = Contains marks number × CoversTwins db change.twins marks
+
+-- each whole page of a file that is not marked stands there as it is written for a database
+abbrev pub AreForeign : Database → List ℕ → List ℕ → Type 0
+AreForeign db pag marks = (n : ℕ) → n < length pag / page_bytes db.size → (Contains marks n → ⊥) → slice_range pag (n * page_bytes db.size) (n * page_bytes db.size + page_bytes db.size) ≡ bytes_of_page db.size (pairs_at db n)
+
+-- each mark is one of these numbers
+abbrev pub AreAmong : List ℕ → List ℕ → Type 0
+AreAmong marks numbers = (n : ℕ) → Contains marks n → Contains numbers n

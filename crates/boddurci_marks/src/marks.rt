@@ -1,0 +1,114 @@
+//! Which pages may differ.
+ghost use Rattle.std.specs.Prelude.{◌≡◌, ◌↔◌, ◌⊎◌, ◌<◌, ℕ, false, List, [], length, take, get_or, IsTrue, OnOk, OnErr, Contains};
+ghost use Rattle.boddurci_marks.specs.Marks.{HasMore};
+
+use std::alloc::{AllocError, Global};
+use std::marker::Model;
+
+/// Numbers of pages, in the order in which they were added, each once. A number is looked up in one step.
+#[derive(Drop)]
+pub struct Marks {
+    marked: Vec<bool>,
+    numbers: Vec<u32>,
+}
+
+impl Model for Marks {
+    ghost use Rattle.std.specs.Prelude.{ℕ, List};
+    ghost use Rattle.boddurci_marks.specs.Marks.{AreMarked};
+
+    ghost Value = { List ℕ };
+
+    ghost view = { λ a. a.numbers.items };
+
+    ghost invariant = { λ a. AreMarked a.marked.items a.numbers.items };
+}
+
+// Makes room for the mark of a number. Each number is marked as before.
+fn grow(marked: &mut Vec<bool>, number: u32) -> Result<(), AllocError>
+    ensures same { (n : ℕ) → get_or marked.new.items n false ≡ get_or marked.old.items n false }
+    ensures ok { OnOk result (number < length marked.new.items) }
+{
+    let at = number as usize;
+    if at < marked.len() {
+        return Ok(());
+    }
+    marked.resize(at + 1, false)
+}
+
+impl Marks {
+    /// No numbers. It takes no memory.
+    pub fn new(alloc: Global) -> Marks
+        ensures { result ≡ [] }
+    {
+        Marks {
+            marked: Vec::new(alloc),
+            numbers: Vec::new(alloc),
+        }
+    }
+
+    /// The numbers.
+    pub fn as_slice(&self) -> &[u32]
+        ensures { result.now ≡ self.now }
+    {
+        self.numbers.as_slice()
+    }
+
+    /// Whether a number is among them.
+    pub fn has(&self, number: u32) -> bool
+        ensures { IsTrue result ↔ Contains self.now number }
+    {
+        match self.marked.get(number as usize) {
+            Some(bit) => *bit,
+            None => false,
+        }
+    }
+
+    /// Adds a number, where it is not among them.
+    ///
+    /// # Errors
+    /// `AllocError` where no memory is left. The numbers are then as they were.
+    pub fn add(&mut self, number: u32) -> Result<(), AllocError>
+        ensures more { HasMore self.old self.new }
+        ensures only { (n : ℕ) → Contains self.new n → Contains self.old n ⊎ (n ≡ number) }
+        ensures ok { OnOk result (Contains self.new number) }
+        ensures err { OnErr result (self.new ≡ self.old) }
+    {
+        if self.has(number) {
+            return Ok(());
+        }
+        grow(&mut self.marked, number)?;
+        self.numbers.push(number)?;
+        self.marked[number as usize] = true;
+        Ok(())
+    }
+
+    /// Adds each of some numbers that is not among them.
+    ///
+    /// # Errors
+    /// `AllocError` where no memory is left. The numbers are then as they were.
+    pub fn add_all(&mut self, numbers: &[u32]) -> Result<(), AllocError>
+        ensures more { HasMore self.old self.new }
+        ensures ok { OnOk result ((n : ℕ) → Contains numbers.now n → Contains self.new n) }
+        ensures err { OnErr result (self.new ≡ self.old) }
+    {
+        let len = self.as_slice().len();
+        for number in numbers {
+            let Ok(()) = self.add(*number) else {
+                self.cut(len);
+                return Err(AllocError);
+            };
+        }
+        Ok(())
+    }
+
+    /// Takes out those that were added last, so that so many are left.
+    pub fn cut(&mut self, len: usize)
+        ensures { self.new ≡ take len self.old }
+    {
+        while self.numbers.len() > len {
+            if let Some(number) = self.numbers.pop() {
+                self.marked[number as usize] = false;
+            }
+        }
+    }
+}

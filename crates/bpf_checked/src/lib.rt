@@ -1,0 +1,20 @@
+//! The machine that runs any code, accepted or not.
+//!
+//! `run_checked` tests each instruction before it does anything of it, and stops at one to which the
+//! definitions give no effect, as a read of an unset register. It shows what a program means, and tests
+//! compare the machine of accepted programs with it.
+#![tactic(auto)]
+
+mod arithmetic;
+mod calls;
+mod checked;
+mod copies;
+mod cpu;
+mod jumps;
+mod loads;
+mod places;
+mod steps;
+mod stores;
+mod values;
+
+pub use checked::{Checked, run_checked};

@@ -1,0 +1,19 @@
+use Rattle.std.proofs.Common.{rules}
+use Rattle.std.specs.Prelude.{FitsSigned}
+use Rattle.std.specs.Int.{w16, w64}
+use Rattle.std.proofs.lemmas.Int.{to_z-of_z}
+use Rattle.std.proofs.lemmas.Result.{on_ok_weaker}
+use Rattle.bpf_insn.specs.Arithmetic.{bytes_of}
+use Rattle.bpf_flow.specs.Steps.{Accesses}
+use Rattle.bpf_flow.proofs.Memories.{reaches, store_passes}
+use Rattle.bpf_flow.proofs.loads.after_store.Goals as goal
+
+pub returns : goal.returns
+returns c = on_ok_weaker c.inside.result (λ inside.
+    let o : FitsSigned w16 c.args.offset = search rules in
+    let p : FitsSigned w64 c.args.offset = search rules in
+    let a = simp to_z-of_z at inside in
+    let acc : Accesses c.in-Some.place.region c.in-Some.place.lo c.in-Some.place.hi c.args.state.now c.args.offset (bytes_of c.args.size) = rw c.count_of.ensures.value at a in
+    store_passes c.args.size c.args.base c.args.src c.args.offset c.in-Some.place.region c.args.state.now c.in-Some-number_of._number c.requires.src c.in_ok-writable.ensures
+    (λ m n v i j h. c.in-Some-number_of.ensures m n v i j (rw c.kind-4.ensures h))
+    (reaches c.args.state.now c.args.base c.args.offset (bytes_of c.args.size) c.in-Some.place.region c.in-Some.place.lo c.in-Some.place.hi c.requires.base (λ m n v h. c.in-Some.ensures m n v (rw c.kind-3.ensures h)) acc)) c.inside.ensures

@@ -1,0 +1,4 @@
+pub mod Kinds
+pub mod States
+pub mod Steps
+pub mod Tested

@@ -1,0 +1,91 @@
+//! What is known before and after an instruction.
+
+ghost use Rattle.std.specs.Prelude.{◌≡◌, ◌≤◌, length};
+ghost use Rattle.bpf_insn.specs.Spelling.{IsOperand};
+ghost use Rattle.bpf_helpers.specs.Machine.{operand as operand_of};
+ghost use Rattle.bpf_helpers.specs.Runs.{start, IsInput};
+ghost use Rattle.bpf_flow.specs.Kinds.{HoldsKind};
+ghost use Rattle.bpf_flow.specs.States.{Fits, kind_in};
+ghost use Rattle.bpf_flow.specs.Steps.{Sets};
+
+use bpf_helpers::{ARGUMENT_LIMIT, RECORD_LIMIT};
+use bpf_insn::Operand;
+use bpf_range::{Kind, Known, Range};
+
+/// What is known before an instruction: the kind of each register, and the lengths of the record and
+/// the argument.
+#[derive(Clone, Copy, Debug)]
+pub struct State {
+    pub kinds: [Kind; 11],
+    pub bytes: Range,
+    pub argument: Range,
+}
+
+impl State {
+    /// What is known at the start.
+    pub fn at_start() -> State
+        ensures { (bytes argument : _) (env : _) → IsInput bytes argument env → Fits result (start bytes argument env) }
+    {
+        State {
+            kinds: [
+                Kind::Unset,
+                Kind::Rec { lo: 0, hi: 0 },
+                Kind::RecLen,
+                Kind::Arg { lo: 0, hi: 0 },
+                Kind::ArgLen,
+                Kind::Unset,
+                Kind::Unset,
+                Kind::Unset,
+                Kind::Unset,
+                Kind::Unset,
+                Kind::Stack { lo: 0, hi: 0 },
+            ],
+            bytes: Range {
+                lo: 0,
+                hi: RECORD_LIMIT as u64,
+            },
+            argument: Range {
+                lo: 0,
+                hi: ARGUMENT_LIMIT as u64,
+            },
+        }
+    }
+
+    /// The kind of a register.
+    pub fn kind(&self, register: u8) -> Kind
+        requires { register ≤ 10 }
+        ensures { result ≡ kind_in self.now register }
+    {
+        self.kinds[register as usize]
+    }
+
+    /// The kind of an operand: an immediate is a number, with its sign to 64 bits.
+    pub fn operand(&self, operand: Operand) -> Kind
+        requires { IsOperand operand }
+        ensures { (c : _) → Fits self.now c → HoldsKind result (length c.bytes) (length c.argument) (operand_of c operand) }
+    {
+        match operand {
+            Operand::Imm(k) => Kind::Num(Known::single((k as i64).cast_unsigned())),
+            Operand::Reg(r) => self.kind(r),
+        }
+    }
+
+    /// Gives a register another kind.
+    pub fn set(&mut self, register: u8, kind: Kind)
+        requires { register ≤ 10 }
+        ensures { Sets self.old self.new register kind }
+    {
+        self.kinds[register as usize] = kind;
+    }
+}
+
+/// Where a run may go on after an instruction.
+#[derive(Clone, Copy)]
+pub enum Way {
+    /// Nowhere: it ends, or never comes to the instruction.
+    End,
+    Next,
+    Jump,
+    /// To the next instruction, or to that of the jump.
+    Both,
+}

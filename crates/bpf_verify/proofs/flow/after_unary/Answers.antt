@@ -1,6 +1,0 @@
-use Rattle.std.proofs.Common.{sym}
-use Rattle.bpf_verify.proofs.Arms.{unary_passes}
-use Rattle.bpf_verify.proofs.flow.after_unary.Goals as goal
-
-pub returns : goal.returns
-returns c = unary_passes c.args.op c.args.width c.args.dst c.args.state.now c.set.new.self c.single.result c.in_ok-kind.kind c.set.ensures c.requires.dst c.requires.frame (rw (sym c.kind.ensures) c.in_ok-kind.ensures) c.single.ensures.contains

@@ -1,0 +1,17 @@
+-- The faults of a disk and of a plan, as faults of the files.
+use Rattle.sdbm_saves.specs.declared.disk.DiskError.{DiskError}
+use Rattle.sdbm_saves.specs.declared.disk.DiskError.TheVariants as disk
+use Rattle.sdbm_saves.specs.declared.planning.SavePlanFault.{SavePlanFault}
+use Rattle.sdbm_saves.specs.declared.planning.SavePlanFault.TheVariants as planned
+use Rattle.dbm_places.specs.declared.fault.FilesFault.{FilesFault}
+use Rattle.dbm_places.specs.declared.fault.FilesFault.TheVariants.{FileTooLong, WriteFile, NoMemory}
+
+-- the fault of a disk
+abbrev pub disk_fault : DiskError → FilesFault
+disk_fault disk.Memory = NoMemory
+disk_fault disk.Failed = WriteFile
+
+-- the fault of a save that has no plan
+abbrev pub plan_fault : SavePlanFault → FilesFault
+plan_fault planned.TooLong = FileTooLong
+plan_fault planned.NoMemory = NoMemory

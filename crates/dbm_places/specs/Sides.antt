@@ -1,0 +1,37 @@
+-- Which files beside a database are taken.
+use Rattle.std.specs.Prelude.{◌≡◌, ◌⊎◌, ℕ, ◌/◌, ◌%◌, IsTrue, Option, Some, None}
+use Rattle.dbm_places.specs.declared.side.Standing.{Standing}
+
+-- a bit of the permissions of POSIX, as the octal 002 and 020 have them
+abbrev pub others_write : ℕ → Type 0
+others_write mode = mode / 2 % 2 ≡ 1
+
+abbrev pub group_writes : ℕ → Type 0
+group_writes mode = mode / 16 % 2 ≡ 1
+
+-- nobody may write the one who may not write the other, by their permissions
+abbrev pub IsNoWiderThan : Standing → Standing → Type 0
+IsNoWiderThan side pages =
+    others_write pages.mode ⊎ ((others_write side.mode → ⊥) × (group_writes side.mode → group_writes pages.mode × (side.group ≡ pages.group)))
+
+abbrev pub IsNoWider : Standing → Option Standing → Type 0
+IsNoWider side (Some pages) = IsNoWiderThan side pages
+IsNoWider side None = (others_write side.mode → ⊥) × (group_writes side.mode → ⊥)
+
+-- it is of this user, of root, or of the owner of the pages
+abbrev pub IsOwned : Standing → Option Standing → Option ℕ → Type 0
+IsOwned side (Some pages) user = (side.owner ≡ 0) ⊎ ((user ≡ Some side.owner) ⊎ (pages.owner ≡ side.owner))
+IsOwned side None user = (side.owner ≡ 0) ⊎ (user ≡ Some side.owner)
+
+pub record TakesRedo (side : Standing) (pages : Option Standing) (user : Option ℕ) : Type 0 where
+  pub plain : IsTrue side.is_plain
+  pub owned : IsOwned side pages user
+  pub no_wider : IsNoWider side pages
+
+-- its owner may write the pages, as far as that is seen
+abbrev pub IsOfWriters : Standing → Standing → Option ℕ → Type 0
+IsOfWriters side pages user = IsOwned side (Some pages) user ⊎ (others_write pages.mode ⊎ (group_writes pages.mode × (side.group ≡ pages.group)))
+
+abbrev pub TakesLock : Standing → Option Standing → Option ℕ → Type 0
+TakesLock side (Some pages) user = IsTrue side.is_plain × (IsOfWriters side pages user × IsNoWiderThan side pages)
+TakesLock side None user = IsTrue side.is_plain × (IsOwned side None user ⊎ (user ≡ None))

@@ -1,0 +1,37 @@
+//! Files that are not there, and names of no files.
+
+use crate::names::names_of;
+use std::fs::{self, File};
+use std::io::ErrorKind;
+use std::rt::Files;
+
+/// Whether a name leads to a FIFO, a device or a socket: a run that opens a FIFO waits for its other end.
+pub fn is_special<R: Files>(rt: &R, name: &str) -> bool {
+    match fs::metadata(rt, name) {
+        Ok(found) => !found.is_file() && !found.is_dir(),
+        Err(_) => false,
+    }
+}
+
+/// Whether a run is about a database of which neither file is there, nor the redo file of a save.
+pub fn has_no_files<R: Files<File = File> + AllocGlobal>(rt: &R, base: Option<&str>) -> bool {
+    let Some(base) = base else {
+        return false;
+    };
+    match names_of(rt.alloc(), base) {
+        Ok(names) => {
+            is_absent(rt, names.pages.as_str())
+                && is_absent(rt, names.directory.as_str())
+                && is_absent(rt, names.redo.as_str())
+        }
+        Err(_) => false,
+    }
+}
+
+/// Whether nothing has this name.
+pub fn is_absent<R: Files<File = File>>(rt: &R, name: &str) -> bool {
+    match fs::symlink_metadata(rt, name) {
+        Err(error) => error.kind() == ErrorKind::NotFound,
+        Ok(_) => false,
+    }
+}

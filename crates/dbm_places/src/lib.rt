@@ -1,0 +1,23 @@
+//! Which files a database has: their names, links that lead to them, what may lie beside them, the lock that keeps runs apart, and why files
+//! are not read, locked or written (`FilesFault`).
+#![tactic(auto)]
+
+mod absent;
+mod fault;
+mod links;
+mod lock;
+mod names;
+mod side;
+
+pub use absent::{has_no_files, is_absent, is_special};
+pub use fault::FilesFault;
+pub use links::resolve;
+pub use lock::{lock_to_read, lock_to_write};
+pub use names::{
+    DIR_LIMIT, FileBytes, Names, PROGRAM_LIMIT, RunPlace, Source, SourceKind, folder_of, names_of,
+    sources,
+};
+pub use side::{
+    Side, SideFault, Standing, doubt_of, make, make_directory, make_redo, open_beside, side_fault,
+    takes_lock, takes_redo,
+};

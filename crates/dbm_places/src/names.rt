@@ -1,0 +1,155 @@
+//! Which files a run is about: what is read, what is written, and the lock, each under its name.
+ghost use Rattle.std.specs.Prelude.{◌≡◌, ◌++◌, IfOk, codes, map, string_bytes};
+ghost use Rattle.dbm_places.specs.Names.{AreNames, files_read, shown_source};
+ghost use Rattle.dbm_places.specs.Names as spec;
+
+use sdbm_addr::PageSize;
+use sdbm_files::ReadPages;
+use std::alloc::{AllocError, Global};
+
+/// A `.dir` file of the program has at most this many bytes.
+pub const DIR_LIMIT: u64 = 268_435_456;
+
+/// A program's file has at most this many bytes.
+pub const PROGRAM_LIMIT: u64 = 1_048_576;
+
+/// What a run of the program says of its files.
+#[derive(Clone, Copy)]
+pub struct RunPlace<'a> {
+    /// The database, where there is one: its files are BASE.dir and BASE.pag.
+    pub base: Option<&'a str>,
+    /// The program's file, where there is one.
+    pub file: Option<&'a str>,
+    /// The run writes the files of the database, once it has done what it is asked.
+    pub writes: bool,
+    /// BASE.pag has at most this many bytes.
+    pub pages_limit: u64,
+    /// How large the pages of BASE.pag are taken to be while it is read. It opens in pages of the other size too, at the cost of a copy.
+    pub page_size: PageSize,
+}
+
+/// The files that a run names, as they were read; a file of a database that is not there has no bytes.
+#[derive(Drop)]
+pub struct FileBytes {
+    pub directory: Vec<u8>,
+    pub pages: ReadPages<Global>,
+    pub program: Vec<u8>,
+}
+
+/// Which of the files that are read one is.
+#[derive(Clone, Copy, Debug, PartialEq, Eq)]
+pub enum SourceKind {
+    /// The directory of a database.
+    Dir,
+    /// The pages of a database.
+    Pag,
+    /// A program, as text or as its image.
+    Program,
+}
+
+/// A file that is to be read.
+#[derive(Drop)]
+pub struct Source {
+    pub kind: SourceKind,
+    pub name: String,
+    /// The file has at most this many bytes.
+    pub limit: u64,
+    /// The file may be missing, and is then read as no bytes.
+    pub may_be_absent: bool,
+}
+
+/// The names of the files of a database that are written, and of its lock.
+#[derive(Drop)]
+pub struct Names {
+    /// BASE.pag, the pages.
+    pub pages: String,
+    /// BASE.dir, the directory.
+    pub directory: String,
+    /// BASE.redo, which is there while a save is under way.
+    pub redo: String,
+    /// BASE.lock, on which a run waits for others on the same database.
+    pub lock: String,
+}
+
+/// The files that are read for a run, in this order: BASE.dir and BASE.pag, each of which may be missing, and the program's file.
+/// The error is `AllocError`.
+pub fn sources(alloc: Global, place: RunPlace<'_>) -> Result<Vec<Source>, AllocError>
+    ensures { IfOk result (λ sources. map shown_source sources.items ≡ files_read place.entry) }
+{
+    let limit = place.pages_limit;
+    match (place.base, place.file) {
+        (Some(base), Some(file)) => {
+            let dir = dir_source(alloc, base)?;
+            let pag = pag_source(alloc, base, limit)?;
+            Ok(vec![in alloc; dir, pag, program_source(alloc, file)?]?)
+        }
+        (Some(base), None) => {
+            Ok(vec![in alloc; dir_source(alloc, base)?, pag_source(alloc, base, limit)?]?)
+        }
+        (None, Some(file)) => Ok(vec![in alloc; program_source(alloc, file)?]?),
+        (None, None) => Ok(Vec::new(alloc)),
+    }
+}
+
+fn dir_source(alloc: Global, base: &str) -> Result<Source, AllocError>
+    ensures { IfOk result (λ source. shown_source source ≡ spec.dir_file base.now) }
+{
+    Ok(Source {
+        kind: SourceKind::Dir,
+        name: joined(alloc, base, ".dir")?,
+        limit: DIR_LIMIT,
+        may_be_absent: true,
+    })
+}
+
+fn pag_source(alloc: Global, base: &str, limit: u64) -> Result<Source, AllocError>
+    ensures { IfOk result (λ source. shown_source source ≡ spec.pag_file limit base.now) }
+{
+    Ok(Source {
+        kind: SourceKind::Pag,
+        name: joined(alloc, base, ".pag")?,
+        limit,
+        may_be_absent: true,
+    })
+}
+
+fn program_source(alloc: Global, file: &str) -> Result<Source, AllocError>
+    ensures { IfOk result (λ source. shown_source source ≡ spec.program_file file.now) }
+{
+    Ok(Source {
+        kind: SourceKind::Program,
+        name: String::from_str(alloc, file)?,
+        limit: PROGRAM_LIMIT,
+        may_be_absent: false,
+    })
+}
+
+/// The names of the files of a base: BASE.pag, BASE.dir, BASE.redo and BASE.lock. The error is `AllocError`.
+pub fn names_of(alloc: Global, base: &str) -> Result<Names, AllocError>
+    ensures { IfOk result (AreNames base.now) }
+{
+    Ok(Names {
+        pages: joined(alloc, base, ".pag")?,
+        directory: joined(alloc, base, ".dir")?,
+        redo: joined(alloc, base, ".redo")?,
+        lock: joined(alloc, base, ".lock")?,
+    })
+}
+
+/// The folder in which a file lies.
+pub fn folder_of(name: &str) -> &str {
+    match name.rsplit_once('/') {
+        Some(("", _)) => "/",
+        Some((folder, _)) => folder,
+        None => ".",
+    }
+}
+
+// Both texts, one after the other.
+fn joined(alloc: Global, head: &str, tail: &str) -> Result<String, AllocError>
+    ensures { IfOk result (λ text. string_bytes text ≡ head.now ++ tail.now) }
+{
+    let mut text = String::from_str(alloc, head)?;
+    text.push_str(tail)?;
+    Ok(text)
+}

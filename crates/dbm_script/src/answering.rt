@@ -1,0 +1,51 @@
+//! What a command of a line is answered.
+ghost use Rattle.std.specs.Prelude.{◌≡◌, ◌<◌, IfOk, OnOk, OnErr};
+ghost use Rattle.dbm_script.specs.Answers.{IsAnswerTo};
+ghost use Rattle.dbm_script.specs.Script.{AnswersCommand, Adds};
+
+use crate::answers::{Answer, show_answer};
+use crate::notations::Notation;
+use sdbm_files::Image;
+use std::alloc::{AllocError, Allocator};
+use store_cmd::{Command, check_sizes};
+use store_moves::act;
+
+/// The session of all commands of a script.
+const SCRIPT_SESSION: u64 = 0;
+
+// Answers a command, and writes the answer after a text.
+pub(crate) fn answer_one<A: Allocator + Copy>(
+    alloc: A,
+    notation: &Notation<A>,
+    image: &mut Image<A>,
+    command: Command<A>,
+    text: &mut Vec<u8, A>,
+) -> Result<(), AllocError>
+    ensures answer { OnOk result (Adds text.old.items text.new.items (λ added. AnswersCommand A notation.now image.old command added image.new)) }
+    ensures kept { OnOk result ((image.new.kind ≡ image.old.kind) × (image.new.size ≡ image.old.size)) }
+{
+    let answer = answer_command(alloc, image, command)?;
+    show_answer(alloc, notation, &answer, text)
+}
+
+/// Answers a command on a database as session 0. No trail is kept.
+///
+/// # Errors
+/// `AllocError` where there is no memory left for it. The database is as it was then.
+pub fn answer_command<A: Allocator + Copy>(
+    alloc: A,
+    image: &mut Image<A>,
+    command: Command<A>,
+) -> Result<Answer<A>, AllocError>
+    ensures answer { IfOk result (λ answer. IsAnswerTo A image.old command answer image.new) }
+    ensures kept { OnOk result ((image.new.kind ≡ image.old.kind) × (image.new.size ≡ image.old.size)) }
+    ensures err { OnErr result (image.new ≡ image.old) }
+{
+    if let Err(fault) = check_sizes(&command, image.page_size()) {
+        return Ok(Answer::Refused(fault));
+    }
+    match act(alloc, image, SCRIPT_SESSION, command) {
+        Ok(entry) => Ok(Answer::Replied(entry)),
+        Err((error, _command)) => Err(error),
+    }
+}

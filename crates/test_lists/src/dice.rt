@@ -1,0 +1,88 @@
+//! What is drawn at random.
+ghost use Rattle.std.specs.Prelude.{◌<◌};
+
+use crate::asks::{Ask, Run};
+use crate::comes::Does;
+use crate::programs::PROGRAMS;
+use crate::values::{Value, same_bytes};
+
+/// Steps of a linear congruential generator, by Knuth's MMIX.
+#[derive(Drop)]
+pub struct Dice {
+    pub state: u64,
+}
+
+impl Dice {
+    /// A number below `sides`.
+    pub fn roll(&mut self, sides: u64) -> u64
+        requires { 0 < sides }
+        ensures { result < sides }
+    {
+        self.state = self
+            .state
+            .wrapping_mul(6364136223846793005)
+            .wrapping_add(1442695040888963407);
+        (self.state >> 33) % sides
+    }
+}
+
+// Sizes with which pairs go on one page, part pages, crowd them, and are too large. Beside 600 bytes, under keys of two bytes, 410
+// fill a page and 411 are too many; 1,006 are the most under such a key.
+const COUNTS: [usize; 8] = [1, 2, 300, 410, 411, 600, 1006, 1008];
+
+fn any_value(dice: &mut Dice) -> Value {
+    let byte = dice.roll(200) as u8;
+    let count = COUNTS[dice.roll(8) as usize];
+    same_bytes(byte, count)
+}
+
+// Lengths of arguments, of which the last is too long.
+const ARGUMENTS: [usize; 5] = [0, 7, 8, 1024, 1025];
+
+// Lengths of blanks. Under keys of two bytes 1,006 are the most, and 1,007 are too large.
+const BLANKS: [usize; 8] = [0, 7, 8, 410, 411, 600, 1006, 1007];
+
+fn any_blank(dice: &mut Dice) -> Option<usize> {
+    match dice.roll(2) {
+        0 => None,
+        _ => Some(BLANKS[dice.roll(8) as usize]),
+    }
+}
+
+fn any_run(dice: &mut Dice, key: usize) -> Run {
+    let byte = dice.roll(200) as u8;
+    let arg = same_bytes(byte, ARGUMENTS[dice.roll(5) as usize]);
+    Run {
+        key,
+        program: dice.roll(PROGRAMS as u64) as usize,
+        arg,
+        blank: any_blank(dice),
+        now: dice.roll(1000),
+    }
+}
+
+/// Any command.
+pub fn any_ask(dice: &mut Dice) -> Ask {
+    let key = dice.roll(8) as usize;
+    let value = any_value(dice);
+    match dice.roll(14) {
+        0 | 1 => Ask::Fetch(key),
+        2 | 3 => Ask::Insert(key, value),
+        4 | 5 => Ask::Replace(key, value),
+        6 => Ask::Delete(key),
+        7 | 8 | 9 | 10 | 11 | 12 => Ask::Run(any_run(dice, key)),
+        _ => Ask::Count,
+    }
+}
+
+/// Any event.
+pub fn any_event(dice: &mut Dice) -> Does {
+    let ticket = dice.roll(4) as usize;
+    match dice.roll(16) {
+        0 | 1 | 2 | 3 | 4 | 5 => Does::Ask(dice.roll(3), any_ask(dice)),
+        6 | 7 | 8 | 9 => Does::Work(ticket),
+        10 | 11 => Does::Convert(ticket),
+        12 | 13 | 14 => Does::Finish(ticket),
+        _ => Does::Abandon(ticket),
+    }
+}

@@ -1,0 +1,288 @@
+//! The model of a desk: its database, what stands under each ticket, and the entries.
+
+use crate::asks::{Ask, Told};
+use crate::comes::{Comes, Does};
+use crate::store::{Answer, Store, size_fault};
+use desk_core::{AskFault, ConvertFault, FinishFault};
+use std::alloc::{AllocError, Global};
+
+// The three modes of a hold, each barring those that the next function says.
+#[derive(Clone, Copy, Debug, PartialEq, Eq)]
+enum Mode {
+    Read,
+    Update,
+    Exclusive,
+}
+
+fn go_together(one: Mode, other: Mode) -> bool {
+    match (one, other) {
+        (Mode::Read, Mode::Read | Mode::Update) => true,
+        (Mode::Update, Mode::Read) => true,
+        _ => false,
+    }
+}
+
+// What is open under a ticket.
+#[derive(Clone, Copy)]
+struct Open {
+    session: u64,
+    page: u32,
+    mode: Mode,
+}
+
+// What stands under a ticket: what is open, and what is in hand, with whether it was worked.
+#[derive(Clone, Copy)]
+struct Slot {
+    open: Option<Open>,
+    hand: Option<(Ask, bool)>,
+}
+
+const NOTHING: Slot = Slot {
+    open: None,
+    hand: None,
+};
+
+/// An entry of the trail.
+#[derive(Clone, Copy)]
+pub struct Answered {
+    pub session: u64,
+    pub ask: Ask,
+    pub told: Told,
+}
+
+/// What the lists did, so that one sees that they did it.
+#[derive(Clone, Copy)]
+pub struct Seen {
+    pub splits: usize,
+    pub crowded: usize,
+    pub busy: usize,
+    /// Runs that saved or stored a record, and those that deleted one.
+    pub saved: usize,
+    pub deleted: usize,
+}
+
+impl Seen {
+    /// Nothing.
+    pub fn nothing() -> Self {
+        Seen {
+            splits: 0,
+            crowded: 0,
+            busy: 0,
+            saved: 0,
+            deleted: 0,
+        }
+    }
+
+    // Notes what was answered.
+    fn note(&mut self, told: Told, changes: bool) {
+        let count = match told {
+            Told::Crowded => &mut self.crowded,
+            Told::Ran(1, _) => &mut self.saved,
+            Told::Ran(2, _) if changes => &mut self.deleted,
+            _ => return,
+        };
+        *count = count.saturating_add(1);
+    }
+}
+
+/// A desk: tickets that were closed are handed out again, the one that was closed last first.
+#[derive(Drop)]
+pub struct Model {
+    pub store: Store,
+    pub entries: Vec<Answered>,
+    pub seen: Seen,
+    slots: Vec<Slot>,
+    closed: Vec<usize>,
+    limit: usize,
+}
+
+// The key of a command and the mode in which its page is held first, or none for a count.
+fn first_hold(ask: Ask) -> Option<(usize, Mode)> {
+    match ask {
+        Ask::Fetch(key) => Some((key, Mode::Read)),
+        Ask::Insert(key, _) | Ask::Replace(key, _) | Ask::Delete(key) => Some((key, Mode::Update)),
+        Ask::Run(run) => Some((run.key, Mode::Update)),
+        Ask::Count => None,
+    }
+}
+
+impl Model {
+    /// A desk over a database.
+    pub fn open(alloc: Global, store: Store, limit: usize, seen: Seen) -> Self {
+        Model {
+            store,
+            entries: Vec::new(alloc),
+            seen,
+            slots: Vec::new(alloc),
+            closed: Vec::new(alloc),
+            limit,
+        }
+    }
+
+    fn slot(&self, ticket: usize) -> Slot {
+        self.slots.get(ticket).copied().unwrap_or(NOTHING)
+    }
+
+    fn set(&mut self, ticket: usize, open: Option<Open>, hand: Option<(Ask, bool)>) {
+        if let Some(place) = self.slots.get_mut(ticket) {
+            *place = Slot { open, hand };
+        }
+    }
+
+    // Whether entries and open tickets are as many as there may be.
+    fn is_full(&self) -> bool {
+        let open = self.slots.iter().filter(|slot| slot.open.is_some()).count();
+        self.limit <= self.entries.len().saturating_add(open)
+    }
+
+    // Whether a ticket other than one holds a page in a mode that bars this one.
+    fn bars(&self, page: u32, mode: Mode, own: Option<usize>) -> bool {
+        for (ticket, slot) in self.slots.iter().enumerate() {
+            if let Some(open) = slot.open {
+                if open.page == page && !go_together(open.mode, mode) && own != Some(ticket) {
+                    return true;
+                }
+            }
+        }
+        false
+    }
+
+    // Answers a command, which goes into the trail.
+    fn commit(&mut self, session: u64, ask: Ask) -> Result<Told, AllocError> {
+        let Answer { told, change } = self.store.answer(session, ask);
+        if let Some((key, value)) = change {
+            let splits = self.store.change(key, value)?;
+            self.seen.splits = self.seen.splits.saturating_add(splits as usize);
+        }
+        self.seen.note(told, change.is_some());
+        self.entries.push(Answered { session, ask, told })?;
+        Ok(told)
+    }
+
+    // Whether a session's command comes to a change.
+    fn changes(&self, session: u64, ask: Ask) -> bool {
+        self.store.answer(session, ask).change.is_some()
+    }
+
+    fn busy(&mut self) -> Comes {
+        self.seen.busy = self.seen.busy.saturating_add(1);
+        Comes::AskRefused(AskFault::Busy)
+    }
+
+    // The ticket that is handed out next.
+    fn next_ticket(&mut self) -> Result<usize, AllocError> {
+        if let Some(ticket) = self.closed.pop() {
+            return Ok(ticket);
+        }
+        self.slots.push(NOTHING)?;
+        Ok(self.slots.len().saturating_sub(1))
+    }
+
+    fn asks(&mut self, session: u64, ask: Ask) -> Result<Comes, AllocError> {
+        if let Some(fault) = size_fault(ask) {
+            return Ok(Comes::AskRefused(fault));
+        }
+        if self.is_full() {
+            return Ok(Comes::AskRefused(AskFault::TrailFull));
+        }
+        let Some((key, mode)) = first_hold(ask) else {
+            return Ok(Comes::Answered(self.commit(session, ask)?));
+        };
+        let page = self.store.page(key);
+        if self.bars(page, mode, None) {
+            return Ok(self.busy());
+        }
+        let ticket = self.next_ticket()?;
+        let open = Open {
+            session,
+            page,
+            mode,
+        };
+        self.set(ticket, Some(open), Some((ask, false)));
+        Ok(Comes::Asked(ticket))
+    }
+
+    /// What comes of a step.
+    pub fn steps(&mut self, session: u64, ask: Ask) -> Result<Comes, AllocError> {
+        if let Some(fault) = size_fault(ask) {
+            return Ok(Comes::AskRefused(fault));
+        }
+        if self.is_full() {
+            return Ok(Comes::AskRefused(AskFault::TrailFull));
+        }
+        if let Some((key, mode)) = first_hold(ask) {
+            let page = self.store.page(key);
+            let changes = self.changes(session, ask);
+            if self.bars(page, mode, None) || changes && self.bars(page, Mode::Exclusive, None) {
+                return Ok(self.busy());
+            }
+        }
+        Ok(Comes::Answered(self.commit(session, ask)?))
+    }
+
+    fn works(&mut self, ticket: usize) -> Comes {
+        let slot = self.slot(ticket);
+        let Some((ask, false)) = slot.hand else {
+            return Comes::NoHand;
+        };
+        self.set(ticket, slot.open, Some((ask, true)));
+        Comes::Worked
+    }
+
+    fn converts(&mut self, ticket: usize) -> Comes {
+        let slot = self.slot(ticket);
+        let Some(open) = slot.open else {
+            return Comes::ConvertRefused(ConvertFault::NoTicket);
+        };
+        if open.mode != Mode::Update {
+            return Comes::ConvertRefused(ConvertFault::NotUpdating);
+        }
+        if self.bars(open.page, Mode::Exclusive, Some(ticket)) {
+            return Comes::ConvertRefused(ConvertFault::Busy);
+        }
+        let alone = Open {
+            session: open.session,
+            page: open.page,
+            mode: Mode::Exclusive,
+        };
+        self.set(ticket, Some(alone), slot.hand);
+        Comes::Converted
+    }
+
+    fn finishes(&mut self, ticket: usize) -> Result<Comes, AllocError> {
+        let slot = self.slot(ticket);
+        let Some((ask, true)) = slot.hand else {
+            return Ok(Comes::NoHand);
+        };
+        let Some(open) = slot.open else {
+            return Ok(Comes::FinishRefused(FinishFault::NoTicket));
+        };
+        if self.changes(open.session, ask) && open.mode != Mode::Exclusive {
+            return Ok(Comes::FinishRefused(FinishFault::NotExclusive));
+        }
+        self.set(ticket, None, None);
+        self.closed.push(ticket)?;
+        Ok(Comes::Finished(self.commit(open.session, ask)?))
+    }
+
+    fn abandons(&mut self, ticket: usize) -> Result<Comes, AllocError> {
+        let slot = self.slot(ticket);
+        if slot.open.is_none() {
+            return Ok(Comes::AbandonRefused);
+        }
+        self.set(ticket, None, slot.hand);
+        self.closed.push(ticket)?;
+        Ok(Comes::Abandoned)
+    }
+
+    /// What comes of an event.
+    pub fn happens(&mut self, does: Does) -> Result<Comes, AllocError> {
+        match does {
+            Does::Ask(session, ask) => self.asks(session, ask),
+            Does::Work(ticket) => Ok(self.works(ticket)),
+            Does::Convert(ticket) => Ok(self.converts(ticket)),
+            Does::Finish(ticket) => self.finishes(ticket),
+            Does::Abandon(ticket) => self.abandons(ticket),
+        }
+    }
+}

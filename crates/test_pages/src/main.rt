@@ -1,0 +1,101 @@
+//! Does with pages, directories and plans what lines say, and prints what comes of it.
+//!
+//! Each line of standard input is a case, and its first word says of which kind.
+//!
+//! | Line | Answer |
+//! |---|---|
+//! | `hash KIND KEY`, `mask DEPTH`, `child BIT 0`, `child BIT 1` | the number |
+//! | `size SIZE` | the bytes of a page, of its largest pair, and its most offsets |
+//! | `bytes BYTES BYTE` | the byte string with that first byte, and a copy made before |
+//! | `copies KEY=VALUE ..` | a copy of the pairs |
+//! | `check SIZE COMMAND` | `fits`, or the fault |
+//! | `plan SIZE MODE KEY KEY` | of a store beside another key, each with 600 zeros: the page, the pages split off with their numbers, and the bits; or the fault |
+//! | `dir`, `dir FILE` | `dir`: a directory without bits, or that of the bytes; or the fault |
+//! | `split HASH` | the bit that is marked, or `deep` |
+//! | `place HASH` | page, depth and bit |
+//! | `marked BIT ..` | which of the bits are marked |
+//! | `grow BIT` | `grown`, for the bit |
+//! | `bits` | the directory's bytes |
+//! | `again` | `again`: the directory of these bytes, which has the same, is the directory now |
+//! | `page SIZE` | `page`: one without pairs |
+//! | `read SIZE SEGMENTS` | `page`: that of the bytes; or the fault |
+//! | `between BYTE SEGMENTS` | the same of a small page, with that byte outside segments |
+//! | `add KEY VALUE`, `replace KEY VALUE` | `added`, or `not added` |
+//! | `remove PLACE`, `put PLACE BYTE` | `removed`; `put`: as the first byte of the value |
+//! | `find KEY`, `fits COUNT` | the place, or `none`; whether so many bytes more fit |
+//! | `pairs`, `image` | the page's size and its pairs, in their order; the page's bytes |
+//! | `list` | whether the page is as the list of the pairs that were added to it |
+//! | `keep`, `beside`, `same` | `kept`: a copy; the page and the copy change places; whether they have the same pairs |
+//! | `edits SIZE NUMBER COUNT` | how many pairs a page has after so many edits, each as of a list, and the last number |
+//! | `whole page SIZE SEGMENTS` | the pairs of the page of the bytes, or the fault |
+//! | `full`, `free` | all memory is taken away, or given back |
+//! | `# TEXT` | the line itself |
+//!
+//! Bytes and files are as in `test_lines`. After the word `lean` a line is for a bench in a heap. What is `whole` is written and
+//! read again: `again` says that it stayed the same. The answers there but for that word are those of an independent
+//! implementation, but for 7 pages whose keys were chosen to set the same marks, and whose answers stand by construction.
+#![tactic(auto)]
+
+mod bench;
+mod dirs;
+mod edits;
+mod list_page;
+mod page_edits;
+mod pages;
+mod plans;
+mod report;
+mod whole;
+mod words;
+
+use bench::Bench;
+use linked_list_allocator::LocalHeap;
+use report::show_line;
+use std::alloc::{AllocError, Allocator, Global};
+use std::io;
+use test_lines::read_all;
+
+// The answer to a line, by the bench in a heap where it is lean.
+fn answer<A: Allocator + Copy>(
+    lean: &mut Bench<A>,
+    ample: &mut Bench<Global>,
+    line: &str,
+) -> Result<String, AllocError> {
+    match line.strip_prefix("lean ") {
+        Some(rest) => show_line(lean, rest),
+        None => show_line(ample, line),
+    }
+}
+
+// The answers to the lines of a text.
+fn answer_all<A: Allocator + Copy>(
+    lean: &mut Bench<A>,
+    ample: &mut Bench<Global>,
+    text: &str,
+) -> Result<String, AllocError> {
+    let mut answers = String::new(ample.global);
+    for line in text.lines() {
+        answers.push_str(answer(lean, ample, line)?.as_str())?;
+        answers.push_str("\n")?;
+    }
+    Ok(answers)
+}
+
+// The answers to the lines of a text, on benches of their own.
+fn answer_in<A: Allocator + Copy>(
+    global: Global,
+    alloc: A,
+    heap: &LocalHeap,
+    text: &str,
+) -> Result<String, AllocError> {
+    let mut lean = Bench::new(global, alloc, Some(heap));
+    let mut ample = Bench::new(global, global, None);
+    answer_all(&mut lean, &mut ample, text)
+}
+
+fn main(rt: HostRuntime) -> io::Result<()> {
+    let text = read_all(&rt)?;
+    let heap = LocalHeap::new(rt.alloc(), 65536)?;
+    let answers = answer_in(rt.alloc(), &heap, &heap, text.as_str())?;
+    print!(rt; "{answers}")?;
+    Ok(())
+}

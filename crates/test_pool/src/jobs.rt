@@ -32,6 +32,8 @@ pub struct Pool<'a> {
 pub type Outcome = (Result<Vec<Reply<Global>>, PoolFault>, Vec<Calls<Global>>);
 
 impl<'a> Pool<'a> {
+    /// No program, no store and no task yet. The gates of the stores that it
+    /// opens meet at `meeting`.
     pub fn new(alloc: Global, meeting: &'a Meeting) -> Result<Self, AllocError> {
         Ok(Pool {
             alloc,

@@ -20,6 +20,7 @@ pub struct Meeting {
 }
 
 impl Meeting {
+    /// A meeting that nobody waits for and nobody has come to.
     pub fn new() -> Self {
         Meeting {
             wanted: AtomicU64::new(0),

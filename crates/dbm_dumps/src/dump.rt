@@ -11,7 +11,7 @@ use clap::{ArgMatches, Command};
 use dbm_dump::{DumpFault, Format, dump_pairs, format_of};
 use dbm_reports::{Given, Report, Subcommand, open, printed};
 use dbm_script::Notation;
-use dbm_words::arguments::{base, timeout, unsigned, valued_option, verbose, wide};
+use dbm_words::arguments::{base, insist, timeout, unsigned, valued_option, verbose, wide};
 use dbm_words::{Form, Named, Words, form, subcommand, word};
 use sdbm_files::Image;
 use std::alloc::{AllocError, Global};
@@ -72,6 +72,7 @@ pub fn dump_command<'a>(alloc: Global) -> Result<Command<'a>, AllocError>
         valued_option(alloc, "format", "FORMAT", help),
         unsigned(alloc),
         wide(alloc),
+        insist(alloc),
         timeout(alloc),
         verbose(alloc),
     ]?;

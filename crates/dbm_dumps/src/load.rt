@@ -13,7 +13,7 @@ use dbm_dump::{DumpFault, Loaded, load, start_of};
 use dbm_reports::{Given, Report, Subcommand, open};
 use dbm_script::Notation;
 use dbm_words::arguments::{
-    base, flag, must_exist, timeout, unsigned, valued_option, verbose, wide,
+    base, flag, insist, must_exist, timeout, unsigned, valued_option, verbose, wide,
 };
 use dbm_words::{Form, Words, form, has_flag, subcommand, word};
 use itoa::Buffer;
@@ -69,6 +69,7 @@ pub fn load_command<'a>(alloc: Global) -> Result<Command<'a>, AllocError>
         flag(alloc, "keep", keep),
         unsigned(alloc),
         wide(alloc),
+        insist(alloc),
         must_exist(alloc),
         timeout(alloc),
         verbose(alloc),

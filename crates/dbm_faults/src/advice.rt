@@ -3,8 +3,8 @@
 use crate::dumps::dump_sentence;
 use crate::fault::ServeFault;
 use crate::files::{
-    absent_sentence, base_sentence, lock_sentence, open_sentence, redo_sentence, too_long_sentence,
-    unread_sentence, untaken_sentence, unwritten_sentence,
+    absent_sentence, base_sentence, lock_sentence, open_sentence, redo_sentence, small_sentence,
+    too_long_sentence, unread_sentence, untaken_sentence, unwritten_sentence,
 };
 use crate::programs::{
     assemble_sentence, decode_sentence, no_text_sentence, pool_sentence, submit_sentence,
@@ -87,6 +87,7 @@ fn rest_sentence<'a>(words: &Words<'a>, fault: ServeFault) -> Sentence<'a> {
         ServeFault::ReadFile => unread_sentence(words.base),
         ServeFault::BadRedo => redo_sentence(words.base),
         ServeFault::Unsafe => untaken_sentence(words.base),
+        ServeFault::OtherSize => small_sentence(words.base),
         ServeFault::BadBase => base_sentence(words.base),
         ServeFault::Absent => absent_sentence(words.base),
         ServeFault::Locked => lock_sentence(words.base, words.numbers.timeout),

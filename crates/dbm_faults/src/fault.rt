@@ -29,6 +29,8 @@ pub enum ServeFault {
     BadRedo,
     /// The redo file or the lock is one that others could have planted.
     Unsafe,
+    /// The pages are to be read as wide ones and look like small ones.
+    OtherSize,
     /// The system does not tell the time of day.
     ReadClock,
     /// The base is empty, `.` or `..`, or ends in `/`, so it names no file.
@@ -71,6 +73,7 @@ impl fmt::Display for ServeFault {
             ServeFault::WriteFile => f.write_str("WriteFile"),
             ServeFault::BadRedo => f.write_str("BadRedo"),
             ServeFault::Unsafe => f.write_str("Unsafe"),
+            ServeFault::OtherSize => f.write_str("OtherSize"),
             ServeFault::ReadClock => f.write_str("ReadClock"),
             ServeFault::BadBase => f.write_str("BadBase"),
             ServeFault::Absent => f.write_str("Absent"),

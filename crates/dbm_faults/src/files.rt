@@ -142,6 +142,16 @@ pub fn lock_sentence<'a>(base: Option<&'a str>, timeout: Option<&str>) -> Senten
     }
 }
 
+/// Of files that look like those of small pages.
+pub fn small_sentence(base: Option<&str>) -> Sentence<'_> {
+    let base = base_part(base);
+    with_two(
+        "{}.pag looks like a file of small pages, which a change with --wide would destroy. Leave --wide out, or make the pages wide with dbm widen {}. If they are wide all the same, add --insist. Nothing was changed.",
+        base,
+        base,
+    )
+}
+
 /// Of files that are no database. `None` where memory ran out.
 pub fn open_sentence<'a>(words: &Words<'a>, fault: OpenFault) -> Option<Sentence<'a>> {
     let base = base_part(words.base);

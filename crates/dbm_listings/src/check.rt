@@ -11,7 +11,7 @@ use clap::{ArgMatches, Command};
 use dbm_reports::{Given, Report, ReportFault, Subcommand, open, printed, show_ok};
 use dbm_script::Notation;
 use dbm_stats::show_count_object;
-use dbm_words::arguments::{base, json, timeout, unsigned, verbose, wide};
+use dbm_words::arguments::{base, insist, json, timeout, unsigned, verbose, wide};
 use dbm_words::{Form, Words, form, has_flag, subcommand, word};
 use sdbm_files::Image;
 use std::alloc::{AllocError, Global};
@@ -56,6 +56,7 @@ pub fn check_command<'a>(alloc: Global) -> Result<Command<'a>, AllocError>
         json(alloc),
         unsigned(alloc),
         wide(alloc),
+        insist(alloc),
         timeout(alloc),
         verbose(alloc),
     ]?;

@@ -13,7 +13,7 @@ use crate::streamed::serve_rows;
 use clap::{ArgMatches, Command};
 use dbm_reports::{Given, ReportFault, Served, Unserved};
 use dbm_script::Notation;
-use dbm_words::arguments::{base, null, prefix, text, timeout, unsigned, verbose, wide};
+use dbm_words::arguments::{base, insist, null, prefix, text, timeout, unsigned, verbose, wide};
 use dbm_words::{Form, Named, NotationOptions, Words, form, has_flag, notation, subcommand, word};
 use std::alloc::{AllocError, Global};
 use std::io::Write;
@@ -100,6 +100,7 @@ pub fn keys_command<'a>(alloc: Global) -> Result<Command<'a>, AllocError>
         text(alloc),
         unsigned(alloc),
         wide(alloc),
+        insist(alloc),
         timeout(alloc),
         verbose(alloc),
     ]?;

@@ -14,7 +14,7 @@ use clap::{ArgMatches, Command};
 use dbm_reports::{Given, ReportFault, Served, Unserved};
 use dbm_script::Notation;
 use dbm_words::arguments::{
-    base, json, layout, null, prefix, text, timeout, unsigned, verbose, wide,
+    base, insist, json, layout, null, prefix, text, timeout, unsigned, verbose, wide,
 };
 use dbm_words::{
     Form, Named, NotationOptions, Words, aliased_subcommand, form, has_flag, notation, word,
@@ -109,6 +109,7 @@ pub fn list_command<'a>(alloc: Global) -> Result<Command<'a>, AllocError>
         layout(alloc),
         unsigned(alloc),
         wide(alloc),
+        insist(alloc),
         timeout(alloc),
         verbose(alloc),
     ]?;

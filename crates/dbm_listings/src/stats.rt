@@ -11,7 +11,7 @@ use clap::{ArgMatches, Command};
 use dbm_reports::{Given, Report, ReportFault, Subcommand, open, printed};
 use dbm_script::Notation;
 use dbm_stats::{figures_object, figures_text};
-use dbm_words::arguments::{base, json, timeout, unsigned, verbose, wide};
+use dbm_words::arguments::{base, insist, json, timeout, unsigned, verbose, wide};
 use dbm_words::{Form, Words, form, has_flag, subcommand, word};
 use sdbm_files::Image;
 use sdbm_stats::{Stats as Numbers, stats_of};
@@ -57,6 +57,7 @@ pub fn stats_command<'a>(alloc: Global) -> Result<Command<'a>, AllocError>
         json(alloc),
         unsigned(alloc),
         wide(alloc),
+        insist(alloc),
         timeout(alloc),
         verbose(alloc),
     ]?;

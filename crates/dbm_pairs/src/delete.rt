@@ -11,7 +11,7 @@ use clap::{ArgMatches, Command};
 use dbm_reports::{Given, Report, ReportFault, Subcommand, change, word_asked};
 use dbm_script::Notation;
 use dbm_words::arguments::{
-    base, key, layout, must_exist, quick, raw_key, text, timeout, unsigned, verbose, wide,
+    base, insist, key, layout, must_exist, quick, raw_key, text, timeout, unsigned, verbose, wide,
 };
 use dbm_words::{Form, NotationOptions, Words, aliased_subcommand, form, has_flag, notation, word};
 use std::alloc::{AllocError, Global};
@@ -69,6 +69,7 @@ pub fn delete_command<'a>(alloc: Global) -> Result<Command<'a>, AllocError>
         layout(alloc),
         unsigned(alloc),
         wide(alloc),
+        insist(alloc),
         must_exist(alloc),
         timeout(alloc),
         verbose(alloc),

@@ -12,7 +12,7 @@ use clap::{ArgMatches, Command};
 use dbm_reports::{Given, Report, ReportFault, Subcommand, answer_status, look, word_asked};
 use dbm_script::{Answer, Notation, answer_command};
 use dbm_words::arguments::{
-    base, flag, key, layout, quick, raw_key, text, timeout, unsigned, verbose, wide,
+    base, flag, insist, key, layout, quick, raw_key, text, timeout, unsigned, verbose, wide,
 };
 use dbm_words::{Form, NotationOptions, Words, aliased_subcommand, form, has_flag, notation, word};
 use sdbm_files::Image;
@@ -81,6 +81,7 @@ pub fn fetch_command<'a>(alloc: Global) -> Result<Command<'a>, AllocError>
         layout(alloc),
         unsigned(alloc),
         wide(alloc),
+        insist(alloc),
         timeout(alloc),
         verbose(alloc),
     ]?;

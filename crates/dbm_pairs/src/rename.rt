@@ -13,7 +13,7 @@ use clap::{ArgMatches, Command};
 use dbm_reports::{Given, Report, ReportFault, Subcommand, word_asked};
 use dbm_script::Notation;
 use dbm_words::arguments::{
-    base, flag, key, must_exist, required_word, text, timeout, unsigned, verbose, wide,
+    base, flag, insist, key, must_exist, required_word, text, timeout, unsigned, verbose, wide,
 };
 use dbm_words::{Form, Named, NotationOptions, Words, form, has_flag, notation, subcommand, word};
 use std::alloc::{AllocError, Global};
@@ -102,6 +102,7 @@ pub fn rename_command<'a>(alloc: Global) -> Result<Command<'a>, AllocError>
         text(alloc),
         unsigned(alloc),
         wide(alloc),
+        insist(alloc),
         must_exist(alloc),
         timeout(alloc),
         verbose(alloc),

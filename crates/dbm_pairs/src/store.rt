@@ -13,8 +13,8 @@ use clap::{ArgMatches, Command};
 use dbm_reports::{Given, Report, ReportFault, Subcommand, change, read_input, word_asked};
 use dbm_script::Notation;
 use dbm_words::arguments::{
-    base, flag, key, layout, must_exist, quick, raw_key, required_word, text, timeout, unsigned,
-    verbose, wide,
+    base, flag, insist, key, layout, must_exist, quick, raw_key, required_word, text, timeout,
+    unsigned, verbose, wide,
 };
 use dbm_words::{
     Form, Named, NotationOptions, Words, aliased_subcommand, form, has_flag, notation, word,
@@ -113,6 +113,7 @@ pub fn store_command<'a>(alloc: Global) -> Result<Command<'a>, AllocError>
         layout(alloc),
         unsigned(alloc),
         wide(alloc),
+        insist(alloc),
         must_exist(alloc),
         timeout(alloc),
         verbose(alloc),

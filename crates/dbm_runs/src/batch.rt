@@ -9,7 +9,7 @@ ghost use Rattle.dbm_runs.specs.Batch.{BatchAsks};
 use clap::{Arg, ArgMatches, Command};
 use dbm_script::TimeOfDay;
 use dbm_words::arguments::{
-    base, file, flag, image, layout, must_exist, text, timeout, unsigned, verbose, wide,
+    base, file, flag, image, insist, layout, must_exist, text, timeout, unsigned, verbose, wide,
 };
 use dbm_words::{
     Form, NotationOptions, Numbers, Words, form, has_flag, notation, subcommand, word,
@@ -106,6 +106,7 @@ pub fn batch_command<'a>(alloc: Global) -> Result<Command<'a>, AllocError>
         layout(alloc),
         unsigned(alloc),
         wide(alloc),
+        insist(alloc),
         must_exist(alloc),
         timeout(alloc),
         verbose(alloc),

@@ -14,8 +14,8 @@ use clap::{ArgMatches, Command};
 use dbm_reports::{Given, Report, ReportFault, Subcommand, word_asked};
 use dbm_script::{Notation, RunWords, read_number, read_run_words};
 use dbm_words::arguments::{
-    base, file, image, key, layout, must_exist, quick, raw_key, required_word, text, timeout,
-    unsigned, valued_option, verbose, wide,
+    base, file, image, insist, key, layout, must_exist, quick, raw_key, required_word, text,
+    timeout, unsigned, valued_option, verbose, wide,
 };
 use dbm_words::{
     Form, Named, NotationOptions, Numbers, Words, form, has_flag, notation, subcommand, word,
@@ -134,6 +134,7 @@ pub fn run_command<'a>(alloc: Global) -> Result<Command<'a>, AllocError>
         layout(alloc),
         unsigned(alloc),
         wide(alloc),
+        insist(alloc),
         must_exist(alloc),
         timeout(alloc),
         verbose(alloc),

@@ -11,7 +11,7 @@ use clap::{ArgMatches, Command};
 use dbm_reports::{Given, Report, ReportFault, Subcommand};
 use dbm_script::{Notation, TimeOfDay};
 use dbm_words::arguments::{
-    flag, layout, must_exist, text, timeout, unsigned, valued_option, verbose, wide,
+    flag, insist, layout, must_exist, text, timeout, unsigned, valued_option, verbose, wide,
 };
 use dbm_words::{
     Form, NotationOptions, Numbers, Words, form, has_flag, notation, subcommand, word,
@@ -87,6 +87,7 @@ pub fn script_command<'a>(alloc: Global) -> Result<Command<'a>, AllocError>
         layout(alloc),
         unsigned(alloc),
         wide(alloc),
+        insist(alloc),
         must_exist(alloc),
         timeout(alloc),
         verbose(alloc),

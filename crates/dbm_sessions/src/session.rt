@@ -8,7 +8,7 @@ ghost use Rattle.dbm_sessions.specs.Session.{SessionAsks};
 
 use clap::{ArgMatches, Command};
 use dbm_words::arguments::{
-    base, flag, layout, must_exist, text, timeout, unsigned, valued_option, verbose, wide,
+    base, flag, insist, layout, must_exist, text, timeout, unsigned, valued_option, verbose, wide,
 };
 use dbm_words::{
     Form, NotationOptions, Numbers, Subject, Words, form, has_flag, notation, subcommand, word,
@@ -73,6 +73,7 @@ pub fn session_command<'a>(alloc: Global) -> Result<Command<'a>, AllocError>
         layout(alloc),
         unsigned(alloc),
         wide(alloc),
+        insist(alloc),
         must_exist(alloc),
         timeout(alloc),
         verbose(alloc),

@@ -38,10 +38,10 @@ writing_access = flag (codes "must-exist") ∷ reading_access
 
 -- how the files of a database are read, and how it is come by
 abbrev pub reading_options : List Rule
-reading_options = flag (codes "unsigned") ∷ flag (codes "wide") ∷ reading_access
+reading_options = flag (codes "unsigned") ∷ flag (codes "wide") ∷ flag (codes "insist") ∷ reading_access
 
 abbrev pub writing_options : List Rule
-writing_options = flag (codes "unsigned") ∷ flag (codes "wide") ∷ writing_access
+writing_options = flag (codes "unsigned") ∷ flag (codes "wide") ∷ flag (codes "insist") ∷ writing_access
 
 -- how bytes are written in words and lines, and then the same
 abbrev pub reading_in : List Rule

@@ -32,7 +32,7 @@ IsNotation rows notation =
 -- the options by which a database is come by
 abbrev pub IsAccess : List Row → Access → Type 0
 IsAccess rows access =
-    IsGiven (codes "timeout") rows access.timeout × ((access.must_exist ≡ is_given (codes "must-exist") rows) × ((access.quick ≡ is_given (codes "quick") rows) × (access.verbose ≡ is_given (codes "verbose") rows)))
+    IsGiven (codes "timeout") rows access.timeout × ((access.must_exist ≡ is_given (codes "must-exist") rows) × ((access.quick ≡ is_given (codes "quick") rows) × ((access.verbose ≡ is_given (codes "verbose") rows) × (access.insist ≡ is_given (codes "insist") rows))))
 
 -- each word that has to be there is there
 abbrev pub has_words : List Rule → List Row → Bool

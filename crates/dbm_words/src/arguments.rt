@@ -101,6 +101,18 @@ pub fn wide<'a>(alloc: Global) -> Arg<'a>
     flag(alloc, "wide", "The pages have 8,192 bytes, not 1,024")
 }
 
+/// The option for files that are opened as wide ones though they look small.
+pub fn insist<'a>(alloc: Global) -> Arg<'a>
+    ensures rule { rule_of result ≡ spec.flag (codes "insist") }
+    ensures local { result.global ≡ false }
+{
+    flag(
+        alloc,
+        "insist",
+        "With --wide: open files that look like those of small pages",
+    )
+}
+
 /// The option for bytes that are written as text.
 pub fn text<'a>(alloc: Global) -> Arg<'a>
     ensures rule { rule_of result ≡ spec.flag (codes "text") }

@@ -52,5 +52,6 @@ pub fn access<'a>(matches: &ArgMatches<'a>) -> Access<'a>
         must_exist: has_flag(matches, "must-exist"),
         quick: has_flag(matches, "quick"),
         verbose: has_flag(matches, "verbose"),
+        insist: has_flag(matches, "insist"),
     }
 }

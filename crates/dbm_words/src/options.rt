@@ -18,7 +18,7 @@ pub struct NotationOptions<'a> {
     pub layout: Option<&'a str>,
 }
 
-/// How a database is come by, as the options `--timeout`, `--must-exist`, `--quick` and `--verbose` say.
+/// How the files of a database are opened, as the options `--timeout`, `--must-exist`, `--quick`, `--verbose` and `--insist` say.
 #[derive(Clone, Copy)]
 pub struct Access<'a> {
     /// For how many seconds the run waits for the lock; without it, for as long as others hold it.
@@ -29,6 +29,8 @@ pub struct Access<'a> {
     pub quick: bool,
     /// The run says who has the lock, where it waits for that.
     pub verbose: bool,
+    /// Pages that look small are taken as wide ones.
+    pub insist: bool,
 }
 
 /// In which unit the time of day is asked, which is counted from the beginning of 1970 in UTC.

@@ -75,6 +75,7 @@ fn request_text(global: Global, request: &Request<'_>) -> Option<String> {
         must_exist,
         quick,
         verbose,
+        insist,
     } = request.access;
     if let Some(seconds) = timeout {
         write!(out, " timeout {seconds}").ok()?;
@@ -87,6 +88,9 @@ fn request_text(global: Global, request: &Request<'_>) -> Option<String> {
     }
     if verbose {
         out.push_str(" verbose").ok()?;
+    }
+    if insist {
+        out.push_str(" insist").ok()?;
     }
     Some(out)
 }

@@ -18,7 +18,7 @@ use Rattle.worker_pool.specs.declared.task.PoolFault.TheVariants as jobs
 use Rattle.worker_pool.specs.declared.task.Task.{Task}
 use Rattle.dbm_batches.specs.declared.batch.Batch.{Batch}
 use Rattle.dbm_faults.specs.declared.fault.ServeFault.{ServeFault}
-use Rattle.dbm_faults.specs.declared.fault.ServeFault.TheVariants.{NotText, ReadFile, FileTooLong, WriteFile, BadRedo, Unsafe, ReadClock, BadBase, Absent, Locked, Report, Dump, Submit, BadLine, Pool, Close, Write, Saved, NoMemory}
+use Rattle.dbm_faults.specs.declared.fault.ServeFault.TheVariants.{NotText, ReadFile, FileTooLong, WriteFile, BadRedo, Unsafe, OtherSize, ReadClock, BadBase, Absent, Locked, Report, Dump, Submit, BadLine, Pool, Close, Write, Saved, NoMemory}
 use Rattle.dbm_script.specs.declared.notations.Notation.{Notation}
 use Rattle.dbm_script.specs.declared.run_words.RunWords.{RunWords}
 use Rattle.dbm_script.specs.declared.shorthand.TimeOfDay.{TimeOfDay}
@@ -110,6 +110,7 @@ submitted_fault form given workers is_image image FileTooLong number opens is h 
 submitted_fault form given workers is_image image WriteFile number opens is h = h
 submitted_fault form given workers is_image image BadRedo number opens is h = h
 submitted_fault form given workers is_image image Unsafe number opens is h = h
+submitted_fault form given workers is_image image OtherSize number opens is h = h
 submitted_fault form given workers is_image image ReadClock number opens is h = h
 submitted_fault form given workers is_image image BadBase number opens is h = h
 submitted_fault form given workers is_image image Absent number opens is h = h
@@ -133,6 +134,7 @@ unready_fault n form given workers is_image time input FileTooLong h = h
 unready_fault n form given workers is_image time input WriteFile h = h
 unready_fault n form given workers is_image time input BadRedo h = h
 unready_fault n form given workers is_image time input Unsafe h = h
+unready_fault n form given workers is_image time input OtherSize h = h
 unready_fault n form given workers is_image time input ReadClock h = h
 unready_fault n form given workers is_image time input BadBase h = h
 unready_fault n form given workers is_image time input Absent h = h
@@ -170,6 +172,7 @@ doing_fault n time batch input words tasks fault are is h = go fault (subst (λ 
     go WriteFile h = absurd h
     go BadRedo h = absurd h
     go Unsafe h = absurd h
+    go OtherSize h = absurd h
     go ReadClock h = absurd h
     go BadBase h = absurd h
     go Absent h = absurd h
@@ -215,6 +218,7 @@ ran_fault n form given workers is_image time known read batch FileTooLong is rea
 ran_fault n form given workers is_image time known read batch WriteFile is ready h = absurd h
 ran_fault n form given workers is_image time known read batch BadRedo is ready h = absurd h
 ran_fault n form given workers is_image time known read batch Unsafe is ready h = absurd h
+ran_fault n form given workers is_image time known read batch OtherSize is ready h = absurd h
 ran_fault n form given workers is_image time known read batch ReadClock is ready h = absurd h
 ran_fault n form given workers is_image time known read batch BadBase is ready h = absurd h
 ran_fault n form given workers is_image time known read batch Absent is ready h = absurd h

@@ -10,6 +10,7 @@ mod outcome;
 mod quick;
 mod request;
 mod serve;
+mod sizes;
 
 use clock::{read_clock, read_time};
 use dbm_command_line::{Ask, Request, ToolFault, Wish, read_words};
@@ -29,6 +30,7 @@ use quick::{may_be_quick, print_quick, refusal_in, serve_quick};
 use request::{given_of, place_asked, told_of, work_asked, work_of};
 use sdbm_saves::{FoundRead, ReadFiles};
 use serve::serve;
+use sizes::{refuse_small, wide_kind};
 use std::alloc::{AllocError, Global};
 use std::fs::File;
 use std::io::{ErrorKind, Read, Write};
@@ -151,6 +153,7 @@ fn serve_request<R: Runtime<File = File> + AllocGlobal + Threads + Wait + Sync, 
     request: Request<'_>,
     reader: &mut Kept<I>,
 ) -> Result<Ending, ServeFault> {
+    let kind = wide_kind(&request);
     let Request { ask, access } = request;
     let place = place_asked(&ask);
     if let Some(base) = place.base
@@ -168,7 +171,10 @@ fn serve_request<R: Runtime<File = File> + AllocGlobal + Threads + Wait + Sync, 
     let taking = Taking { place, patience };
     let peeks = may_be_quick(&ask) && (access.quick || is_quick(rt));
     let work = work_asked(&ask);
-    let taken = take_and_tell(rt, place, peeks, patience, access.verbose, work)?;
+    let mut taken = take_and_tell(rt, place, peeks, patience, access.verbose, work)?;
+    if let Some(kind) = kind {
+        taken = refuse_small(rt, kind, place, taken, patience)?;
+    }
     match ask {
         Ask::Wish(wish) => serve_timed(rt, wish, taking, taken, reader),
         Ask::Session(session) => {

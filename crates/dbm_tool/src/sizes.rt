@@ -1,0 +1,72 @@
+//! Files that are to be opened with wide pages, and look like those of small ones.
+use crate::request::told_of;
+use dbm_command_line::Request;
+use dbm_faults::ServeFault;
+use dbm_files::{RunFiles, UnreadPages, take_rest};
+use dbm_places::RunPlace;
+use sdbm_addr::{KeyBytes, PageSize};
+use sdbm_sizes::{MOST_PAGES, page_looks_small, pages_look_small};
+use std::alloc::{AllocError, Global};
+use std::fs::File;
+use std::rt::Files;
+use std::time::{Clock, Duration};
+
+/// How the keys of files hash that must not look small. `None` if the files are opened with small pages, or the user insists.
+pub fn wide_kind(request: &Request<'_>) -> Option<KeyBytes> {
+    let words = told_of(request).words;
+    if !words.wide || request.access.insist {
+        return None;
+    }
+    if words.unsigned {
+        return Some(KeyBytes::Unsigned);
+    }
+    Some(KeyBytes::Signed)
+}
+
+/// Refuses files that look small. A `.pag` of which nothing was read is read whole if its last page may be small: a database of small
+/// pages shows it on each page that is not all zeros.
+///
+/// # Errors
+/// `OtherSize` if the files look small, `NoMemory`, and those of `take_rest`.
+pub fn refuse_small<R: Files<File = File> + Clock + AllocGlobal>(
+    rt: &R,
+    kind: KeyBytes,
+    place: RunPlace<'_>,
+    taken: RunFiles,
+    patience: Option<Duration>,
+) -> Result<RunFiles, ServeFault> {
+    let directory = taken.bytes.directory.as_slice();
+    let taken = match &taken.unread {
+        Some(unread) if !may_be_small(rt.alloc(), kind, directory, unread)? => {
+            return Ok(taken);
+        }
+        Some(_) => take_rest(rt, place, taken, patience)?,
+        None => taken,
+    };
+    let directory = taken.bytes.directory.as_slice();
+    if pages_look_small(rt.alloc(), directory, kind, &taken.bytes.pages)? {
+        return Err(ServeFault::OtherSize);
+    }
+    Ok(taken)
+}
+
+// Whether the last page of a `.pag` looks small, is all zeros, or cannot be read alone.
+fn may_be_small(
+    alloc: Global,
+    kind: KeyBytes,
+    directory: &[u8],
+    unread: &UnreadPages,
+) -> Result<bool, AllocError> {
+    let pages = unread.len / PageSize::Wide.bytes();
+    if pages == 0 || pages > MOST_PAGES {
+        return Ok(pages != 0);
+    }
+    let last = (pages - 1) as u32;
+    let Ok(page) = unread.page(alloc, last, PageSize::Wide) else {
+        return Ok(true);
+    };
+    if page.iter().all(|byte| *byte == 0) {
+        return Ok(true);
+    }
+    page_looks_small(alloc, directory, kind, last, page.as_slice())
+}

@@ -1,0 +1,152 @@
+//! Whether files that are opened with pages of 8,192 bytes are those of a database with pages of 1,024 bytes. The files do not say
+//! how large their pages are, and a small page can read as a wide one by chance.
+#![tactic(auto)]
+
+ghost use Rattle.std.specs.Prelude.{◌≡◌, ◌<◌, ◌≤◌, ◌↔◌, ◌+◌, ◌*◌, length, false, IsTrue, IfOk, get_or};
+ghost use Rattle.sdbm_addr.specs.declared.PageSize.TheVariants.{Small, Wide};
+ghost use Rattle.sdbm_addr.specs.Files.{page_at};
+ghost use Rattle.sdbm_addr.specs.Pairs.{page_bytes};
+ghost use Rattle.sdbm_page.specs.Faults.{SpellsNone};
+ghost use Rattle.sdbm_files.specs.Limits.{most_pages, pag_limit};
+ghost use Rattle.sdbm_sizes.specs.Sizes.{FileLooksSmall, IsSmallPart, IsWritten, LooksSmall, SpellsNoSmall};
+
+mod copying;
+
+use copying::copy_page;
+use sdbm_addr::{KeyBytes, PageSize};
+use sdbm_files::{Image, ReadPages};
+use sdbm_page::{Page, PageFault};
+use std::alloc::{AllocError, Allocator};
+
+// The bytes of a small page and of a wide one.
+const SMALL: usize = 1024;
+
+const WIDE: usize = 8192;
+
+/// The number of wide pages for which the longest `.pag` has room.
+pub const MOST_PAGES: usize = 131_072;
+
+/// Whether a wide page looks small: it is not all zeros, and its first 1,024 bytes are a page of a database of small pages with this
+/// directory. A wide page that this store wrote looks small only if its first key has 7,168 bytes or more.
+///
+/// # Errors
+/// `AllocError` if memory runs out.
+pub fn page_looks_small<A: Allocator + Copy>(
+    alloc: A,
+    dir: &[u8],
+    kind: KeyBytes,
+    number: u32,
+    page: &[u8],
+) -> Result<bool, AllocError>
+    requires long { length page.now ≡ page_bytes Wide }
+    requires low { number < most_pages Wide }
+    ensures { IfOk result (λ small. IsTrue small ↔ LooksSmall kind dir.now number page.now) }
+{
+    if !is_written(page) {
+        return Ok(false);
+    }
+    let (first, _rest) = page.split_at(SMALL);
+    is_small_part(alloc, dir, kind, 8 * number, first)
+}
+
+// Whether some database of small pages has this directory and this page. A wide page seldom reads as a small one, so the directory is
+// seldom read.
+fn is_small_part<A: Allocator + Copy>(
+    alloc: A,
+    dir: &[u8],
+    kind: KeyBytes,
+    number: u32,
+    page: &[u8],
+) -> Result<bool, AllocError>
+    requires { length page.now ≡ page_bytes Small }
+    ensures { IfOk result (λ small. IsTrue small ↔ IsSmallPart kind dir.now number page.now) }
+{
+    if !is_small_page(alloc, page)? {
+        return Ok(false);
+    }
+    let Some(_image) = Image::open_page(alloc, dir, number, page, kind, PageSize::Small)? else {
+        return Ok(false);
+    };
+    Ok(true)
+}
+
+// Whether bytes are a small page.
+fn is_small_page<A: Allocator + Copy>(alloc: A, page: &[u8]) -> Result<bool, AllocError>
+    requires { length page.now ≡ page_bytes Small }
+    ensures { IfOk result (λ small. small ≡ false → SpellsNone Small page.now) }
+{
+    let Err(fault) = Page::from_bytes(alloc, page, PageSize::Small) else {
+        return Ok(true);
+    };
+    match fault {
+        PageFault::NoMemory => Err(AllocError),
+        _ => Ok(false),
+    }
+}
+
+/// Whether the bytes of a `.pag` look small: the first wide page that is not all zeros does. So each database of small pages does that
+/// has at most 1 GiB, unless all wide pages of its file are zeros.
+///
+/// # Errors
+/// `AllocError` if memory runs out.
+pub fn bytes_look_small<A: Allocator + Copy>(
+    alloc: A,
+    dir: &[u8],
+    kind: KeyBytes,
+    pag: &[u8],
+) -> Result<bool, AllocError>
+    ensures is { IfOk result (λ small. IsTrue small ↔ FileLooksSmall kind dir.now pag.now) }
+    ensures none { IfOk result (λ small. small ≡ false → SpellsNoSmall kind dir.now pag.now) }
+{
+    for number in 0..pages_in(pag.len()) {
+        let page = &pag[number * WIDE..(number + 1) * WIDE];
+        if is_written(page) {
+            return page_looks_small(alloc, dir, kind, number as u32, page);
+        }
+    }
+    Ok(false)
+}
+
+/// The same for a `.pag` that was read piece by piece.
+///
+/// # Errors
+/// `AllocError` if memory runs out.
+pub fn pages_look_small<A: Allocator + Copy>(
+    alloc: A,
+    dir: &[u8],
+    kind: KeyBytes,
+    pag: &ReadPages<A>,
+) -> Result<bool, AllocError>
+    ensures is { IfOk result (λ small. IsTrue small ↔ FileLooksSmall kind dir.now pag.now.bytes) }
+    ensures none { IfOk result (λ small. small ≡ false → SpellsNoSmall kind dir.now pag.now.bytes) }
+{
+    for number in 0..pages_in(pag.len()) {
+        let page = copy_page(alloc, pag, number)?;
+        if is_written(page.as_slice()) {
+            return page_looks_small(alloc, dir, kind, number as u32, page.as_slice());
+        }
+    }
+    Ok(false)
+}
+
+// Number of whole wide pages in a file of a length, at most those of the longest `.pag`.
+fn pages_in(len: usize) -> usize
+    ensures inside { result * 8192 ≤ len }
+    ensures low { result ≤ most_pages Wide }
+    ensures most { result < most_pages Wide → len < (result + 1) * 8192 }
+    ensures all { len ≤ pag_limit → len < (result + 1) * 8192 }
+{
+    (len / WIDE).min(MOST_PAGES)
+}
+
+// Whether some byte is not zero.
+fn is_written(bytes: &[u8]) -> bool
+    ensures { IsTrue result ↔ IsWritten bytes.now }
+{
+    for byte in bytes {
+        if *byte != 0 {
+            return true;
+        }
+    }
+    false
+}

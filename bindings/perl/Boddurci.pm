@@ -1,4 +1,4 @@
-# Boddurci for Perl: a proved key-value store in the two files of an sdbm database, with small verified programs on its records.
+# Boddurci for Perl: a key-value store with a proved core, in the two files of an sdbm database, with small verified programs on its records.
 #
 #     use Boddurci;
 #     tie my %db, "Boddurci", "visits", "c" or die;
@@ -8,11 +8,17 @@
 #     untie %db;
 #
 # Keys and values are bytes. A database is in memory while it is tied, under an exclusive lock on BASE.lock unless it is only read ("r");
-# `sync` and `untie` write its files, and a crash meanwhile leaves the database before or after. Behind the mode stand options: wide => 1,
-# unsigned_keys => 1, no_wait => 1, and timeout => SECONDS, after which a lock that another has is an error. In a child of the process that
-# has tied it each call dies but `untie`, and nothing is saved. It stands on FFI::Platypus (Debian: libffi-platypus-perl), and on the shared
-# object that `./dbm --build-library` makes: the file that BODDURCI_LIBRARY names, else that in out/boddurci of the repository. What fails
-# dies.
+# `sync` and `untie` write its files, and a crash in between leaves the database before or after. If a tied hash ends without `untie`, or is
+# still tied when the program ends, it is saved then; a warning names the base and the fault if that fails, and the lock is released in any
+# case. Options follow the mode: wide => 1, unsigned_keys => 1, no_wait => 1, and timeout => SECONDS, after which a lock that another process
+# holds is an error. In a child of the process that tied the hash every call but `untie` dies, and nothing is saved. A handler of a signal may
+# die during any call: the base is then closed with its hash. Every failure dies.
+#
+# It needs FFI::Platypus (Debian: libffi-platypus-perl) and the shared object that `./dbm --build-library` makes. It takes the file that
+# BODDURCI_LIBRARY names by its absolute path, else the one beside this module, else the one in out/boddurci of the repository, else the
+# system's. It ignores BODDURCI_LIBRARY under `perl -T`, and if the effective user or group is not the real one.
+#
+# The store behind the calls is proved. This module, the files, the lock and the order of a save are tested and not proved.
 package Boddurci;
 use strict;
 use warnings;
@@ -21,9 +27,10 @@ use Cwd qw(abs_path);
 use File::Basename qw(dirname);
 use FFI::Platypus 1.00;
 use FFI::Platypus::Buffer qw(scalar_to_pointer);
+use Scalar::Util qw(refaddr weaken);
 use Time::HiRes qw(clock_gettime CLOCK_MONOTONIC);
 
-# Statuses, and what some are called here: boddurci.h, boddurci_files.h. The library has words for the others.
+# Statuses of boddurci.h and boddurci_files.h, and the words for some of them. The library has words for the others.
 my ($DONE, $MISSING, $REFUSED, $BAD_TEXT, $IS_CLOSED, $NO_PROGRAM, $FORKED, $INTERRUPTED) = (0, 1, 5, 6, 16, 20, 39, 41);
 my %WORDS = (
     2  => "the key is there",
@@ -40,13 +47,36 @@ my %WORDS = (
 my %FLAGS = (r => 4 | 16, w => 16, c => 0, n => 32);
 my %OPTIONS = (wide => 1, unsigned_keys => 2, no_wait => 8);
 
-# Rooms, which calls write into: a value, an image, a fault and a cursor.
+# The sizes of what calls write: a value, an image, a fault (as unpack reads it) and a cursor.
 my ($VALUE_MOST, $IMAGE_MOST, $FAULT, $CURSOR) = (8008, 32768, "L l Z200", 16);
 
-my $here = dirname(abs_path(__FILE__));
-my $library = $ENV{BODDURCI_LIBRARY} // (grep { -e } map { "$here/$_" } "libboddurci.so", "../../out/boddurci/libboddurci.so")[0] // "libboddurci.so";
--e $library or croak "$library is not there: make it with ./dbm --build-library, and name it in BODDURCI_LIBRARY";
+# The name under which the system finds the library.
+my $SONAME = "libboddurci.so.2";
+
+# Whether the environment may choose the library. It may not under -T, or if the process has rights that its user does not have.
+sub _obeys_environment {
+    return !${^TAINT} && $< == $> && $( + 0 == $) + 0;
+}
+
+# The path of the shared object. No name is looked up in the working folder.
+sub _path_of_library {
+    my $named = _obeys_environment() ? $ENV{BODDURCI_LIBRARY} // "" : "";
+    if ($named ne "") {
+        croak "BODDURCI_LIBRARY is $named: give the absolute path of the library" if $named !~ m{^/};
+        croak "$named is not there: make it with ./dbm --build-library, and name it in BODDURCI_LIBRARY" if !-e $named;
+        return $named;
+    }
+    my $here = dirname(abs_path(__FILE__));
+    return (grep { -e } map { "$here/$_" } "libboddurci.so", "../../out/boddurci/libboddurci.so")[0] // $SONAME;
+}
+
+my $library = _path_of_library();
 my $ffi = FFI::Platypus->new(api => 1, lib => $library);
+{
+    local $SIG{__WARN__} = sub { };
+    $ffi->find_symbol("boddurci_version")
+        or croak "$library cannot be loaded: make libboddurci.so with ./dbm --build-library, and name it in BODDURCI_LIBRARY";
+}
 my @bytes = ("string", "size_t");
 my @room = ("opaque", "size_t", "size_t*");
 $ffi->attach(["boddurci_$_->[0]" => "_$_->[0]"], $_->[1], $_->[2])
@@ -67,7 +97,7 @@ $ffi->attach(["boddurci_$_->[0]" => "_$_->[0]"], $_->[1], $_->[2])
         ["next",        ["opaque", "opaque", @room, @room] => "uint32"],
     );
 
-# A room of so many bytes: the bytes themselves, which no other scalar shares, and what a call is given.
+# Returns a room of $size bytes: a reference to its bytes, which no other scalar shares, and its address and size for a call.
 sub _room {
     my ($size) = @_;
     my $room = "\0" x $size;
@@ -75,10 +105,11 @@ sub _room {
     return (\$room, scalar_to_pointer($room), $size);
 }
 
-# A pointer and a length.
+# Returns the bytes of a key, a value, an argument or a program, and how many they are. The string of an object is taken once: the next one
+# may have another length.
 sub _given {
-    my ($bytes) = @_;
-    $bytes = "" unless defined $bytes;
+    my ($given) = @_;
+    my $bytes = defined $given ? "$given" : "";
     utf8::downgrade($bytes, 1) or croak "keys and values are bytes: encode the text first";
     return ($bytes, length $bytes);
 }
@@ -99,49 +130,64 @@ sub _die_of {
     croak $text;
 }
 
-# A base, once its lock is had. A signal that comes meanwhile is handled, and then it waits on.
-sub _opened {
-    my ($name, $flags, $timeout) = @_;
+# Opens the base once its lock is free. After a signal it runs the handler, and then waits on.
+#
+# Perl runs handlers of signals between statements. So the statement that opens the base also leaves it in the object, and that object
+# closes it if a handler dies; and the mutex is taken and given back in one statement.
+sub _open {
+    my ($self, $flags, $timeout) = @_;
     my ($fault, $at) = _room(208);
     my $end = defined $timeout ? clock_gettime(CLOCK_MONOTONIC) + $timeout : undef;
     while (1) {
         my $left = defined $end ? int(1000 * ($end - clock_gettime(CLOCK_MONOTONIC))) : -1;
         $left = 0 if defined $end && $left < 0;
-        my $opened = _open_files_within($name, $flags, $left, $at);
-        return $opened if defined $opened;
+        $$self->{base} = _open_files_within($$self->{name}, $flags, $left, $at);
+        last if defined $$self->{base};
         _die_of($fault) if unpack($FAULT, $$fault) != $INTERRUPTED;
     }
+    ($$self->{db}) = (_take($$self->{base}), _give($$self->{base}));
 }
+
+# The records of all open databases, by the address of each. An object is a reference to its record. If a handler of a signal dies while
+# an object ends, Perl drops the object alone: its record then stays here until it is ended.
+my %open;
 
 sub TIEHASH {
     my ($class, $base, $mode, %options) = @_;
     my $flags = $FLAGS{ $mode // "r" } // croak "the mode is r, w, c or n";
     my $timeout = delete $options{timeout};
+    $timeout = "$timeout" if defined $timeout;
     $flags |= $options{$_} ? $OPTIONS{$_} // croak "no option $_" : 0 for keys %options;
-    croak "the name has a zero byte" if ($base // "") =~ /\0/;
+    my $name = defined $base ? "$base" : "";
+    croak "the name has a zero byte" if $name =~ /\0/;
     croak "a timeout is a number of seconds, 0 or more, and less than a billion"
         if defined $timeout && !($timeout =~ /^[0-9.]+$/ && $timeout >= 0 && $timeout < 1e9);
-    my $opened = _opened($base // "", $flags, $timeout);
-    my $self = bless { base => $opened, db => _take($opened), reads => $flags & 4, process => $$, token => [] }, $class;
-    _give($opened);
-    return $self;
+    _end_left();
+    my $record = { name => $name, reads => $flags & 4, process => $$, token => [] };
+    my $self = bless \$record, $class;
+    weaken($record->{owner} = $self);
+    $open{ refaddr $record } = $record;
+    $self->_open($flags, $timeout);
+    # An object that ends before it is returned saves nothing: with the mode n that would be an empty database.
+    return ($record->{keeps} = 1, $self)[1];
 }
 
-# Another interpreter of the process has no part in a database.
+# A database is not copied into another interpreter of the process.
 sub CLONE_SKIP { 1 }
 
 sub _db {
     my ($self, $writes) = @_;
-    _refuse($FORKED) if $self->{process} != $$;
-    _refuse($IS_CLOSED) unless $self->{base};
-    croak "the database is only read" if $writes && $self->{reads};
-    return $self->{db};
+    _refuse($FORKED) if $$self->{process} != $$;
+    _refuse($IS_CLOSED) unless $$self->{base};
+    croak "the database is only read" if $writes && $$self->{reads};
+    return $$self->{db};
 }
 
 sub FETCH {
     my ($self, $key) = @_;
+    my @key = _given($key);
     my ($room, @room) = _room($VALUE_MOST);
-    my $status = _fetch($self->_db, _given($key), @room, \my $length);
+    my $status = _fetch($self->_db, @key, @room, \my $length);
     return undef if $status == $MISSING;
     _check($status);
     return substr $$room, 0, $length;
@@ -154,13 +200,15 @@ sub EXISTS {
 
 sub STORE {
     my ($self, $key, $value) = @_;
-    _check(_store($self->_db(1), _given($key), _given($value), 1));
+    my @pair = (_given($key), _given($value));
+    _check(_store($self->_db(1), @pair, 1));
 }
 
 sub DELETE {
     my ($self, $key) = @_;
-    my $value = $self->FETCH($key);
-    _check(_delete($self->_db(1), _given($key))) if defined $value;
+    my @key = _given($key);
+    my $value = $self->FETCH($key[0]);
+    _check(_delete($self->_db(1), @key)) if defined $value;
     return $value;
 }
 
@@ -182,7 +230,7 @@ sub _keys {
     return @found;
 }
 
-# The length of the next key of a walk.
+# Returns the length of the next key of a walk, or undef after the last.
 sub _turn {
     my ($self, $cursor, $key, $value) = @_;
     my $status = _next($self->_db, $cursor, @$key, \my $key_length, @$value, \my $value_length);
@@ -193,13 +241,13 @@ sub _turn {
 
 sub FIRSTKEY {
     my ($self) = @_;
-    $self->{keys} = [$self->_keys];
-    return shift @{ $self->{keys} };
+    $$self->{keys} = [$self->_keys];
+    return shift @{ $$self->{keys} };
 }
 
 sub NEXTKEY {
     my ($self) = @_;
-    return shift @{ $self->{keys} };
+    return shift @{ $$self->{keys} };
 }
 
 sub SCALAR {
@@ -207,7 +255,7 @@ sub SCALAR {
     return scalar(my @keys = $self->_keys);
 }
 
-# Has the text of a program accepted, and returns it, for `run` of this database alone; dies with the line or the unit of its fault.
+# Returns a program from its text, for `run` of this database alone. Dies with the line or the unit of its fault if it is refused.
 sub program {
     my ($self, $text) = @_;
     $self->_db;
@@ -219,64 +267,95 @@ sub program {
     return $self->image(substr $$image, 0, $size);
 }
 
-# The same for the image of a program.
+# Like `program`, from the image of a program.
 sub image {
     my ($self, $image) = @_;
+    my @image = _given($image);
     my ($told, @told) = _room($VALUE_MOST);
-    my $status = _submit($self->_db, _given($image), \my $number, \my $unit, @told, \my $length);
+    my $status = _submit($self->_db, @image, \my $number, \my $unit, @told, \my $length);
     croak substr $$told, 0, $length if $status == $REFUSED;
     _check($status);
-    return bless { number => $number, of => $self->{token} }, "Boddurci::Program";
+    return bless { number => $number, of => $$self->{token} }, "Boddurci::Program";
 }
 
-# The number of a program that this database has accepted.
+# Returns the number of a program that this database has accepted.
 sub _number {
     my ($self, $program) = @_;
     _refuse($NO_PROGRAM) unless ref $program && ref $program eq "Boddurci::Program";
-    croak "the program was not accepted by this database" if $program->{of} != $self->{token};
+    croak "the program was not accepted by this database" if $program->{of} != $$self->{token};
     return $program->{number};
 }
 
-# Runs a program on the record of a key, or where the key is not there on so many zeros as `blank` says: the number with which it ended
-# and its reply word, or nothing where there is neither key nor blank. `arg` is its argument, and `now` the time, else the system's.
+# Runs a program on the record of a key, or on `blank` zeros if there is no such key. Returns the number with which it ended and its reply
+# word, or nothing if there is neither key nor blank. `arg` is its argument, and `now` its time, else the system's.
 sub run {
     my ($self, $program, $key, %more) = @_;
+    my @bytes = (_given($key), _given($more{arg}));
     my $has_blank = defined $more{blank} ? 1 : 0;
-    my $db = $self->_db(1);
-    my $status = _run($db, $self->_number($program), _given($key), _given($more{arg}), $has_blank, $more{blank} // 0, $more{now} // time, \my $end, \my $word);
+    my ($blank, $now) = map { 0 + "$_" } $more{blank} // 0, $more{now} // time;
+    my $number = $self->_number($program);
+    my $status = _run($self->_db(1), $number, @bytes, $has_blank, $blank, $now, \my $end, \my $word);
     return if $status == $MISSING;
     _check($status);
     return ($end, $word);
 }
 
-# Writes both files, and keeps them on the disk. Where the save is kept in BASE.redo alone, since a file could not be written, it warns: the
-# next who opens or saves ends it, and until then others may see half of it.
+# Writes both files and makes them durable. If a file cannot be written and the save is in BASE.redo alone, it warns: the next opening or
+# save completes it, and until then other programs may see half of it.
 sub sync {
     my ($self) = @_;
     $self->_db;
     my ($fault, $at) = _room(208);
-    return if $self->{reads};
-    _die_of($fault) if _save($self->{base}, $at) != $DONE;
+    return if $$self->{reads};
+    _die_of($fault) if _save($$self->{base}, $at) != $DONE;
     my ($status, $system, $text) = unpack $FAULT, $$fault;
     carp $text if $system;
 }
 
-# Writes both files, unless the database is only read, and lets the lock go. A fault of the files leaves it open. In a child of the process
-# that has opened it nothing is written, and the lock stays.
+# Writes both files, unless the database is only read, and releases the lock. A fault of the files leaves the database open. In a child of
+# the process that opened it nothing is written, and the lock stays.
 sub close {
     my ($self) = @_;
-    return unless $self->{base};
-    $self->sync if $self->{process} == $$;
-    _close_files($self->{base});
-    $self->{base} = $self->{db} = undef;
+    return unless $$self->{base};
+    $self->sync if $$self->{process} == $$;
+    $self->_release;
+}
+
+# Closes the base. It leaves the object in the statement that closes it, so a handler that dies never has it closed twice.
+sub _release {
+    my ($self) = @_;
+    _close_files(delete $$self->{base}) if $$self->{base};
+    delete $open{ refaddr $$self };
+}
+
+# Saves and closes a database that nobody has closed. Changes that cannot be saved are lost, with a warning, and the lock is released.
+sub _end {
+    my ($self) = @_;
+    return $self->_release unless $$self->{base};
+    local ($@, $!, $?);
+    my $is_saved = eval { $self->sync if $$self->{keeps} && $$self->{process} == $$; 1 };
+    my $why = "$@";
+    $why =~ s/ at \S+ line \d+\.?\n\z//;
+    # A handler of a signal may die here too.
+    for (1 .. 100) {
+        last if eval { $self->_release; 1 };
+    }
+    carp "$$self->{name}: the changes that were not saved are lost: $why" unless $is_saved;
+}
+
+# Ends the records that no object has any more; with a true argument, all records.
+sub _end_left {
+    my ($has_all) = @_;
+    for my $record (grep { $has_all || !$_->{owner} } values %open) {
+        (bless \(my $of = $record))->_end;
+    }
 }
 
 sub UNTIE { $_[0]->close }
 
-sub DESTROY {
-    my ($self) = @_;
-    local $@;
-    eval { $self->close };
-}
+sub DESTROY { $_[0]->_end }
+
+# At the end of the program, while all that a save needs still exists.
+END { _end_left(1) }
 
 1;

@@ -110,6 +110,126 @@ tie %db, "Boddurci", "$base.ends", "w", no_wait => 1;
 is($db{a}, "new");
 untie %db;
 
+# An object whose string is another each time is stored as one of them, and nothing beyond it is read.
+{
+    package Changing;
+    my @strings;
+    use overload '""' => sub { my $next = shift @strings; push @strings, $next; $next }, fallback => 1;
+    sub new { my ($class, @all) = @_; @strings = @all; return bless {}, $class }
+}
+{
+    my ($short, $long) = ("k", "k" x 700);
+    tie my %strings, "Boddurci", "$base.strings", "c";
+    my $lease = tied(%strings)->program(text_of("$top/examples/lease.s"));
+    for my $order ([$short, $long], [$long, $short]) {
+        my %is_known = map { $_ => 1 } @$order;
+        my $changing = Changing->new(@$order);
+        $strings{value} = $changing;
+        ok($is_known{ $strings{value} }, "the value is one of its strings");
+        delete $strings{value};
+        $strings{$changing} = "x";
+        is_deeply([grep { !$is_known{$_} } keys %strings], [], "the key is one of its strings");
+        my $found = $strings{$changing};
+        ok(!defined $found || $found eq "x");
+        delete $strings{$changing} for 1 .. 2;
+        is_deeply([keys %strings], []);
+        $changing = Changing->new(pack("Q<2", 7, 60), "");
+        tied(%strings)->run($lease, "lease", arg => $changing, blank => 16, now => 1000);
+        is(length($strings{lease} // "x" x 16), 16);
+        delete $strings{lease};
+    }
+    untie %strings;
+}
+
+# What ends without an untie is saved, and so is what is still tied when the program ends.
+for my $kind ("my", "our") {
+    my $script = qq{tie $kind \%db, "Boddurci", shift, "c"; \$db{$kind} = "kept"; \$SIG{__WARN__} = sub { print STDOUT \@_ }};
+    is(qx{$^X -I$top/bindings/perl -MBoddurci -e '$script' $base.end 2>&1}, "");
+    tie my %kept, "Boddurci", "$base.end", "w", no_wait => 1;
+    is($kept{$kind}, "kept");
+    untie %kept;
+}
+
+# Where that cannot be saved a warning names the base and the fault, and the lock is free afterwards.
+{
+    my @warned;
+    local $SIG{__WARN__} = sub { push @warned, @_ };
+    {
+        tie my %lost, "Boddurci", "$base.lost", "c";
+        $lost{a} = "1";
+        tied(%lost)->sync;
+        $lost{a} = "2";
+        rename "$base.lost.lock", "$base.lost.away" or die;
+    }
+    is(scalar @warned, 1);
+    like($warned[0], qr/^\Q$base\E\.lost: the changes that were not saved are lost: BASE\.lock is another file/);
+    rename "$base.lost.away", "$base.lost.lock" or die;
+    tie my %lost, "Boddurci", "$base.lost", "w", no_wait => 1;
+    is($lost{a}, "1", "the lock is free");
+    untie %lost;
+    my $script = 'tie %db, "Boddurci", shift, "w"; $db{a} = "3"; rename "$ARGV[0].lock", "$ARGV[0].away"';
+    like(qx{$^X -I$top/bindings/perl -MBoddurci -e '$script' $base.lost $base.lost 2>&1}, qr/\.lost: the changes that were not saved are lost/);
+    rename "$base.lost.away", "$base.lost.lock" or die;
+}
+
+# A handler of a signal that dies just as the base is open leaves no lock. The signal comes while the lock is waited for, and the system
+# goes on with the wait.
+for my $mode ("w", "n") {
+    tie my %held, "Boddurci", "$base.signal", "c";
+    $held{a} = "1";
+    untie %held;
+    my $holder = fork // die;
+    if (!$holder) {
+        open(my $lock, "<", "$base.signal.lock") or die;
+        flock($lock, LOCK_EX) or die;
+        kill USR2 => getppid;
+        select undef, undef, undef, 0.3;
+        kill USR1 => getppid;
+        select undef, undef, undef, 0.3;
+        POSIX::_exit(0);
+    }
+    my $has_lock = 0;
+    local $SIG{USR2} = sub { $has_lock = 1 };
+    select undef, undef, undef, 0.01 until $has_lock;
+    my $action = POSIX::SigAction->new(sub { die "a signal" }, POSIX::SigSet->new, POSIX::SA_RESTART());
+    $action->safe(1);
+    POSIX::sigaction(POSIX::SIGUSR1(), $action) or die;
+    dies_with(sub { tie my %db, "Boddurci", "$base.signal", $mode }, qr/a signal/);
+    waitpid $holder, 0;
+    open(my $lock, "<", "$base.signal.lock") or die;
+    ok(flock($lock, LOCK_EX | LOCK_NB), "the lock is free after the handler");
+    close $lock;
+    tie %held, "Boddurci", "$base.signal", "w", no_wait => 1;
+    is($held{a}, "1", "nothing was changed");
+    untie %held;
+}
+
+# Which library is loaded: what BODDURCI_LIBRARY names by its absolute path, and not where the environment is not to be trusted.
+{
+    my $folder = tempdir(CLEANUP => 1);
+    chmod 0755, $folder;
+    system("cp", "$top/bindings/perl/Boddurci.pm", "$folder/Boddurci.pm") == 0 or die;
+    system("cp", $ENV{BODDURCI_LIBRARY} || "$top/out/boddurci/libboddurci.so", "$folder/libboddurci.so") == 0 or die;
+    open(my $other, ">", "$folder/other.so") or die;
+    print $other "no library";
+    close $other;
+    local $ENV{BODDURCI_LIBRARY} = "$folder/other.so";
+    my $says = sub { scalar qx{cd $folder && @_ -e 'use lib "$folder"; use Boddurci; print "loaded"' 2>&1} };
+    like($says->($^X), qr/other\.so cannot be loaded/);
+    is($says->($^X, "-T"), "loaded");
+    if ($> == 0) {
+        is($says->("setpriv --egid 65534 --keep-groups", $^X), "loaded", "of another group");
+    }
+    $ENV{BODDURCI_LIBRARY} = "./libboddurci.so";
+    like($says->($^X), qr/give the absolute path/);
+    # A library of the working folder is not taken.
+    delete $ENV{BODDURCI_LIBRARY};
+    mkdir "$folder/module" or die;
+    rename "$folder/Boddurci.pm", "$folder/module/Boddurci.pm" or die;
+    my $trace = qx{cd $folder && $^X -e 'use lib "$folder/module"; use Boddurci; print "loaded"' 2>&1};
+    like($trace, qr/^(loaded\z|libboddurci\.so\.2 cannot be loaded)/);
+}
+
 SKIP: {
     skip "no SDBM_File", 1 unless eval { require SDBM_File; require Fcntl; 1 };
     tie my %other, "SDBM_File", $base, Fcntl::O_RDONLY(), 0666 or die;

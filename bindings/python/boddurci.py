@@ -1,4 +1,5 @@
-"""Boddurci for Python: a proved key-value store in the two files of an sdbm database, with small verified programs on its records.
+"""Boddurci for Python: a key-value store with a proved core, in the two files of an sdbm database, with small verified programs on its
+records.
 
     import boddurci
     with boddurci.open("visits", "c") as db:
@@ -6,24 +7,31 @@
         counter = db.program(open("examples/counter.s").read())
         db.run(counter, b"hits", blank=8)
 
-`open` can stand for `dbm.open`: keys and values are bytes, a str counts as its UTF-8. A database is in memory while it is open, under an
-exclusive lock on BASE.lock unless it is only read; `sync` and `close` write its files, and a crash meanwhile leaves the database before or
-after. Threads may share it; a signal handler that comes in the middle of a call may not use it. Nor may a child of the process that has
-opened it: there each call but `close` is an error, and nothing is saved.
+`open` can replace `dbm.open`: keys and values are bytes, a str counts as its UTF-8. A database is in memory while it is open, under an
+exclusive lock on BASE.lock unless it is only read; `sync` and `close` write its files, and a crash in between leaves the database before or
+after. A database that nobody closes is saved and closed when its object ends, or at the latest when the interpreter exits; if that fails, a
+RuntimeWarning names it. Threads may share a database. A signal handler that interrupts a call may not use it, but may raise. In a child of
+the process that opened it every call but `close` is an error, and nothing is saved.
 
-It stands on the shared object that `./dbm --build-library` makes: the file that BODDURCI_LIBRARY names, else libboddurci.so beside this
-file, in out/boddurci of the repository, or where the system finds it. It calls that by ctypes; where the extension `_boddurci` is built
-(`pip install bindings/python`), fetch, store, delete and run go by it, several times as fast, and do the same.
+The module needs the shared object that `./dbm --build-library` makes. It takes the file that BODDURCI_LIBRARY names by its absolute path,
+else libboddurci.so beside this file, else the one in out/boddurci of the repository, else the system's. It ignores BODDURCI_LIBRARY in
+`python -I` and `python -E`, and if the effective user or group is not the real one. It calls the library by ctypes; if the extension
+`_boddurci` is built (`pip install bindings/python`), fetch, store, delete and run use it, several times as fast and with the same results.
+
+The store behind the calls is proved. This module, the files, the lock and the order of a save are tested and not proved.
 """
 
+import atexit
+import contextlib
 import ctypes
-import ctypes.util
 import os
 import pathlib
+import sys
 import threading
 import time
 import warnings
 import weakref
+from collections import deque
 from collections.abc import MutableMapping
 from typing import NamedTuple
 
@@ -101,21 +109,35 @@ class _Cursor(ctypes.Structure):
     _fields_ = [("page", ctypes.c_uint32), ("end", ctypes.c_uint32), ("pair", ctypes.c_size_t)]
 
 
+# The name under which the system finds the library.
+_SONAME = "libboddurci.so.2"
+
+
+def _obeys_environment():
+    """Whether the environment may choose the library: not in `python -I` and `-E`, nor with rights that the process's user does not have."""
+    is_own = os.geteuid() == os.getuid() and os.getegid() == os.getgid()
+    return is_own and not sys.flags.isolated and not sys.flags.ignore_environment
+
+
 def _path_of_library():
+    """The path of the shared object. No name is looked up in the working folder."""
+    named = os.environ.get("BODDURCI_LIBRARY") if _obeys_environment() else None
+    if named and not os.path.isabs(named):
+        raise ImportError(f"BODDURCI_LIBRARY is {named!r}: give the absolute path of the library")
     here = pathlib.Path(__file__).resolve()
-    for path in (os.environ.get("BODDURCI_LIBRARY"), here.parent / "libboddurci.so", here.parent.parent.parent / "out/boddurci/libboddurci.so"):
+    for path in (named, here.parent / "libboddurci.so", here.parent.parent.parent / "out/boddurci/libboddurci.so"):
         if path and os.path.exists(path):
             return str(path)
-    found = ctypes.util.find_library("boddurci")
-    if not found:
-        raise ImportError("libboddurci.so is not there: make it with ./dbm --build-library, and name it in BODDURCI_LIBRARY")
-    return found
+    return _SONAME
 
 
 def _bind():
-    """The calls of the library: those that may wait let other threads go on."""
+    """Yields the calls of the library. Those that may wait let other threads go on."""
     path = _path_of_library()
-    waits, quick = ctypes.CDLL(path), ctypes.PyDLL(path)
+    try:
+        waits, quick = ctypes.CDLL(path), ctypes.PyDLL(path)
+    except OSError as why:
+        raise ImportError(f"{path} cannot be loaded: make libboddurci.so with ./dbm --build-library, and name it in BODDURCI_LIBRARY") from why
     u32, u64, size = ctypes.c_uint32, ctypes.c_uint64, ctypes.c_size_t
     text, at = ctypes.c_char_p, ctypes.c_void_p
     kinds = {
@@ -152,18 +174,18 @@ def _error(status):
 
 
 def _bytes(value):
+    """The bytes of a key, a value or an argument. A subclass may override how its bytes and their number are told, so it is copied."""
     if type(value) is bytes:
         return value
     if isinstance(value, str):
-        return value.encode("utf-8")
-    # A class that stands on bytes may tell another length than it has.
+        return str.encode(value, "utf-8")
     if isinstance(value, (bytes, bytearray, memoryview)):
-        return bytes(value)
+        return memoryview(value).tobytes()
     raise TypeError(f"keys and values are bytes or str, not {type(value).__name__}")
 
 
 class _Room:
-    """A room for bytes: where it lies, and the bytes in it. An address costs a call less than the object does."""
+    """A buffer for bytes that a call writes, and its address, which costs a call less than the object does."""
 
     def __init__(self, size):
         self._bytes = ctypes.create_string_buffer(size)
@@ -175,7 +197,7 @@ class _Room:
 
 
 class _Taken:
-    """The mutex of a base, which its save wants too. A thread that waits for it lets others go on."""
+    """The mutex of a base, which its save takes too. A thread that waits for it lets others go on."""
 
     def __init__(self, base):
         self._base = base
@@ -187,27 +209,41 @@ class _Taken:
         _call.give(self._base)
 
 
-def _opened(name, flags, timeout):
-    """A base, once its lock is had. A signal that comes meanwhile is handled, and then it waits on."""
+# Handlers of signals run between steps of the interpreter, and may raise. So what may not be interrupted, as that a base is opened and that
+# it is kept, is one step: `map` makes the call, and the step that drains it keeps the result.
+
+
+def _open_base(held, name, flags, timeout):
+    """Adds a base to the list `held` once its lock is free. After a signal it runs the handler, and then waits on."""
     fault, end = _Fault(), None if timeout is None else time.monotonic() + timeout
     while True:
         left = -1 if end is None else int(min(max(0.0, (end - time.monotonic()) * 1000), 2.0**52))
-        base = _call.open_files_within(name, flags, left, ctypes.byref(fault))
-        if base:
-            return base
+        held.extend(filter(None, map(_call.open_files_within, (name,), (flags,), (left,), (ctypes.byref(fault),))))
+        if held:
+            return
         if fault.status != _INTERRUPTED:
             raise _of_fault(fault, name)
 
 
 class _Database(MutableMapping):
-    """All that a database does. Where there is an extension it makes the plain calls, and leaves the others to these methods."""
+    """All calls of a database. The extension, if there is one, makes the plain calls, and leaves all others to these methods."""
 
-    _base = _inherited = _process = None
-    # Whether it is saved when it is closed: not before it is all there.
+    # The base: its address for calls, or None once it is closed; and in a list for whoever closes it, in a child too.
+    _base, _held, _process = None, (), None
+    # Whether it is saved when it is closed: not before it is opened completely.
     _keeps = False
 
     def __init__(self, name, flags, timeout=None):
-        self._process, self._name, self._base = os.getpid(), name, _opened(name, flags, timeout)
+        self._process, self._name, self._held = os.getpid(), name, []
+        try:
+            _open_base(self._held, name, flags, timeout)
+            self._set_up(flags)
+        except BaseException:
+            self._release()
+            raise
+
+    def _set_up(self, flags):
+        self._base = self._held[0]
         # How often it was changed, for those who walk over it.
         self._changes = 0
         # What keeps threads apart: a lock of this object; while a save is under way the mutex of the base too.
@@ -223,7 +259,7 @@ class _Database(MutableMapping):
         self._end, self._word = ctypes.c_uint64(), ctypes.c_uint64()
         names = ("_cursor", "_length", "_other", "_place", "_end", "_word")
         self._at = {name: ctypes.addressof(getattr(self, name)) for name in names}
-        # What a fetch is given after its key.
+        # The arguments of a fetch after its key.
         self._value = (self._room.at, _VALUE_MOST, self._at["_length"])
 
     def _set_locks(self):
@@ -231,9 +267,9 @@ class _Database(MutableMapping):
         self._beside = self._alone
 
     def _leave_to_parent(self):
-        """In a child: what it may still do is to let its memory go, unless a thread was at work in it that is not there any more."""
-        inherited = self._base or self._inherited
-        self._inherited = inherited if self._alone.acquire(blocking=False) else None
+        """In a child: leaves the base open, for `_release` to free its memory. If a thread of the parent was at work in it, that stays."""
+        if not self._alone.acquire(blocking=False):
+            self._held = []
         self._base = self._db = None
         self._set_locks()
 
@@ -352,7 +388,7 @@ class _Database(MutableMapping):
         """Has a program accepted: its text, a str, or its image, bytes. ProgramError says why it is refused, and where."""
         with self._lock, self._beside:
             self._need_open()
-            image = self._assembled(source) if isinstance(source, str) else bytes(source)
+            image = self._assembled(source) if isinstance(source, str) else _bytes(bytes(source))
             number = ctypes.c_uint32()
             status = _call.submit(self._db, image, len(image), ctypes.byref(number), self._at["_place"], *self._value)
             if status == _REFUSED:
@@ -363,7 +399,7 @@ class _Database(MutableMapping):
             return Program(number.value, self._token)
 
     def _assembled(self, source):
-        text, image = source.encode("utf-8"), _Room(_IMAGE_MOST)
+        text, image = _bytes(source), _Room(_IMAGE_MOST)
         status = _call.assemble(text, len(text), image.at, _IMAGE_MOST, self._at["_other"], self._at["_place"], *self._value)
         if status == _BAD_TEXT:
             raise ProgramError(self._text(), self._place.value or None)
@@ -405,8 +441,8 @@ class _Database(MutableMapping):
         raise _error(status)
 
     def sync(self):
-        """Writes both files, and keeps them on the disk. Meanwhile other threads go on. Where the save is kept in FILE.redo alone, since a
-        file could not be written, it warns: the next who opens or saves ends it, and until then others may see half of it."""
+        """Writes both files and makes them durable. Meanwhile other threads go on. If a file cannot be written and the save is in FILE.redo
+        alone, it warns: the next opening or save completes it, and until then other programs may see half of it."""
         fault = _Fault()
         with self._saving:
             with self._lock:
@@ -425,26 +461,40 @@ class _Database(MutableMapping):
                 warnings.warn(str(_of_fault(fault, self._name)), RuntimeWarning, stacklevel=2)
 
     def close(self):
-        """Writes both files, unless the database is only read, and lets the lock go. A fault of the files leaves it open. In a child of the
-        process that has opened it nothing is written, and the lock stays."""
-        if self._base is None and self._inherited is None:
+        """Writes both files, unless the database is only read, and releases the lock. A fault of the files leaves the database open. In a
+        child of the process that opened it nothing is written, and the lock stays."""
+        if not self._held:
             return
         if self._process != os.getpid():
             self._leave_to_parent()
-            self._let_go()
+            self._release()
             return
         with self._saving, self._lock:
             try:
                 if self._base is not None and self._keeps:
                     self.sync()
             except RuntimeWarning:
-                self._let_go()
+                self._release()
                 raise
-            self._let_go()
+            self._release()
 
-    def _let_go(self):
-        base, self._base, self._inherited, self._db = self._base or self._inherited, None, None, None
-        _call.close_files(base)
+    def _release(self):
+        """Closes the base without a save. The step that takes it out of the list closes it, so it is closed once."""
+        self._base = self._db = None
+        if self._held:
+            deque(map(_call.close_files, map(self._held.pop, (0,))), maxlen=0)
+
+    def _finish(self):
+        """Closes a database that nobody has closed. Changes that cannot be saved are lost, with a warning, and the lock is released."""
+        try:
+            self.close()
+        except RuntimeWarning:
+            raise
+        except Exception as fault:
+            name = os.fsdecode(self._name)
+            warnings.warn(f"{name}: the changes that were not saved are lost: {fault}", RuntimeWarning, stacklevel=2)
+        finally:
+            self._release()
 
     def __enter__(self):
         return self
@@ -453,13 +503,7 @@ class _Database(MutableMapping):
         self.close()
 
     def __del__(self):
-        try:
-            self.close()
-        except RuntimeWarning:
-            raise
-        except Exception as fault:
-            warnings.warn(f"what was not saved is lost: {fault}", ResourceWarning, source=self)
-            self._let_go()
+        self._finish()
 
 
 # What the extension and this file agree on.
@@ -494,17 +538,26 @@ class Database(*_plain_calls, _Database):
     __slots__ = ()
 
 
-# Those that are open, for a child to leave them to its parent.
+# The databases that are open.
 _databases = weakref.WeakValueDictionary()
 
 
 def _leave_all():
+    """Leaves all databases to the parent, in a child."""
     for database in list(_databases.values()):
         database._leave_to_parent()
-        database._let_go()
+        database._release()
+
+
+def _finish_all():
+    """Closes what is still open when the interpreter exits. The objects need not end then: a daemon thread may have them."""
+    with contextlib.ExitStack() as stack:
+        for database in list(_databases.values()):
+            stack.callback(database._finish)
 
 
 os.register_at_fork(after_in_child=_leave_all)
+atexit.register(_finish_all)
 
 
 def _of_fault(fault, name):
@@ -537,7 +590,7 @@ def open(file, flag="r", mode=0o666, *, wide=False, unsigned_keys=False, wait=Tr
             _make_files(db, name, mode, flag == "n")
         db._keeps = not db._reads
     except BaseException:
-        db.close()
+        db._release()
         raise
     return db
 

@@ -18,6 +18,7 @@ import tempfile
 import threading
 import time
 import unittest
+import unittest.mock
 
 sys.path.insert(0, str(pathlib.Path(__file__).resolve().parent))
 WAY = os.environ.get("BODDURCI_WAY")
@@ -52,9 +53,20 @@ class Mapping(InFolder):
             def __len__(self):
                 return 1000
 
+        class Itself(Long):
+            def __bytes__(self):
+                return self
+
+        class Word(str):
+            def encode(self, *_):
+                return Long(b"other")
+
         with boddurci.open(self.base, "c") as db:
-            db[Long(b"key")] = Long(b"value")
-            self.assertEqual((db.items(), db[Long(b"key")]), ([(b"key", b"value")], b"value"))
+            for kind, plain in ((Long, b"key"), (Itself, b"key"), (Word, "key")):
+                db[kind(plain)] = kind(plain)
+                self.assertEqual((db.items(), db[kind(plain)]), ([(b"key", b"key")], b"key"))
+            with self.assertRaises(boddurci.ProgramError):
+                db.program(Itself(b"\0"))
 
     def test_pairs(self):
         with boddurci.open(self.base, "c") as db:
@@ -162,6 +174,47 @@ class Mapping(InFolder):
         other.join()
         self.assertEqual(seen, [b"1"])
 
+    def test_a_handler_that_raises_as_it_opens_leaves_no_lock(self):
+        """The signal goes to another thread, so the wait for the lock goes on, and its handler runs once the base is open."""
+        with boddurci.open(self.base, "c") as db:
+            db[b"a"] = b"1"
+        self.addCleanup(signal.signal, signal.SIGUSR1, signal.signal(signal.SIGUSR1, self.raises))
+        for flag in "w", "n":
+            with open(self.base + ".lock", "rb") as lock:
+                fcntl.flock(lock, fcntl.LOCK_EX)
+                thread = threading.Thread(target=self.signal_and_unlock, args=(lock,))
+                thread.start()
+                with self.assertRaises(KeyboardInterrupt):
+                    boddurci.open(self.base, flag)
+                thread.join()
+                fcntl.flock(lock, fcntl.LOCK_EX | fcntl.LOCK_NB)
+            with boddurci.open(self.base, "w", wait=False) as db:
+                self.assertEqual(db.items(), [(b"a", b"1")])
+
+    def signal_and_unlock(self, lock):
+        time.sleep(0.2)
+        signal.pthread_kill(threading.get_ident(), signal.SIGUSR1)
+        fcntl.flock(lock, fcntl.LOCK_UN)
+
+    def raises(self, *_):
+        raise KeyboardInterrupt
+
+    def test_signals_at_any_moment_leave_no_lock(self):
+        with boddurci.open(self.base, "c") as db:
+            db[b"a"] = b"1"
+        self.addCleanup(signal.signal, signal.SIGALRM, signal.signal(signal.SIGALRM, self.raises))
+        rolls = random.Random(1)
+        with open(self.base + ".lock", "rb") as lock:
+            for _ in range(500):
+                try:
+                    signal.setitimer(signal.ITIMER_REAL, rolls.uniform(1e-6, 5e-4))
+                    boddurci.open(self.base, "w", wait=False).close()
+                    time.sleep(1)
+                except KeyboardInterrupt:
+                    pass
+                fcntl.flock(lock, fcntl.LOCK_EX | fcntl.LOCK_NB)
+                fcntl.flock(lock, fcntl.LOCK_UN)
+
     def heard(self, *_):
         """A signal: the second one ends the wait."""
         self.count += 1
@@ -211,11 +264,95 @@ class Mapping(InFolder):
         db = boddurci.open(self.base, "c")
         db[b"a"] = b"1"
         os.rename(self.base + ".lock", self.base + ".away")
-        with self.assertWarnsRegex(ResourceWarning, "what was not saved is lost: BASE.lock is another file"):
+        with self.assertWarnsRegex(RuntimeWarning, "db: the changes that were not saved are lost: BASE.lock is another file"):
             del db
         os.rename(self.base + ".away", self.base + ".lock")
         with boddurci.open(self.base, "w", wait=False) as db:
             self.assertEqual(len(db), 0)
+
+
+class Ends(InFolder):
+    """What is open when the interpreter exits."""
+
+    SCRIPT = """
+import boddurci, os, sys, threading, time
+db = boddurci.open(sys.argv[1], "c")
+db[b"a"] = sys.argv[2].encode()
+other = boddurci.open(sys.argv[1] + ".other", "c")
+other[b"a"] = b"other"
+
+def work():
+    own = db, other
+    while True:
+        time.sleep(1)
+
+threading.Thread(target=work, daemon=True).start()
+if len(sys.argv) > 3:
+    os.rename(sys.argv[1] + ".lock", sys.argv[1] + ".away")
+"""
+
+    def ended(self, *words):
+        env = {**os.environ, "PYTHONPATH": os.pathsep.join(sys.path)}
+        words = [sys.executable, "-c", self.SCRIPT, self.base, *words]
+        return subprocess.run(words, env=env, check=True, timeout=60, capture_output=True, text=True).stderr
+
+    def values(self):
+        for name in self.base, self.base + ".other":
+            with boddurci.open(name, wait=False) as db:
+                yield db[b"a"]
+
+    def test_a_global_beside_a_daemon_thread_is_saved(self):
+        self.assertEqual(self.ended("1"), "")
+        self.assertEqual(list(self.values()), [b"1", b"other"])
+
+    def test_what_cannot_be_saved_is_warned_of_by_name(self):
+        self.ended("1")
+        warned = self.ended("2", "moved")
+        self.assertRegex(warned, "RuntimeWarning: .*/db: the changes that were not saved are lost: BASE.lock is another file")
+        os.rename(self.base + ".away", self.base + ".lock")
+        self.assertEqual(list(self.values()), [b"1", b"other"])
+
+
+class Library(InFolder):
+    """Which library is loaded. The one beside the module is right, and that of the environment is none."""
+
+    def setUp(self):
+        super().setUp()
+        self.folder = pathlib.Path(self.room.name)
+        self.folder.chmod(0o755)
+        shutil.copy(boddurci.__file__, self.folder / "boddurci.py")
+        shutil.copy(boddurci._path_of_library(), self.folder / "libboddurci.so")
+        (self.folder / "other.so").write_text("no library")
+
+    def loads(self, *options, named="other.so", group=None):
+        """The error of a process that imports the module, or nothing."""
+        script = f"import sys; sys.path.insert(0, {str(self.folder)!r}); import boddurci"
+        env = {"PATH": os.environ["PATH"], "BODDURCI_LIBRARY": os.path.join(self.folder, named)}
+        words = [sys.executable, *options, "-c", script]
+        ran = subprocess.run(words, env=env, cwd=self.folder, capture_output=True, text=True, preexec_fn=group)
+        return ran.stderr.strip().rpartition("\n")[2]
+
+    def test_the_environment(self):
+        self.assertRegex(self.loads(), "ImportError: .*other.so cannot be loaded")
+        for option in "-I", "-E":
+            self.assertEqual(self.loads(option), "")
+
+    @unittest.skipUnless(hasattr(os, "geteuid") and os.geteuid() == 0, "not root")
+    def test_rights_of_another(self):
+        self.assertEqual(self.loads(group=lambda: os.setregid(-1, 65534)), "")
+
+    def test_no_relative_name(self):
+        with unittest.mock.patch.dict(os.environ, {"BODDURCI_LIBRARY": "./libboddurci.so"}):
+            with self.assertRaisesRegex(ImportError, "give the absolute path"):
+                boddurci._path_of_library()
+
+    def test_no_library_of_the_working_folder(self):
+        (self.folder / "module").mkdir()
+        (self.folder / "boddurci.py").rename(self.folder / "module/boddurci.py")
+        script = f"import sys; sys.path.insert(0, {str(self.folder / 'module')!r}); import boddurci; print(boddurci._path_of_library())"
+        ran = subprocess.run([sys.executable, "-I", "-c", script], cwd=self.folder, capture_output=True, text=True)
+        self.assertNotIn(str(self.folder), ran.stdout)
+        self.assertTrue(ran.stdout == "libboddurci.so.2\n" or "libboddurci.so.2 cannot be loaded" in ran.stderr, ran)
 
 
 class Saves(InFolder):

@@ -5,8 +5,12 @@
 
 Each line on the Unix socket is a user, and is answered `yes LEFT` or `no MILLISECONDS`. The database is saved every second, and when SIGTERM
 or SIGINT ends the service. A kill forgives what was let through since the last save, and no more.
+
+Users choose their names. With the names as keys they could choose some whose hashes agree, which makes BASE.pag as long as it can be. So a
+key is a hash of the name with a secret, which is made with the database, in BASE.secret. If you delete that file all users start anew.
 """
 
+import hashlib
 import os
 import pathlib
 import signal
@@ -21,31 +25,55 @@ sys.path.append(str(HERE.parent.parent / "bindings/python"))
 
 import boddurci
 
-# One token more every so many milliseconds, how many there are at most, and how many a call takes.
+# The milliseconds for one token more, the most tokens, and the tokens of a call.
 RATE = struct.pack("<3Q", 100, 10, 1)
+
+# The most bytes of a user's name.
+LONGEST = 1000
 
 
 class Asking(socketserver.StreamRequestHandler):
-    """One who asks, in a thread of its own."""
+    """A client, in a separate thread. A line that is too long, or is cut off, ends the connection."""
 
     def handle(self):
-        for line in self.rfile:
-            self.wfile.write(self.server.answer(line.rstrip(b"\n")))
+        while True:
+            line = self.rfile.readline(LONGEST + 1)
+            if line.endswith(b"\n"):
+                self.wfile.write(self.server.answer(line[:-1]))
+                continue
+            if len(line) > LONGEST:
+                self.wfile.write(b"fault a user has at most %d bytes\n" % LONGEST)
+            return
 
 
 class Limiter(socketserver.ThreadingUnixStreamServer):
     daemon_threads = True
 
-    def __init__(self, where, db):
+    def __init__(self, where, db, secret):
         super().__init__(where, Asking)
         self.db, self.bucket = db, db.program((HERE.parent / "c/token_bucket.bin").read_bytes())
+        self.secret = secret
 
     def answer(self, user):
+        key = hashlib.blake2b(user, digest_size=16, key=self.secret).digest()
         try:
-            end, word = self.db.run(self.bucket, user, RATE, blank=16, now=time.time_ns() // 1_000_000)
+            end, word = self.db.run(self.bucket, key, RATE, blank=16, now=time.time_ns() // 1_000_000)
         except boddurci.error as fault:
             return f"fault {fault}\n".encode()
         return b"%s %d\n" % (b"yes" if end == 1 else b"no", word)
+
+
+def secret_of(base):
+    """The secret of a database, which is made if it is missing. The lock of the database keeps other services away meanwhile."""
+    path = pathlib.Path(base + ".secret")
+    if not path.exists():
+        new = pathlib.Path(base + ".secret.new")
+        with open(os.open(new, os.O_WRONLY | os.O_CREAT | os.O_TRUNC, 0o600), "wb") as file:
+            file.write(os.urandom(32))
+            file.flush()
+            os.fsync(file.fileno())
+        new.rename(path)
+    return path.read_bytes()
 
 
 def main():
@@ -58,7 +86,7 @@ def main():
             signal.signal(number, lambda *_: over.set())
         if os.path.exists(where):
             os.unlink(where)
-        with Limiter(where, db) as limiter:
+        with Limiter(where, db, secret_of(base)) as limiter:
             threading.Thread(target=limiter.serve_forever, daemon=True).start()
             while not over.wait(1):
                 db.sync()

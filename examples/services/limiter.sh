@@ -3,11 +3,27 @@
 #
 #     limiter.sh BASE USER     status 0: let through; 1: not, and it prints how many milliseconds to wait
 #
-# Each call is a run of dbm, which waits for others on BASE, changes one record and saves it. DBM names the program, or dbm is on the PATH.
+# Each call is a run of dbm, which waits for others on BASE, reads one page, changes one record and saves it. DBM names the program, or dbm
+# is on the PATH.
+#
+# Users choose their names. With the names as keys they could choose some whose hashes agree, which makes BASE.pag as long as it can be. So
+# a key is a hash of the name and of a secret, which the first call makes in BASE.secret. If you delete that file all users start anew.
 set -u
-bucket=$(dirname "$0")/../c/token_bucket.bin
-# A user may be any text, so the key is taken as it is; behind -- it may begin with a dash.
-said=$("${DBM:-dbm}" run --image --text --raw-key -- "$1" "$2" "$bucket" u64:100,u64:10,u64:1 16 now-ms)
+bucket=$(dirname -- "$0")/../c/token_bucket.bin
+secret=$1.secret
+if [ ! -s "$secret" ]; then
+    # The link is made at once or not at all, so callers side by side have one secret.
+    (umask 077 && dd if=/dev/urandom of="$secret.$$" bs=32 count=1 conv=fsync 2> /dev/null && ln -- "$secret.$$" "$secret" 2> /dev/null)
+    rm -f -- "$secret.$$"
+fi
+if [ ! -s "$secret" ] || [ ! -r "$secret" ]; then
+    echo "limiter.sh: $secret cannot be made or read" >&2
+    exit 2
+fi
+# A user may be any text: no part of it is read as an option or a number.
+key=$({ cat -- "$secret" && printf %s "$2"; } | sha256sum)
+key=$(printf %.32s "$key")
+said=$("${DBM:-dbm}" run --quick --image --text -- "$1" "hex:$key" "$bucket" u64:100,u64:10,u64:1 16 now-ms)
 case $said in
     "ran 1 "*) exit 0 ;;
     "ran 0 "*) echo "${said#ran 0 }" && exit 1 ;;

@@ -12,7 +12,7 @@
 # still tied when the program ends, it is saved then; a warning names the base and the fault if that fails, and the lock is released in any
 # case. Options follow the mode: wide => 1, unsigned_keys => 1, no_wait => 1, and timeout => SECONDS, after which a lock that another process
 # holds is an error. In a child of the process that tied the hash every call but `untie` dies, and nothing is saved. A handler of a signal may
-# die during any call: the base is then closed with its hash. Every failure dies.
+# die while a hash is tied: the lock is released with it. Every failure dies.
 #
 # It needs FFI::Platypus (Debian: libffi-platypus-perl) and the shared object that `./dbm --build-library` makes. It takes the file that
 # BODDURCI_LIBRARY names by its absolute path, else the one beside this module, else the one in out/boddurci of the repository, else the

@@ -214,14 +214,15 @@ for my $mode ("w", "n") {
     print $other "no library";
     close $other;
     local $ENV{BODDURCI_LIBRARY} = "$folder/other.so";
-    my $says = sub { scalar qx{cd $folder && @_ -e 'use lib "$folder"; use Boddurci; print "loaded"' 2>&1} };
-    like($says->($^X), qr/other\.so cannot be loaded/);
-    is($says->($^X, "-T"), "loaded");
-    if ($> == 0) {
-        is($says->("setpriv --egid 65534 --keep-groups", $^X), "loaded", "of another group");
-    }
+    my $says = sub {
+        my ($option, $before) = @_;
+        return scalar qx{cd $folder && $^X $option -e 'BEGIN { $before } use lib "$folder"; use Boddurci; print "loaded"' 2>&1};
+    };
+    like($says->("", ""), qr/other\.so cannot be loaded/);
+    is($says->("-T", ""), "loaded");
+    is($says->("", q{$) = "65534 65534"}), "loaded", "of another group") if $> == 0;
     $ENV{BODDURCI_LIBRARY} = "./libboddurci.so";
-    like($says->($^X), qr/give the absolute path/);
+    like($says->("", ""), qr/give the absolute path/);
     # A library of the working folder is not taken.
     delete $ENV{BODDURCI_LIBRARY};
     mkdir "$folder/module" or die;

@@ -5,8 +5,10 @@
  *     ./leased BASE SOCKET ../c/owned_lease.bin
  *
  * Four threads answer lines on a Unix socket: `take NAME OWNER MILLISECONDS`, `renew NAME OWNER MILLISECONDS` and `give NAME OWNER`, of
- * words without spaces, names of up to 256 bytes and owners of up to 16, by `yes NUMBER` or `no`. A `yes` is sent once its lease is saved, so it stands
- * whatever happens to the service: kill it, and start it again. SIGTERM ends it. */
+ * words without spaces, names of up to 256 bytes and owners of up to 16, by `yes NUMBER` or `no`. A `yes` is sent once its lease is saved, so
+ * it stands whatever happens to the service: kill it, and start it again. SIGTERM ends it.
+ *
+ * The names are the keys. If strangers choose them, hash them with a secret first, as limiter.py does. */
 #define _POSIX_C_SOURCE 200809L
 #include <boddurci_files.h>
 #include <pthread.h>

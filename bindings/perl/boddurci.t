@@ -178,22 +178,21 @@ for my $mode ("w", "n") {
     tie my %held, "Boddurci", "$base.signal", "c";
     $held{a} = "1";
     untie %held;
+    my $action = POSIX::SigAction->new(sub { die "a signal" }, POSIX::SigSet->new, POSIX::SA_RESTART());
+    $action->safe(1);
+    POSIX::sigaction(POSIX::SIGUSR1(), $action) or die;
+    pipe(my $has_lock, my $locks) or die;
     my $holder = fork // die;
     if (!$holder) {
         open(my $lock, "<", "$base.signal.lock") or die;
         flock($lock, LOCK_EX) or die;
-        kill USR2 => getppid;
+        syswrite $locks, "x";
         select undef, undef, undef, 0.3;
         kill USR1 => getppid;
         select undef, undef, undef, 0.3;
         POSIX::_exit(0);
     }
-    my $has_lock = 0;
-    local $SIG{USR2} = sub { $has_lock = 1 };
-    select undef, undef, undef, 0.01 until $has_lock;
-    my $action = POSIX::SigAction->new(sub { die "a signal" }, POSIX::SigSet->new, POSIX::SA_RESTART());
-    $action->safe(1);
-    POSIX::sigaction(POSIX::SIGUSR1(), $action) or die;
+    sysread $has_lock, my $byte, 1;
     dies_with(sub { tie my %db, "Boddurci", "$base.signal", $mode }, qr/a signal/);
     waitpid $holder, 0;
     open(my $lock, "<", "$base.signal.lock") or die;

@@ -187,9 +187,9 @@ for my $mode ("w", "n") {
         open(my $lock, "<", "$base.signal.lock") or die;
         flock($lock, LOCK_EX) or die;
         syswrite $locks, "x";
-        select undef, undef, undef, 0.3;
+        select undef, undef, undef, 0.8;
         kill USR1 => getppid;
-        select undef, undef, undef, 0.3;
+        select undef, undef, undef, 0.4;
         POSIX::_exit(0);
     }
     sysread $has_lock, my $byte, 1;

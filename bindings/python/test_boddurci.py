@@ -192,7 +192,7 @@ class Mapping(InFolder):
                 self.assertEqual(db.items(), [(b"a", b"1")])
 
     def signal_and_unlock(self, lock):
-        time.sleep(0.2)
+        time.sleep(0.5)
         signal.pthread_kill(threading.get_ident(), signal.SIGUSR1)
         fcntl.flock(lock, fcntl.LOCK_UN)
 

@@ -27,7 +27,7 @@ use Cwd qw(abs_path);
 use File::Basename qw(dirname);
 use FFI::Platypus 1.00;
 use FFI::Platypus::Buffer qw(scalar_to_pointer);
-use Scalar::Util qw(refaddr weaken);
+use Scalar::Util qw(refaddr);
 use Time::HiRes qw(clock_gettime CLOCK_MONOTONIC);
 
 # Statuses of boddurci.h and boddurci_files.h, and the words for some of them. The library has words for the others.
@@ -165,15 +165,16 @@ sub TIEHASH {
     _end_left();
     my $record = { name => $name, reads => $flags & 4, process => $$, token => [] };
     my $self = bless \$record, $class;
-    weaken($record->{owner} = $self);
     $open{ refaddr $record } = $record;
     $self->_open($flags, $timeout);
     # An object that ends before it is returned saves nothing: with the mode n that would be an empty database.
     return ($record->{keeps} = 1, $self)[1];
 }
 
-# A database is not copied into another interpreter of the process.
+# A database is not copied into the interpreter of another thread, and neither is its record.
 sub CLONE_SKIP { 1 }
+
+sub CLONE { %open = () }
 
 sub _db {
     my ($self, $writes) = @_;
@@ -343,10 +344,10 @@ sub _end {
     carp "$$self->{name}: the changes that were not saved are lost: $why" unless $is_saved;
 }
 
-# Ends the records that no object has any more; with a true argument, all records.
+# Ends the records to which this table alone refers, since their object is gone; with a true argument, all records.
 sub _end_left {
     my ($has_all) = @_;
-    for my $record (grep { $has_all || !$_->{owner} } values %open) {
+    for my $record (grep { $has_all || Internals::SvREFCNT(%$_) == 1 } values %open) {
         (bless \(my $of = $record))->_end;
     }
 }

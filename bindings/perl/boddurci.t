@@ -1,6 +1,7 @@
 # Tests of Boddurci.pm, in a folder of their own. BODDURCI_LIBRARY names the shared object.
 use strict;
 use warnings;
+use Config ();
 use Cwd qw(abs_path);
 use Fcntl qw(:flock);
 use File::Basename qw(dirname);
@@ -148,6 +149,36 @@ for my $kind ("my", "our") {
     tie my %kept, "Boddurci", "$base.end", "w", no_wait => 1;
     is($kept{$kind}, "kept");
     untie %kept;
+}
+
+# An object that ends while a handler of a signal dies is saved and closed by the next tie.
+{
+    no warnings "redefine";
+    local $SIG{__WARN__} = sub { };
+    {
+        local *Boddurci::DESTROY = sub { die "a signal" };
+        tie my %left, "Boddurci", "$base.left", "c";
+        $left{a} = "left";
+    }
+    tie my %again, "Boddurci", "$base.left", "w", no_wait => 1;
+    is($again{a}, "left");
+    untie %again;
+}
+
+# A thread of Perl leaves what its parent has tied.
+SKIP: {
+    my $script = q{
+        use threads;
+        use Boddurci;
+        tie my %db, "Boddurci", $ARGV[0], "c";
+        $db{a} = "1";
+        threads->create(sub { tie my %own, "Boddurci", "$ARGV[0].own", "c"; $own{a} = "own" })->join;
+        $db{a} .= "2";
+        print $db{a};
+    };
+    skip "no threads", 2 unless $Config::Config{useithreads};
+    is(qx{$^X -I$top/bindings/perl -e '$script' $base.threads 2>&1}, "12");
+    is(join(",", map { tie my %kept, "Boddurci", "$base.threads$_", "r"; $kept{a} } "", ".own"), "12,own");
 }
 
 # Where that cannot be saved a warning names the base and the fault, and the lock is free afterwards.

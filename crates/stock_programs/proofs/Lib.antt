@@ -1,0 +1,13 @@
+pub mod Forward
+pub mod Meaning
+pub mod NumberFacts
+pub mod LengthFacts
+pub mod Sizes
+pub mod Counting
+pub mod BoundedAdding
+pub mod CountingWithin
+pub mod ComparingAndSetting
+pub mod Sequencing
+pub mod Leasing
+pub mod Fencing
+pub mod Limiting

@@ -1,0 +1,11 @@
+pub mod Numbers
+pub mod Lengths
+pub mod Meaning
+pub mod Counter
+pub mod BoundedAdd
+pub mod BoundedCounter
+pub mod CompareAndSet
+pub mod Sequence
+pub mod Lease
+pub mod FencedLease
+pub mod RateLimit

@@ -1,5 +1,5 @@
 -- Reading numbers that were written, and the machine's own words for reading and writing.
-use Rattle.std.proofs.Common.{ℕ, zero, suc, ◌≡◌, ◌+◌, ◌-◌, ◌*◌, ◌^◌, ◌%◌, ◌<◌, ◌≤◌, ◌++◌, refl, sym, ap, ◌∙◌, List, [], ◌∷◌, length, take, drop, slice_index, arith, lit<}
+use Rattle.std.proofs.Common.{ℕ, zero, suc, ◌≡◌, ◌+◌, ◌-◌, ◌*◌, ◌^◌, ◌%◌, ◌<◌, ◌≤◌, ◌++◌, refl, sym, ap, ◌∙◌, List, [], ◌∷◌, length, take, drop, replicate, slice_index, arith, lit<}
 use Rattle.std.proofs.lemmas.List.{length-take, length-drop, length-append, get_or-take, get_or-drop, get_or-append_right}
 use Rattle.std.proofs.Math.ListN.{get_or-append}
 use Rattle.std.proofs.Math.Seq.{drop-append_seam}
@@ -113,3 +113,25 @@ still_inside bytes p x k low h = le-leb _ _ (omega (arith, length_spliced bytes 
 pub length_written : (bytes : List ℕ) (p x : ℕ) → p + 8 ≤ length bytes → length (with_number bytes p x) ≡ length bytes
 unfolding with_number
 length_written bytes p x low = written_length 8 p bytes (bytes_low_first 0 8 x) low (length-bytes_low_first 0 8 x)
+
+-- The start of other bytes has their numbers.
+pub read_taken : (bytes rest : List ℕ) (n p : ℕ) → n ≤ length bytes → p + 8 ≤ n → number_at p (take n bytes ++ rest) ≡ number_at p bytes
+unfolding number_at
+read_taken bytes rest n p low inside = same_number 0 8 p (take n bytes ++ rest) bytes (λ k l m. byte_before n k bytes rest low (omega arith))
+
+-- Zeros are the number 0.
+zero_at : (n k : ℕ) → slice_index (replicate n 0) k ≡ 0
+zero_at zero k = refl
+zero_at (suc n) zero = refl
+zero_at (suc n) (suc k) = zero_at n k
+
+zero_from : (i n : ℕ) (xs : List ℕ) → ((k : ℕ) → slice_index xs k ≡ 0) → little_from i n xs ≡ 0
+zero_from i zero xs h = refl
+zero_from i (suc n) xs h =
+    let a : slice_index xs i ≡ 0 = h i in
+    let b : little_from (suc i) n xs ≡ 0 = zero_from (suc i) n xs h in
+    omega arith
+
+pub read_zeros : (n p : ℕ) → number_at p (replicate n 0) ≡ 0
+unfolding number_at
+read_zeros n p = zero_from 0 8 (drop p (replicate n 0)) (λ k. get_or-drop p (replicate n 0) k 0 ∙ zero_at n (p + k))

@@ -1,0 +1,44 @@
+//! The laws. Each holds in every legal history in which runs of one program alone change a key; the premises are in `specs/`.
+ghost use Rattle.stock_histories.specs.BoundsLaw.{StaysBelow, StaysBetween};
+ghost use Rattle.stock_histories.specs.CounterLaw.{LosesNoRun};
+ghost use Rattle.stock_histories.specs.FencingLaw.{TokensRise};
+ghost use Rattle.stock_histories.specs.LeaseLaw.{NeverOverlap};
+ghost use Rattle.stock_histories.specs.LimitLaw.{AdmitsAtMost};
+ghost use Rattle.stock_histories.specs.SequenceLaw.{TakesOnce};
+
+use std::alloc::Allocator;
+
+/// A counter loses no run: the number at the end is the number at the start plus the number of runs, modulo 2^64.
+pub fn counters_lose_no_run<A: Allocator>()
+    ensures { LosesNoRun A }
+{}
+
+/// Two owners never hold a lease at one time.
+pub fn leases_never_overlap<A: Allocator>()
+    ensures { NeverOverlap A }
+{}
+
+/// No fencing token is lower than an earlier one, and each new owner has a greater one.
+pub fn tokens_rise<A: Allocator>()
+    ensures { TokensRise A }
+{}
+
+/// A bounded counter never leaves the bounds within which its runs name floor and ceiling.
+pub fn bounded_counters_stay_between<A: Allocator>()
+    ensures { StaysBetween A }
+{}
+
+/// The number of bounded add is never above the greatest bound that its runs name.
+pub fn bounded_sums_stay_below<A: Allocator>()
+    ensures { StaysBelow A }
+{}
+
+/// A sequence takes each number once, and in rising order.
+pub fn sequences_take_numbers_once<A: Allocator>()
+    ensures { TakesOnce A }
+{}
+
+/// A window of a rate limit admits at most its number.
+pub fn rate_limits_hold<A: Allocator>()
+    ensures { AdmitsAtMost A }
+{}

@@ -1,0 +1,11 @@
+//! Laws over whole histories of a key that runs of one stock program alone change.
+//!
+//! The programs and the theorem on each are in `stock_programs`.
+#![tactic(auto)]
+
+mod laws;
+
+pub use laws::{
+    bounded_counters_stay_between, bounded_sums_stay_below, counters_lose_no_run,
+    leases_never_overlap, rate_limits_hold, sequences_take_numbers_once, tokens_rise,
+};

@@ -6,4 +6,5 @@ pub mod OfFences
 pub mod OfBounds
 pub mod OfSequences
 pub mod OfLimits
+pub mod TrailTests
 mod Examples

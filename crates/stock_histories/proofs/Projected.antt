@@ -35,7 +35,7 @@ use Rattle.stock_histories.proofs.KeyHistory.{left_at, RunsTo, KeyHistory, halve
 
 -- ---- the map at a key
 
-other_key : (own key : List ℕ) → own ≢ key → same_key key own ≡ false
+pub other_key : (own key : List ℕ) → own ≢ key → same_key key own ≡ false
 other_key own key apart = at (same_key key own) refl
   where
     at : (b : Bool) → same_key key own ≡ b → b ≡ false

@@ -1,0 +1,115 @@
+//! Tests whether the premises of the laws hold in the trail of a store.
+ghost use Rattle.std.specs.Prelude.{◌≡◌, ◌↔◌, IsTrue};
+ghost use Rattle.std.specs.Option.{option_map};
+ghost use Rattle.bpf_helpers.specs.Runs.{AreBytes};
+ghost use Rattle.stock_histories.specs.Turns.{
+  turn_in,
+  turns_of,
+  OnlyRuns,
+  RunsAlone,
+  HasWords,
+  HaveWords,
+  NeverFalls,
+};
+
+use bpf_insn::Code;
+use std::alloc::Allocator;
+use store_cmd::{Command, KeptEntry, Program, Reply, Trail};
+
+/// Tests the premises of the laws on a trail: runs of this program alone change the key, and the times of its runs never fall. Fetches,
+/// counts and commands on other keys are allowed. It takes no memory, and time in the entries.
+pub fn has_premises<A: Allocator>(trail: &Trail<A>, program: &Code<A>, key: &[u8]) -> bool
+    ensures tested { IsTrue result ↔ (RunsAlone program.now key.now trail.now.entries.items × NeverFalls 0 (turns_of key.now trail.now.entries.items)) }
+    ensures words { IsTrue result → HaveWords trail.now.entries.items }
+{
+    let entries = trail.entries.as_slice();
+    if !is_alone(entries, program, key) {
+        return false;
+    }
+    never_falls(entries, key)
+}
+
+/// Tests whether runs of this program alone change the key in the entries of a trail. It takes no memory.
+pub fn is_alone<A: Allocator>(entries: &[KeptEntry<A>], program: &Code<A>, key: &[u8]) -> bool
+    ensures alone { IsTrue result ↔ RunsAlone program.now key.now entries.now }
+    ensures words { IsTrue result → HaveWords entries.now }
+{
+    for entry in entries {
+        let _ = entry.session();
+        if !only_runs(entry.command(), program, key) {
+            return false;
+        }
+    }
+    true
+}
+
+/// Tests whether the times of the runs on a key never fall from one to the next. It takes no memory.
+pub fn never_falls<A: Allocator>(entries: &[KeptEntry<A>], key: &[u8]) -> bool
+    ensures { IsTrue result ↔ NeverFalls 0 (turns_of key.now entries.now) }
+{
+    let mut from = 0;
+    for entry in entries {
+        if let Some(now) = time_in(entry, key) {
+            if now < from {
+                return false;
+            }
+            from = now;
+        }
+    }
+    true
+}
+
+// Whether a command leaves the key alone or is a run of the program.
+fn only_runs<A: Allocator>(command: &Command<A>, program: &Code<A>, key: &[u8]) -> bool
+    ensures alone { IsTrue result ↔ OnlyRuns program.now key.now command.now }
+    ensures words { HasWords command.now }
+{
+    match command {
+        Command::Fetch { .. } => true,
+        Command::Store { key: own, .. } => own.as_slice() != key,
+        Command::Delete { key: own } => own.as_slice() != key,
+        Command::Run {
+            key: own,
+            prog,
+            arg,
+            now,
+            ..
+        } => {
+            let _now = *now;
+            take_bytes(arg.as_slice());
+            if own.as_slice() != key {
+                return true;
+            }
+            is_of(prog, program)
+        }
+        Command::Count => true,
+    }
+}
+
+// Whether an accepted program is this code.
+fn is_of<A: Allocator>(prog: &Program<A>, program: &Code<A>) -> bool
+    ensures { IsTrue result ↔ (prog.now ≡ program.now) }
+{
+    *prog.verified().code() == *program
+}
+
+// The bytes of a slice are below 256.
+fn take_bytes(bytes: &[u8])
+    ensures { AreBytes bytes.now }
+{}
+
+// The time of an entry that is a run on the key.
+fn time_in<A: Allocator>(entry: &KeptEntry<A>, key: &[u8]) -> Option<u64>
+    ensures { result ≡ option_map (λ t. t.now) (turn_in key.now entry.now.session entry.now.command entry.now.reply) }
+{
+    let Command::Run { key: own, now, .. } = entry.command() else {
+        return None;
+    };
+    let Reply::Ran { .. } = entry.reply() else {
+        return None;
+    };
+    if own.as_slice() != key {
+        return None;
+    }
+    Some(*now)
+}

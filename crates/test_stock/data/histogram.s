@@ -1,0 +1,24 @@
+; A histogram: eight counters, of which the argument's first byte picks one.
+;
+; Record, 64 bytes: eight numbers of 8 bytes each, the lowest byte first.
+; Argument, 1 byte or more: the lowest three bits of the first byte say which number gets one more.
+;
+; Code 1: it was counted. Code 0: a length is too short. The reply word is the number's new value.
+
+    jlt r2, 64, leave       ; R2 is the record's length
+    jlt r4, 1, leave        ; R4 is the argument's length
+    ldxb r6, [r3]
+    and r6, 7               ; 0 to 7
+    lsh r6, 3               ; 0 to 56, in steps of 8
+    add r1, r6              ; so the 8 bytes there are in the record
+    ldxdw r7, [r1]
+    add r7, 1
+    stxdw [r1], r7
+    mov r1, r7
+    call 1                  ; says how many
+    mov r0, 1               ; save the record
+    exit
+
+leave:
+    mov r0, 0               ; change nothing
+    exit

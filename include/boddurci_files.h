@@ -64,7 +64,8 @@ enum boddurci_files_status {
                                   or another program wrote them. Move it away to have the files as they are */
     BODDURCI_NO_SAVE = 35,     /* it was opened to be read only */
     BODDURCI_TOO_LONG = 36,    /* a file has more bytes than dbm takes: 1 GiB of .pag, 256 MiB of .dir */
-    BODDURCI_UNSAFE = 37,      /* BASE.redo or BASE.lock may be a stranger's; the text says why */
+    BODDURCI_UNSAFE = 37,      /* BASE.redo or BASE.lock may be a stranger's; the text says why. In the name that it has, controls, bytes
+                                  that are not UTF-8 and what turns text round are escaped */
     BODDURCI_MOVED = 38,       /* BASE.lock, .pag, .dir or .redo is another file than was opened, or links lead elsewhere */
     BODDURCI_FORKED = 39,      /* it was opened by another process, of which this one is a child */
     BODDURCI_BAD_NAME = 40,    /* the name is NULL or empty, . or .., or ends in one of these after a / */
@@ -85,7 +86,8 @@ const char *boddurci_files_text(uint32_t status);
 
 /* Opens the database in BASE.dir and BASE.pag, each of which may be missing, or returns NULL and says why. A save that was cut off is ended
  * first, no matter who made it; a base that is read only writes nothing, and reads what the save would have left, once that is kept on the disk.
- * It waits for the lock without an end, also after a signal. Where it returns NULL nothing was changed but that such a save was ended, and
+ * It takes memory for what the files have on the disk, twice, and none for holes. It waits for the lock without an end, also after a signal.
+ * Where it returns NULL nothing was changed but that such a save was ended, and
  * that a lock may have been made. Who may not write a .pag that is there makes no lock. FILE_FAILED, LOCKED (by NO_WAIT alone), BAD_REDO,
  * TOO_LONG, UNSAFE, MOVED, BAD_NAME, OPEN_HERE, and BAD_FILES and NO_MEMORY of boddurci.h. */
 boddurci_base *boddurci_open_files(const char *base, uint32_t flags, boddurci_fault *fault);
@@ -115,7 +117,8 @@ void boddurci_give(boddurci_base *base);
  * boddurci.h.
  *
  * Both files get the blocks that they want before the save counts, where the file system can give them, so that a full disk is FILE_FAILED
- * with nothing changed. Where a file cannot be written all the same, it is DONE, fault->system is not 0, and the text says which file: the
+ * with nothing changed. So is a save that would make one of the three files longer than the process may (RLIMIT_FSIZE): no SIGXFSZ comes of it.
+ * Where a file cannot be written all the same, it is DONE, fault->system is not 0, and the text says which file: the
  * save is kept in BASE.redo, and the next who saves or opens to write ends it. Until then a program that knows nothing of BASE.redo, as
  * Perl's SDBM_File, may see half of it. */
 uint32_t boddurci_save(boddurci_base *base, boddurci_fault *fault) BODDURCI_IS_LOOKED_AT;

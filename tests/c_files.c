@@ -292,6 +292,110 @@ static void test_written_beside(void)
     boddurci_close_files(base);
 }
 
+/* The linker puts this in front of boddurci_mark: no pointer that the library is given may be NULL. */
+uint32_t __real_boddurci_mark(boddurci *db, const uint32_t *numbers, size_t count);
+uint32_t __wrap_boddurci_mark(boddurci *db, const uint32_t *numbers, size_t count);
+
+static unsigned long marked;
+
+uint32_t __wrap_boddurci_mark(boddurci *db, const uint32_t *numbers, size_t count)
+{
+    marked++;
+    EXPECT(numbers != NULL);
+    return __real_boddurci_mark(db, numbers, count);
+}
+
+/* The program's own, which the library calls in the place of the C library's: once it was called so often a file may have 1,024 bytes. */
+static int syncs_until_limit;
+
+static void set_limit(rlim_t most)
+{
+    struct rlimit limit;
+    EXPECT(getrlimit(RLIMIT_FSIZE, &limit) == 0);
+    limit.rlim_cur = most < limit.rlim_max ? most : limit.rlim_max;
+    EXPECT(setrlimit(RLIMIT_FSIZE, &limit) == 0);
+}
+
+int fdatasync(int file)
+{
+    if (syncs_until_limit != 0 && --syncs_until_limit == 0)
+        set_limit(1024);
+    return fsync(file);
+}
+
+static boddurci_base *with_many(const char *name, int from)
+{
+    boddurci_base *base = opened(name, 0);
+    for (int i = from; i < from + 40; i++)
+        store_one(base, i);
+    return base;
+}
+
+/* A save in a child whom SIGXFSZ would kill, and whose limit falls at one of its syncs, or before it where that is 0; what it comes to, or -1
+ * where a signal killed it. Its mask of signals stays. */
+static int save_in_child(const char *name, int sync, int was_held)
+{
+    int status;
+    pid_t child = fork();
+    if (child == 0) {
+        sigset_t only, mask;
+        sigemptyset(&only);
+        sigaddset(&only, SIGXFSZ);
+        signal(SIGXFSZ, SIG_DFL);
+        if (was_held && (sigprocmask(SIG_BLOCK, &only, NULL) != 0 || raise(SIGXFSZ) != 0))
+            _exit(99);
+        boddurci_base *base = with_many(name, 9000);
+        syncs_until_limit = sync;
+        if (sync == 0)
+            set_limit(1024);
+        uint32_t saved = boddurci_save(base, &fault);
+        EXPECT(saved == BODDURCI_DONE || (saved == BODDURCI_FILE_FAILED && fault.system == EFBIG));
+        EXPECT(sigprocmask(SIG_BLOCK, NULL, &mask) == 0 && sigismember(&mask, SIGXFSZ) == was_held);
+        EXPECT(sigpending(&mask) == 0 && sigismember(&mask, SIGXFSZ) == was_held);
+        _exit(saved != BODDURCI_DONE ? 1 : fault.system == EFBIG ? 2 : 0);
+    }
+    EXPECT(child > 0 && waitpid(child, &status, 0) == child);
+    return WIFEXITED(status) ? WEXITSTATUS(status) : -1;
+}
+
+/* A limit on the length of files, which falls at any moment of a save: it is a fault with nothing changed, or the save is kept in the redo
+ * file, and nobody dies of it. A save that was cut off and cannot be ended under the limit is a fault of the opening. */
+static void test_limited(void)
+{
+    int seen[3] = {0, 0, 0};
+    for (int sync = 0; sync < 12; sync++) {
+        boddurci_base *base = with_many("limited", 0);
+        EXPECT(boddurci_save(base, &fault) == BODDURCI_DONE);
+        boddurci_close_files(base);
+        int told = save_in_child("limited", sync, sync % 2);
+        EXPECT(told >= 0 && told <= 2);
+        seen[told]++;
+        EXPECT(is_there("limited.redo") == (told == 2));
+        if (told == 2) {
+            set_limit(1024);
+            EXPECT(fails("limited", 0, BODDURCI_FILE_FAILED) && fault.system == EFBIG && is_there("limited.redo"));
+            set_limit(RLIM_INFINITY);
+        }
+        base = opened("limited", 0);
+        EXPECT(count_of(base) == (told == 1 ? 40 : 80) && !is_there("limited.redo"));
+        boddurci_close_files(base);
+        EXPECT(unlink("limited.pag") == 0 && (unlink("limited.dir") == 0 || errno == ENOENT));
+    }
+    EXPECT(seen[0] != 0 && seen[1] != 0 && seen[2] != 0);
+    /* No page has changed, and the first save fails all the same: there is nothing to be marked. */
+    boddurci_base *base = with_many("limited", 0);
+    EXPECT(boddurci_save(base, &fault) == BODDURCI_DONE);
+    boddurci_close_files(base);
+    EXPECT(truncate("limited.dir", 8192) == 0 && signal(SIGXFSZ, SIG_IGN) != SIG_ERR);
+    base = opened("limited", 0);
+    set_limit(10);
+    marked = 0;
+    EXPECT(boddurci_save(base, &fault) == BODDURCI_FILE_FAILED && fault.system == EFBIG && marked == 1);
+    set_limit(RLIM_INFINITY);
+    EXPECT(boddurci_save(base, &fault) == BODDURCI_DONE);
+    boddurci_close_files(base);
+}
+
 /* What a save has planned and could not write is in the next one. */
 static void test_written_later(void)
 {
@@ -418,6 +522,8 @@ static void test_redo(void)
     write_redo("visits.redo", long_dir);
     EXPECT(fails("visits", 0, BODDURCI_TOO_LONG) && fails("visits", BODDURCI_READ_ONLY, BODDURCI_TOO_LONG));
     write_text("visits.redo", "\0plan", 5);
+    /* Of one that is not marked nothing more is read, however long it is. */
+    EXPECT(truncate("visits.redo", 3000000000) == 0);
     boddurci_base *base = opened("visits", 0);
     EXPECT(count_of(base) == PAIRS && is_there("visits.redo"));
     boddurci_close_files(base);
@@ -667,6 +773,7 @@ int main(int argc, char **argv)
     test_ends();
     test_untouched();
     test_written_beside();
+    test_limited();
     test_written_later();
     test_meanwhile();
     test_links();

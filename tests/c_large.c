@@ -1,12 +1,15 @@
 /* How long saves take that change one pair, or a hundred: of a base whose .pag has 1 MiB, and of one with a sparse 1 GiB. tests/c_library
  * builds and runs it, in the folder that is the argument. It prints milliseconds. The status is 1 where one change, or a hundred, takes on the
- * larger base more than twenty times as long as on the smaller one and 5 milliseconds, or where a save of nothing takes one millisecond. */
+ * larger base more than twenty times as long as on the smaller one and 5 milliseconds, or where a save of nothing takes one millisecond; and
+ * where an opening of the larger one takes more than 64 MiB, of which a hole has no part. */
 #define _POSIX_C_SOURCE 200809L
 #include "boddurci_files.h"
 #include <stdio.h>
 #include <stdlib.h>
 #include <string.h>
+#include <sys/resource.h>
 #include <sys/stat.h>
+#include <sys/wait.h>
 #include <time.h>
 #include <unistd.h>
 
@@ -109,8 +112,31 @@ static double middle(boddurci_base *base, unsigned changes)
     return times[ROUNDS / 2];
 }
 
+/* How long an opening takes in a process of its own, and how much memory that has at most, in KiB. */
+static double open_alone(const char *name, long *memory)
+{
+    int ends[2], status;
+    double time = 0;
+    need(pipe(ends) == 0, "there is no pipe");
+    pid_t child = fork();
+    if (child == 0) {
+        struct rusage used;
+        double from = now();
+        boddurci_base *base = boddurci_open_files(name, BODDURCI_READ_ONLY, &fault);
+        need(base != NULL && getrusage(RUSAGE_SELF, &used) == 0, "a base is not opened");
+        time = now() - from;
+        need(write(ends[1], &time, sizeof time) == sizeof time && write(ends[1], &used.ru_maxrss, sizeof used.ru_maxrss) > 0, "nothing is told");
+        boddurci_close_files(base);
+        _exit(0);
+    }
+    need(child > 0 && waitpid(child, &status, 0) == child && status == 0, "a base is not opened");
+    need(read(ends[0], &time, sizeof time) == sizeof time && read(ends[0], memory, sizeof *memory) == sizeof *memory, "nothing is told");
+    return time;
+}
+
 int main(int argc, char **argv)
 {
+    long memory = 0;
     if (argc != 2 || chdir(argv[1]) != 0)
         return 2;
     boddurci_base *small = made("small", 10), *large = made("large", 20);
@@ -119,5 +145,7 @@ int main(int argc, char **argv)
     printf("1 MiB: 1 change %.2f, 100 changes %.2f, none %.3f; 1 GiB: %.2f, %.2f, %.3f\n", one, hundred, none, one_large, hundred_large, none_large);
     boddurci_close_files(small);
     boddurci_close_files(large);
-    return one_large > 20 * one + 5 || hundred_large > 20 * hundred + 5 || none_large > 1;
+    double open_large = open_alone("large", &memory);
+    printf("opening of 1 GiB: %.0f milliseconds, %ld KiB\n", open_large, memory);
+    return one_large > 20 * one + 5 || hundred_large > 20 * hundred + 5 || none_large > 1 || memory > 65536;
 }

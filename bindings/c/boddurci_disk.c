@@ -4,12 +4,49 @@
 #include "boddurci_saves.h"
 #include <errno.h>
 #include <fcntl.h>
+#include <pthread.h>
+#include <signal.h>
 #include <sys/resource.h>
 #include <sys/stat.h>
+#include <time.h>
 #include <unistd.h>
+
+/* ---- the signal of a file that is too long */
+
+static int has_come(void)
+{
+    sigset_t pending;
+    return sigpending(&pending) == 0 && sigismember(&pending, SIGXFSZ) == 1;
+}
+
+static void hold_signal(struct boddurci_disk *disk)
+{
+    sigset_t only;
+    sigemptyset(&only);
+    sigaddset(&only, SIGXFSZ);
+    disk->was_signalled = has_come();
+    disk->is_signal_held = pthread_sigmask(SIG_BLOCK, &only, &disk->mask) == 0;
+}
+
+/* Takes back the signal that has come meanwhile, and lets those come that came before. */
+static void give_signal(struct boddurci_disk *disk)
+{
+    static const struct timespec now = {0, 0};
+    sigset_t only;
+    int system = errno;
+    sigemptyset(&only);
+    sigaddset(&only, SIGXFSZ);
+    if (disk->is_signal_held && !disk->was_signalled && has_come())
+        (void)!sigtimedwait(&only, NULL, &now);
+    if (disk->is_signal_held)
+        pthread_sigmask(SIG_SETMASK, &disk->mask, NULL);
+    disk->is_signal_held = 0;
+    errno = system;
+}
 
 void boddurci_disk_of(struct boddurci_disk *disk, struct boddurci_place *place)
 {
+    hold_signal(disk);
     disk->place = place;
     for (enum boddurci_file file = BODDURCI_PAGES; file <= BODDURCI_REDO; file++)
         disk->files[file] = -1;
@@ -28,6 +65,7 @@ void boddurci_disk_close(struct boddurci_disk *disk)
 {
     for (enum boddurci_file file = BODDURCI_PAGES; file <= BODDURCI_REDO; file++)
         close_file(disk, file);
+    give_signal(disk);
 }
 
 /* ---- one file */
@@ -233,15 +271,22 @@ static int reserve_all(struct boddurci_disk *disk, struct boddurci_bytes redo, u
     return reserve_run(disk, &run, absent);
 }
 
+/* Whether the three files may have the lengths that the save gives them. */
+static int may_be_written(struct boddurci_disk *disk, struct boddurci_bytes redo)
+{
+    uint64_t most = most_bytes();
+    for (enum boddurci_file file = BODDURCI_PAGES; file <= BODDURCI_DIRECTORY; file++)
+        if (boddurci_new_length(redo, file) > most)
+            return is_too_far(disk, file);
+    return redo.length > most ? is_too_far(disk, BODDURCI_REDO) : 0;
+}
+
 /* Sees that there is room for what is to be done after the mark: the data files get their blocks now, and the redo file tries as many as
  * they cannot be given. */
 static int take_room(struct boddurci_disk *disk, struct boddurci_bytes redo)
 {
     size_t absent = 0;
     uint64_t most = most_bytes();
-    for (enum boddurci_file file = BODDURCI_PAGES; file <= BODDURCI_DIRECTORY; file++)
-        if (boddurci_new_length(redo, file) > most)
-            return is_too_far(disk, file);
     int status = reserve_all(disk, redo, most, &absent);
     if (status == 0 && absent != 0 && redo.length + absent <= most)
         status = try_behind(disk, redo.length, absent);
@@ -297,7 +342,7 @@ static int give_up(struct boddurci_disk *disk)
 /* The old redo file goes first: what a failed sync of it has left on the disk is then not under the new plan, and nobody has it open. */
 int boddurci_stage(struct boddurci_disk *disk, struct boddurci_bytes redo)
 {
-    if (clear(disk) != 0 || make(disk, BODDURCI_REDO) != 0)
+    if (may_be_written(disk, redo) != 0 || clear(disk) != 0 || make(disk, BODDURCI_REDO) != 0)
         return give_up(disk);
     if (write_at(disk, BODDURCI_REDO, 1, redo.at + 1, redo.length - 1) != 0 || take_room(disk, redo) != 0 || keep(disk, BODDURCI_REDO) != 0)
         return give_up(disk);

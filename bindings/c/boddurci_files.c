@@ -112,25 +112,12 @@ static uint32_t too_long(boddurci_fault *fault)
 
 static uint32_t read_all(int file, size_t limit, struct boddurci_bytes *bytes, boddurci_fault *fault)
 {
-    size_t room = 0;
-    for (;;) {
-        if (bytes->length == room) {
-            size_t more = room == 0 ? 65536 : 2 * room;
-            uint8_t *grown = realloc(bytes->at, more);
-            if (grown == NULL)
-                return boddurci_no_memory(fault);
-            bytes->at = grown;
-            room = more;
-        }
-        ssize_t got = read(file, bytes->at + bytes->length, room - bytes->length);
-        if (got == 0)
-            return BODDURCI_DONE;
-        if (got < 0 && errno != EINTR)
-            return boddurci_fail_by_system(fault, "a file cannot be read");
-        bytes->length += got < 0 ? 0 : (size_t)got;
-        if (bytes->length > limit)
-            return too_long(fault);
-    }
+    struct stat found;
+    if (fstat(file, &found) != 0)
+        return boddurci_fail_by_system(fault, "a file cannot be read");
+    if (found.st_size > (off_t)limit)
+        return too_long(fault);
+    return boddurci_read(file, (size_t)found.st_size, bytes) == 0 ? BODDURCI_DONE : boddurci_fail_by_system(fault, "a file cannot be read");
 }
 
 /* Reads a data file; one that is not there has no bytes, unless it has to be there. */
@@ -151,11 +138,10 @@ static uint32_t read_both(struct boddurci_place *place, int must_exist, struct b
     return status == BODDURCI_DONE ? read_file(place, BODDURCI_PAGES, must_exist, &files[BODDURCI_PAGES], fault) : status;
 }
 
-static void let_go(struct boddurci_bytes *bytes)
+static void let_both_go(struct boddurci_bytes *files)
 {
-    free(bytes->at);
-    bytes->at = NULL;
-    bytes->length = 0;
+    boddurci_let_go(&files[BODDURCI_PAGES]);
+    boddurci_let_go(&files[BODDURCI_DIRECTORY]);
 }
 
 /* ---- a save that was cut off */
@@ -166,12 +152,26 @@ static uint32_t bad_redo(boddurci_fault *fault)
                          "BASE.redo is marked, and is not of these files: an older copy was put back, or another program wrote them");
 }
 
+/* Reads one that begins with a mark; another counts as one without bytes, whatever its length. */
+static uint32_t read_marked(int file, struct boddurci_bytes *redo, boddurci_fault *fault)
+{
+    uint8_t first = 0;
+    ssize_t got;
+    do
+        got = pread(file, &first, 1, 0);
+    while (got < 0 && errno == EINTR);
+    if (got < 0)
+        return boddurci_fail_by_system(fault, "a file cannot be read");
+    struct boddurci_bytes head = {&first, (size_t)got, 0};
+    return boddurci_is_marked(head) ? read_all(file, limits[BODDURCI_REDO], redo, fault) : BODDURCI_DONE;
+}
+
 /* Reads the redo file, and tells its descriptor, which is to be closed; one that is not there has no bytes. */
 static uint32_t read_redo(struct boddurci_place *place, int how, struct boddurci_bytes *redo, int *opened, boddurci_fault *fault)
 {
     uint32_t status = boddurci_open_beside(place, BODDURCI_REDO, how, opened, fault);
     if (status == BODDURCI_DONE && *opened >= 0)
-        status = read_all(*opened, limits[BODDURCI_REDO], redo, fault);
+        status = read_marked(*opened, redo, fault);
     if (status != BODDURCI_DONE || !boddurci_is_marked(*redo))
         return status;
     if (!boddurci_is_whole(*redo))
@@ -207,7 +207,7 @@ static uint32_t open_again(struct boddurci_disk *disk, int first, boddurci_fault
 /* Ends a save that was cut off, where one was, and says whether. */
 static uint32_t end_marked(struct boddurci_disk *disk, int *is_ended, boddurci_fault *fault)
 {
-    struct boddurci_bytes redo = {NULL, 0}, files[2] = {{NULL, 0}, {NULL, 0}};
+    struct boddurci_bytes redo = {NULL, 0, 0}, files[2] = {{NULL, 0, 0}, {NULL, 0, 0}};
     int opened = -1;
     uint32_t status = read_redo(disk->place, O_RDONLY, &redo, &opened, fault);
     int is_cut_off = status == BODDURCI_DONE && boddurci_is_marked(redo);
@@ -216,15 +216,14 @@ static uint32_t end_marked(struct boddurci_disk *disk, int *is_ended, boddurci_f
         status = read_both(disk->place, 0, files, fault);
     if (is_cut_off && status == BODDURCI_DONE)
         status = know(redo, files, fault);
-    let_go(&files[BODDURCI_PAGES]);
-    let_go(&files[BODDURCI_DIRECTORY]);
+    let_both_go(files);
     if (is_cut_off && status == BODDURCI_DONE)
         status = open_again(disk, opened, fault);
     if (is_cut_off && status == BODDURCI_DONE && boddurci_recover(disk, redo) != 0)
         status = cannot_be_written(fault, disk->last);
     if (opened >= 0)
         close(opened);
-    free(redo.at);
+    boddurci_let_go(&redo);
     return status;
 }
 
@@ -240,7 +239,7 @@ static uint32_t keep_marked(struct boddurci_place *place, int redo, boddurci_fau
 /* Reads both data files as they stand for a database that may not be written: where a save was cut off, with the save done in them. */
 static uint32_t read_over(struct boddurci_place *place, int must_exist, struct boddurci_bytes *files, boddurci_fault *fault)
 {
-    struct boddurci_bytes redo = {NULL, 0};
+    struct boddurci_bytes redo = {NULL, 0, 0};
     int opened = -1;
     uint32_t status = read_redo(place, O_RDONLY, &redo, &opened, fault);
     int is_cut_off = status == BODDURCI_DONE && boddurci_is_marked(redo);
@@ -255,7 +254,7 @@ static uint32_t read_over(struct boddurci_place *place, int must_exist, struct b
             status = boddurci_no_memory(fault);
     if (opened >= 0)
         close(opened);
-    free(redo.at);
+    boddurci_let_go(&redo);
     return status;
 }
 
@@ -321,8 +320,7 @@ static uint32_t read_again(boddurci_base *base, struct boddurci_bytes *files, ui
     uint32_t locked = boddurci_take_lock(&base->place, 1, milliseconds, &second);
     if (locked == BODDURCI_DONE && base->place.lock < 0)
         return status;
-    let_go(&files[BODDURCI_PAGES]);
-    let_go(&files[BODDURCI_DIRECTORY]);
+    let_both_go(files);
     if (locked == BODDURCI_DONE)
         return read_files(base, files, fault);
     *fault = second;
@@ -331,7 +329,7 @@ static uint32_t read_again(boddurci_base *base, struct boddurci_bytes *files, ui
 
 static uint32_t read_base(boddurci_base *base, const char *name, int64_t milliseconds, boddurci_fault *fault)
 {
-    struct boddurci_bytes files[2] = {{NULL, 0}, {NULL, 0}};
+    struct boddurci_bytes files[2] = {{NULL, 0, 0}, {NULL, 0, 0}};
     int reads = (base->flags & BODDURCI_READ_ONLY) != 0;
     uint32_t status = boddurci_enter(&base->place, name, reads, milliseconds, fault);
     int may_read = status == BODDURCI_DONE;
@@ -343,8 +341,7 @@ static uint32_t read_base(boddurci_base *base, const char *name, int64_t millise
         boddurci_give_lock(&base->place, 1);
     if (status == BODDURCI_DONE)
         status = open_bytes(base, files, fault);
-    free(files[BODDURCI_PAGES].at);
-    free(files[BODDURCI_DIRECTORY].at);
+    let_both_go(files);
     return status;
 }
 
@@ -439,12 +436,12 @@ struct reading {
 
 static void end_reading(struct reading *reading)
 {
-    free(reading->directory.at);
+    boddurci_let_go(&reading->directory);
     free(reading->numbers);
     free(reading->pages);
-    reading->directory.at = reading->pages = NULL;
+    reading->pages = NULL;
     reading->numbers = NULL;
-    reading->directory.length = reading->count = 0;
+    reading->count = 0;
 }
 
 static int by_number(const void *one, const void *other)
@@ -543,6 +540,13 @@ static uint32_t read_listed(struct boddurci_place *place, struct reading *readin
 
 /* ---- saving */
 
+/* The numbers that are listed, for a call: never NULL, also where there are none. */
+static const uint32_t *numbers_of(const struct reading *reading)
+{
+    static const uint32_t none;
+    return reading->numbers != NULL ? reading->numbers : &none;
+}
+
 /* Room for a plan of which each block of the pages changes, as far as they are not too many, so that it is made once as a rule. */
 static size_t room_of(const struct reading *reading)
 {
@@ -555,9 +559,8 @@ static size_t room_of(const struct reading *reading)
  * in any case. */
 static uint32_t plan_of(boddurci *db, const struct reading *reading, struct boddurci_bytes *redo)
 {
-    static const uint32_t no_number;
     const uint8_t *directory = or_none(reading->directory);
-    const uint32_t *numbers = reading->numbers != NULL ? reading->numbers : &no_number;
+    const uint32_t *numbers = numbers_of(reading);
     size_t room, length = room_of(reading), pages = reading->count * reading->size;
     uint32_t status = BODDURCI_SHORT_ROOM;
     while (status == BODDURCI_SHORT_ROOM) {
@@ -624,7 +627,7 @@ static uint32_t fit(struct boddurci_bytes redo, boddurci_fault *fault)
 static uint32_t do_plan(boddurci_base *base, struct boddurci_disk *disk, const struct reading *reading, struct boddurci_bytes redo,
                         boddurci_fault *fault)
 {
-    struct boddurci_bytes none = {NULL, 0};
+    struct boddurci_bytes none = {NULL, 0, 0};
     int is_left = 0;
     uint32_t status = fit(redo, fault);
     if (status == BODDURCI_DONE && redo.length != 0)
@@ -632,7 +635,7 @@ static uint32_t do_plan(boddurci_base *base, struct boddurci_disk *disk, const s
     if (is_left != 0)
         status = is_left < 0 ? cannot_be_written(fault, disk->last) : is_pending(fault, disk->last);
     if (status != BODDURCI_DONE) {
-        if (boddurci_mark(boddurci_take(base), reading->numbers, reading->count) != BODDURCI_DONE)
+        if (boddurci_mark(boddurci_take(base), numbers_of(reading), reading->count) != BODDURCI_DONE)
             base->is_noted = 0;
         boddurci_give(base);
     } else {
@@ -655,8 +658,8 @@ static void settle_lock(struct boddurci_place *place)
 static uint32_t save(boddurci_base *base, boddurci_fault *fault)
 {
     struct boddurci_disk disk;
-    struct boddurci_bytes redo = {NULL, 0};
-    struct reading reading = {{NULL, 0}, 0, NULL, 0, NULL, base->flags & BODDURCI_WIDE ? 8192 : 1024};
+    struct boddurci_bytes redo = {NULL, 0, 0};
+    struct reading reading = {{NULL, 0, 0}, 0, NULL, 0, NULL, base->flags & BODDURCI_WIDE ? 8192 : 1024};
     struct note notes[2], again[2];
     int is_ended = 0;
     if (!boddurci_is_held(&base->place))
@@ -682,7 +685,7 @@ static uint32_t save(boddurci_base *base, boddurci_fault *fault)
         memcpy(base->notes, notes, sizeof notes);
     }
     end_reading(&reading);
-    free(redo.at);
+    boddurci_let_go(&redo);
     boddurci_disk_close(&disk);
     return status;
 }

@@ -126,8 +126,10 @@ static const char *kind_of(mode_t mode)
 
 static uint32_t not_taken(boddurci_fault *fault, const char *name, const char *why)
 {
+    char shown[100];
+    boddurci_show_name(shown, sizeof shown, name);
     boddurci_fail(fault, BODDURCI_UNSAFE, 0, "");
-    snprintf(fault->text, sizeof fault->text, "%.100s %s, and is not taken", name, why);
+    snprintf(fault->text, sizeof fault->text, "%s %s, and is not taken", shown, why);
     return fault->status;
 }
 

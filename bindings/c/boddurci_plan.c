@@ -1,4 +1,5 @@
 /* The bytes of a redo file, read. crates/sdbm_saves/specs/Redo.antt says what they mean, for dbm too; boddurci_plan makes them. */
+#define _POSIX_C_SOURCE 200809L
 #include "boddurci_saves.h"
 #include <stdlib.h>
 #include <string.h>
@@ -129,17 +130,11 @@ int boddurci_knows(struct boddurci_bytes redo, const struct boddurci_bytes files
 
 int boddurci_lay_over(struct boddurci_bytes redo, enum boddurci_file file, struct boddurci_bytes *bytes)
 {
-    size_t length = boddurci_new_length(redo, file);
-    uint8_t *laid = realloc(bytes->at, length + 1);
-    if (laid == NULL)
+    if (boddurci_set_length(bytes, boddurci_new_length(redo, file)) != 0)
         return -1;
-    if (length > bytes->length)
-        memset(laid + bytes->length, 0, length - bytes->length);
-    bytes->at = laid;
-    bytes->length = length;
     struct boddurci_change change = boddurci_before_changes(redo);
     while (boddurci_next_change(redo, &change))
-        if (change.file == file)
-            memcpy(laid + change.at, change.bytes, change.size);
+        if (change.file == file && change.size != 0)
+            memcpy(bytes->at + change.at, change.bytes, change.size);
     return 0;
 }

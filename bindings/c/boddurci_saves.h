@@ -5,6 +5,7 @@
 #ifndef BODDURCI_SAVES_H
 #define BODDURCI_SAVES_H
 #include "boddurci_files.h"
+#include <signal.h>
 #include <stddef.h>
 #include <stdint.h>
 #include <sys/types.h>
@@ -13,10 +14,11 @@
 
 enum boddurci_file { BODDURCI_PAGES, BODDURCI_DIRECTORY, BODDURCI_REDO, BODDURCI_LOCK };
 
-/* The bytes of a file, which are to be freed. */
+/* The bytes of a file, which boddurci_let_go frees: a mapping of so many bytes, or, where room is 0, memory of malloc. It begins with zeros. */
 struct boddurci_bytes {
     uint8_t *at;
     size_t length;
+    size_t room;
 };
 
 /* ---- boddurci_texts.c: how a fault is told */
@@ -26,8 +28,21 @@ uint32_t boddurci_fail(boddurci_fault *fault, uint32_t status, int system, const
 uint32_t boddurci_no_fault(boddurci_fault *fault);
 uint32_t boddurci_no_memory(boddurci_fault *fault);
 
+/* Writes a name as a fault tells it into a room: what could lead a terminal or a reader astray is escaped, and a long one is cut. */
+void boddurci_show_name(char *room, size_t size, const char *name);
+
 /* By errno: no memory, a file that is another than was opened (ESTALE), or the fault of a call. */
 uint32_t boddurci_fail_by_system(boddurci_fault *fault, const char *what);
+
+/* ---- boddurci_bytes.c: the bytes of a file in memory */
+
+void boddurci_let_go(struct boddurci_bytes *bytes);
+
+/* Makes mapped bytes so many, with zeros after those that were there. */
+int boddurci_set_length(struct boddurci_bytes *bytes, size_t length);
+
+/* Reads the first bytes of an opened file, of which there were none before. Its holes take no memory. */
+int boddurci_read(int file, size_t length, struct boddurci_bytes *bytes);
 
 /* ---- boddurci_plan.c: the bytes of a redo file */
 
@@ -56,7 +71,7 @@ int boddurci_next_change(struct boddurci_bytes redo, struct boddurci_change *cha
 /* Whether the save is one of these data files, which stand before it, after it, or in the middle of it: 1 or 0; or -1, where memory ran out. */
 int boddurci_knows(struct boddurci_bytes redo, const struct boddurci_bytes files[2]);
 
-/* Does the save in the bytes of a data file. */
+/* Does the save in the bytes of a data file, which are mapped. */
 int boddurci_lay_over(struct boddurci_bytes redo, enum boddurci_file file, struct boddurci_bytes *bytes);
 
 /* ---- boddurci_place.c: the folder of a database, and its files */
@@ -126,12 +141,16 @@ void boddurci_give_lock(struct boddurci_place *place, int is_own);
 
 /* ---- boddurci_disk.c: the three files of a save, written */
 
-/* Each data file is opened when it is first kept or written, made where it is not there, and then kept open. */
+/* Each data file is opened when it is first kept or written, made where it is not there, and then kept open. From boddurci_disk_of to
+ * boddurci_disk_close SIGXFSZ is kept from this thread: a write past the limit of the process on the length of a file is EFBIG. */
 struct boddurci_disk {
     struct boddurci_place *place;
     int files[3];            /* -1 where it is not open */
     int is_folder_kept;      /* the folder was synced, and no file was made since */
     enum boddurci_file last; /* which file the last call was about */
+    sigset_t mask;           /* what was kept from the thread before */
+    int is_signal_held;      /* the mask was changed */
+    int was_signalled;       /* the signal had come before */
 };
 
 /* The files of a place; and what is to be called in any case. */
@@ -143,8 +162,8 @@ void boddurci_disk_close(struct boddurci_disk *disk);
 int boddurci_recover(struct boddurci_disk *disk, struct boddurci_bytes redo);
 
 /* Writes a redo file that is not marked, a new one, and keeps it, so that nothing is committed yet; and gives the data files the blocks that
- * its save wants, where the file system can. Where there is no room, or it cannot write it, it takes it away. It wants boddurci_recover
- * before it. */
+ * its save wants, where the file system can. Where there is no room, or a file would pass the limit of the process, or it cannot write it, it
+ * takes it away. It wants boddurci_recover before it. */
 int boddurci_stage(struct boddurci_disk *disk, struct boddurci_bytes redo);
 
 /* Marks the redo file that was staged, which commits its save, and ends it. Where the mark cannot be kept it takes the redo file away.

@@ -28,12 +28,89 @@ const char *boddurci_files_text(uint32_t status)
     }
 }
 
+/* ---- names */
+
+/* The character that UTF-8 spells at a place, and its bytes; or 0 where it spells none there. */
+static uint32_t character_at(const uint8_t *at, size_t *bytes)
+{
+    static const uint32_t least[5] = {0, 0, 0x80, 0x800, 0x10000};
+    size_t count = at[0] < 0x80 ? 1 : at[0] < 0xc2 ? 0 : at[0] < 0xe0 ? 2 : at[0] < 0xf0 ? 3 : at[0] < 0xf5 ? 4 : 0;
+    uint32_t character = count == 1 ? at[0] : at[0] & (0x7fu >> count);
+    for (size_t i = 1; i < count; i++) {
+        if ((at[i] & 0xc0) != 0x80)
+            return 0;
+        character = character << 6 | (at[i] & 0x3fu);
+    }
+    *bytes = count;
+    if (count == 0 || character < least[count] || character > 0x10ffff || (character >= 0xd800 && character <= 0xdfff))
+        return 0;
+    return character;
+}
+
+/* Whether a character is no control, and does not change the order in which others are shown. */
+static int is_plain(uint32_t character)
+{
+    if (character < 0x20 || (character >= 0x7f && character < 0xa0) || character == '\\')
+        return 0;
+    int is_mark = character == 0x61c || character == 0x200e || character == 0x200f;
+    int is_turn = (character >= 0x202a && character <= 0x202e) || (character >= 0x2066 && character <= 0x2069);
+    return !is_mark && !is_turn && character != 0x2028 && character != 0x2029;
+}
+
+/* A character as it is told, or a byte that spells none. */
+static size_t show_next(const uint8_t *at, char *shown, size_t size)
+{
+    size_t bytes = 0;
+    uint32_t character = character_at(at, &bytes);
+    if (character == 0)
+        snprintf(shown, size, "\\x%02x", at[0]);
+    else if (is_plain(character))
+        snprintf(shown, size, "%.*s", (int)bytes, (const char *)at);
+    else
+        snprintf(shown, size, "\\u{%x}", (unsigned)character);
+    return character == 0 ? 1 : bytes;
+}
+
+void boddurci_show_name(char *room, size_t size, const char *name)
+{
+    static const char more[] = "...";
+    const uint8_t *at = (const uint8_t *)name;
+    size_t length = 0;
+    char next[16];
+    room[0] = 0;
+    while (*at != 0) {
+        at += show_next(at, next, sizeof next);
+        if (length + strlen(next) + sizeof more > size) {
+            memcpy(room + length, more, sizeof more);
+            return;
+        }
+        memcpy(room + length, next, strlen(next) + 1);
+        length += strlen(next);
+    }
+}
+
+/* ---- faults */
+
+/* What the system says of an errno, in a room: strerror may share its own between threads. The C library has one of two strerror_r. */
+static const char *words_of(int system, char *room, size_t size)
+{
+    room[0] = 0;
+#if defined __GLIBC__ && defined _GNU_SOURCE
+    return strerror_r(system, room, size);
+#else
+    if (strerror_r(system, room, size) != 0)
+        snprintf(room, size, "errno %d", system);
+    return room;
+#endif
+}
+
 uint32_t boddurci_fail(boddurci_fault *fault, uint32_t status, int system, const char *what)
 {
+    char words[100];
     fault->status = status;
     fault->system = system;
     if (system != 0)
-        snprintf(fault->text, sizeof fault->text, "%s: %s", what, strerror(system));
+        snprintf(fault->text, sizeof fault->text, "%s: %s", what, words_of(system, words, sizeof words));
     else
         snprintf(fault->text, sizeof fault->text, "%s", what);
     return status;

@@ -1,6 +1,8 @@
 -- What comes of calls that take no ticket.
-use Rattle.std.specs.Prelude.{◌≡◌, ℕ, Ok, Err}
+use Rattle.std.specs.Prelude.{◌≡◌, ◌<◌, ℕ, Ok, Err}
+use Rattle.bpf_insn.specs.Code.{unit_count}
 use Rattle.store_cmd.specs.declared.Command.{Command}
+use Rattle.store_cmd.specs.declared.Command.TheVariants.{Fetch, Store, Delete, Run, Count}
 use Rattle.desk_core.specs.declared.step.Stepped.{Stepped}
 use Rattle.store_shared.specs.declared.passing.TriedStep.{TriedStep}
 use Rattle.store_shared.specs.declared.passing.TriedStep.TheVariants.{Ended, Busy}
@@ -9,6 +11,18 @@ use Rattle.store_shared.specs.declared.passing.Looking.TheVariants as looking
 use Rattle.store_shared.specs.declared.passing.Passing.{Passing}
 use Rattle.store_shared.specs.declared.passing.Passing.TheVariants as passing
 use Rattle.store_shared.specs.Shared.{IsReplyTo, IsNotForSize}
+
+-- the most units of a program that runs while the lock is held
+abbrev pub short_limit : ℕ
+short_limit = 256
+
+-- a run of a program of more units
+abbrev pub IsLong : {A : Type 0} → Command A → Type 0
+IsLong (Fetch key) = ⊥
+IsLong (Store key value mode) = ⊥
+IsLong (Delete key) = ⊥
+IsLong (Run key program argument blank now) = short_limit < unit_count program
+IsLong Count = ⊥
 
 -- a reply to this command of this session, twice
 pub record IsStepped {A : Type 0} (session : ℕ) (command : Command A) (stepped : Stepped A) : Type 0 where

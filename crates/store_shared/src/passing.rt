@@ -1,9 +1,9 @@
 //! Calls that take no ticket. A command that is soon done is one step of the desk, in one hold of the lock. A long program is worked with
 //! no lock held, on the page of its key as it was, and put in where that is still so; where it is not, the call takes a ticket.
-ghost use Rattle.std.specs.Prelude.{◌≡◌, IfOk, IfErr, true};
-ghost use Rattle.store_moves.specs.Works.{HasKey, IsRun};
+ghost use Rattle.std.specs.Prelude.{◌≡◌, ◌↔◌, IsTrue, IfOk, IfErr};
+ghost use Rattle.store_moves.specs.Works.{HasKey};
 ghost use Rattle.store_shared.specs.Shared.{entry_of, IsReplyTo, IsNotForSize};
-ghost use Rattle.store_shared.specs.Passing.{IsStepped, IsPassed, IsLooked, IsTriedStep};
+ghost use Rattle.store_shared.specs.Passing.{IsLong, IsStepped, IsPassed, IsLooked, IsTriedStep};
 
 use crate::serving::{Committed, another_owner, by_ticket, refusal_of, wait};
 use crate::store::{Core, Gate, Store};
@@ -12,7 +12,7 @@ use std::alloc::Allocator;
 use std::sync::{MutexGuard, Wait};
 use store_cmd::{Command, KeptEntry, Refusal, SharedCommand};
 
-// The most units of a program that runs while the lock is held. Up to there a ticket would keep the lock for longer than the run does.
+// The most units of a program that runs while the lock is held. A ticket would hold the lock for longer than such a run.
 const SHORT_PROGRAM: usize = 256;
 
 /// What came of a step, and the lock in whose hold it was made.
@@ -66,9 +66,9 @@ pub(crate) fn answer<R: Wait, A: Allocator + Copy, G: Gate>(
     by_step(rt, store, session, command)
 }
 
-/// Whether a command runs a program that is better not run while the lock is held.
+/// Whether a command runs a program of more than 256 units. Such a program runs with no lock held.
 pub(crate) fn is_long<A: Allocator>(command: &Command<A>) -> bool
-    ensures { result ≡ true → IsRun command.now }
+    ensures { IsTrue result ↔ IsLong command.now }
 {
     match command {
         Command::Run { prog, .. } => prog.verified().code().units() > SHORT_PROGRAM,

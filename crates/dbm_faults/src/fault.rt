@@ -4,7 +4,7 @@ ghost use Rattle.dbm_faults.specs.declared.fault.ServeFault.TheVariants.{NoMemor
 
 use dbm_dump::DumpFault;
 use dbm_dumps::DumpsFault;
-use dbm_places::FilesFault;
+use dbm_places::{FilesFault, MovedFile};
 use dbm_reports::ReportFault;
 use dbm_script::TasksFault;
 use prog_registry::RegFault;
@@ -39,6 +39,8 @@ pub enum ServeFault {
     Absent,
     /// Another run has had the lock for as long as this one was to wait.
     Locked,
+    /// The lock that the run holds, or a data file that it has read, has lost its name to another file. Nothing was saved.
+    Moved(MovedFile),
     /// Nothing comes of the words, the files and standard input. The fault within is never `NoMemory`.
     Report(ReportFault),
     /// A dump was not written or not loaded. The fault within is never `Read` or `NoMemory`.
@@ -78,6 +80,7 @@ impl fmt::Display for ServeFault {
             ServeFault::BadBase => f.write_str("BadBase"),
             ServeFault::Absent => f.write_str("Absent"),
             ServeFault::Locked => f.write_str("Locked"),
+            ServeFault::Moved(_) => f.write_str("Moved"),
             ServeFault::Report(fault) => fmt::Display::fmt(fault, f),
             ServeFault::Dump(fault) => fmt::Display::fmt(fault, f),
             ServeFault::Submit(fault) => fmt::Display::fmt(fault, f),
@@ -190,6 +193,7 @@ impl From<FilesFault> for ServeFault {
             FilesFault::BadRedo => ServeFault::BadRedo,
             FilesFault::Unsafe => ServeFault::Unsafe,
             FilesFault::Locked => ServeFault::Locked,
+            FilesFault::Moved(file) => ServeFault::Moved(file),
             FilesFault::Write => ServeFault::Saved,
             FilesFault::NoMemory => ServeFault::NoMemory,
         }

@@ -2,7 +2,7 @@
 
 use crate::finding::{Finding, Matter};
 use crate::sentence::{Part, Sentence, plain, with_four, with_one, with_three, with_two};
-use dbm_places::folder_of;
+use dbm_places::{MovedFile, folder_of};
 use dbm_words::Words;
 use sdbm_files::OpenFault;
 
@@ -64,7 +64,7 @@ pub fn unread_sentence<'a>(base: Option<&'a str>) -> Sentence<'a> {
 /// Of files that could not be written, where none is found that the system refuses.
 pub fn unwritten_sentence<'a>(base: &'a str) -> Sentence<'a> {
     with_two(
-        "{}.lock, .redo, .dir or .pag could not be made or written: see that you may write into the folder {}, and that its disk has room.",
+        "{}.lock, .redo, .dir or .pag could not be made or written: see that you may write into the folder {}, that its disk has room, and that ulimit -f allows files so long.",
         Part::Name(base),
         Part::Name(folder_of(base)),
     )
@@ -150,6 +150,25 @@ pub fn small_sentence(base: Option<&str>) -> Sentence<'_> {
         base,
         base,
     )
+}
+
+/// Of a file that has lost its name to another while a run was under way.
+pub fn moved_sentence<'a>(base: Option<&'a str>, file: MovedFile) -> Sentence<'a> {
+    let base = base_part(base);
+    match file {
+        MovedFile::Lock => with_one(
+            "{}.lock was taken away or made anew while this run held it, and another may write by now. Nothing was saved: leave the lock where it is, and run the command again.",
+            base,
+        ),
+        MovedFile::Pages => with_one(
+            "{}.pag is another file than this run has read: it was renamed, taken away or put in its place. Nothing was saved: run the command again on the files as they are now.",
+            base,
+        ),
+        MovedFile::Directory => with_one(
+            "{}.dir is another file than this run has read: it was renamed, taken away or put in its place. Nothing was saved: run the command again on the files as they are now.",
+            base,
+        ),
+    }
 }
 
 /// Of files that are no database. `None` where memory ran out.

@@ -9,9 +9,9 @@ use crate::host::{RealFiles, forget_redo};
 use crate::peeking::{Guard, UnreadPages};
 use crate::saving::{Change, Saved, save_change, save_plan};
 use dbm_places::{
-    DIR_LIMIT, FileBytes, FilesFault, Names, PROGRAM_LIMIT, RunPlace, Side, SideFault, SourceKind,
-    folder_of, is_special, lock_to_read, lock_to_write, names_of, open_beside, resolve, side_fault,
-    sources,
+    DIR_LIMIT, FileBytes, FileId, FilesFault, Names, PROGRAM_LIMIT, Place, RunPlace, SeenFiles,
+    Side, SideFault, SourceKind, folder_of, is_special, lock_to_read, lock_to_write, open_beside,
+    side_fault, sources,
 };
 use sdbm_addr::PageSize;
 use sdbm_files::{Image, ReadPages};
@@ -42,23 +42,24 @@ pub struct RunFiles {
     pub unread: Option<UnreadPages>,
 }
 
-/// A database that a run may change: the names of its files, the bytes of a redo file that is not marked, and its lock. Others wait
-/// until that is dropped.
+/// A database that a run may change: its files, which of them were read, and its lock. Others wait until that is dropped.
 #[derive(Drop)]
 pub struct LockedFiles {
-    pub names: Names,
-    pub redo: Vec<u8>,
+    pub place: Place,
+    pub seen: SeenFiles,
     pub lock: File,
 }
 
 /// Reads the files of a run, once no other has a lock that keeps it off. A save that was cut off is ended first by a run that writes;
 /// one that reads lays its redo file over what it reads. A run that writes keeps its lock, since its files are those that were read
-/// until it has written them. The lock and the redo file lie beside the files themselves, whatever links lead there. A run that peeks gets
-/// `.pag` unread, unless there is a save to end or something is wrong with a file: then all is read.
+/// until it has written them. The lock and the redo file lie beside the files themselves, whatever links lead there, and all of them in
+/// the folder that the base named first. A run that peeks gets `.pag` unread, unless there is a save to end or something is wrong with a
+/// file: then all is read.
 ///
 /// # Errors
 /// Those of `resolve`, `Unsafe` where the lock or the redo file is one that others could have planted, `Locked` where others hold the
-/// lock for longer than the patience, `WriteFile` where a run that writes cannot have its lock, or cannot end a save, `ReadFile` where
+/// lock for longer than the patience, `Moved` where links to another base have come while it was waited for, or the lock goes from file
+/// to file, `WriteFile` where a run that writes cannot have its lock, or cannot end a save, `ReadFile` where
 /// one that reads cannot have a lock that is there, then those of `read_files`, and `BadRedo` where the redo file is marked and is not of
 /// these files, or none that a save has left. Nothing is written at a fault, but for a save that was being ended.
 pub fn take_files<R: Files<File = File> + Clock + AllocGlobal>(
@@ -70,15 +71,14 @@ pub fn take_files<R: Files<File = File> + Clock + AllocGlobal>(
     let Some(base) = place.base else {
         return Ok(read_whole(read_files(rt, place, false)?, None));
     };
-    let base = resolve(rt, base)?;
-    let names = names_of(rt.alloc(), base.as_str())?;
+    let files = Place::enter(rt, base)?;
     if place.writes {
-        return take_to_write(rt, place, names, peeks, patience);
+        return take_to_write(rt, place, files, peeks, patience);
     }
-    if peeks && let Some(taken) = peek_to_read(rt, place, &names, patience)? {
-        return Ok(taken);
+    if peeks {
+        return peek_to_read(rt, place, files, patience);
     }
-    let bytes = read_under_lock(rt, place, &names, patience)?;
+    let bytes = read_under_lock(rt, place, &files, patience)?;
     Ok(read_whole(bytes, None))
 }
 
@@ -91,64 +91,87 @@ fn read_whole(bytes: FileBytes, held: Option<LockedFiles>) -> RunFiles {
     }
 }
 
+// What a run says of its files, with the names that these have in their folder.
+fn inside<'a>(place: RunPlace<'a>, files: &'a Place) -> RunPlace<'a> {
+    RunPlace {
+        base: Some(files.base()),
+        ..place
+    }
+}
+
 // Reads the files of a run that may change its database, and keeps their lock.
 fn take_to_write<R: Files<File = File> + Clock + AllocGlobal>(
     rt: &R,
     place: RunPlace<'_>,
-    names: Names,
+    files: Place,
     peeks: bool,
     patience: Option<Duration>,
 ) -> Result<RunFiles, FilesFault> {
-    let lock = lock_to_write(rt, names.lock.as_str(), names.pages.as_str(), patience)?;
-    if peeks && let Some((bytes, redo, unread)) = peek(rt, place, &names, Guard::Writer) {
+    let lock = lock_to_write(rt, &files.names, patience)?;
+    files.must_not_lead(rt)?;
+    if peeks && let Some((bytes, unread)) = peek(rt, place, &files) {
+        let seen = bytes.seen;
         return Ok(RunFiles {
             bytes,
-            held: Some(LockedFiles { names, redo, lock }),
+            held: Some(LockedFiles {
+                place: files,
+                seen,
+                lock,
+            }),
             unread: Some(unread),
         });
     }
-    let (bytes, redo) = read_database(rt, place, &names)?;
-    Ok(read_whole(bytes, Some(LockedFiles { names, redo, lock })))
+    let bytes = read_database(rt, place, &files, None)?;
+    let seen = bytes.seen;
+    let held = LockedFiles {
+        place: files,
+        seen,
+        lock,
+    };
+    Ok(read_whole(bytes, Some(held)))
 }
 
-// Reads the files of a run that changes nothing, but for `.pag`, and keeps the lock where there is one. None where all has to be read.
+// Reads the files of a run that changes nothing, but for `.pag`, and keeps the lock where there is one; or reads all.
 fn peek_to_read<R: Files<File = File> + Clock + AllocGlobal>(
     rt: &R,
     place: RunPlace<'_>,
-    names: &Names,
+    files: Place,
     patience: Option<Duration>,
-) -> Result<Option<RunFiles>, FilesFault> {
-    let guard = Guard::of_reader(rt.alloc(), read_lock(rt, names, patience)?, names)?;
-    let Some((bytes, _redo, unread)) = peek(rt, place, names, guard) else {
-        return Ok(None);
+) -> Result<RunFiles, FilesFault> {
+    let lock = read_lock(rt, &files, patience)?;
+    let Some((bytes, unread)) = peek(rt, place, &files) else {
+        let bytes = read_locked(rt, place, &files, lock, patience)?;
+        return Ok(read_whole(bytes, None));
     };
-    Ok(Some(RunFiles {
+    Ok(RunFiles {
         bytes,
         held: None,
-        unread: Some(unread),
-    }))
+        unread: Some(unread.read_in(files, lock)),
+    })
 }
 
-// The files of a run but for `.pag`, and the bytes of a redo file that is not marked. None where all has to be read.
+// The files of a run but for `.pag`. None where all has to be read.
 fn peek<R: Files<File = File> + AllocGlobal>(
     rt: &R,
     place: RunPlace<'_>,
-    names: &Names,
-    guard: Guard,
-) -> Option<(FileBytes, Vec<u8>, UnreadPages)> {
+    files: &Place,
+) -> Option<(FileBytes, UnreadPages)> {
     // What a pipe gives could not be read once more.
     if let Some(file) = place.file
         && is_special(rt, file)
     {
         return None;
     }
-    let redo = read_redo(rt, names).ok()?;
-    if plan_in(redo.as_slice()).is_some() {
+    if !read_redo(rt, &files.names).ok()?.is_empty() {
         return None;
     }
-    let unread = UnreadPages::open(rt, names.pages.as_str(), place.pages_limit, guard)?;
-    let bytes = read_files(rt, place, true).ok()?;
-    Some((bytes, redo, unread))
+    let unread = UnreadPages::open(rt, files.names.pages.as_str(), place.pages_limit)?;
+    let read = read_files(rt, inside(place, files), true).ok()?;
+    let seen = SeenFiles {
+        pages: unread.id,
+        ..read.seen
+    };
+    Some((FileBytes { seen, ..read }, unread))
 }
 
 /// Reads what a run that peeks has left unread of its files, under the lock that it has. A run that reads and found no lock waits for one
@@ -173,103 +196,124 @@ pub fn take_rest<R: Files<File = File> + Clock + AllocGlobal>(
         ..place
     };
     if let Some(held) = held {
-        let LockedFiles { names, lock, .. } = held;
-        let (read, redo) = read_again(rt, place, &names)?;
-        let bytes = FileBytes { program, ..read };
-        return Ok(read_whole(bytes, Some(LockedFiles { names, redo, lock })));
+        let LockedFiles {
+            place: files,
+            lock,
+            ..
+        } = held;
+        let read = read_database(rt, place, &files, None)?;
+        let held = LockedFiles {
+            place: files,
+            seen: read.seen,
+            lock,
+        };
+        return Ok(read_whole(FileBytes { program, ..read }, Some(held)));
     }
-    let lock = match unread {
-        Some(unread) => unread.into_lock(),
-        None => None,
+    let read = match unread {
+        Some(unread) => read_guarded(rt, place, unread.into_guard(), patience)?,
+        None => read_files(rt, place, false)?,
     };
-    let read = read_rest(rt, place, lock, patience)?;
-    let bytes = FileBytes { program, ..read };
-    Ok(read_whole(bytes, None))
+    Ok(read_whole(FileBytes { program, ..read }, None))
 }
 
-// Reads the files of a run that changes nothing, under its lock where it has one.
-fn read_rest<R: Files<File = File> + Clock + AllocGlobal>(
+// Reads the files of a run that changes nothing and has read but one page.
+fn read_guarded<R: Files<File = File> + Clock + AllocGlobal>(
     rt: &R,
     place: RunPlace<'_>,
-    lock: Option<File>,
+    guard: Guard,
     patience: Option<Duration>,
 ) -> Result<FileBytes, FilesFault> {
-    let Some(base) = place.base else {
-        return read_files(rt, place, false);
-    };
-    let base = resolve(rt, base)?;
-    let names = names_of(rt.alloc(), base.as_str())?;
-    match lock {
-        Some(lock) => read_held(rt, place, &names, Some(lock)),
-        None => read_under_lock(rt, place, &names, patience),
+    match guard {
+        Guard::Writer => read_files(rt, place, false),
+        Guard::Reader(files, lock) => read_locked(rt, place, &files, lock, patience),
     }
 }
 
-/// Reads the files of a database once more whose lock is held, by the names under which they were taken: links may lead elsewhere by now.
-/// Beside them it gives the bytes of the redo file, which is not marked.
+/// Reads the files of a database once more whose lock is held, and that were seen so.
 ///
 /// # Errors
-/// As `take_files`, but for its lock.
+/// `Moved` where the lock or one of the files has lost its name to another, and those of `take_files` but for its lock.
 pub fn read_again<R: Files<File = File> + AllocGlobal>(
     rt: &R,
     place: RunPlace<'_>,
-    names: &Names,
-) -> Result<(FileBytes, Vec<u8>), FilesFault> {
-    let place = RunPlace {
-        base: names.pages.as_str().strip_suffix(".pag"),
-        ..place
-    };
-    read_database(rt, place, names)
+    held: &LockedFiles,
+    seen: &SeenFiles,
+) -> Result<FileBytes, FilesFault> {
+    held.place.must_be_held(rt, &held.lock, seen)?;
+    read_database(rt, place, &held.place, Some(*seen))
 }
 
 // Reads the files of a run that changes nothing, under a lock where there is one.
 fn read_under_lock<R: Files<File = File> + Clock + AllocGlobal>(
     rt: &R,
     place: RunPlace<'_>,
-    names: &Names,
+    files: &Place,
     patience: Option<Duration>,
 ) -> Result<FileBytes, FilesFault> {
-    if let Some(lock) = read_lock(rt, names, patience)? {
-        return read_held(rt, place, names, Some(lock));
+    let lock = read_lock(rt, files, patience)?;
+    read_locked(rt, place, files, lock, patience)
+}
+
+// The same, where a lock was taken or none was found.
+fn read_locked<R: Files<File = File> + Clock + AllocGlobal>(
+    rt: &R,
+    place: RunPlace<'_>,
+    files: &Place,
+    lock: Option<File>,
+    patience: Option<Duration>,
+) -> Result<FileBytes, FilesFault> {
+    if lock.is_some() {
+        return read_held(rt, place, files, lock);
     }
-    let read = read_held(rt, place, names, None);
+    let read = read_held(rt, place, files, None);
     // The first run that writes may have come in between, and made the lock.
-    match read_lock(rt, names, patience)? {
-        Some(lock) => read_held(rt, place, names, Some(lock)),
+    match read_lock(rt, files, patience)? {
+        Some(lock) => read_held(rt, place, files, Some(lock)),
         None => read,
     }
 }
 
-fn read_lock<R: Files<File = File> + Clock>(
+fn read_lock<R: Files<File = File> + Clock + AllocGlobal>(
     rt: &R,
-    names: &Names,
+    files: &Place,
     patience: Option<Duration>,
 ) -> Result<Option<File>, FilesFault> {
-    lock_to_read(rt, names.lock.as_str(), names.pages.as_str(), patience)
+    let lock = lock_to_read(rt, &files.names, patience)?;
+    files.must_not_lead(rt)?;
+    Ok(lock)
 }
 
 // Reads the files of a run that changes nothing, and then lets its lock go.
 fn read_held<R: Files<File = File> + AllocGlobal>(
     rt: &R,
     place: RunPlace<'_>,
-    names: &Names,
+    files: &Place,
     _lock: Option<File>,
 ) -> Result<FileBytes, FilesFault> {
-    Ok(read_database(rt, place, names)?.0)
+    read_database(rt, place, files, None)
 }
 
-// The database of a run, and the bytes of its redo file where that is not marked.
+// The database of a run. Where its files were known before, they have to be those.
 fn read_database<R: Files<File = File> + AllocGlobal>(
     rt: &R,
     place: RunPlace<'_>,
-    names: &Names,
-) -> Result<(FileBytes, Vec<u8>), FilesFault> {
-    let redo = read_redo(rt, names)?;
-    if plan_in(redo.as_slice()).is_none() {
-        return Ok((read_files(rt, place, false)?, redo));
+    files: &Place,
+    known: Option<SeenFiles>,
+) -> Result<FileBytes, FilesFault> {
+    let place = inside(place, files);
+    let redo = read_redo(rt, &files.names)?;
+    if redo.is_empty() {
+        let read = read_files(rt, place, false)?;
+        known.unwrap_or(read.seen).must_be(&read.seen)?;
+        return Ok(read);
     }
     let read = read_files(rt, place, true)?;
-    let pages = read_file(rt, names.pages.as_str(), place.pages_limit, true)?;
+    let (pages, id) = read_data(rt, files.names.pages.as_str(), place.pages_limit)?;
+    let seen = SeenFiles {
+        pages: id,
+        ..read.seen
+    };
+    known.unwrap_or(seen).must_be(&seen)?;
     let found = Found {
         pages,
         directory: read.directory,
@@ -282,14 +326,19 @@ fn read_database<R: Files<File = File> + AllocGlobal>(
         return Err(FilesFault::FileTooLong);
     }
     if place.writes {
-        end_save(rt, names, &found)?;
+        end_save(rt, &files.names, seen, &found)?;
         drop(found);
-        return Ok((read_files(rt, place, false)?, Vec::new(rt.alloc())));
+        return read_files(rt, place, false);
     }
-    if keep_plan(rt, names).is_err() {
+    if keep_plan(rt, &files.names).is_err() {
         return Err(FilesFault::ReadFile);
     }
-    lay_over(rt.alloc(), place, found, read.program)
+    let over = lay_over(rt.alloc(), place, found)?;
+    Ok(FileBytes {
+        program: read.program,
+        seen,
+        ..over
+    })
 }
 
 // Whether a file would be longer than it may be, once the save is ended that was cut off.
@@ -317,61 +366,63 @@ fn keep_plan<R: Files<File = File>>(rt: &R, names: &Names) -> io::Result<()> {
     Ok(())
 }
 
-// What files stand for where a save was cut off once its plan was marked, beside the bytes of a program.
-fn lay_over(
-    alloc: Global,
-    place: RunPlace<'_>,
-    found: Found,
-    program: Vec<u8>,
-) -> Result<(FileBytes, Vec<u8>), FilesFault>
+// What files stand for where a save was cut off once its plan was marked.
+fn lay_over(alloc: Global, place: RunPlace<'_>, found: Found) -> Result<FileBytes, FilesFault>
     requires { CanEnd (image_of found) }
 {
     let stands = read_through(alloc, &found)?;
     drop(found);
     let mut pages = ReadPages::new(alloc, place.page_size);
     pages.push(stands.pages.as_slice())?;
-    let read = FileBytes {
+    Ok(FileBytes {
         directory: stands.directory,
         pages,
-        program,
-    };
-    Ok((read, stands.redo))
+        program: Vec::new(alloc),
+        seen: SeenFiles::none(),
+    })
 }
 
-// Ends a save that was cut off.
+// Ends a save that was cut off, in the files that were read.
 fn end_save<R: Files<File = File> + AllocGlobal>(
     rt: &R,
     names: &Names,
+    seen: SeenFiles,
     found: &Found,
 ) -> Result<(), FilesFault>
     requires { CanEnd (image_of found.now) }
 {
-    let files = RealFiles::new(rt, names, CallLog::new(rt.alloc())?);
+    let files = RealFiles::new(rt, names, seen, CallLog::new(rt.alloc())?);
     let mut disk = Recorded::<RealFiles<'_, R>, Unknown, Found>::new(files, found);
     Ok(recover(&mut disk, found.redo.as_slice())?)
 }
 
-// The bytes of the redo file.
+// The bytes of a redo file that is marked. One that is not marked is no file of a save that was committed, and the next save takes it
+// away: it counts as no bytes, and no more than its first is read.
 fn read_redo<R: Files<File = File> + AllocGlobal>(
     rt: &R,
     names: &Names,
 ) -> Result<Vec<u8>, FilesFault> {
-    match open_beside(
-        rt,
-        Side::Redo,
-        names.redo.as_str(),
-        names.pages.as_str(),
-        false,
-    ) {
-        Ok(file) => read_all(rt.alloc(), file, REDO_LIMIT),
-        Err(SideFault::Absent) => Ok(Vec::new(rt.alloc())),
-        Err(fault) => Err(side_fault(&fault, FilesFault::ReadFile)),
+    let (name, pages) = (names.redo.as_str(), names.pages.as_str());
+    let mut bytes = Vec::new(rt.alloc());
+    let mut file = match open_beside(rt, Side::Redo, name, pages, false) {
+        Ok(file) => file,
+        Err(SideFault::Absent) => return Ok(bytes),
+        Err(fault) => return Err(side_fault(&fault, FilesFault::ReadFile)),
+    };
+    read_up_to(&mut file, 1, &mut bytes)?;
+    if plan_in(bytes.as_slice()).is_none() {
+        return Ok(Vec::new(rt.alloc()));
     }
+    read_up_to(&mut file, REDO_LIMIT, &mut bytes)?;
+    if bytes.len() as u64 > REDO_LIMIT {
+        return Err(FilesFault::FileTooLong);
+    }
+    Ok(bytes)
 }
 
 // The bytes of the files that a run reads, but for `.pag` where it peeks. The error is the first that is met: `ReadFile`, `FileTooLong`
 // where a file has more bytes than it may, and `NoMemory`.
-fn read_files<R: Files + AllocGlobal>(
+fn read_files<R: Files<File = File> + AllocGlobal>(
     rt: &R,
     place: RunPlace<'_>,
     peeks: bool,
@@ -381,60 +432,94 @@ fn read_files<R: Files + AllocGlobal>(
         directory: Vec::new(alloc),
         pages: ReadPages::new(alloc, place.page_size),
         program: Vec::new(alloc),
+        seen: SeenFiles::none(),
     };
     for source in sources(alloc, place)? {
         let (name, limit) = (source.name.as_str(), source.limit);
         match source.kind {
-            SourceKind::Dir => read.directory = read_file(rt, name, limit, source.may_be_absent)?,
+            SourceKind::Dir => {
+                let (bytes, id) = read_data(rt, name, limit)?;
+                read.directory = bytes;
+                read.seen.directory = id;
+            }
             SourceKind::Pag if peeks => (),
-            SourceKind::Pag => read.pages = read_pages(rt, name, limit, place.page_size)?,
-            SourceKind::Program => read.program = read_file(rt, name, limit, source.may_be_absent)?,
+            SourceKind::Pag => {
+                let (pages, id) = read_pages(rt, name, limit, place.page_size)?;
+                read.pages = pages;
+                read.seen.pages = id;
+            }
+            SourceKind::Program => read.program = read_file(rt, name, limit)?,
         }
     }
     Ok(read)
 }
 
-// The bytes of a file. One of a database, which may be missing, is no FIFO: nobody waits for its other end.
-fn read_file<R: Files + AllocGlobal>(
+// The bytes of a data file, and which file that is. One that is missing has none.
+fn read_data<R: Files<File = File> + AllocGlobal>(
     rt: &R,
     name: &str,
     limit: u64,
-    may_be_absent: bool,
-) -> Result<Vec<u8>, FilesFault> {
-    match open_file(rt, name, may_be_absent)? {
-        Some(file) => read_all(rt.alloc(), file, limit),
-        None => Ok(Vec::new(rt.alloc())),
+) -> Result<(Vec<u8>, Option<FileId>), FilesFault> {
+    match open_data(rt, name)? {
+        Some((file, id)) => Ok((read_all(rt.alloc(), file, limit)?, Some(id))),
+        None => Ok((Vec::new(rt.alloc()), None)),
     }
 }
 
-// A file, opened to be read; none where it is not there and may be missing.
-fn open_file<R: Files>(
+// A data file, opened to be read, and which one it is; none where it is missing. It is no FIFO: nobody waits for its other end.
+fn open_data<R: Files<File = File>>(
     rt: &R,
     name: &str,
-    may_be_absent: bool,
-) -> Result<Option<R::File>, FilesFault> {
-    if may_be_absent && is_special(rt, name) {
+) -> Result<Option<(File, FileId)>, FilesFault> {
+    if is_special(rt, name) {
         return Err(FilesFault::ReadFile);
     }
-    match fs::open(rt, name) {
-        Ok(file) => Ok(Some(file)),
-        Err(error) if may_be_absent && error.kind() == ErrorKind::NotFound => Ok(None),
+    let file = match fs::open(rt, name) {
+        Ok(file) => file,
+        Err(error) if error.kind() == ErrorKind::NotFound => return Ok(None),
+        Err(_) => return Err(FilesFault::ReadFile),
+    };
+    match file.metadata() {
+        Ok(found) => Ok(Some((file, FileId::of(&found)))),
         Err(_) => Err(FilesFault::ReadFile),
     }
 }
 
-// The pages of a file that may be missing, read piece by piece.
-fn read_pages<R: Files + AllocGlobal>(
+// The bytes of a program's file.
+fn read_file<R: Files + AllocGlobal>(
+    rt: &R,
+    name: &str,
+    limit: u64,
+) -> Result<Vec<u8>, FilesFault> {
+    match fs::open(rt, name) {
+        Ok(file) => read_all(rt.alloc(), file, limit),
+        Err(_) => Err(FilesFault::ReadFile),
+    }
+}
+
+// The pages of a file that may be missing, read piece by piece, and which file that is.
+fn read_pages<R: Files<File = File> + AllocGlobal>(
     rt: &R,
     name: &str,
     limit: u64,
     size: PageSize,
+) -> Result<(ReadPages<Global>, Option<FileId>), FilesFault> {
+    match open_data(rt, name)? {
+        Some((file, id)) => Ok((read_pieces(rt.alloc(), file, limit, size)?, Some(id))),
+        None => Ok((ReadPages::new(rt.alloc(), size), None)),
+    }
+}
+
+// The pages of a file that is open, read piece by piece.
+fn read_pieces(
+    alloc: Global,
+    file: File,
+    limit: u64,
+    size: PageSize,
 ) -> Result<ReadPages<Global>, FilesFault> {
-    let mut pages = ReadPages::new(rt.alloc(), size);
-    let Some(mut file) = open_file(rt, name, true)? else {
-        return Ok(pages);
-    };
-    let mut room = vec![in rt.alloc(); 0u8; PIECE]?;
+    let mut file = file;
+    let mut pages = ReadPages::new(alloc, size);
+    let mut room = vec![in alloc; 0u8; PIECE]?;
     for _ in 0..limit / PIECE as u64 + 1 {
         let count = read_piece(&mut file, room.as_mut_slice())?;
         if !push_piece(&mut pages, &room[..count], limit)? {
@@ -492,7 +577,7 @@ pub fn read_program<R: Files + AllocGlobal>(rt: &R, name: &str) -> Result<Vec<u8
     if is_special(rt, name) {
         return Err(FilesFault::ReadFile);
     }
-    read_file(rt, name, PROGRAM_LIMIT, false)
+    read_file(rt, name, PROGRAM_LIMIT)
 }
 
 // All bytes of a file that is open.
@@ -515,42 +600,74 @@ fn read_up_to<F: Read>(file: &mut F, most: u64, bytes: &mut Vec<u8>) -> Result<(
     }
 }
 
-/// Saves what a run has made of a database, and then prints its lines. The files are written in place, by a redo file: a crash at any
-/// moment leaves files from which the next run gets the database before the save or after it. Where nothing changed no file is
-/// written, made or touched. Where a save failed before it was committed, its redo file is taken away.
+/// Saves what a run has made of a database, gives its lock back, and then prints its lines. The files are written in place, by a redo file:
+/// a crash at any moment leaves files from which the next run gets the database before the save or after it. Where nothing changed no file
+/// is written, made or touched. Where a save failed before it was committed, its redo file is taken away.
 ///
 /// # Errors
-/// Those of `save_change`, and `BadRedo` where the redo file is marked.
+/// Those of `save_change`, `BadRedo` where the redo file is marked, and before all else `Moved` where the lock or a data file has lost its
+/// name to another.
 pub fn save_files<R: Files<File = File> + AllocGlobal, W: Write>(
     rt: &R,
-    names: &Names,
+    held: LockedFiles,
     old: &FoundRead<'_>,
     new: &Image<Global>,
     lines: &[u8],
     writer: &mut W,
 ) -> Result<Saved, FilesFault> {
-    let change = Change {
-        before: old.files,
-        redo: old.redo,
-        after: new,
-    };
-    if plan_in(change.redo).is_some() {
-        return Err(FilesFault::BadRedo);
-    }
-    let files = RealFiles::new(rt, names, CallLog::new(rt.alloc())?);
+    let LockedFiles { place, seen, lock } = held;
+    place.must_be_held(rt, &lock, &seen)?;
+    let change = change_of(old, new)?;
+    let mut lock = Some(lock);
+    let files = RealFiles::new(rt, &place.names, seen, CallLog::new(rt.alloc())?);
     let mut disk = Recorded::<RealFiles<'_, R>, Unknown, FoundRead<'_>>::new(files, old);
-    let saved = save_change(rt.alloc(), &mut disk, change, lines, writer);
-    forget_failed(rt, names, &saved);
+    let saved = save_change(rt.alloc(), &mut disk, change, lines, writer, &mut lock);
+    forget_failed(rt, &place.names, &saved);
     saved
 }
 
-/// The same of a database of which one page was read, by a plan that knows its files.
+/// The same, where the lock is kept, and nothing is printed. The files are those that were seen when they were read last.
 ///
 /// # Errors
-/// Those of `save_plan`, and `BadRedo` where the redo file is marked.
+/// As `save_files`.
+pub fn save_held<R: Files<File = File> + AllocGlobal>(
+    rt: &R,
+    held: &LockedFiles,
+    seen: &SeenFiles,
+    old: &FoundRead<'_>,
+    new: &Image<Global>,
+) -> Result<Saved, FilesFault> {
+    let LockedFiles { place, lock, .. } = held;
+    place.must_be_held(rt, lock, seen)?;
+    let change = change_of(old, new)?;
+    let mut kept: Option<File> = None;
+    let files = RealFiles::new(rt, &place.names, *seen, CallLog::new(rt.alloc())?);
+    let mut disk = Recorded::<RealFiles<'_, R>, Unknown, FoundRead<'_>>::new(files, old);
+    let writer = &mut io::sink();
+    let saved = save_change(rt.alloc(), &mut disk, change, &[], writer, &mut kept);
+    forget_failed(rt, &place.names, &saved);
+    saved
+}
+
+// The change from files that were read to a database. The fault is `BadRedo`, where the redo file is marked.
+fn change_of<'a>(old: &FoundRead<'a>, new: &'a Image<Global>) -> Result<Change<'a>, FilesFault> {
+    if plan_in(old.redo).is_some() {
+        return Err(FilesFault::BadRedo);
+    }
+    Ok(Change {
+        before: old.files,
+        redo: old.redo,
+        after: new,
+    })
+}
+
+/// What `save_files` does, of a database of which one page was read, by a plan that knows its files.
+///
+/// # Errors
+/// Those of `save_plan`, `BadRedo` where the redo file is marked, and `Moved` as `save_files`.
 pub fn save_part<R: Files<File = File> + AllocGlobal, W: Write>(
     rt: &R,
-    names: &Names,
+    held: LockedFiles,
     old: &FoundPart<'_>,
     plan: &[u8],
     lines: &[u8],
@@ -559,17 +676,20 @@ pub fn save_part<R: Files<File = File> + AllocGlobal, W: Write>(
     requires plan { IsPlan plan.now }
     requires knows { Knows plan.now (files (part_image old.now)) }
 {
+    let LockedFiles { place, seen, lock } = held;
+    place.must_be_held(rt, &lock, &seen)?;
     if plan_in(old.redo).is_some() {
         return Err(FilesFault::BadRedo);
     }
-    let files = RealFiles::new(rt, names, CallLog::new(rt.alloc())?);
+    let mut lock = Some(lock);
+    let files = RealFiles::new(rt, &place.names, seen, CallLog::new(rt.alloc())?);
     let mut disk = Recorded::<RealFiles<'_, R>, Unknown, FoundPart<'_>>::new(files, old);
-    let saved = save_plan(&mut disk, old.redo, plan, lines, writer);
-    forget_failed(rt, names, &saved);
+    let saved = save_plan(&mut disk, old.redo, plan, lines, writer, &mut lock);
+    forget_failed(rt, &place.names, &saved);
     saved
 }
 
-// Takes the redo file away of a save that has failed before it was committed.
+// Takes the redo file away of a save that has failed before it was committed. The lock is held still.
 fn forget_failed<R: Files<File = File>>(rt: &R, names: &Names, saved: &Result<Saved, FilesFault>) {
     match saved {
         Ok(_) | Err(FilesFault::Write) => (),

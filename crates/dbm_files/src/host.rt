@@ -2,7 +2,10 @@
 ghost use Rattle.std.specs.Prelude.{◌≡◌, IfErr};
 ghost use Rattle.sdbm_saves.specs.declared.disk.DiskError.TheVariants.{Failed};
 
-use dbm_places::{Names, Side, folder_of, make, make_directory, make_redo, open_beside};
+use crate::limit::{most_bytes, number_at};
+use dbm_places::{
+    FileId, Names, SeenFiles, Side, folder_of, make, make_directory, make_redo, open_beside,
+};
 use sdbm_saves::{CallLog, DiskError, File as Part, Host};
 use std::fs::{self, File, OpenFile, OpenOptions};
 use std::io::{self, ErrorKind};
@@ -18,12 +21,16 @@ fn name_of(names: &Names, part: Part) -> &str {
     }
 }
 
-// The files of a database, each opened when it is first written, made where it is not there, and kept open. They are written in place,
-// so they keep owner, permissions and links.
+// The files of a database, each opened when it is first written or synced, made where it was not there, and kept open. They are written in
+// place, so they keep owner, permissions and links. A data file is the one that was read: another under its name is not opened, and where
+// there was none no other is taken.
 #[derive(Drop)]
 struct OpenFiles<'a, R: Files<File = File>> {
     rt: &'a R,
     names: &'a Names,
+    seen: SeenFiles,
+    // A file may have so many bytes: the system would end the run that writes more.
+    most: u64,
     pages: Option<File>,
     directory: Option<File>,
     redo: Option<File>,
@@ -60,8 +67,10 @@ impl<'a, R: Files<File = File>> OpenFiles<'a, R> {
     // Opens a file that is there, to write it.
     fn open_there(&self, part: Part) -> io::Result<File> {
         let name = name_of(self.names, part);
-        if part != Part::Redo {
-            return open_both_ways(self.rt, name);
+        match part {
+            Part::Pages => return open_seen(self.rt, name, self.seen.pages),
+            Part::Directory => return open_seen(self.rt, name, self.seen.directory),
+            Part::Redo => (),
         }
         if self.is_redo_gone {
             return Err(io::Error::from(ErrorKind::NotFound));
@@ -82,11 +91,27 @@ impl<'a, R: Files<File = File>> OpenFiles<'a, R> {
         }
     }
 
+    // Whether a file may have so many bytes.
+    fn must_fit(&self, len: usize) -> io::Result<()> {
+        if len as u64 > self.most {
+            return Err(io::Error::from(ErrorKind::FileTooLarge));
+        }
+        Ok(())
+    }
+
+    // Writes bytes, where the file may be as long as that. What is written after the byte for the mark is a plan, which has the new lengths
+    // of both data files behind its signature: they have to fit before it is marked.
     fn write_in(&mut self, part: Part, at: usize, bytes: &[u8]) -> io::Result<()> {
+        self.must_fit(at.saturating_add(bytes.len()))?;
+        if part == Part::Redo && at == 1 {
+            self.must_fit(number_at(bytes, 8))?;
+            self.must_fit(number_at(bytes, 12))?;
+        }
         self.open(part)?.write_all_at(bytes, at as u64)
     }
 
     fn set_len(&mut self, part: Part, len: usize) -> io::Result<()> {
+        self.must_fit(len)?;
         let file = self.open(part)?;
         if file.metadata()?.len() == len as u64 {
             return Ok(());
@@ -101,7 +126,10 @@ impl<'a, R: Files<File = File>> OpenFiles<'a, R> {
         match self.slot(part) {
             Some(file) => file.sync_data()?,
             None => match self.open_there(part) {
-                Ok(file) => file.sync_data()?,
+                Ok(file) => {
+                    file.sync_data()?;
+                    self.keep_open(part, file);
+                }
                 Err(error) if error.kind() == ErrorKind::NotFound => (),
                 Err(error) => return Err(error),
             },
@@ -111,6 +139,13 @@ impl<'a, R: Files<File = File>> OpenFiles<'a, R> {
             self.is_folder_kept = true;
         }
         Ok(())
+    }
+
+    // Keeps a data file open, so that what is written goes into it, whatever gets its name.
+    fn keep_open(&mut self, part: Part, file: File) {
+        if part != Part::Redo {
+            *self.slot(part) = Some(file);
+        }
     }
 
     fn remove_redo(&mut self) -> io::Result<()> {
@@ -123,9 +158,21 @@ impl<'a, R: Files<File = File>> OpenFiles<'a, R> {
     }
 }
 
-// Opens a file that is there to be written.
-fn open_both_ways<R: Files<File = File>>(rt: &R, name: &str) -> io::Result<File> {
-    OpenOptions::new().read(true).write(true).open(rt, name)
+// Opens a data file that was read, to write it. The error is `NotFound` where there was none, and there is none.
+fn open_seen<R: Files<File = File>>(rt: &R, name: &str, seen: Option<FileId>) -> io::Result<File> {
+    let file = match OpenOptions::new().read(true).write(true).open(rt, name) {
+        Err(error) if error.kind() == ErrorKind::NotFound && seen.is_some() => return Err(moved()),
+        opened => opened?,
+    };
+    if seen == Some(FileId::of(&file.metadata()?)) {
+        return Ok(file);
+    }
+    Err(moved())
+}
+
+// The error of a file that has lost its name.
+fn moved() -> io::Error {
+    io::Error::from(ErrorKind::StaleNetworkFileHandle)
 }
 
 /// The files of a database on the system's disk, with a log of what was called.
@@ -138,14 +185,16 @@ pub struct RealFiles<'a, R: Files<File = File>> {
 impl<'a, R: Files<File = File>> RealFiles<'a, R> {
     ghost use Rattle.sdbm_saves.specs.CallLog.{acts};
 
-    /// The files with these names. None is opened yet.
-    pub fn new(rt: &'a R, names: &'a Names, log: CallLog) -> Self
+    /// The files with these names, of which these were read. None is opened yet.
+    pub fn new(rt: &'a R, names: &'a Names, seen: SeenFiles, log: CallLog) -> Self
         ensures { result.log ≡ log }
     {
         RealFiles {
             files: OpenFiles {
                 rt,
                 names,
+                seen,
+                most: most_bytes(rt),
                 pages: None,
                 directory: None,
                 redo: None,

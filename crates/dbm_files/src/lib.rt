@@ -3,11 +3,13 @@
 
 mod files;
 mod host;
+mod limit;
 mod peeking;
 mod saving;
 
 pub use files::{
-    LockedFiles, RunFiles, read_again, read_program, save_files, save_part, take_files, take_rest,
+    LockedFiles, RunFiles, read_again, read_program, save_files, save_held, save_part, take_files,
+    take_rest,
 };
 pub use host::RealFiles;
 pub use peeking::UnreadPages;

@@ -2,9 +2,9 @@
 ghost use Rattle.std.specs.Prelude.{◌≡◌, ◌+◌, ◌*◌, ◌<◌, ◌≤◌, ℕ, length, get_or, IfOk};
 ghost use Rattle.sdbm_addr.specs.Pairs.{page_bytes};
 
-use dbm_places::{FilesFault, Names, is_absent, is_special};
+use dbm_places::{FileId, FilesFault, Place, is_absent, is_special};
 use sdbm_addr::PageSize;
-use std::alloc::{AllocError, Global};
+use std::alloc::Global;
 use std::fs::{self, File};
 use std::io::ErrorKind;
 use std::os::unix::fs::FileExt;
@@ -15,6 +15,8 @@ use std::rt::Files;
 pub struct UnreadPages {
     /// How many bytes it has.
     pub len: usize,
+    /// Which file it is, where it is there.
+    pub id: Option<FileId>,
     file: Option<File>,
     guard: Guard,
 }
@@ -24,37 +26,14 @@ pub struct UnreadPages {
 pub enum Guard {
     /// The lock of a run that writes, which is held beside this.
     Writer,
-    /// The lock of a run that reads.
-    Reader(File),
-    /// There was no lock of this name: no run has written yet.
-    Absent(String),
-}
-
-impl Guard {
-    /// The guard of a run that reads, which has a lock or found none.
-    ///
-    /// # Errors
-    /// `AllocError` where no memory is left for the name of the lock.
-    pub fn of_reader(
-        alloc: Global,
-        lock: Option<File>,
-        names: &Names,
-    ) -> Result<Guard, AllocError> {
-        match lock {
-            Some(lock) => Ok(Guard::Reader(lock)),
-            None => Ok(Guard::Absent(String::from_str(alloc, names.lock.as_str())?)),
-        }
-    }
+    /// The lock of a run that reads, beside the files. There is none where no lock had its name: no run has written yet.
+    Reader(Place, Option<File>),
 }
 
 impl UnreadPages {
-    /// Opens a `.pag` of at most so many bytes. None where it cannot be read so: a run that reads all of it finds out why.
-    pub fn open<R: Files<File = File>>(
-        rt: &R,
-        name: &str,
-        limit: u64,
-        guard: Guard,
-    ) -> Option<UnreadPages> {
+    /// Opens a `.pag` of at most so many bytes, under the lock of a run that writes. None where it cannot be read so: a run that reads all
+    /// of it finds out why.
+    pub fn open<R: Files<File = File>>(rt: &R, name: &str, limit: u64) -> Option<UnreadPages> {
         if is_special(rt, name) {
             return None;
         }
@@ -63,24 +42,33 @@ impl UnreadPages {
             Err(error) if error.kind() == ErrorKind::NotFound => None,
             Err(_) => return None,
         };
-        let len = match &file {
+        let (len, id) = match &file {
             Some(file) => {
                 let found = file.metadata().ok()?;
                 if !found.is_file() {
                     return None;
                 }
-                found.len()
+                (found.len(), Some(FileId::of(&found)))
             }
-            None => 0,
+            None => (0, None),
         };
         if len > limit {
             return None;
         }
         Some(UnreadPages {
             len: len as usize,
+            id,
             file,
-            guard,
+            guard: Guard::Writer,
         })
+    }
+
+    /// The same of a run that reads, which has a lock or found none.
+    pub fn read_in(self, place: Place, lock: Option<File>) -> UnreadPages {
+        UnreadPages {
+            guard: Guard::Reader(place, lock),
+            ..self
+        }
     }
 
     /// The bytes of the page with a number, in whole pages of a size: zeros where it is not one of the file.
@@ -106,20 +94,17 @@ impl UnreadPages {
         }
     }
 
-    /// The lock of a run that reads, where it has one.
-    pub fn into_lock(self) -> Option<File> {
+    /// What keeps others from writing the files.
+    pub fn into_guard(self) -> Guard {
         let UnreadPages { guard, .. } = self;
-        match guard {
-            Guard::Reader(lock) => Some(lock),
-            Guard::Writer | Guard::Absent(_) => None,
-        }
+        guard
     }
 
     /// Whether nobody can have written the files meanwhile.
     pub fn is_guarded<R: Files<File = File>>(&self, rt: &R) -> bool {
         match &self.guard {
-            Guard::Writer | Guard::Reader(_) => true,
-            Guard::Absent(name) => is_absent(rt, name.as_str()),
+            Guard::Writer | Guard::Reader(_, Some(_)) => true,
+            Guard::Reader(place, None) => is_absent(rt, place.names.lock.as_str()),
         }
     }
 }

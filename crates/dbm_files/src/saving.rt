@@ -1,5 +1,5 @@
 //! A save and the lines that tell of it.
-ghost use Rattle.std.specs.Prelude.{◌≡◌, ◌≢◌, ◌⊎◌, get_or, OnOk, IfOk, IfErr, IsErrOf};
+ghost use Rattle.std.specs.Prelude.{◌≡◌, ◌≢◌, ◌⊎◌, get_or, None, OnOk, IfOk, IfErr, IsErrOf};
 ghost use Rattle.std.specs.Io.KnownBytes.{Appends};
 ghost use Rattle.byte_text.specs.Writing.{WritesPart};
 ghost use Rattle.sdbm_saves.specs.Disk.{LeavesOnly};
@@ -35,22 +35,23 @@ pub struct Change<'a> {
     pub after: &'a Image<Global>,
 }
 
-/// Saves a change, and then prints the lines that tell of it: they are printed once the mark that commits the save is kept, so a line
-/// that was read stands. A crash at any moment leaves files that stand for those before the change, or that are those of the database
+/// Saves a change, gives the lock back, and then prints the lines that tell of it: a line that was read stands, and whoever reads it can have
+/// the lock. A crash at any moment leaves files that stand for those before the change, or that are those of the database
 /// after it, and can be ended; and once this has returned `Ok`, those of the database. Where the files are those of the database already,
 /// the lines are printed and the disk is left alone. It takes memory for the plan, and what the disk's calls take.
 ///
 /// # Errors
 /// `FileTooLong` where a file has 2^32 bytes or more or would have, `NoMemory`, and `WriteFile` where the disk has failed, with nothing
 /// printed; where it failed at the mark the save may be committed or not. `Write` where the lines could not be printed, or only their
-/// first bytes: the change stands then. What fails after the mark is no fault, and the save is `Pending`: the next run ends it. So that a
+/// first bytes: the change stands then, and the lock is given back. At the other faults it is held still. What fails after the mark is no fault, and the save is `Pending`: the next run ends it. So that a
 /// full disk is found before, the room is tried that the files may want.
-pub fn save_change<D: Disk, W: Write>(
+pub fn save_change<D: Disk, W: Write, L: Drop>(
     alloc: Global,
     disk: &mut D,
     change: Change<'_>,
     lines: &[u8],
     writer: &mut W,
+    lock: &mut Option<L>,
 ) -> Result<Saved, FilesFault>
     requires read { D.seen disk.old ≡ record { pages = change.before.pages.now.bytes; directory = change.before.directory.now; redo = change.redo.now } }
     requires unmarked { get_or change.redo.now 0 0 ≢ 1 }
@@ -66,14 +67,20 @@ pub fn save_change<D: Disk, W: Write>(
     ensures part { IsErrOf result fault.Write → WritesPart (W.contents writer.old) (W.contents writer.new) lines.now }
     ensures unprinted { IfErr result (λ why. why ≢ fault.Write → W.contents writer.new ≡ W.contents writer.old) }
 
+    // The lock is given back exactly where the change stands.
+    ensures released { OnOk result (lock.new ≡ None) }
+    ensures unprinted_released { IsErrOf result fault.Write → lock.new ≡ None }
+    ensures held { IfErr result (λ why. why ≢ fault.Write → lock.new ≡ lock.old) }
+
     // A crash at any moment of the call leaves what it might have left before, or the files before the change, or those of the database
     // after it; and where a save is cut off there, it can be ended.
     ensures any_moment { LeavesOnly D.moment D.left_since disk.old disk.new
         (λ c. D.may_leave disk.old c ⊎ (IsOldOrSaved (change.entry.before.pages.now.bytes, change.entry.before.directory.now) change.entry.after.now c × CanEnd c)) }
 {
     match plan_read(alloc, change.before, change.after)? {
-        Some(plan) => save_plan(disk, change.redo, plan.as_slice(), lines, writer),
+        Some(plan) => save_plan(disk, change.redo, plan.as_slice(), lines, writer, lock),
         None => {
+            *lock = None;
             print(writer, lines)?;
             Ok(Saved::Unchanged)
         }
@@ -91,17 +98,18 @@ fn print<W: Write>(writer: &mut W, lines: &[u8]) -> Result<(), FilesFault>
     }
 }
 
-/// Saves a change by its plan, which knows the files, and then prints the lines that tell of it, as `save_change` does. `redo` are the bytes
+/// Saves a change by its plan, which knows the files, gives the lock back, and then prints the lines that tell of it, as `save_change` does. `redo` are the bytes
 /// of the redo file, which is not marked.
 ///
 /// # Errors
 /// Those of `save_change` but for those of the plan.
-pub fn save_plan<D: Disk, W: Write>(
+pub fn save_plan<D: Disk, W: Write, L: Drop>(
     disk: &mut D,
     redo: &[u8],
     plan: &[u8],
     lines: &[u8],
     writer: &mut W,
+    lock: &mut Option<L>,
 ) -> Result<Saved, FilesFault>
     requires read { redo.now ≡ (D.seen disk.old).redo }
     requires unmarked { get_or redo.now 0 0 ≢ 1 }
@@ -114,13 +122,16 @@ pub fn save_plan<D: Disk, W: Write>(
     ensures stands { IsErrOf result fault.Write → StandFor (renewed_files plan.now (D.seen disk.old)) D.may_leave disk.new }
     ensures part { IsErrOf result fault.Write → WritesPart (W.contents writer.old) (W.contents writer.new) lines.now }
     ensures unprinted { IfErr result (λ why. why ≢ fault.Write → W.contents writer.new ≡ W.contents writer.old) }
+    ensures released { OnOk result (lock.new ≡ None) }
+    ensures unprinted_released { IsErrOf result fault.Write → lock.new ≡ None }
+    ensures held { IfErr result (λ why. why ≢ fault.Write → lock.new ≡ lock.old) }
     ensures any_moment { LeavesOnly D.moment D.left_since disk.old disk.new
         (λ c. D.may_leave disk.old c ⊎ (IsOldOrNew (files (D.seen disk.old)) (renewed_files plan.now (D.seen disk.old)) c × CanEnd c)) }
 {
     commit_plan(disk, redo, plan)?;
-    let printed = print(writer, lines);
     let ended = finish(disk, plan);
-    printed?;
+    *lock = None;
+    print(writer, lines)?;
     match ended {
         Ok(()) => Ok(Saved::Whole),
         Err(_) => Ok(Saved::Pending),

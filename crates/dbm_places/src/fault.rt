@@ -5,6 +5,17 @@ ghost use Rattle.dbm_places.specs.declared.fault.FilesFault.TheVariants.{NoMemor
 use sdbm_saves::{DiskError, SavePlanFault};
 use std::alloc::{AllocError, AllocFailed};
 
+/// A file of a database under whose name there is another one by now.
+#[derive(Clone, Copy, Debug, PartialEq, Eq)]
+pub enum MovedFile {
+    /// BASE.lock, which the run holds.
+    Lock,
+    /// BASE.pag, which the run has read.
+    Pages,
+    /// BASE.dir, which the run has read.
+    Directory,
+}
+
 /// Why files were not read, locked or written. It names no file: `find_unread` and its like look for that one.
 #[derive(Clone, Copy, Debug, PartialEq, Eq)]
 pub enum FilesFault {
@@ -20,6 +31,8 @@ pub enum FilesFault {
     Unsafe,
     /// Another run has had the lock for as long as this one was to wait.
     Locked,
+    /// The lock that the run holds, or a data file that it has read, has lost its name to another file. Nothing is written then.
+    Moved(MovedFile),
     /// The lines that tell of a save could not be written. The save stands.
     Write,
     /// No memory is left.

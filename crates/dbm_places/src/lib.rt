@@ -7,16 +7,18 @@ mod fault;
 mod links;
 mod lock;
 mod names;
+mod place;
 mod side;
 
 pub use absent::{has_no_files, is_absent, is_special};
-pub use fault::FilesFault;
+pub use fault::{FilesFault, MovedFile};
 pub use links::resolve;
 pub use lock::{lock_to_read, lock_to_write};
 pub use names::{
     DIR_LIMIT, FileBytes, Names, PROGRAM_LIMIT, RunPlace, Source, SourceKind, folder_of, names_of,
     sources,
 };
+pub use place::{FileId, Place, SeenFiles};
 pub use side::{
     Side, SideFault, Standing, doubt_of, make, make_directory, make_redo, open_beside, side_fault,
     takes_lock, takes_redo,

@@ -3,6 +3,7 @@ ghost use Rattle.std.specs.Prelude.{◌≡◌, ◌++◌, IfOk, codes, map, strin
 ghost use Rattle.dbm_places.specs.Names.{AreNames, files_read, shown_source};
 ghost use Rattle.dbm_places.specs.Names as spec;
 
+use crate::place::SeenFiles;
 use sdbm_addr::PageSize;
 use sdbm_files::ReadPages;
 use std::alloc::{AllocError, Global};
@@ -34,6 +35,8 @@ pub struct FileBytes {
     pub directory: Vec<u8>,
     pub pages: ReadPages<Global>,
     pub program: Vec<u8>,
+    /// Which data files these bytes are of.
+    pub seen: SeenFiles,
 }
 
 /// Which of the files that are read one is.

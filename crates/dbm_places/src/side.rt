@@ -3,10 +3,14 @@ ghost use Rattle.std.specs.Prelude.{◌≡◌, ◌↔◌, IsTrue};
 ghost use Rattle.dbm_places.specs.Sides.{TakesRedo, TakesLock, IsOwned, IsNoWider, others_write, group_writes};
 
 use crate::fault::FilesFault;
+use crate::place::FileId;
 use std::fs::{self, File, Metadata, OpenFile, OpenOptions, Permissions};
 use std::io::{self, ErrorKind};
 use std::os::unix::fs::{MetadataExt, OpenOptionsExt, PermissionsExt, fchown};
 use std::rt::Files;
+
+/// A file beside a database is looked at and opened so often, where its name goes from file to file meanwhile.
+const MOST_LOOKS: usize = 10;
 
 /// Which file beside a database one is.
 #[derive(Clone, Copy, Debug, PartialEq, Eq)]
@@ -20,7 +24,7 @@ pub enum Side {
 /// Whose a file is, and who may write it.
 #[derive(Clone, Copy)]
 pub struct Standing {
-    /// It is a file, not a link, a folder or the like, and has one name.
+    /// It is a file, not a link, a folder or the like, and has one name at most: one that is open may have lost its name.
     pub is_plain: bool,
     pub owner: u32,
     pub group: u32,
@@ -125,7 +129,7 @@ pub fn takes_lock(side: Standing, pages: Option<Standing>, user: Option<u32>) ->
 /// What the system says of a file.
 pub fn standing_of(found: &Metadata) -> Standing {
     Standing {
-        is_plain: found.is_file() && found.nlink() == 1,
+        is_plain: found.is_file() && found.nlink() <= 1,
         owner: found.uid(),
         group: found.gid(),
         mode: found.mode() % 0o10000,
@@ -170,7 +174,8 @@ pub fn doubt_of<R: Files>(rt: &R, side: Side, name: &str, pages: &str) -> Option
 }
 
 /// Opens a file beside a database that is there, to read it, or to write it too. It is looked at before it is opened, so that neither a
-/// link is followed nor a pipe waited for, and what was opened is looked at once more: it has to be the same file.
+/// link is followed nor a pipe waited for, and what was opened is looked at once more: it has to be the same file. Where another got its
+/// name in between, that one is opened.
 pub fn open_beside<R: Files<File = File>>(
     rt: &R,
     side: Side,
@@ -178,19 +183,23 @@ pub fn open_beside<R: Files<File = File>>(
     pages: &str,
     writes: bool,
 ) -> Result<File, SideFault> {
-    let seen = fs::symlink_metadata(rt, name)?;
-    let beside = pages_standing(rt, pages)?;
-    let user = own_user(rt);
-    if !takes(side, standing_of(&seen), beside, user) {
-        return Err(SideFault::Unsafe);
+    for _ in 0..MOST_LOOKS {
+        let seen = fs::symlink_metadata(rt, name)?;
+        let beside = pages_standing(rt, pages)?;
+        let user = own_user(rt);
+        if !takes(side, standing_of(&seen), beside, user) {
+            return Err(SideFault::Unsafe);
+        }
+        let file = OpenOptions::new().read(true).write(writes).open(rt, name)?;
+        let opened = file.metadata()?;
+        if FileId::of(&opened) == FileId::of(&seen) {
+            if takes(side, standing_of(&opened), beside, user) {
+                return Ok(file);
+            }
+            return Err(SideFault::Unsafe);
+        }
     }
-    let file = OpenOptions::new().read(true).write(writes).open(rt, name)?;
-    let opened = file.metadata()?;
-    let is_same = opened.dev() == seen.dev() && opened.ino() == seen.ino();
-    if !is_same || !takes(side, standing_of(&opened), beside, user) {
-        return Err(SideFault::Unsafe);
-    }
-    Ok(file)
+    Err(SideFault::Unsafe)
 }
 
 /// Makes a redo file, which is not there. It has the records of the database in it, so nobody else may read it before its owner, its group

@@ -38,8 +38,7 @@ pub fn serve_session<R: Runtime<File = File> + Clock + AllocGlobal, I: Read>(
         return Err(ServeFault::WriteFile);
     };
     let image = opened(rt.alloc(), session, bytes)?;
-    let names = &held.names;
-    let mut shell = Shell::new(rt, place, names, &notation, every, session.clock);
+    let mut shell = Shell::new(rt, place, &held, &notation, every, session.clock);
     answer_lines(rt, &notation, image, reader, &mut shell)
 }
 

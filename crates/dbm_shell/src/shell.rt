@@ -3,8 +3,8 @@ ghost use Rattle.std.specs.Prelude.{◌≡◌, IfOk, IfSome, codes, nat_eq, true
 ghost use Rattle.std.specs.List.{starts_with};
 
 use dbm_faults::ServeFault;
-use dbm_files::{Saved, read_again, read_program, save_files};
-use dbm_places::{FilesFault, Names, RunPlace};
+use dbm_files::{LockedFiles, Saved, read_again, read_program, save_held};
+use dbm_places::{FilesFault, RunPlace, SeenFiles};
 use dbm_reports::is_too_long;
 use dbm_script::{Notation, TimeOfDay};
 use dbm_session::{Host, Own};
@@ -14,17 +14,17 @@ use sdbm_files::Image;
 use sdbm_saves::{FoundRead, ReadFiles};
 use std::alloc::{AllocError, Global};
 use std::fs::File;
-use std::io;
 use std::rt::Runtime;
 use std::time::{Clock, Duration, SystemTime, UNIX_EPOCH};
 
 /// The files of a session's database, the clock, and the terminal at which its lines are typed, where there is one. What it has read of the
-/// files it does not keep: each save reads them again, and finds what differs.
+/// files it does not keep: each save reads them again, and finds what differs. But which files they are it keeps: those have to be the same.
 #[derive(Drop)]
 pub struct Shell<'a, R: Runtime> {
     rt: &'a R,
     place: RunPlace<'a>,
-    names: &'a Names,
+    held: &'a LockedFiles,
+    seen: SeenFiles,
     notation: &'a Notation<Global>,
     every: Every,
     clock: bool,
@@ -40,7 +40,7 @@ impl<'a, R: Runtime<File = File> + Clock + AllocGlobal> Shell<'a, R> {
     pub fn new(
         rt: &'a R,
         place: RunPlace<'a>,
-        names: &'a Names,
+        held: &'a LockedFiles,
         notation: &'a Notation<Global>,
         every: Every,
         clock: bool,
@@ -48,7 +48,8 @@ impl<'a, R: Runtime<File = File> + Clock + AllocGlobal> Shell<'a, R> {
         Shell {
             rt,
             place,
-            names,
+            held,
+            seen: held.seen,
             notation,
             every,
             clock,
@@ -151,15 +152,17 @@ impl<R: Runtime<File = File> + Clock + AllocGlobal> Host for Shell<'_, R> {
         if is_too_long(image) {
             return Err(FilesFault::FileTooLong);
         }
-        let (read, redo) = read_again(self.rt, self.place, self.names)?;
+        let read = read_again(self.rt, self.place, self.held, &self.seen)?;
         let found = FoundRead {
             files: ReadFiles {
                 pages: &read.pages,
                 directory: read.directory.as_slice(),
             },
-            redo: redo.as_slice(),
+            redo: &[],
         };
-        let saved = save_files(self.rt, self.names, &found, image, &[], &mut io::sink())?;
+        let saved = save_held(self.rt, self.held, &read.seen, &found, image)?;
+        // A save makes the files that were missing.
+        self.seen = SeenFiles::look(self.rt, &self.held.place.names)?;
         if saved == Saved::Pending {
             note_waiting_save(self.rt, self.place.base);
         }

@@ -41,7 +41,11 @@ fn advise_on<R: Runtime<File = File> + AllocGlobal>(
     told: &Told<'_>,
     fault: ServeFault,
 ) -> Result<(), AllocError> {
-    let base = base_behind(rt, told.words.base);
+    // Where a name leads elsewhere by now, its files are those that the words named.
+    let base = match fault {
+        ServeFault::Moved(_) => None,
+        _ => base_behind(rt, told.words.base),
+    };
     let words = &with_base(told.words, base.as_ref());
     match look_for(fault) {
         Look::Nothing => tell_found(rt, words, fault, None),

@@ -146,7 +146,7 @@ fn note_line_end<R: Runtime, I: Read>(rt: &R, lines: Lines, input: &Kept<I>) {
 }
 
 // Serves what is asked once it is plain that its base is a name, for how long it waits, and that its files are there where they have to be.
-// The lock, where there is one, is held to the end. What writes is refused first where standard output cannot be written: after the
+// The lock of a run that writes is held until its change is saved. What writes is refused first where standard output cannot be written: after the
 // change its answer would be lost.
 fn serve_request<R: Runtime<File = File> + AllocGlobal + Threads + Wait + Sync, I: Read>(
     rt: &R,
@@ -273,15 +273,31 @@ fn serve_peeked<R: Runtime<File = File> + AllocGlobal + Threads + Wait + Sync, I
     taken: RunFiles,
     reader: &mut Kept<I>,
 ) -> Result<Ending, ServeFault> {
-    if taken.unread.is_none() {
+    let RunFiles {
+        bytes,
+        mut held,
+        unread,
+    } = taken;
+    let Some(unread) = unread else {
+        let taken = RunFiles {
+            bytes,
+            held,
+            unread: None,
+        };
         return serve_taken(rt, wish, taken, reader);
-    }
-    let Some(quick) = serve_quick(rt, wish, &taken, reader)? else {
+    };
+    let reads = held.is_none();
+    let Some(quick) = serve_quick(rt, wish, &bytes, &unread, &mut held, reader)? else {
+        let taken = RunFiles {
+            bytes,
+            held,
+            unread: Some(unread),
+        };
         let taken = take_rest(rt, taking.place, taken, taking.patience)?;
         return serve_taken(rt, wish, taken, reader);
     };
-    let reads = taken.held.is_none();
-    drop(taken);
+    drop(unread);
+    drop(held);
     if quick.plan.is_none() {
         print_quick(rt, reads, quick.text.as_slice(), reader)?;
     }
@@ -319,7 +335,7 @@ fn serve_taken<R: Runtime<File = File> + AllocGlobal + Threads + Wait + Sync, I:
     }
 }
 
-// Serves a wish that may change its database. Its lines are printed once the save is committed.
+// Serves a wish that may change its database. Its lines are printed once the save is committed, and the lock given back.
 fn serve_change<R: Runtime<File = File> + AllocGlobal + Threads + Wait + Sync, I: Read>(
     rt: &R,
     wish: Wish<'_>,
@@ -328,11 +344,6 @@ fn serve_change<R: Runtime<File = File> + AllocGlobal + Threads + Wait + Sync, I
     reader: &mut Kept<I>,
 ) -> Result<Ending, ServeFault> {
     let alloc = rt.alloc();
-    let LockedFiles {
-        names,
-        redo,
-        lock: _lock,
-    } = held;
     let mut lines = Vec::new(alloc);
     let outcome = serve(rt, alloc, wish, &given, reader, &mut lines);
     reader.has_bad_line = has_bad_line(lines.as_slice());
@@ -342,12 +353,12 @@ fn serve_change<R: Runtime<File = File> + AllocGlobal + Threads + Wait + Sync, I
             pages: &given.pag,
             directory: given.dir.as_slice(),
         },
-        redo: redo.as_slice(),
+        redo: &[],
     };
     if let Some(new) = &outcome.database {
         tell_saving(rt, work_of(&wish), new.pag_len());
         let writer = &mut io::writer(rt);
-        let saved = save_files(rt, &names, &old, new, lines.as_slice(), writer)?;
+        let saved = save_files(rt, held, &old, new, lines.as_slice(), writer)?;
         reader.is_pending = saved == Saved::Pending;
     }
     match outcome.err {

@@ -10,7 +10,8 @@ ghost use Rattle.dbm_tool.specs.Services.{service_in};
 use byte_text::write_all;
 use dbm_command_line::{Ask, Wish};
 use dbm_faults::ServeFault;
-use dbm_files::{LockedFiles, RunFiles, Saved, UnreadPages, save_part};
+use dbm_files::{LockedFiles, Saved, UnreadPages, save_part};
+use dbm_places::FileBytes;
 use dbm_programs::refusal_of;
 use dbm_quick::{
     Asked, Quick, asked_by_delete, asked_by_fetch, asked_by_run, asked_by_store, has_own_pairs,
@@ -35,8 +36,8 @@ pub fn may_be_quick(ask: &Ask<'_>) -> bool {
     )
 }
 
-/// Works a wish out on the page of its key, of files that were taken but for `.pag`, and saves and prints what it comes to where there is
-/// something to save. What only prints its lines is left to `print_quick`, once the lock is let go. None where that page does not tell what
+/// Works a wish out on the page of its key, of files that were taken but for `.pag`. Where there is something to save it saves that, gives
+/// the lock back, and prints the lines. What only prints its lines is left to `print_quick`, once the lock is given back. None where that page does not tell what
 /// comes of it, and then nothing was written: all has to be read.
 ///
 /// # Errors
@@ -44,21 +45,20 @@ pub fn may_be_quick(ask: &Ask<'_>) -> bool {
 pub fn serve_quick<R: Runtime<File = File> + AllocGlobal, I: Read>(
     rt: &R,
     wish: Wish<'_>,
-    taken: &RunFiles,
+    bytes: &FileBytes,
+    unread: &UnreadPages,
+    held: &mut Option<LockedFiles>,
     reader: &mut Kept<I>,
 ) -> Result<Option<Quick>, ServeFault> {
-    let Some(unread) = &taken.unread else {
-        return Ok(None);
-    };
     let alloc = rt.alloc();
     let Ok(notation) = notation_by(alloc, wish.notation()) else {
         return Ok(None);
     };
-    let file = taken.bytes.program.as_slice();
+    let file = bytes.program.as_slice();
     let Some((form, asked)) = asked_of(alloc, &notation, wish, file) else {
         return Ok(None);
     };
-    let directory = taken.bytes.directory.as_slice();
+    let directory = bytes.directory.as_slice();
     let Some((number, page)) = page_for(alloc, unread, directory, form, asked.key()) else {
         return Ok(None);
     };
@@ -75,19 +75,22 @@ pub fn serve_quick<R: Runtime<File = File> + AllocGlobal, I: Read>(
     if !are_free(alloc, unread, number, quick.numbers.as_slice(), size) || !unread.is_guarded(rt) {
         return Ok(None);
     }
-    if let Some(held) = &taken.held {
-        save_quick(rt, held, part, size, &quick, reader)?;
-    } else if quick.plan.is_some() {
+    if held.is_none() && quick.plan.is_some() {
         return Ok(None);
+    }
+    if quick.plan.is_some()
+        && let Some(held) = held.take()
+    {
+        save_quick(rt, held, part, size, &quick, reader)?;
     }
     reader.refusal = refusal_in(alloc, wish, file, quick.text.as_slice());
     Ok(Some(quick))
 }
 
-// Saves what a command has come to, where there is something to save, and prints its lines then.
+// Saves what a command has come to, where there is something to save, gives the lock back, and prints the lines.
 fn save_quick<R: Runtime<File = File> + AllocGlobal, I: Read>(
     rt: &R,
-    held: &LockedFiles,
+    held: LockedFiles,
     part: Part<'_>,
     size: PageSize,
     quick: &Quick,
@@ -98,11 +101,14 @@ fn save_quick<R: Runtime<File = File> + AllocGlobal, I: Read>(
     let Some(plan) = &quick.plan else {
         return Ok(());
     };
-    let redo = held.redo.as_slice();
-    let old = FoundPart { part, size, redo };
+    let old = FoundPart {
+        part,
+        size,
+        redo: &[],
+    };
     let lines = quick.text.as_slice();
     let writer = &mut io::writer(rt);
-    let saved = save_part(rt, &held.names, &old, plan.as_slice(), lines, writer)?;
+    let saved = save_part(rt, held, &old, plan.as_slice(), lines, writer)?;
     reader.is_pending = saved == Saved::Pending;
     Ok(())
 }

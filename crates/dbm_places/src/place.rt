@@ -1,0 +1,202 @@
+//! The folder of a database, which a run holds open, and which files it has found in it.
+
+use crate::fault::{FilesFault, MovedFile};
+use crate::links::resolve;
+use crate::names::{Names, folder_of, names_of};
+use std::alloc::AllocError;
+use std::fs::{self, File, Metadata};
+use std::io::ErrorKind;
+use std::os::fd::AsRawFd;
+use std::os::unix::fs::MetadataExt;
+use std::rt::Files;
+
+/// Which file a name leads to: no two files have the same numbers at the same time.
+#[derive(Clone, Copy, Debug, PartialEq, Eq)]
+pub struct FileId {
+    device: u64,
+    number: u64,
+}
+
+impl FileId {
+    /// That of a file that was looked at.
+    pub fn of(found: &Metadata) -> FileId {
+        FileId {
+            device: found.dev(),
+            number: found.ino(),
+        }
+    }
+}
+
+/// Which data files a run has read. `None` is one that was not there.
+#[derive(Clone, Copy, Debug, PartialEq, Eq)]
+pub struct SeenFiles {
+    pub pages: Option<FileId>,
+    pub directory: Option<FileId>,
+}
+
+impl SeenFiles {
+    /// Those of a database without files.
+    pub fn none() -> SeenFiles {
+        SeenFiles {
+            pages: None,
+            directory: None,
+        }
+    }
+
+    /// Those to which the names of the data files lead now. Links to them are followed.
+    ///
+    /// # Errors
+    /// `Moved` with the first of them that cannot be looked at.
+    pub fn look<R: Files>(rt: &R, names: &Names) -> Result<SeenFiles, FilesFault> {
+        let Ok(pages) = id_of(rt, names.pages.as_str()) else {
+            return Err(FilesFault::Moved(MovedFile::Pages));
+        };
+        let Ok(directory) = id_of(rt, names.directory.as_str()) else {
+            return Err(FilesFault::Moved(MovedFile::Directory));
+        };
+        Ok(SeenFiles { pages, directory })
+    }
+
+    /// Says which data file others are not, where one is not.
+    ///
+    /// # Errors
+    /// `Moved` with that file.
+    pub fn must_be(&self, others: &SeenFiles) -> Result<(), FilesFault> {
+        if self.pages != others.pages {
+            return Err(FilesFault::Moved(MovedFile::Pages));
+        }
+        if self.directory != others.directory {
+            return Err(FilesFault::Moved(MovedFile::Directory));
+        }
+        Ok(())
+    }
+}
+
+/// The files of a database under their names in a folder that is held open: whatever the folder's own name leads to by now, these names
+/// lead into it. Where the system does not allow that, they are the names that the folder had.
+#[derive(Drop)]
+pub struct Place {
+    pub names: Names,
+    _folder: Option<File>,
+}
+
+impl Place {
+    /// The place of a base, which is resolved (`resolve`), and whose folder is opened.
+    ///
+    /// # Errors
+    /// Those of `resolve`, and `NoMemory`.
+    pub fn enter<R: Files<File = File> + AllocGlobal>(
+        rt: &R,
+        base: &str,
+    ) -> Result<Place, FilesFault> {
+        let base = resolve(rt, base)?;
+        let base = base.as_str();
+        let Some(folder) = open_folder(rt, base)? else {
+            return plain_place(rt, base);
+        };
+        let number = folder.as_raw_fd();
+        let inside = format!(in rt.alloc(); "/proc/self/fd/{number}")?;
+        if !is_there(rt, inside.as_str(), &folder) {
+            return plain_place(rt, base);
+        }
+        let last = last_of(base);
+        let inside = format!(in rt.alloc(); "/proc/self/fd/{number}/{last}")?;
+        Ok(Place {
+            names: names_of(rt.alloc(), inside.as_str())?,
+            _folder: Some(folder),
+        })
+    }
+
+    /// The base of the names: what stands before `.pag`.
+    pub fn base(&self) -> &str {
+        base_of(&self.names)
+    }
+
+    /// Looks whether the names of the data files have become links to those of another base.
+    ///
+    /// # Errors
+    /// `Moved` where they have, and `NoMemory`.
+    pub fn must_not_lead<R: Files + AllocGlobal>(&self, rt: &R) -> Result<(), FilesFault> {
+        match resolve(rt, self.base()) {
+            Ok(base) if base.as_str() == self.base() => Ok(()),
+            Err(FilesFault::NoMemory) => Err(FilesFault::NoMemory),
+            _ => Err(FilesFault::Moved(MovedFile::Pages)),
+        }
+    }
+
+    /// Looks whether the lock that is held and the data files that were read are still those of the names.
+    ///
+    /// # Errors
+    /// `Moved` with the first that is not.
+    pub fn must_be_held<R: Files<File = File>>(
+        &self,
+        rt: &R,
+        lock: &File,
+        seen: &SeenFiles,
+    ) -> Result<(), FilesFault> {
+        if !is_named(rt, self.names.lock.as_str(), lock) {
+            return Err(FilesFault::Moved(MovedFile::Lock));
+        }
+        seen.must_be(&SeenFiles::look(rt, &self.names)?)
+    }
+}
+
+// The place of a base under its own names.
+fn plain_place<R: Files + AllocGlobal>(rt: &R, base: &str) -> Result<Place, FilesFault> {
+    Ok(Place {
+        names: names_of(rt.alloc(), base)?,
+        _folder: None,
+    })
+}
+
+// Opens the folder of a base. `None` where that cannot be: it is missing, is no folder, or may be searched and not read. What is no folder is
+// not waited for, as a FIFO would be.
+fn open_folder<R: Files<File = File> + AllocGlobal>(
+    rt: &R,
+    base: &str,
+) -> Result<Option<File>, AllocError> {
+    let folder = folder_of(base);
+    let name = format!(in rt.alloc(); "{folder}/.")?;
+    Ok(fs::open(rt, name.as_str()).ok())
+}
+
+// Whether a name leads to a file that is open.
+fn is_there<R: Files>(rt: &R, name: &str, file: &File) -> bool {
+    match (fs::metadata(rt, name), file.metadata()) {
+        (Ok(named), Ok(opened)) => FileId::of(&named) == FileId::of(&opened),
+        _ => false,
+    }
+}
+
+/// Whether a name is that of a file that is open. A link is not followed.
+pub fn is_named<R: Files>(rt: &R, name: &str, file: &File) -> bool {
+    match (fs::symlink_metadata(rt, name), file.metadata()) {
+        (Ok(named), Ok(opened)) => FileId::of(&named) == FileId::of(&opened),
+        _ => false,
+    }
+}
+
+// Which file a name leads to. `None` where there is none.
+fn id_of<R: Files>(rt: &R, name: &str) -> Result<Option<FileId>, FilesFault> {
+    match fs::metadata(rt, name) {
+        Ok(found) => Ok(Some(FileId::of(&found))),
+        Err(error) if error.kind() == ErrorKind::NotFound => Ok(None),
+        Err(_) => Err(FilesFault::ReadFile),
+    }
+}
+
+// What stands after the last `/` of a base.
+fn last_of(base: &str) -> &str {
+    match base.rsplit_once('/') {
+        Some((_, last)) => last,
+        None => base,
+    }
+}
+
+/// The base of names: what stands before `.pag`.
+pub fn base_of(names: &Names) -> &str {
+    match names.pages.as_str().strip_suffix(".pag") {
+        Some(base) => base,
+        None => "",
+    }
+}

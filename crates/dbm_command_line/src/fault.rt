@@ -4,6 +4,7 @@ ghost use Rattle.dbm_command_line.specs.Wishes.{IsAnswer, IsFaultOf};
 ghost use Rattle.dbm_command_line.specs.declared.fault.ToolFault.TheVariants.{NoMemory};
 
 use clap::error::ErrorKind;
+use dbm_words::Printed;
 use std::alloc::AllocError;
 use std::io;
 use std::rt::Runtime;
@@ -36,12 +37,16 @@ impl ToolFault {
     }
 
     /// Prints the text for the user: help and the version to standard output, every other to standard error. `clap`'s own text begins
-    /// with `error: `, the name of a fault of this program with `dbm: `.
+    /// with `error: `, the name of a fault of this program with `dbm: `. The words that it shows are printed without control characters.
     ///
     /// # Errors
-    /// That of the stream.
-    pub fn print<R: Runtime>(&self, rt: &R) -> io::Result<()> {
+    /// That of the stream, and `OutOfMemory`.
+    pub fn print<R: Runtime + AllocGlobal>(&self, rt: &R) -> io::Result<()> {
         match self {
+            ToolFault::Refused(error) if error.use_stderr() => {
+                let text = format!(in rt.alloc(); "{error}")?;
+                eprint!(rt; "{}", Printed(text.as_str()))
+            }
             ToolFault::Refused(error) => error.print(rt),
             ToolFault::NoMemory | ToolFault::NoWord => eprintln!(rt; "dbm: {self}"),
         }

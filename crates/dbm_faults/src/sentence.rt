@@ -3,6 +3,7 @@
 use crate::finding::Reason;
 use bpf_verify::VerifyFault;
 use dbm_dump::KeyHead;
+use dbm_words::is_plain;
 use std::fmt;
 
 /// What stands in a place of a sentence.
@@ -10,7 +11,7 @@ use std::fmt;
 pub enum Part<'a> {
     /// Nothing: the pattern has fewer places.
     Nothing,
-    /// A name as it is, or where it is empty or has control characters, in quotes with these escaped.
+    /// A name as it is, or where it is empty or has characters that do not print as themselves (`is_plain`), in quotes with these escaped.
     Name(&'a str),
     /// A word in quotes.
     Quoted(&'a str),
@@ -42,7 +43,7 @@ impl<'a> fmt::Display for Part<'a> {
 
 // A name as a sentence shows it.
 fn show_name<W: fmt::Write>(name: &str, f: &mut fmt::Formatter<W>) -> fmt::Result {
-    if name.is_empty() || name.chars().any(|c| c.is_control()) {
+    if name.is_empty() || !name.chars().all(is_plain) {
         return fmt::Debug::fmt(name, f);
     }
     f.write_str(name)

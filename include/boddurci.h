@@ -38,8 +38,9 @@
  * length is 0: BODDURCI_NO_BYTES stands for no bytes. What a call only reads may overlap; what it writes (rooms, lengths, numbers, the handle)
  * must not overlap anything else that the call is given.
  *
- * Rooms. A room is where a call writes bytes. It writes them where all fit, and tells their number in *length either way; where they
- * do not fit, the room stays as it was. A text has no zero at its end.
+ * Rooms. A room is where a call writes bytes. If all fit it writes them, and it sets *length to their number either way; if they do not
+ * fit, the room stays as it was. A text has no zero at its end. If memory runs out for the text of a fault, the call returns NO_MEMORY in
+ * the place of the fault, and the length of the text is 0.
  *
  * Refusals. Each call returns a status. From BODDURCI_CHANGED on nothing was done, handle and ticket are as they were, and so is
  * everything that the call was to write, unless it says otherwise.
@@ -95,7 +96,8 @@ enum boddurci_status {
     BODDURCI_ARG_TOO_LONG = 19,  /* the argument has more than BODDURCI_ARG_MOST bytes */
     BODDURCI_NO_PROGRAM = 20,    /* no program has the number */
     BODDURCI_NO_MEMORY = 21,     /* memory ran out */
-    BODDURCI_FILE_TOO_LONG = 22, /* .pag would have more than 1 GiB, so nothing changed; of a plan: a file has 4 GiB or more */
+    BODDURCI_FILE_TOO_LONG = 22, /* .pag would have more than 1 GiB, or than boddurci_limit allows, so nothing changed; of a plan: a file has
+                                    4 GiB or more */
     BODDURCI_NO_TICKET = 23      /* under the ticket nothing is asked, or what is asked is not worked */
 };
 
@@ -143,7 +145,12 @@ uint32_t boddurci_is_open(boddurci *db);
 /* Closes the handle, which may be closed, and frees what it has. Nothing is saved. */
 void boddurci_close(boddurci *db);
 
-/* The value of a key, of any length. MISSING, SHORT_ROOM, IS_CLOSED. It takes no memory. */
+/* Sets how many bytes commands may make .pag have, for as long as the handle is open. The default is 1 GiB, which is also the most. A command
+ * that would need a page above the limit is FILE_TOO_LONG; pages that are there stay. Whoever chooses keys can make .pag as long as this at
+ * little cost, since a page far out leaves holes before it, and every later opening takes time for the whole length. IS_CLOSED. */
+uint32_t boddurci_limit(boddurci *db, size_t bytes);
+
+/* The value of a key, of any length. MISSING, and then *value_length stays as it was; SHORT_ROOM, IS_CLOSED. It takes no memory. */
 uint32_t boddurci_fetch(boddurci *db, const uint8_t *key, size_t key_length, uint8_t *value, size_t value_room, size_t *value_length);
 
 /* Gives a key a value; where it has one, that is replaced, or kept (EXISTS) where replace is 0. CROWDED, FILE_TOO_LONG,
@@ -195,7 +202,7 @@ uint32_t boddurci_run(boddurci *db, uint32_t number, const uint8_t *key, size_t 
  *     boddurci_abandon(&ticket);
  *
  * boddurci_ask keeps what the run is, and the page of its key as it is now. It refuses as boddurci_run does, and then the ticket is as it
- * was; else what was under it goes. Nothing is run yet: a key that is not there is told by boddurci_finish.
+ * was; else what was under it goes. Nothing is run yet: MISSING, CROWDED and FILE_TOO_LONG come from boddurci_finish.
  *
  * boddurci_work runs the program, on that page. It wants no handle, and may be called while another thread uses the one that was asked.
  * NO_TICKET where nothing is asked; NO_MEMORY.

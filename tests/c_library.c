@@ -14,20 +14,22 @@ void *__wrap_malloc(size_t size);
 void *__wrap_realloc(void *at, size_t size);
 
 static unsigned long growths, refused;
+static size_t largest; /* growth since it was set to 0 */
 
-static int refuses(void)
+static int refuses(size_t size)
 {
+    largest = size > largest ? size : largest;
     return refused != 0 && ++growths == refused;
 }
 
 void *__wrap_malloc(size_t size)
 {
-    return refuses() ? NULL : __real_malloc(size);
+    return refuses(size) ? NULL : __real_malloc(size);
 }
 
 void *__wrap_realloc(void *at, size_t size)
 {
-    return refuses() ? NULL : __real_realloc(at, size);
+    return refuses(size) ? NULL : __real_realloc(at, size);
 }
 
 /* ---- help */
@@ -140,6 +142,7 @@ static void test_closed(void)
     REFUSES(BODDURCI_IS_CLOSED, boddurci_files(&db, room, most, &told.length, other, most, &told.more));
     REFUSES(BODDURCI_IS_CLOSED, boddurci_changed(&db, &told.number, 1, &told.length));
     REFUSES(BODDURCI_IS_CLOSED, boddurci_mark(&db, &told.number, 1));
+    REFUSES(BODDURCI_IS_CLOSED, boddurci_limit(&db, 1024));
     REFUSES(BODDURCI_IS_CLOSED, boddurci_plan(&db, BODDURCI_NO_BYTES, 0, &told.number, 0, BODDURCI_NO_BYTES, room, most, &told.length));
     REFUSES(BODDURCI_IS_CLOSED, boddurci_ask(&db, &ticket, 0, BYTES("a"), BODDURCI_NO_BYTES, 0, 0, 0));
     REFUSES(BODDURCI_NO_TICKET, boddurci_work(&ticket));
@@ -177,7 +180,8 @@ static void test_pairs(uint32_t wide, uint32_t unsigned_keys)
     open_empty(&db, wide, unsigned_keys);
     EXPECT(boddurci_is_open(&db));
     EXPECT(boddurci_open(&db, BODDURCI_NO_BYTES, BODDURCI_NO_BYTES, wide, unsigned_keys, room, sizeof room, &length) == BODDURCI_IS_OPEN);
-    EXPECT(boddurci_fetch(&db, BYTES("ab"), room, sizeof room, &length) == BODDURCI_MISSING);
+    length = 77;
+    EXPECT(boddurci_fetch(&db, BYTES("ab"), room, sizeof room, &length) == BODDURCI_MISSING && length == 77);
     EXPECT(boddurci_store(&db, BYTES("ab"), BYTES("xyz"), 0) == BODDURCI_DONE);
     EXPECT(boddurci_store(&db, BYTES("ab"), BYTES("other"), 0) == BODDURCI_EXISTS);
     EXPECT(boddurci_fetch(&db, BYTES("ab"), room, sizeof room, &length) == BODDURCI_DONE && length == 3 && !memcmp(room, "xyz", 3));
@@ -199,6 +203,8 @@ static void test_pairs(uint32_t wide, uint32_t unsigned_keys)
     boddurci_close(&db);
     EXPECT(!boddurci_is_open(&db));
 }
+
+static void submit_counter(boddurci *db);
 
 /* Keys that hash alike (3 bytes that the hash cancels) fill a page that no split parts. */
 static void test_crowded(void)
@@ -224,10 +230,11 @@ static void test_crowded(void)
 }
 
 /* Four keys that hash alike in their 9, 19 and 20 lowest bits: the last of them would need a page past the end of the longest .pag. */
+static const char *const keys[] = {"far180463", "far413", "far192442", "far4056234"};
+#define KEY(i) (const uint8_t *)keys[i], strlen(keys[i])
+
 static void test_too_long(void)
 {
-#define KEY(i) (const uint8_t *)keys[i], strlen(keys[i])
-    static const char *const keys[] = {"far180463", "far413", "far192442", "far4056234"};
     boddurci db = BODDURCI_CLOSED;
     boddurci_ticket ticket = BODDURCI_FREE;
     uint8_t room[100], value[900] = {0};
@@ -260,6 +267,64 @@ static void test_too_long(void)
     EXPECT(boddurci_files(&db, NULL, 0, &dir_length, NULL, 0, &pag_length) == BODDURCI_SHORT_ROOM);
     EXPECT(pag_length == 512 * 1024);
     boddurci_abandon(&ticket);
+    boddurci_close(&db);
+}
+
+/* A limit below that: what would pass it is refused with nothing changed, by a store, a run and a ticket, and what is above it stays. */
+static void test_limit(void)
+{
+    boddurci db = BODDURCI_CLOSED;
+    boddurci_ticket ticket = BODDURCI_FREE;
+    uint8_t value[900] = {0};
+    size_t count;
+    uint64_t end = 7, word = 8;
+    open_empty(&db, 0, 0);
+    submit_counter(&db);
+    EXPECT(boddurci_limit(&db, 1023) == BODDURCI_DONE && boddurci_store(&db, KEY(0), value, 8, 1) == BODDURCI_FILE_TOO_LONG);
+    EXPECT(boddurci_limit(&db, 512 * 1024 - 1) == BODDURCI_DONE && boddurci_store(&db, KEY(0), value, sizeof value, 1) == BODDURCI_DONE);
+    struct files before = files_of(&db);
+    EXPECT(boddurci_store(&db, KEY(1), value, sizeof value, 1) == BODDURCI_FILE_TOO_LONG);
+    EXPECT(boddurci_run(&db, 0, KEY(1), BODDURCI_NO_BYTES, 1, 900, 0, &end, &word) == BODDURCI_FILE_TOO_LONG && end == 7 && word == 8);
+    EXPECT(boddurci_ask(&db, &ticket, 0, KEY(1), BODDURCI_NO_BYTES, 1, 900, 0) == BODDURCI_DONE && boddurci_work(&ticket) == BODDURCI_DONE);
+    EXPECT(boddurci_finish(&db, &ticket, &end, &word) == BODDURCI_FILE_TOO_LONG && end == 7 && word == 8);
+    struct files after = files_of(&db);
+    EXPECT(are_same(before, after));
+    free_files(before);
+    free_files(after);
+    EXPECT(boddurci_limit(&db, 1024 * 1024) == BODDURCI_DONE);
+    EXPECT(boddurci_finish(&db, &ticket, &end, &word) == BODDURCI_DONE && boddurci_store(&db, KEY(2), value, sizeof value, 1) == BODDURCI_FILE_TOO_LONG);
+    /* The limit falls below what is there. */
+    EXPECT(boddurci_limit(&db, 0) == BODDURCI_DONE && boddurci_store(&db, KEY(1), value, 899, 1) == BODDURCI_DONE);
+    EXPECT(boddurci_store(&db, KEY(2), value, sizeof value, 1) == BODDURCI_FILE_TOO_LONG && boddurci_delete(&db, KEY(1)) == BODDURCI_DONE);
+    EXPECT(boddurci_count(&db, &count) == BODDURCI_DONE && count == 1);
+    /* 1 GiB is the most. */
+    EXPECT(boddurci_limit(&db, SIZE_MAX) == BODDURCI_DONE && boddurci_store(&db, KEY(1), value, sizeof value, 1) == BODDURCI_DONE);
+    EXPECT(boddurci_store(&db, KEY(2), value, sizeof value, 1) == BODDURCI_DONE);
+    EXPECT(boddurci_store(&db, KEY(3), value, sizeof value, 1) == BODDURCI_FILE_TOO_LONG);
+    boddurci_abandon(&ticket);
+    boddurci_close(&db);
+}
+
+/* A directory that leads 26 splits deep, to a page that is not there and lies past the longest .pag: a store and a run that are refused take
+ * no memory for it. */
+static void test_deep(void)
+{
+    enum { DEPTH = 26, BYTES_OF_DIRECTORY = 1 << (DEPTH - 2) };
+    static const uint8_t key[] = "deep822193905"; /* its hash ends in 26 ones */
+    boddurci db = BODDURCI_CLOSED;
+    uint8_t *dir = calloc(BYTES_OF_DIRECTORY, 1), text[100];
+    size_t length;
+    uint64_t end, word;
+    EXPECT(dir != NULL);
+    for (int depth = 1; depth <= DEPTH; depth++)
+        dir[(((size_t)1 << depth) - 2) / 8] |= (uint8_t)(1 << (((size_t)1 << depth) - 2) % 8);
+    EXPECT(boddurci_open(&db, dir, BYTES_OF_DIRECTORY, BODDURCI_NO_BYTES, 0, 0, text, sizeof text, &length) == BODDURCI_DONE);
+    free(dir);
+    submit_counter(&db);
+    largest = 0;
+    EXPECT(boddurci_store(&db, key, sizeof key - 1, BYTES("a"), 1) == BODDURCI_FILE_TOO_LONG);
+    EXPECT(boddurci_run(&db, 0, key, sizeof key - 1, BODDURCI_NO_BYTES, 1, 8, 0, &end, &word) == BODDURCI_FILE_TOO_LONG);
+    EXPECT(boddurci_delete(&db, key, sizeof key - 1) == BODDURCI_MISSING && largest < 1 << 20);
     boddurci_close(&db);
 }
 
@@ -623,6 +688,13 @@ enum { STEPS = 80 };
 /* How many refusals a call told. */
 static unsigned long told_growths;
 
+/* A fault is told with its text, or is NO_MEMORY. */
+static uint32_t with_text(uint32_t status, const size_t *length)
+{
+    EXPECT(status == BODDURCI_NO_MEMORY || *length != 0);
+    return status;
+}
+
 /* The plan of what changed, beside files that were empty. */
 static uint32_t plan_changed(boddurci *db, uint8_t *plan, size_t room)
 {
@@ -651,13 +723,13 @@ static uint32_t do_step(boddurci *db, boddurci_ticket *ticket, int step)
     case 0: return boddurci_open(db, BODDURCI_NO_BYTES, BODDURCI_NO_BYTES, 0, 0, text, sizeof text, &length);
     case 1: return boddurci_assemble(BYTES(counter_text), image, sizeof image, &image_length, &line, text, sizeof text, &length);
     case 2: return boddurci_submit(db, counter, counter_length, &number, &unit, text, sizeof text, &length);
-    case 3: return boddurci_submit(db, counter, 56, &number, &unit, text, sizeof text, &length);
+    case 3: return with_text(boddurci_submit(db, counter, 56, &number, &unit, text, sizeof text, &length), &length);
     case 4: return boddurci_run(db, 0, BYTES("hits"), BYTES("argument"), 1, 8, 0, &end, &word);
     case 5: return boddurci_run(db, 0, BYTES("hits"), BYTES("argument"), 1, 8, 0, &end, &word);
     case 6: return boddurci_delete(db, BYTES("hits"));
     case 7: return boddurci_delete(db, BYTES("none"));
-    case 8: return boddurci_assemble(BYTES("hop"), image, sizeof image, &image_length, &line, text, sizeof text, &length);
-    case 9: return boddurci_open(&other, BODDURCI_NO_BYTES, page, sizeof page, 0, 0, text, sizeof text, &length);
+    case 8: return with_text(boddurci_assemble(BYTES("hop"), image, sizeof image, &image_length, &line, text, sizeof text, &length), &length);
+    case 9: return with_text(boddurci_open(&other, BODDURCI_NO_BYTES, page, sizeof page, 0, 0, text, sizeof text, &length), &length);
     case 50: return ask(db, ticket, "hits", 1);
     case 51: return boddurci_work(ticket);
     case 52: return boddurci_finish(db, ticket, &end, &word);
@@ -764,6 +836,8 @@ static void test_calls(void)
             test_pairs(wide, unsigned_keys);
     test_crowded();
     test_too_long();
+    test_limit();
+    test_deep();
     test_programs();
     test_arguments();
     test_tickets();

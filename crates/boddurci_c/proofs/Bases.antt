@@ -25,7 +25,7 @@ use Rattle.boddurci_c.specs.declared.opened.Db.{Db}
 use Rattle.boddurci_marks.specs.Marks.{DifferOn, DifferOn-prop, AreForeign}
 
 abbrev with : (d : Db) (image : Database) (marks : List ℕ) → DifferOn marks d.base.database image → Db
-with d image marks differ = record { image = image; registry = d.registry; marks = marks; base = d.base; differ = differ }
+with d image marks differ = record { image = image; registry = d.registry; marks = marks; limit = d.limit; base = d.base; differ = differ }
 
 -- a database with the parts of another is that one
 pub same_db : (d : Db) (image : Database) (marks : List ℕ) (differ : DifferOn marks d.base.database image) → image ≡ d.image → marks ≡ d.marks

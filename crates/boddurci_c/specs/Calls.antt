@@ -1,5 +1,5 @@
 -- What calls do with a handle, which is closed or has an open database with its programs (own).
-use Rattle.std.specs.Prelude.{◌≡◌, ◌≢◌, ◌==◌, ◌⊎◌, ◌<◌, ◌≤◌, ℕ, cond, length, take, drop, List, [], Option, Some, None, IsSome, Result, Ok, Err, slice_get, unwrap_or, Contains}
+use Rattle.std.specs.Prelude.{◌≡◌, ◌≢◌, ◌==◌, ◌⊎◌, ◌<◌, ◌≤◌, ◌/◌, ℕ, cond, length, take, drop, List, [], Option, Some, None, IsSome, Result, Ok, Err, slice_get, unwrap_or, Contains}
 use Rattle.std.specs.declared.alloc.Global.{Global}
 use Rattle.std.specs.FinMap as map
 use Rattle.sdbm_addr.specs.declared.Mode.{Mode}
@@ -8,6 +8,7 @@ use Rattle.sdbm_addr.specs.declared.KeyBytes.{KeyBytes}
 use Rattle.sdbm_addr.specs.declared.KeyBytes.TheVariants.{Signed, Unsigned}
 use Rattle.sdbm_addr.specs.declared.PageSize.{PageSize}
 use Rattle.sdbm_addr.specs.declared.PageSize.TheVariants.{Small, Wide}
+use Rattle.sdbm_addr.specs.Pairs.{page_bytes}
 use Rattle.sdbm_addr.specs.Layout.{bytes_of_page}
 use Rattle.sdbm_addr.specs.Database.{Database, map_of, pairs_at}
 use Rattle.sdbm_saves.specs.Parts.{ReadsPage}
@@ -36,7 +37,7 @@ use Rattle.boddurci_c.specs.declared.status.Status.{Status}
 use Rattle.boddurci_c.specs.declared.status.Status.TheVariants.{Done, Missing, Exists, Crowded, ShortRoom, Refused, BadText, BadFiles, Changed, Stale, Closed, Open, PairTooLarge, ArgTooLong, NoProgram, NoMemory, TooLong, NoTicket}
 use Rattle.boddurci_c.specs.Statuses.{code_of, status_of}
 use Rattle.boddurci_c.specs.Units.{unit_in, nowhere}
-use Rattle.boddurci_marks.specs.Growth.{Outgrows}
+use Rattle.boddurci_marks.specs.Growth.{FitsWithin, Outgrows}
 use Rattle.boddurci_marks.specs.Marks.{HasMore}
 
 -- ---- a handle before a call and after it
@@ -74,12 +75,14 @@ Never d status = ⊥
 
 -- ---- commands
 
--- A command is done as session 0, and the programs stay, and the base, and each page that was marked. A database for which the longest
--- `.pag` has room stays one.
+-- A command is done as session 0, and the programs stay, and the limit, and the base, and each page that was marked. A database for which the
+-- longest `.pag` has room stays one, and so does one that is within the limit.
 pub record Does (d : Db) (command : Command Global) (reply : Reply Global) (d' : Db) : Type 0 where
   pub acts : Acts d.image (record { session = 0; command = command; reply = reply }) d'.image
   pub fits : FitsFiles d.image → FitsFiles d'.image
+  pub within : FitsWithin d.limit d.image → FitsWithin d.limit d'.image
   pub registry : d'.registry ≡ d.registry
+  pub limit : d'.limit ≡ d.limit
   pub base : d'.base ≡ d.base
   pub marks : HasMore d.marks d'.marks
 
@@ -101,7 +104,7 @@ DeniesBy d command PairTooLarge = IsSizeFault d.image.size command sizes.PairToo
 DeniesBy d command ArgTooLong = IsSizeFault d.image.size command sizes.ArgTooLong
 DeniesBy d command NoProgram = ⊥
 DeniesBy d command NoMemory = IsSmall d.image.size command
-DeniesBy d command TooLong = IsSmall d.image.size command × Outgrows d.image command
+DeniesBy d command TooLong = IsSmall d.image.size command × Outgrows d.limit d.image command
 DeniesBy d command NoTicket = ⊥
 
 -- a command is done, and the status is that of its reply
@@ -147,25 +150,27 @@ IsCopied bytes old new len NoMemory = ⊥
 IsCopied bytes old new len TooLong = ⊥
 IsCopied bytes old new len NoTicket = ⊥
 
--- The text of a fault stands in a room, or the room is too short for it, or memory ran out for it and none is told.
+-- The text of a fault stands in a room, or the room is too short for it.
 pub record IsTold (text old new : List ℕ) (len : ℕ) : Type 0 where
   pub status : Status
-  pub told : List ℕ
-  pub told_is : (told ≡ text) ⊎ (told ≡ [])
-  pub copied : IsCopied told old new len status
+  pub copied : IsCopied text old new len status
+
+-- A fault is told under its status with its text. If memory ran out for the text, the status says that, and none is told.
+abbrev pub IsToldAs : Status → List ℕ → List ℕ → List ℕ → ℕ → Status → Type 0
+IsToldAs status text old new len result = ((result ≡ status) × IsTold text old new len) ⊎ ((result ≡ NoMemory) × ((new ≡ old) × (len ≡ 0)))
 
 -- ---- a fetch
 
 -- what a fetch of an open database tells
-abbrev pub FetchesIn : List ℕ → Db → Status → List ℕ → List ℕ → ℕ → Type 0
-FetchesIn key d status room_old room_new len =
+abbrev pub FetchesIn : List ℕ → Db → Status → List ℕ → List ℕ → ℕ → ℕ → Type 0
+FetchesIn key d status room_old room_new len_old len =
     ((value : List ℕ) × ((map.get (map_of d.image) key ≡ Some value) × IsCopied value room_old room_new len status))
-    ⊎ ((map.get (map_of d.image) key ≡ None) × ((status ≡ Missing) × (room_new ≡ room_old)))
+    ⊎ ((map.get (map_of d.image) key ≡ None) × ((status ≡ Missing) × ((room_new ≡ room_old) × (len ≡ len_old))))
 
-pub record Fetches (key : List ℕ) (old : Option Db) (code : ℕ) (new : Option Db) (room_old room_new : List ℕ) (len : ℕ) : Type 0 where
+pub record Fetches (key : List ℕ) (old : Option Db) (code : ℕ) (new : Option Db) (room_old room_new : List ℕ) (len_old len : ℕ) : Type 0 where
   pub status : Status
   pub code_is : code ≡ code_of status
-  pub told : Shows old new (λ d. FetchesIn key d status room_old room_new len)
+  pub told : Shows old new (λ d. FetchesIn key d status room_old room_new len_old len)
 
 -- ---- a count
 
@@ -179,6 +184,7 @@ pub record Counts (old : Option Db) (code : ℕ) (new : Option Db) (count : ℕ)
 pub record IsSameBesidePrograms (d d' : Db) : Type 0 where
   pub image : d'.image ≡ d.image
   pub marks : d'.marks ≡ d.marks
+  pub limit : d'.limit ≡ d.limit
   pub base : d'.base ≡ d.base
 
 -- a program image has its number, or is refused for a fault, and all else stays
@@ -202,9 +208,10 @@ pub record Numbers (image : List ℕ) (old : Option Db) (code : ℕ) (new : Opti
 pub record Rejects (image : List ℕ) (old : Option Db) (code : ℕ) (new : Option Db) (unit : ℕ) (room_old room_new : List ℕ) (len : ℕ) : Type 0 where
   pub fault : RegFault
   pub unit_is : unit ≡ unwrap_or (unit_in fault) nowhere
-  pub code_is : code ≡ code_of (status_of_fault fault)
   pub submits : At old new (Submits image (Err fault))
-  pub text : IsTold (fault_text fault) room_old room_new len
+  pub status : Status
+  pub code_is : code ≡ code_of status
+  pub text : IsToldAs (status_of_fault fault) (fault_text fault) room_old room_new len status
 
 -- the blank of a run
 abbrev pub blank_for : ℕ → ℕ → Option ℕ
@@ -216,8 +223,8 @@ pub record RunsBy (number : ℕ) (key arg : List ℕ) (blank : Option ℕ) (now 
   pub there : slice_get d.registry.programs number ≡ Some program
   pub does : Does d (commands.Run key program.code arg blank now) reply d'
 
--- A run is denied: there is no such program, or else it is not taken for its sizes; or memory ran out for one that is, or `.pag` would
--- be too long.
+-- A run is denied: there is no such program, or else it is not taken for its sizes; or of one that is, memory ran out, or `.pag` would be too
+-- long.
 abbrev pub DeniesRun : ℕ → List ℕ → List ℕ → Option ℕ → ℕ → Db → Status → Type 0
 DeniesRun number key arg blank now d Done = ⊥
 DeniesRun number key arg blank now d Missing = ⊥
@@ -236,8 +243,13 @@ DeniesRun number key arg blank now d ArgTooLong = IsSome (slice_get d.registry.p
 DeniesRun number key arg blank now d NoProgram = slice_get d.registry.programs number ≡ None
 DeniesRun number key arg blank now d NoMemory = IsSome (slice_get d.registry.programs number) × (FitsBlank d.image.size key blank × (length arg ≤ argument_limit))
 DeniesRun number key arg blank now d TooLong =
-    (program : Accepted) × ((slice_get d.registry.programs number ≡ Some program) × Outgrows d.image (commands.Run key program.code arg blank now))
+    (program : Accepted) × ((slice_get d.registry.programs number ≡ Some program)
+    × ((FitsBlank d.image.size key blank × (length arg ≤ argument_limit)) × Outgrows d.limit d.image (commands.Run key program.code arg blank now)))
 DeniesRun number key arg blank now d NoTicket = ⊥
+
+-- a run is not asked, for one of these reasons, but never as `.pag` would be too long
+abbrev pub DeniesAsk : ℕ → List ℕ → List ℕ → Option ℕ → ℕ → Db → Status → Type 0
+DeniesAsk number key arg blank now d status = DeniesRun number key arg blank now d status × (status ≢ TooLong)
 
 -- the number with which a run ended, and its word, are told; where it did not run they are zeros
 abbrev pub IsEnd : Reply Global → ℕ → ℕ → Type 0
@@ -311,6 +323,7 @@ pub record Lists (old : Option Db) (code : ℕ) (new : Option Db) (numbers_old n
 pub record HasMarked (numbers : List ℕ) (d d' : Db) : Type 0 where
   pub image : d'.image ≡ d.image
   pub registry : d'.registry ≡ d.registry
+  pub limit : d'.limit ≡ d.limit
   pub base : d'.base ≡ d.base
   pub marks : HasMore d.marks d'.marks
   pub each : (n : ℕ) → Contains numbers n → Contains d'.marks n
@@ -318,6 +331,20 @@ pub record HasMarked (numbers : List ℕ) (d d' : Db) : Type 0 where
 pub record Remarks (numbers : List ℕ) (old : Option Db) (code : ℕ) (new : Option Db) : Type 0 where
   pub code_is : code ≡ code_of Done
   pub is : At old new (HasMarked numbers)
+
+-- ---- a limit
+
+-- commands may make `.pag` have the whole pages of so many bytes, and all else stays
+pub record HasLimit (bytes : ℕ) (d d' : Db) : Type 0 where
+  pub limit : d'.limit ≡ bytes / page_bytes d.image.size
+  pub image : d'.image ≡ d.image
+  pub registry : d'.registry ≡ d.registry
+  pub marks : d'.marks ≡ d.marks
+  pub base : d'.base ≡ d.base
+
+pub record Limits (bytes : ℕ) (old : Option Db) (code : ℕ) (new : Option Db) : Type 0 where
+  pub code_is : code ≡ code_of Done
+  pub is : At old new (HasLimit bytes)
 
 -- ---- opening
 
@@ -332,8 +359,8 @@ kind_for unsigned_keys = cond (unsigned_keys == 0) Signed Unsigned
 abbrev pub size_for : ℕ → PageSize
 size_for wide = cond (wide == 0) Small Wide
 
--- the one database that the bytes of both files spell, with no programs. It is its own base, and each page that is not marked stands in the
--- file as it is written for it.
+-- the one database that the bytes of both files spell, with no programs, whose `.pag` may grow to the longest. It is its own base, and each page
+-- that is not marked stands in the file as it is written for it.
 pub record IsOpened (kind : KeyBytes) (size : PageSize) (dir pag : List ℕ) (d : Db) : Type 0 where
   pub spells : SpellsDatabase d.image dir pag
   pub kind_is : d.image.kind ≡ kind
@@ -341,6 +368,7 @@ pub record IsOpened (kind : KeyBytes) (size : PageSize) (dir pag : List ℕ) (d 
   pub only : (db : Database) → db.kind ≡ kind → db.size ≡ size → SpellsDatabase db dir pag → db ≡ d.image
   pub programs : d.registry ≡ empty_registry
   pub fits : length pag ≤ pag_limit → FitsFiles d.image
+  pub limit : d.limit ≡ pag_limit / page_bytes size
   pub base : d.base.database ≡ d.image
   pub reads : (n : ℕ) → (Contains d.marks n → ⊥) → ReadsPage size pag n (bytes_of_page size (pairs_at d.image n))
 
@@ -363,12 +391,13 @@ status_of_open open_faults.NoMemory = NoMemory
 -- the bytes have a fault, and its text is told; the handle stays closed
 pub record Faults (kind : KeyBytes) (size : PageSize) (dir pag : List ℕ) (old : Option Db) (code : ℕ) (new : Option Db) (room_old room_new : List ℕ) (len : ℕ) : Type 0 where
   pub fault : OpenFault
-  pub code_is : code ≡ code_of (status_of_open fault)
+  pub status : Status
+  pub code_is : code ≡ code_of status
   pub closed : old ≡ None
   pub same : new ≡ None
   pub is : IsOpenFault kind size dir pag fault
   pub none : fault ≢ open_faults.NoMemory → SpellsNoDatabase kind size dir pag
-  pub text : IsTold (open_text fault) room_old room_new len
+  pub text : IsToldAs (status_of_open fault) (open_text fault) room_old room_new len status
 
 -- nothing is opened: memory ran out, or the handle is open already
 pub record OpensNot (old : Option Db) (code : ℕ) (new : Option Db) : Type 0 where

@@ -41,6 +41,7 @@ PlansFor dir pag_length numbers pages d plan = (pag : List ℕ) → IsReadBeside
 pub record IsPlanned (d d' : Db) : Type 0 where
   pub image : d'.image ≡ d.image
   pub registry : d'.registry ≡ d.registry
+  pub limit : d'.limit ≡ d.limit
   pub base : d'.base.database ≡ d.image
   pub marks : d'.marks ≡ []
 

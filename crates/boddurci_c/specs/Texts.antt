@@ -9,7 +9,7 @@ use Rattle.bpf_asm.specs.declared.fault.FaultKind.{FaultKind}
 use Rattle.bpf_asm.specs.declared.fault.FaultKind.TheVariants as kinds
 use Rattle.boddurci_c.specs.declared.texts.TextFault.{TextFault}
 use Rattle.boddurci_c.specs.declared.texts.TextFault.TheVariants.{NotText, Line}
-use Rattle.boddurci_c.specs.Calls.{IsCopied, IsTold}
+use Rattle.boddurci_c.specs.Calls.{IsCopied, IsToldAs}
 use Rattle.boddurci_c.specs.Statuses.{code_of}
 use Rattle.boddurci_c.specs.declared.status.Status.{Status}
 use Rattle.boddurci_c.specs.declared.status.Status.TheVariants.{BadText, NoMemory}
@@ -51,9 +51,10 @@ text_of (Line fault) = fault_text fault
 pub record Garbles (text : List ℕ) (code : ℕ) (line : ℕ) (room_old room_new : List ℕ) (len : ℕ) : Type 0 where
   pub fault : TextFault
   pub is : IsTextFault text fault
-  pub code_is : code ≡ code_of (status_of_text fault)
+  pub status : Status
+  pub code_is : code ≡ code_of status
   pub line_is : line ≡ line_of fault
-  pub told : IsTold (text_of fault) room_old room_new len
+  pub told : IsToldAs (status_of_text fault) (text_of fault) room_old room_new len status
 
 -- the program image of a text stands in a room, or the room is too short
 pub record Assembles (text : List ℕ) (code : ℕ) (room_old room_new : List ℕ) (len : ℕ) : Type 0 where

@@ -12,7 +12,7 @@ use Rattle.boddurci_c.specs.declared.opened.Db.{Db}
 use Rattle.boddurci_c.specs.declared.status.Status.{Status}
 use Rattle.boddurci_c.specs.declared.status.Status.TheVariants.{Done, Changed, NoMemory, NoTicket, TooLong}
 use Rattle.boddurci_c.specs.Statuses.{code_of, status_of}
-use Rattle.boddurci_c.specs.Calls.{At, Shows, Denies, DeniesRun, Does, IsEnd}
+use Rattle.boddurci_c.specs.Calls.{At, Shows, Denies, DeniesAsk, Does, IsEnd}
 use Rattle.boddurci_marks.specs.Growth.{Outgrows}
 use Rattle.boddurci_c.specs.Asked.{Asked}
 
@@ -35,11 +35,11 @@ worked_out a = record { command = a.command; place = a.place; kind = a.kind; pag
 
 -- why what was asked is not finished on a database: it was not worked; or its page is another; or else `.pag` would be too long, or memory
 -- ran out
-abbrev pub DeniesFinish : Database → Asked → Status → Type 0
-DeniesFinish db a status =
+abbrev pub DeniesFinish : ℕ → Database → Asked → Status → Type 0
+DeniesFinish limit db a status =
     ((status ≡ NoTicket) × (a.is_worked ≡ false))
     ⊎ (((status ≡ Changed) × ((a.is_worked ≡ true) × (¬ IsCurrent db a)))
-    ⊎ (((status ≡ TooLong) × ((a.is_worked ≡ true) × (IsCurrent db a × Outgrows db a.command))) ⊎ ((status ≡ NoMemory) × ((a.is_worked ≡ true) × IsCurrent db a))))
+    ⊎ (((status ≡ TooLong) × ((a.is_worked ≡ true) × (IsCurrent db a × Outgrows limit db a.command))) ⊎ ((status ≡ NoMemory) × ((a.is_worked ≡ true) × IsCurrent db a))))
 
 -- ---- calls
 
@@ -59,7 +59,7 @@ pub record Asks (number : ℕ) (key arg : List ℕ) (blank : Option ℕ) (now : 
 -- it is not asked, and the ticket is as it was
 pub record AsksNot (number : ℕ) (key arg : List ℕ) (blank : Option ℕ) (now : ℕ) (old : Option Db) (code : ℕ) (new : Option Db) (ticket_old ticket_new : Option Asked) : Type 0 where
   pub same : ticket_new ≡ ticket_old
-  pub denied : Denies (DeniesRun number key arg blank now) old code new
+  pub denied : Denies (DeniesAsk number key arg blank now) old code new
 
 -- what stands under a ticket is worked; or nothing is asked under it, or memory ran out, and it is as it was
 pub record Works (old : Option Asked) (code : ℕ) (new : Option Asked) : Type 0 where
@@ -83,7 +83,7 @@ pub record FinishesOn (d : Db) (old : Option Asked) (reply : Reply Global) (d' :
 -- why it is not
 abbrev pub WhyNot : Option Asked → Db → Status → Type 0
 WhyNot None d status = status ≡ NoTicket
-WhyNot (Some a) d status = DeniesFinish d.image a status
+WhyNot (Some a) d status = DeniesFinish d.limit d.image a status
 
 pub record Finishes (old : Option Db) (code : ℕ) (new : Option Db) (ticket_old ticket_new : Option Asked) (end word : ℕ) : Type 0 where
   pub reply : Reply Global

@@ -1,15 +1,16 @@
 //! What is done with an open database.
-ghost use Rattle.std.specs.Prelude.{◌≡◌, ◌↔◌, IsTrue, ◌≢◌, ◌⊎◌, IfOk, IfErr, OnErr};
+ghost use Rattle.std.specs.Prelude.{◌≡◌, ◌↔◌, ◌/◌, IsTrue, ◌≢◌, ◌⊎◌, IfOk, IfErr, OnErr};
 ghost use Rattle.std.specs.Arc.{arc_value};
 ghost use Rattle.std.specs.declared.alloc.Global.{Global};
 ghost use Rattle.std.specs.FinMap as map;
+ghost use Rattle.sdbm_addr.specs.Pairs.{page_bytes};
 ghost use Rattle.sdbm_files.specs.Opened.{IsOpenFault, SpellsNoDatabase};
 ghost use Rattle.store_cmd.specs.Command.{IsSmall};
 ghost use Rattle.store_cmd.specs.declared.Command.TheVariants.{Store, Delete, Run};
 ghost use Rattle.store_moves.specs.Works.{HasKey};
 ghost use Rattle.boddurci_marks.specs.Growth.{Outgrows};
 ghost use Rattle.boddurci_marks.specs.Marks.{AreForeign};
-ghost use Rattle.boddurci_c.specs.Calls.{Does, DeniesBy, RunsBy, DeniesRun, IsEnd, FetchesIn, HasFiles, IsOpened, empty_registry};
+ghost use Rattle.boddurci_c.specs.Calls.{Does, DeniesBy, RunsBy, DeniesRun, DeniesAsk, IsEnd, FetchesIn, HasFiles, IsOpened, empty_registry};
 ghost use Rattle.boddurci_c.specs.Tickets.{IsRunAsked};
 
 use crate::base::Base;
@@ -17,7 +18,7 @@ use crate::job::Job;
 use crate::opened::Db;
 use crate::rooms::copy_out;
 use crate::status::Status;
-use boddurci_marks::{Marks, has_pairs, may_grow, put_marked, run_there, store_there};
+use boddurci_marks::{Marks, has_pairs, may_grow, most_pages, put_marked, run_there, store_there};
 use bpf_verify::Verified;
 use prog_registry::{ProgId, RegFault, Registry};
 use sdbm_addr::{Bytes, KeyBytes, Mode, PageSize};
@@ -27,20 +28,24 @@ use std::sync::Arc;
 use store_cmd::{Command, Program, Reply, check_pair, check_run};
 use store_moves::{key_in, work_at};
 
-// Does a command about a key whose size is taken, where the longest `.pag` has room for what it comes to.
+// The most bytes of a `.pag` until the caller sets a limit, and the highest limit that counts.
+const LONGEST: usize = 1_073_741_824;
+
+// Does a command about a key whose size is taken, if `.pag` has room within its limit for the pages that it puts in.
 fn perform(alloc: Global, db: &mut Db, command: Command<Global>) -> Result<Reply<Global>, Status>
     requires keyed { HasKey command }
     requires small { IsSmall db.old.image.size command }
     ensures ok { IfOk result (λ reply. Does db.old command reply db.new) }
     ensures err { OnErr result (db.new ≡ db.old) }
-    ensures why { IfErr result (λ status. (status ≡ Status.NoMemory) ⊎ ((status ≡ Status.TooLong) × Outgrows db.old.image command)) }
+    ensures why { IfErr result (λ status. (status ≡ Status.NoMemory) ⊎ ((status ≡ Status.TooLong) × Outgrows db.old.limit db.old.image command)) }
 {
     let place = db.image.place(key_in(&command));
     let Ok(worked) = work_at(alloc, &db.image, place, 0, &command) else {
         return Err(Status::NoMemory);
     };
     let there = has_pairs(&db.image, place.page);
-    if !may_grow(db.image.page_size(), there, place.page, &worked.change) {
+    let most = most_pages(db.image.page_size(), db.limit);
+    if !may_grow(most, there, place.page, &worked.change) {
         return Err(Status::TooLong);
     }
     match put_marked(&mut db.image, &mut db.marks, place, worked.change) {
@@ -93,9 +98,9 @@ pub fn delete(alloc: Global, db: &mut Db, key: &[u8]) -> Result<Reply<Global>, S
     perform(alloc, db, Command::Delete { key })
 }
 
-/// Fetches the value of a key into a room, and tells its length, also where it does not fit.
+/// Fetches the value of a key into a room, and sets its length, also if it does not fit. If the key is missing both stay as they were.
 pub fn fetch(db: &Db, key: &[u8], room: &mut [u8], len: &mut usize) -> Status
-    ensures { FetchesIn key.now db.now result room.old room.new len.new }
+    ensures { FetchesIn key.now db.now result room.old room.new len.old len.new }
 {
     let place = db.image.place(key);
     let Some(shared) = db.image.page(place.page) else {
@@ -168,7 +173,7 @@ pub fn ask(
     now: u64,
 ) -> Result<Box<Job>, Status>
     ensures ok { IfOk result (λ job. IsRunAsked number key.now arg.now blank now db.now job.value) }
-    ensures why { IfErr result (DeniesRun number key.now arg.now blank now db.now) }
+    ensures why { IfErr result (DeniesAsk number key.now arg.now blank now db.now) }
 {
     let Some(program) = db.registry.get(ProgId(number)) else {
         return Err(Status::NoProgram);
@@ -200,7 +205,14 @@ pub fn files(alloc: Global, db: &Db) -> Result<(MemSink<Global>, MemSink<Global>
     }
 }
 
-/// The database that the bytes of both files spell, with no programs.
+/// The number of whole pages of a size in a file of some bytes.
+pub fn pages_in(bytes: usize, size: PageSize) -> usize
+    ensures { result ≡ bytes / page_bytes size }
+{
+    bytes / size.bytes()
+}
+
+/// The database that the bytes of both files spell, with no programs. Its `.pag` may grow to 1 GiB.
 pub fn open(
     alloc: Global,
     registry: Registry<Global>,
@@ -222,10 +234,12 @@ pub fn open(
         return Err(OpenFault::NoMemory);
     };
     let base = Base::of(&image);
+    let limit = pages_in(LONGEST, size);
     Ok(Db {
         image,
         registry,
         marks,
+        limit,
         base,
     })
 }

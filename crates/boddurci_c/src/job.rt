@@ -7,12 +7,12 @@ ghost use Rattle.store_moves.specs.Acts.{Acts};
 ghost use Rattle.store_moves.specs.Works.{HasKey};
 ghost use Rattle.sdbm_files.specs.Limits.{FitsFiles};
 ghost use Rattle.boddurci_c.specs.Asked.{result_of};
-ghost use Rattle.boddurci_marks.specs.Growth.{has_pairs, may_grow};
+ghost use Rattle.boddurci_marks.specs.Growth.{FitsWithin, has_pairs, may_grow, most_in};
 ghost use Rattle.boddurci_marks.specs.Marks.{HasMore, DifferOn};
 ghost use Rattle.boddurci_c.specs.Tickets.{IsAskedOf, IsCurrent, DeniesFinish, worked_out};
 
 use crate::status::Status;
-use boddurci_marks::{Marks, lends_pairs, may_grow, put_marked};
+use boddurci_marks::{Marks, lends_pairs, may_grow, most_pages, put_marked};
 use sdbm_addr::KeyBytes;
 use sdbm_dir::Place;
 use sdbm_files::Image;
@@ -101,23 +101,25 @@ impl Job {
         self.page.is_still(image, place.page)
     }
 
-    /// Does the command as one step of a database in which the page of its key is as it was asked.
+    /// Does the command as one step of a database in which the page of its key is as it was asked, and whose `.pag` may have `limit` pages.
     ///
     /// # Errors
-    /// `NoTicket` where it was not worked, `Changed` where the page is another, `TooLong` where `.pag` would be longer than it may be, and
-    /// else `NoMemory`. The database and the job are then as they were.
+    /// `NoTicket` if it was not worked, `Changed` if the page is another, `TooLong` if `.pag` would have more pages than the limit or the
+    /// longest allows, and else `NoMemory`. The database and the job are then as they were.
     pub fn finish(
         &mut self,
         image: &mut Image<Global>,
         marks: &mut Marks,
+        limit: usize,
     ) -> Result<Reply<Global>, Status>
         ensures ok { IfOk result (λ reply. Acts image.old (record { session = 0; command = self.old.command; reply = reply }) image.new) }
         ensures fits { OnOk result (FitsFiles image.old → FitsFiles image.new) }
+        ensures within { OnOk result (FitsWithin limit image.old → FitsWithin limit image.new) }
         ensures differ { OnOk result ((base : Database) → DifferOn marks.old base image.old → DifferOn marks.new base image.new) }
         ensures more { OnOk result (HasMore marks.old marks.new) }
         ensures unmarked { OnErr result (marks.new ≡ marks.old) }
         ensures worked { OnOk result (self.old.is_worked ≡ true) }
-        ensures why { IfErr result (DeniesFinish image.old self.old) }
+        ensures why { IfErr result (DeniesFinish limit image.old self.old) }
         ensures err { OnErr result (image.new ≡ image.old) }
         ensures kept { OnErr result (self.new ≡ self.old) }
     {
@@ -127,51 +129,50 @@ impl Job {
         if !self.is_current(image) {
             return Err(Status::Changed);
         }
-        if !self.may_grow() {
+        if !self.may_grow(limit) {
             return Err(Status::TooLong);
         }
-        match self.put(image, marks) {
+        match self.put(image, marks, limit) {
             Ok(reply) => Ok(reply),
             Err(_) => Err(Status::NoMemory),
         }
     }
 
-    // Whether the longest `.pag` has room for what it came to.
-    fn may_grow(&self) -> bool
-        ensures { self.now.is_worked ≡ true → result ≡ may_grow self.now.page.size (has_pairs self.now.page.pairs) self.now.place.page (result_of self.now).change }
+    // Whether `.pag` has room within a limit for what it came to.
+    fn may_grow(&self, limit: usize) -> bool
+        ensures { self.now.is_worked ≡ true → result ≡ may_grow (most_in self.now.page.size limit) (has_pairs self.now.page.pairs) self.now.place.page (result_of self.now).change }
     {
         match &self.worked {
             None => true,
             Some(worked) => {
                 let there = lends_pairs(self.page.page());
-                may_grow(
-                    self.page.page_size(),
-                    there,
-                    self.place.page,
-                    &worked.change,
-                )
+                let most = most_pages(self.page.page_size(), limit);
+                may_grow(most, there, self.place.page, &worked.change)
             }
         }
     }
 
-    // Puts in what it came to.
+    // Puts in what it came to, which has room within a limit.
     fn put(
         &mut self,
         image: &mut Image<Global>,
         marks: &mut Marks,
+        limit: usize,
     ) -> Result<Reply<Global>, AllocError>
         requires worked { self.old.is_worked ≡ true }
         requires current { IsCurrent image.old self.old }
         requires database { IsDatabase image.old }
-        requires grows { may_grow self.old.page.size (has_pairs self.old.page.pairs) self.old.place.page (result_of self.old).change ≡ true }
+        requires grows { may_grow (most_in self.old.page.size limit) (has_pairs self.old.page.pairs) self.old.place.page (result_of self.old).change ≡ true }
         ensures ok { IfOk result (λ reply. Acts image.old (record { session = 0; command = self.old.command; reply = reply }) image.new) }
         ensures fits { OnOk result (FitsFiles image.old → FitsFiles image.new) }
+        ensures within { OnOk result (FitsWithin limit image.old → FitsWithin limit image.new) }
         ensures differ { OnOk result ((base : Database) → DifferOn marks.old base image.old → DifferOn marks.new base image.new) }
         ensures more { OnOk result (HasMore marks.old marks.new) }
         ensures unmarked { OnErr result (marks.new ≡ marks.old) }
         ensures err { OnErr result (image.new ≡ image.old) }
         ensures kept { OnErr result (self.new ≡ self.old) }
     {
+        let _ = limit;
         let Some(Worked { reply, change }) = self.worked.take() else {
             unreachable!()
         };

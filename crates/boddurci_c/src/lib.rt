@@ -4,7 +4,7 @@
 
 ghost use Rattle.std.specs.Prelude.{◌≡◌, ◌≢◌, ◌⊎◌, Option, Some, None, IfOk, IfErr, OnOk, OnErr};
 ghost use Rattle.store_cmd.specs.declared.Command.TheVariants.{Store, Delete};
-ghost use Rattle.boddurci_c.specs.Calls.{Denies, Never, Says, Fetches, Counts, Runs, DeniesRun, Numbers, Rejects, Writes, LacksMemory, Lists, Remarks, IsOpened, OpensOr, open_word, mode_for, blank_for, kind_for, size_for, empty_registry, status_of_fault, status_of_open};
+ghost use Rattle.boddurci_c.specs.Calls.{Denies, Never, Says, Fetches, Counts, Runs, DeniesRun, Limits, Numbers, Rejects, Writes, LacksMemory, Lists, Remarks, IsOpened, OpensOr, open_word, mode_for, blank_for, kind_for, size_for, empty_registry, status_of_fault, status_of_open};
 ghost use Rattle.boddurci_c.specs.Texts.{Assembles, Garbles};
 ghost use Rattle.boddurci_c.specs.Turns.{Begins, GoesOn};
 ghost use Rattle.boddurci_c.specs.declared.opened.Db.{Db};
@@ -26,7 +26,7 @@ mod ticket;
 mod turns;
 mod units;
 
-use db::{ask, delete, end_of, fetch, files, open, run, store};
+use db::{ask, delete, end_of, fetch, files, open, pages_in, run, store};
 use handle::Handle;
 use job::Job;
 use opened::Db;
@@ -93,7 +93,7 @@ pub extern "C" fn boddurci_delete(alloc: Global, slot: &mut Handle, key: &[u8]) 
     }
 }
 
-/// Fetches the value of a key into a room, and tells its length, also where it does not fit.
+/// Fetches the value of a key into a room, and sets its length, also if it does not fit. If the key is missing both stay as they were.
 #[unsafe(no_mangle)]
 pub extern "C" fn boddurci_fetch(
     alloc: Global,
@@ -102,7 +102,7 @@ pub extern "C" fn boddurci_fetch(
     room: &mut [u8],
     len: &mut usize,
 ) -> u32
-    ensures { Fetches key.now slot.old.held result slot.new.held room.old room.new len.new
+    ensures { Fetches key.now slot.old.held result slot.new.held room.old room.new len.old len.new
         ⊎ (Denies Never slot.old.held result slot.new.held × ((room.new ≡ room.old) × (len.new ≡ len.old))) }
 {
     let Some(db) = slot.take(alloc) else {
@@ -122,6 +122,21 @@ pub extern "C" fn boddurci_count(alloc: Global, slot: &mut Handle, count: &mut u
         return Status::Closed.code();
     };
     *count = db.image.count();
+    slot.put(db);
+    Status::Done.code()
+}
+
+/// Sets how many bytes commands may make `.pag` have. It counts in whole pages, and 1 GiB is the most and the default. Pages that lie above
+/// it stay.
+#[unsafe(no_mangle)]
+pub extern "C" fn boddurci_limit(alloc: Global, slot: &mut Handle, bytes: usize) -> u32
+    ensures { Limits bytes slot.old.held result slot.new.held ⊎ Denies Never slot.old.held result slot.new.held }
+{
+    let Some(mut db) = slot.take(alloc) else {
+        return Status::Closed.code();
+    };
+    let open = &mut *db;
+    open.limit = pages_in(bytes, open.image.page_size());
     slot.put(db);
     Status::Done.code()
 }
@@ -166,8 +181,7 @@ pub extern "C" fn boddurci_submit(
         }
         Err(fault) => {
             *unit = unit_of(fault);
-            tell(alloc, &fault, room, len);
-            fault_status(fault).code()
+            tell(alloc, &fault, fault_status(fault), room, len).code()
         }
     }
 }
@@ -191,8 +205,7 @@ pub extern "C" fn boddurci_assemble(
         Err(fault) => {
             let (status, at) = fault.told();
             *line = at;
-            tell(alloc, &fault, room, len);
-            status.code()
+            tell(alloc, &fault, status, room, len).code()
         }
     }
 }
@@ -238,8 +251,8 @@ pub extern "C" fn boddurci_run(
     }
 }
 
-/// Asks a run as `boddurci_run` does it, under a ticket: with the page of its key as it is now. Nothing is run yet. What was under the
-/// ticket goes.
+/// Asks a run as `boddurci_run` does it, under a ticket: with the page of its key as it is now. Nothing is run yet, so `.pag` is never too long.
+/// What was under the ticket goes.
 #[unsafe(no_mangle)]
 pub extern "C" fn boddurci_ask(
     alloc: Global,
@@ -296,7 +309,7 @@ fn finish_on(alloc: Global, db: &mut Db, ticket: &mut Ticket) -> Result<Reply<Gl
     let Some(mut job) = ticket.take(alloc) else {
         return Err(Status::NoTicket);
     };
-    match job.finish(&mut db.image, &mut db.marks) {
+    match job.finish(&mut db.image, &mut db.marks, db.limit) {
         Ok(reply) => Ok(reply),
         Err(status) => {
             ticket.put(job);
@@ -566,10 +579,7 @@ pub extern "C" fn boddurci_open(
     let (kind, size) = form_of(unsigned_keys, wide);
     match open_at(alloc, slot, registry, dir, pag, kind, size) {
         Ok(()) => Status::Done.code(),
-        Err(fault) => {
-            tell(alloc, &fault, room, len);
-            open_status(fault).code()
-        }
+        Err(fault) => tell(alloc, &fault, open_status(fault), room, len).code(),
     }
 }
 

@@ -7,13 +7,14 @@ use prog_registry::Registry;
 use sdbm_files::Image;
 use std::alloc::Global;
 
-/// An open database with its programs, and the numbers of the pages that may differ from those of its base: the database that was opened,
-/// or of which the last plan was made.
+/// An open database with its programs, the number of pages that commands may make `.pag` have, and the numbers of the pages that may differ
+/// from those of its base: the database that was opened, or of which the last plan was made.
 #[derive(Drop)]
 pub struct Db {
     pub image: Image<Global>,
     pub registry: Registry<Global>,
     pub marks: Marks,
+    pub limit: usize,
     pub base: Base,
     pub ghost differ: { DifferOn marks base.database image } by { DifferOn-prop marks base.database image },
 }

@@ -1,6 +1,6 @@
 //! Rooms that a caller lends for bytes.
 ghost use Rattle.std.specs.Prelude.{◌≡◌, ℕ, List, Some};
-ghost use Rattle.boddurci_c.specs.Calls.{IsCopied, IsTold, AreCopied};
+ghost use Rattle.boddurci_c.specs.Calls.{IsCopied, IsToldAs, AreCopied};
 
 use crate::status::Status;
 use std::alloc::Global;
@@ -18,14 +18,23 @@ pub fn copy_out<T: Copy>(items: &[T], room: &mut [T], len: &mut usize) -> Status
     Status::Done
 }
 
-/// Writes the text of a fault in the first places of a room, as `copy_out` does; no text where memory runs out.
-pub fn tell<T: Display>(alloc: Global, fault: &T, room: &mut [u8], len: &mut usize)
-    ensures { (text : List ℕ) → T.output fault.now ≡ Some text → IsTold text room.old room.new len.new }
+/// Writes the text of a fault in the first places of a room, as `copy_out` does, and returns the status of the fault. Returns `NoMemory` and
+/// sets the length to 0 if memory runs out for the text.
+pub fn tell<T: Display>(
+    alloc: Global,
+    fault: &T,
+    status: Status,
+    room: &mut [u8],
+    len: &mut usize,
+) -> Status
+    ensures { (text : List ℕ) → T.output fault.now ≡ Some text → IsToldAs status text room.old room.new len.new result }
 {
-    match fault.to_string(alloc) {
-        Ok(text) => copy_out(text.as_bytes(), room, len),
-        Err(_) => copy_out(&[], room, len),
+    let Ok(text) = fault.to_string(alloc) else {
+        *len = 0;
+        return Status::NoMemory;
     };
+    copy_out(text.as_bytes(), room, len);
+    status
 }
 
 /// Writes the bytes of two files in the first places of two rooms where both fit, and else none.

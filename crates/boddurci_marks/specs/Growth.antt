@@ -1,13 +1,13 @@
--- How far commands may make `.pag` grow (own): to the longest that is written.
-use Rattle.std.specs.Prelude.{◌≡◌, ◌&&◌, ◌||◌, ℕ, nat_lt, Bool, true, false, List, length, Option, Some, None}
+-- How far commands may make `.pag` grow (own): to the longest that is written, or to a limit below that.
+use Rattle.std.specs.Prelude.{◌≡◌, ◌≢◌, ◌<◌, ◌&&◌, ◌||◌, ℕ, nat_lt, Bool, true, false, cond, List, [], length, Option, Some, None}
 use Rattle.std.specs.List.{list_all}
 use Rattle.std.specs.declared.alloc.Global.{Global}
 use Rattle.sdbm_addr.specs.declared.PageSize.{PageSize}
-use Rattle.sdbm_addr.specs.Pairs.{Pair}
+use Rattle.sdbm_addr.specs.Pairs.{Pair, Content}
 use Rattle.sdbm_addr.specs.Database.{Database, pairs_at}
 use Rattle.sdbm_dir.specs.declared.Place.{Place}
 use Rattle.sdbm_split.specs.Planned.{PageChange}
-use Rattle.sdbm_files.specs.Limits.{has_place}
+use Rattle.sdbm_files.specs.Limits.{most_pages, is_bare}
 use Rattle.store_cmd.specs.declared.Command.{Command}
 use Rattle.store_moves.specs.Leads.{IsPlaceOf}
 use Rattle.store_moves.specs.Works.{works, key_of}
@@ -16,14 +16,27 @@ use Rattle.store_moves.specs.Works.{works, key_of}
 abbrev pub has_pairs : List Pair → Bool
 has_pairs pairs = nat_lt 0 (length pairs)
 
--- Each page that a change of the page with a number puts in has its place in the longest `.pag`. A page that had pairs before has it,
--- wherever it ends.
-abbrev pub may_grow : PageSize → Bool → ℕ → Option PageChange → Bool
-may_grow size there number None = true
-may_grow size there number (Some change) = (there || has_place size (number, change.leaf)) && list_all (has_place size) change.twins
+-- how many pages `.pag` may have: a limit, or those that the longest has room for where these are fewer
+abbrev pub most_in : PageSize → ℕ → ℕ
+most_in size limit = cond (nat_lt limit (most_pages size)) limit (most_pages size)
 
--- what a command comes to on the page of its key has a page that is new and would end past the end of the longest `.pag`
-pub record Outgrows (db : Database) (command : Command Global) : Type 0 where
+-- a page under its number is one of the first so many, or has no pairs and takes no place
+abbrev pub has_room : ℕ → ℕ × Content → Bool
+has_room most e = is_bare e.1.pairs || nat_lt e.0 most
+
+-- each page that has pairs is one of the first so many
+abbrev pub FitsWithin : ℕ → Database → Type 0
+FitsWithin most db = (n : ℕ) → pairs_at db n ≢ [] → n < most
+
+-- Each page that a change of the page with a number puts in is one of the first so many. A page that had pairs before has its place,
+-- wherever it ends.
+abbrev pub may_grow : ℕ → Bool → ℕ → Option PageChange → Bool
+may_grow most there number None = true
+may_grow most there number (Some change) = (there || has_room most (number, change.leaf)) && list_all (has_room most) change.twins
+
+-- what a command comes to on the page of its key has a page that is new and is not one of the first that the limit and the longest `.pag`
+-- have room for
+pub record Outgrows (limit : ℕ) (db : Database) (command : Command Global) : Type 0 where
   pub place : Place
   pub leads : IsPlaceOf db (key_of command) place
-  pub out : may_grow db.size (has_pairs (pairs_at db place.page)) place.page (works place db.kind db.size (pairs_at db place.page) 0 command).change ≡ false
+  pub out : may_grow (most_in db.size limit) (has_pairs (pairs_at db place.page)) place.page (works place db.kind db.size (pairs_at db place.page) 0 command).change ≡ false

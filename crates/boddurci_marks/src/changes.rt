@@ -91,8 +91,8 @@ pub fn put_marked(
     }
 }
 
-/// Stores a pair as `act_store` does, marks its page, and says whether it did. Where not, or where no memory is left for the mark, nothing is
-/// changed.
+/// Stores a pair as `act_store` does, marks its page, and returns whether it did. Returns `false` and changes nothing if `act_store` does, or
+/// if the mark needs memory and there is none. A page without pairs is not marked, so the mark takes no more memory than `.pag` has pages.
 pub fn store_there(
     image: &mut Image<Global>,
     marks: &mut Marks,
@@ -109,6 +109,9 @@ pub fn store_there(
     ensures kept { result ≡ false → marks.new ≡ marks.old }
 {
     let place = image.place(key);
+    if !has_pairs(image, place.page) {
+        return false;
+    }
     let len = marks.as_slice().len();
     let Ok(()) = marks.add(place.page) else {
         return false;
@@ -120,8 +123,8 @@ pub fn store_there(
     false
 }
 
-/// Runs a program on a record where it stands as `act_run` does, marks its page, and tells its reply. Where not, or where no memory is left
-/// for the mark, nothing is changed.
+/// Runs a program on a record in place as `act_run` does, marks its page, and returns the reply. Returns `None` and changes nothing if
+/// `act_run` does, or if the mark needs memory and there is none. A page without pairs is not marked, as in `store_there`.
 pub fn run_there(
     image: &mut Image<Global>,
     marks: &mut Marks,
@@ -148,6 +151,9 @@ pub fn run_there(
         blank,
     };
     let place = image.place(key);
+    if !has_pairs(image, place.page) {
+        return None;
+    }
     let len = marks.as_slice().len();
     let Ok(()) = marks.add(place.page) else {
         return None;

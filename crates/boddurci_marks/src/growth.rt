@@ -2,27 +2,47 @@
 ghost use Rattle.std.specs.Prelude.{◌≡◌};
 ghost use Rattle.std.specs.List.{list_all};
 ghost use Rattle.std.specs.Option.{option_map};
-ghost use Rattle.sdbm_files.specs.Limits.{has_place};
+ghost use Rattle.sdbm_files.specs.Limits.{most_pages};
 ghost use Rattle.store_moves.specs.Works.{change_of, pairs_lent};
 ghost use Rattle.sdbm_addr.specs.Database.{pairs_at};
-ghost use Rattle.boddurci_marks.specs.Growth.{has_pairs, may_grow};
+ghost use Rattle.boddurci_marks.specs.Growth.{has_pairs, has_room, may_grow, most_in};
 
 use sdbm_addr::PageSize;
-use sdbm_files::{Image, has_place};
+use sdbm_files::Image;
 use sdbm_page::{Page, SharedPage};
 use sdbm_split::Plan;
 use std::alloc::Global;
 
-/// Whether each page that a change of the page with a number puts in has its place in the longest `.pag`. One that was there before has
-/// it, and one that is left without pairs takes none.
-pub fn may_grow(size: PageSize, there: bool, number: u32, change: &Option<Plan<Global>>) -> bool
-    ensures { result ≡ may_grow size there number (option_map change_of change.now) }
+// The number of pages of a size in the longest `.pag`.
+fn longest(size: PageSize) -> u32
+    ensures { result ≡ most_pages size }
+{
+    match size {
+        PageSize::Small => 1_048_576,
+        PageSize::Wide => 131_072,
+    }
+}
+
+/// The number of pages that `.pag` may have: the limit, or what the longest `.pag` has room for if that is less.
+pub fn most_pages(size: PageSize, limit: usize) -> u32
+    ensures { result ≡ most_in size limit }
+{
+    let most = longest(size);
+    if limit < most as usize {
+        return limit as u32;
+    }
+    most
+}
+
+/// Returns whether each page that a change of the page with a number puts in is one of the first `most`. One that was there before has
+/// its place, and one that is left without pairs takes none.
+pub fn may_grow(most: u32, there: bool, number: u32, change: &Option<Plan<Global>>) -> bool
+    ensures { result ≡ may_grow most there number (option_map change_of change.now) }
 {
     match change {
         None => true,
         Some(plan) => {
-            (there || has_place(size, number, &plan.leaf))
-                && have_places(size, plan.twins.as_slice())
+            (there || has_room(most, number, &plan.leaf)) && have_room(most, plan.twins.as_slice())
         }
     }
 }
@@ -47,9 +67,16 @@ pub fn lends_pairs(page: Option<&Page<Global>>) -> bool
     }
 }
 
-// Whether pages have theirs, by their numbers.
-fn have_places(size: PageSize, twins: &[(u32, SharedPage<Global>)]) -> bool
-    ensures { result ≡ list_all (has_place size) twins.now }
+// Whether the page under a number is one of the first `most`, or has no pairs.
+fn has_room(most: u32, number: u32, page: &SharedPage<Global>) -> bool
+    ensures { result ≡ has_room most (number, page.now) }
 {
-    twins.iter().all(|twin| has_place(size, twin.0, &twin.1))
+    page.page().is_empty() || number < most
+}
+
+// The same of each of some pages, under their numbers.
+fn have_room(most: u32, twins: &[(u32, SharedPage<Global>)]) -> bool
+    ensures { result ≡ list_all (has_room most) twins.now }
+{
+    twins.iter().all(|twin| has_room(most, twin.0, &twin.1))
 }

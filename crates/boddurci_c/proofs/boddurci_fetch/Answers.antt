@@ -10,5 +10,5 @@ pub returns : goal.returns
 returns c = inl (record {
   status = c.fetch-status.result;
   code_is = c.code-2.ensures;
-  told = shows (λ d. FetchesIn c.args.key.now d c.fetch-status.result c.args.room.now c.fetch-status.new.room c.fetch-status.new.len) _ _ c.deref.result.now _ (c.in-Some.ensures.some ∙ ap Some (sym c.deref.ensures)) c.put.ensures (sym c.deref.ensures) c.fetch-status.ensures;
+  told = shows (λ d. FetchesIn c.args.key.now d c.fetch-status.result c.args.room.now c.fetch-status.new.room c.args.len.now c.fetch-status.new.len) _ _ c.deref.result.now _ (c.in-Some.ensures.some ∙ ap Some (sym c.deref.ensures)) c.put.ensures (sym c.deref.ensures) c.fetch-status.ensures;
 })

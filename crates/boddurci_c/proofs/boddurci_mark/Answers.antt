@@ -22,7 +22,7 @@ returns-in-Ok c = inl (record {
     after = _;
     old_is = c.in-Some.ensures.some ∙ ap Some (sym c.deref_mut-open.ensures.value);
     new_is = c.put.ensures;
-    is = record { image = refl; registry = refl; base = refl; marks = c.in-Ok.ensures.more; each = c.in-Ok.ensures.ok };
+    is = record { image = refl; registry = refl; limit = refl; base = refl; marks = c.in-Ok.ensures.more; each = c.in-Ok.ensures.ok };
   };
 })
 

@@ -1,7 +1,8 @@
-use Rattle.std.proofs.Common.{◌∙◌, ap, refl, subst, inl, inr}
+use Rattle.std.proofs.Common.{◌∙◌, refl, subst, inl, inr}
 use Rattle.sdbm_files.specs.Opened.{IsOpenFault, SpellsNoDatabase}
-use Rattle.boddurci_c.specs.Statuses.{code_of}
-use Rattle.boddurci_c.specs.Calls.{IsOpened, kind_for}
+use Rattle.sdbm_files.specs.FaultText.{fault_text as open_text}
+use Rattle.boddurci_c.specs.declared.status.Status.{Status}
+use Rattle.boddurci_c.specs.Calls.{IsOpened, IsToldAs, kind_for}
 use Rattle.boddurci_c.proofs.CallLemmas.{shut}
 use Rattle.boddurci_c.proofs.boddurci_open.Goals as goal
 
@@ -21,12 +22,13 @@ pub returns-in-Err : goal.returns-in-Err
 returns-in-Err c =
     inr (inl (record {
       fault = c.in-Err.fault;
-      code_is = c.code-in-Err.ensures ∙ ap code_of c.open_status.ensures;
+      status = c.tell.result;
+      code_is = c.code-in-Err.ensures;
       closed = shut c.args.slot.now.held (λ p. c.if-boddurci_is_open-eq1.false (c.boddurci_is_open.ensures.word ∙ p));
       same = c.in-Err.ensures.err;
       is = subst (λ s. IsOpenFault (kind_for c.args.unsigned_keys) s c.args.dir.now c.args.pag.now c.in-Err.fault) c.form_of-kind.ensures.size
           (subst (λ k. IsOpenFault k c.form_of-kind.result.1 c.args.dir.now c.args.pag.now c.in-Err.fault) c.form_of-kind.ensures.kind c.in-Err.ensures.fault);
       none = λ told. subst (λ s. SpellsNoDatabase (kind_for c.args.unsigned_keys) s c.args.dir.now c.args.pag.now) c.form_of-kind.ensures.size
           (subst (λ k. SpellsNoDatabase k c.form_of-kind.result.1 c.args.dir.now c.args.pag.now) c.form_of-kind.ensures.kind (c.in-Err.ensures.none told));
-      text = c.tell.ensures _ refl;
+      text = subst (λ (s : Status). IsToldAs s (open_text c.in-Err.fault) c.args.room.now c.tell.new.room c.tell.new.len c.tell.result) c.open_status.ensures (c.tell.ensures _ refl);
     }))

@@ -1,6 +1,7 @@
-use Rattle.std.proofs.Common.{◌∙◌, Some, ap, sym, refl, inl, inr}
-use Rattle.boddurci_c.specs.Statuses.{code_of}
-use Rattle.boddurci_c.specs.Calls.{Never}
+use Rattle.std.proofs.Common.{◌∙◌, Some, ap, sym, subst, refl, inl, inr}
+use Rattle.prog_registry.specs.FaultText.{fault_text}
+use Rattle.boddurci_c.specs.declared.status.Status.{Status}
+use Rattle.boddurci_c.specs.Calls.{Never, IsToldAs}
 use Rattle.boddurci_c.proofs.CallLemmas.{closed_denies}
 use Rattle.boddurci_c.proofs.boddurci_submit.Goals as goal
 
@@ -10,7 +11,7 @@ returns-in_default c = inr (inr (closed_denies Never _ _ _ c.in_default.ensures.
 pub returns-in-Ok : goal.returns-in-Ok
 returns-in-Ok c = inl (record {
   code_is = c.code-in-Ok.ensures;
-  submits = record { before = c.deref_mut-open.result.now; after = _; old_is = c.in-Some.ensures.some ∙ ap Some (sym c.deref_mut-open.ensures.value); new_is = c.put.ensures; is = (c.in-Ok.ensures.ok, record { image = refl; marks = refl; base = refl }) };
+  submits = record { before = c.deref_mut-open.result.now; after = _; old_is = c.in-Some.ensures.some ∙ ap Some (sym c.deref_mut-open.ensures.value); new_is = c.put.ensures; is = (c.in-Ok.ensures.ok, record { image = refl; marks = refl; limit = refl; base = refl }) };
 })
 
 pub returns-in-Err : goal.returns-in-Err
@@ -18,9 +19,10 @@ returns-in-Err c = inr (inl (
   record {
     fault = c.in-Err.fault;
     unit_is = c.unit_of.ensures;
-    code_is = c.code-in-Err.ensures ∙ ap code_of c.fault_status.ensures;
-    submits = record { before = c.deref_mut-open.result.now; after = _; old_is = c.in-Some.ensures.some ∙ ap Some (sym c.deref_mut-open.ensures.value); new_is = c.put.ensures; is = (c.in-Err.ensures.err, record { image = refl; marks = refl; base = refl }) };
-    text = c.tell.ensures _ refl;
+    status = c.tell.result;
+    code_is = c.code-in-Err.ensures;
+    submits = record { before = c.deref_mut-open.result.now; after = _; old_is = c.in-Some.ensures.some ∙ ap Some (sym c.deref_mut-open.ensures.value); new_is = c.put.ensures; is = (c.in-Err.ensures.err, record { image = refl; marks = refl; limit = refl; base = refl }) };
+    text = subst (λ (s : Status). IsToldAs s (fault_text c.in-Err.fault) c.args.room.now c.tell.new.room c.tell.new.len c.tell.result) c.fault_status.ensures (c.tell.ensures _ refl);
   },
   refl,
 ))

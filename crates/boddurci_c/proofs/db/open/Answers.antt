@@ -15,6 +15,7 @@ returns-clause-ok c = record {
   only = c.in-Ok.ensures.only;
   programs = c.requires;
   fits = FitsFiles-spelled c.in-Ok.image c.args.dir.now c.args.pag.now c.in-Ok.ensures.database;
+  limit = c.pages_in-limit.ensures;
   base = c.of-base.ensures;
   reads = λ n none. subst (λ (size : PageSize). ReadsPage size c.args.pag.now n (bytes_of_page size (pairs_at c.in-Ok.image n))) c.in-Ok.ensures.size
       (reads_opened c.in-Ok.image c.args.dir.now c.args.pag.now c.in-Ok-foreign_pages.marks c.in-Ok.ensures.database c.in-Ok-foreign_pages.ensures n none);

@@ -1,7 +1,7 @@
 use Rattle.std.proofs.Common.{rules, refl}
 use Rattle.std.specs.Arc.{arc_value}
 use Rattle.store_cmd.specs.declared.Command.TheVariants.{Run}
-use Rattle.boddurci_c.proofs.Fitting.{fits_filled}
+use Rattle.boddurci_c.proofs.Fitting.{fits_filled, within_filled}
 use Rattle.boddurci_c.proofs.Bases.{same_db, does_again, runs_again}
 use Rattle.boddurci_c.proofs.db.run.Goals as goal
 
@@ -15,7 +15,9 @@ returns-in-Some-run_there-clause-ok c = record {
   does = record {
     acts = c.in-Some-run_there.ensures.done;
     fits = fits_filled c.args.db.now.image c.run_there.new.image (Run c.args.key.now (arc_value c.in-Some.program.now).code c.args.arg.now c.args.blank c.args.now) c.in-Some-run_there.reply c.in-Some-run_there.ensures.done c.in-Some-run_there.ensures.fills;
+    within = within_filled c.args.db.now.limit c.args.db.now.image c.run_there.new.image c.in-Some-run_there.ensures.fills;
     registry = refl;
+    limit = refl;
     base = refl;
     marks = c.in-Some-run_there.ensures.more;
   };

@@ -1,7 +1,7 @@
 use Rattle.std.proofs.Common.{refl}
 use Rattle.store_cmd.specs.declared.Command.TheVariants.{Store}
 use Rattle.store_cmd.specs.declared.Reply.TheVariants.{Stored}
-use Rattle.boddurci_c.proofs.Fitting.{fits_filled}
+use Rattle.boddurci_c.proofs.Fitting.{fits_filled, within_filled}
 use Rattle.boddurci_c.proofs.Bases.{differ_unless, same_db, does_again}
 use Rattle.boddurci_c.proofs.db.store.Goals as goal
 
@@ -16,7 +16,9 @@ returns-then-store_there-clause-ok c =
     record {
       acts = acts;
       fits = fits_filled c.args.db.now.image c.store_there.new.image (Store c.args.key.now c.args.value.now c.args.mode) Stored acts (c.if-store_there.ensures.fills refl);
+      within = within_filled c.args.db.now.limit c.args.db.now.image c.store_there.new.image (c.if-store_there.ensures.fills refl);
       registry = refl;
+      limit = refl;
       base = refl;
       marks = c.if-store_there.ensures.more refl;
     }

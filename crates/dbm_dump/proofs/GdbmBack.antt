@@ -27,6 +27,7 @@ use Rattle.dbm_dump.specs.declared.stage.Role.TheVariants.{Key, Value}
 use Rattle.dbm_dump.specs.declared.stage.Stage.{Stage}
 use Rattle.dbm_dump.specs.declared.stage.Stage.TheVariants.{First, Between, Within, Over}
 use Rattle.dbm_lines.proofs.CutTexts.{piece_first}
+use Rattle.dbm_dump.proofs.Ends.{whole_lines}
 use Rattle.dbm_dump.proofs.Free.{IsFree, free, free-append, free-base64, free-decimal}
 use Rattle.dbm_dump.proofs.PlainBack.{line_reads}
 
@@ -123,7 +124,8 @@ datum_reads seen role (b ∷ bs) rest short h =
     ∙ line_steps (Between seen role) (codes "#:len=" ++ decimal n) (text ⏎ rest) (Some (goes (Within seen role n []))) (len_free n short) (ap (between_step seen role) (len_mark_of n short) ∙ begun seen role n (omega arith))
     ∙ goes_on (Within seen role n []) (text ⏎ rest)
     ∙ line_steps (Within seen role n []) text rest (closed seen role bytes) (free-base64 10 (omega arith) refl refl bytes)
-    (ap (within_step seen role n [] text) (text_mark text some (free-base64 35 (omega arith) refl refl bytes)) ∙ encoded_grown seen role bytes h)
+    (ap (within_step seen role n [] text) (text_mark text some (free-base64 35 (omega arith) refl refl bytes))
+    ∙ ap (λ (b : Bool). cond (b || is_open [] text) (grown seen role n text) None) (encoded_full bytes) ∙ encoded_grown seen role bytes h)
 
 -- ---- a pair
 
@@ -181,4 +183,4 @@ gdbm_reads pairs short h =
     = line_reads start start (codes "#:version=1.1") (codes "#:format=standard" ⏎ codes "# End of header" ⏎ body) (free 10 (codes "#:version=1.1") refl) refl r three in
     let one : read First (pieces_of 10 (gdbm_header ++ body)) ≡ Some r
     = line_reads First start (codes "# GDBM dump file created by Boddurci") (codes "#:version=1.1" ⏎ codes "#:format=standard" ⏎ codes "# End of header" ⏎ body) (free 10 (codes "# GDBM dump file created by Boddurci") refl) refl r two in
-    ap whole one
+    whole_lines First (pieces_of 10 (gdbm_text pairs)) ∙ ap whole one

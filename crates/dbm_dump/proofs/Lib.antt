@@ -1,4 +1,5 @@
 pub mod MoreLines
+pub mod Ends
 pub mod MorePairs
 pub mod MoreMarks
 pub mod Progress

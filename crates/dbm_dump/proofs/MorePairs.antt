@@ -14,13 +14,15 @@ use Rattle.store_moves.proofs.Acting.{Acts-unique}
 use Rattle.dbm_script.specs.Answers.{IsAnswerTo}
 use Rattle.dbm_script.specs.declared.answers.Answer.{Answer}
 use Rattle.dbm_script.specs.declared.answers.Answer.TheVariants.{Replied}
+use Rattle.dbm_dump.specs.Heads.{IsHead}
+use Rattle.dbm_dump.specs.declared.key_head.KeyHead.{KeyHead}
 use Rattle.dbm_dump.specs.declared.fault.DumpFault.{DumpFault}
 use Rattle.dbm_dump.specs.declared.fault.DumpFault.TheVariants as fault
 use Rattle.dbm_dump.specs.declared.loading.Loading.{Loading}
 use Rattle.dbm_dump.specs.declared.stage.Next.{Next}
 use Rattle.dbm_dump.specs.Steps.{step}
 use Rattle.dbm_dump.specs.Reading.{pair_list}
-use Rattle.dbm_dump.specs.Loading.{IsStepFault, IsStoreFault, StoresAll, StoresOne, answered, is_done}
+use Rattle.dbm_dump.specs.Loading.{IsLargePair, IsStepFault, IsStoreFault, StoresAll, StoresOne, answered, is_done}
 
 pub StoresAll-append : (mode : Mode) (db mid db' : Database) (pairs more : List Pair) → StoresAll mode db pairs mid → StoresAll mode mid more db' → StoresAll mode db (pairs ++ more) db'
 StoresAll-append mode db mid db' [] more p q = subst (λ (d : Database). StoresAll mode d more db') p q
@@ -84,8 +86,8 @@ step_store_fault mode loading line number next e fault.BadFormat steps pair h = 
 step_store_fault mode loading line number next e fault.Read steps pair h = absurd h
 step_store_fault mode loading line number next e (fault.BadDump n) steps pair h = absurd h
 step_store_fault mode loading line number next e (fault.TooLarge n key) steps pair h =
-    (h.0, (next, (steps, inr (some_and next.pair e (λ x. pair_limit loading.image.size < length x.0 + length x.1) pair h.1))))
-step_store_fault mode loading line number next e (fault.Crowded n key) steps pair h = (h.0, (next, (steps, record { pair = e; pair_is = pair; after = h.1.0; refused = h.1.1 })))
+    (h.0, (next, (steps, inr (some_and next.pair e (IsLargePair loading.image.size key) pair h.1))))
+step_store_fault mode loading line number next e (fault.Crowded n key) steps pair h = (h.0, (next, (steps, record { pair = e; pair_is = pair; key_is = h.1.0; after = h.1.1.0; refused = h.1.1.1 })))
 step_store_fault mode loading line number next e fault.CutOff steps pair h = absurd h
 step_store_fault mode loading line number next e fault.NoMemory steps pair h = tt
 
@@ -97,3 +99,7 @@ stores_one mode db after o e is one = subst (λ (x : Option Pair). StoresAll mod
 pub at_most_one : (o : Option Pair) → length (pair_list o) ≤ 1
 at_most_one None = omega arith
 at_most_one (Some e) = omega arith
+
+-- the head of a key whose bytes were read
+pub head_of : (key bytes : List ℕ) (head : KeyHead) → bytes ≡ key → IsHead bytes head → IsHead key head
+head_of key bytes head same is = subst (λ (k : List ℕ). IsHead k head) same is

@@ -27,6 +27,7 @@ use Rattle.dbm_dump.specs.declared.stage.Next.{Next}
 use Rattle.dbm_dump.specs.declared.stage.Stage.{Stage}
 use Rattle.dbm_dump.specs.declared.stage.Stage.TheVariants.{First, Keys, Pages, Count, Gap, Pairs, Over}
 use Rattle.dbm_lines.proofs.CutTexts.{piece_first}
+use Rattle.dbm_dump.proofs.Ends.{whole_lines}
 use Rattle.dbm_dump.proofs.Free.{IsFree, free, free-append, free-cons, free-decimal, free-shown}
 
 -- ---- one pair
@@ -155,4 +156,4 @@ plain_reads kind size pairs short h =
     = line_reads Keys Pages (keys_line kind) _ (keys_free kind) (keys_reads kind) r three in
     let one : read First (pieces_of 10 (title ⏎ keys_line kind ⏎ pages_line size ⏎ (codes "count " ++ decimal n) ⏎ [] ⏎ body)) ≡ Some r
     = line_reads First Keys title (keys_line kind ⏎ pages_line size ⏎ (codes "count " ++ decimal n) ⏎ [] ⏎ body) (free 10 title refl) refl r two in
-    ap whole (ap (λ (t : List ℕ). read First (pieces_of 10 t)) (header_is kind size n body) ∙ one)
+    whole_lines First (pieces_of 10 (plain_text kind size pairs)) ∙ ap whole (ap (λ (t : List ℕ). read First (pieces_of 10 t)) (header_is kind size n body) ∙ one)

@@ -1,6 +1,8 @@
 pub mod Formats
 pub mod Texts
 pub mod Marks
+pub mod Symbols
+pub mod Heads
 pub mod Steps
 pub mod Reading
 pub mod Loading

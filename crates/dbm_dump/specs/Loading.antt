@@ -10,13 +10,16 @@ use Rattle.store_cmd.specs.declared.Entry.{Entry}
 use Rattle.store_cmd.specs.declared.Reply.{Reply}
 use Rattle.store_cmd.specs.declared.Reply.TheVariants as reply
 use Rattle.store_moves.specs.Acts.{Acts}
-use Rattle.dbm_script.specs.Pieces.{pieces_of}
-use Rattle.dbm_lines.specs.Lines.{IsLongNext}
+use Rattle.dbm_lines.specs.Lines.{Gives, IsLongNext}
 use Rattle.dbm_dump.specs.Steps.{is_end, step}
-use Rattle.dbm_dump.specs.Reading.{Read, pair_list, pairs_of, read}
+use Rattle.dbm_dump.specs.Reading.{Read, lines_of, pair_list, pairs_of, read}
 use Rattle.dbm_dump.specs.declared.fault.DumpFault.{DumpFault}
 use Rattle.dbm_dump.specs.declared.fault.DumpFault.TheVariants as fault
 use Rattle.dbm_dump.specs.declared.loading.Loading.{Loading}
+use Rattle.dbm_dump.specs.Heads.{IsHead, IsReported}
+use Rattle.dbm_dump.specs.declared.key_head.KeyHead.{KeyHead}
+use Rattle.dbm_dump.specs.declared.stage.Role.{Role}
+use Rattle.dbm_dump.specs.declared.stage.Role.TheVariants.{Key, Value}
 use Rattle.dbm_dump.specs.declared.stage.Stage.{Stage}
 use Rattle.dbm_dump.specs.declared.stage.Stage.TheVariants.{Within}
 use Rattle.dbm_dump.specs.declared.stage.Next.{Next}
@@ -61,16 +64,29 @@ abbrev pub open_len : Stage → ℕ
 open_len (Within seen role len text) = len
 open_len _ = 0
 
--- a line brings a pair, or the length of a key or a value, that is larger than pairs may be
-abbrev pub IsLarge : PageSize → Next → Type 0
-IsLarge size s = (pair_limit size < open_len s.stage) ⊎ IsSomeAnd s.pair (λ e. pair_limit size < length e.0 + length e.1)
+-- the key of the value that was begun
+abbrev pub key_in : Role → Option (List ℕ)
+key_in Key = None
+key_in (Value key) = Some key
+
+abbrev pub open_key : Stage → Option (List ℕ)
+open_key (Within seen role len text) = key_in role
+open_key _ = None
+
+-- a pair is larger than pairs may be, and its key is reported
+abbrev pub IsLargePair : PageSize → Option KeyHead → Pair → Type 0
+IsLargePair size key e = (pair_limit size < length e.0 + length e.1) × IsReported (Some e.0) key
+
+-- A line brings a pair, or the length of a key or a value, that is larger than pairs may be. The key of the pair is reported if it is known.
+abbrev pub IsLarge : PageSize → Option KeyHead → Next → Type 0
+IsLarge size key s = ((pair_limit size < open_len s.stage) × IsReported (open_key s.stage) key) ⊎ IsSomeAnd s.pair (IsLargePair size key)
 
 -- P holds of a line, by its number from 1 on: of how far the lines before it lead, and of the database in which their pairs were stored
 pub record AtLine (start : Stage) (mode : Mode) (db : Database) (input : List ℕ) (number : ℕ) (P : Stage → Database → List ℕ → Type 0) : Type 0 where
   pub before : List (List ℕ)
   pub line : List ℕ
   pub behind : List (List ℕ)
-  pub lines : pieces_of 10 input ≡ before ++ line ∷ behind
+  pub lines : lines_of input ≡ before ++ line ∷ behind
   pub number_is : number ≡ length before + 1
   pub so_far : Read
   pub reads : read start before ≡ Some so_far
@@ -82,24 +98,25 @@ pub record AtLine (start : Stage) (mode : Mode) (db : Database) (input : List �
 abbrev pub IsBad : Stage → Database → List ℕ → Type 0
 IsBad stage mid line = step stage line ≡ None
 
-abbrev pub IsOversized : PageSize → Stage → Database → List ℕ → Type 0
-IsOversized size stage mid line = (line_limit < length line) ⊎ ((s : Next) × ((step stage line ≡ Some s) × IsLarge size s))
+abbrev pub IsOversized : PageSize → Option KeyHead → Stage → Database → List ℕ → Type 0
+IsOversized size key stage mid line = ((line_limit < length line) × (key ≡ None)) ⊎ ((s : Next) × ((step stage line ≡ Some s) × IsLarge size key s))
 
--- the pair of a line finds no room
-pub record FindsNoRoom (mode : Mode) (db : Database) (next : Next) : Type 0 where
+-- the pair of a line finds no room, and its key is reported
+pub record FindsNoRoom (mode : Mode) (db : Database) (key : KeyHead) (next : Next) : Type 0 where
   pub pair : Pair
   pub pair_is : next.pair ≡ Some pair
+  pub key_is : IsHead pair.0 key
   pub after : Database
   pub refused : Acts db (answered mode reply.Crowded pair) after
 
 -- the pair of a line finds no room in the database
-abbrev pub IsCrowded : Mode → Stage → Database → List ℕ → Type 0
-IsCrowded mode stage mid line = (next : Next) × ((step stage line ≡ Some next) × FindsNoRoom mode mid next)
+abbrev pub IsCrowded : Mode → KeyHead → Stage → Database → List ℕ → Type 0
+IsCrowded mode key stage mid line = (next : Next) × ((step stage line ≡ Some next) × FindsNoRoom mode mid key next)
 
 -- The lines end too early. The pairs of all of them were stored.
 pub record IsCutOff (start : Stage) (mode : Mode) (db : Database) (input : List ℕ) : Type 0 where
   pub all : Read
-  pub reads : read start (pieces_of 10 input) ≡ Some all
+  pub reads : read start (lines_of input) ≡ Some all
   pub early : is_end all.stage ≡ false
   pub mid : Database
   pub stores : StoresAll mode db all.pairs mid
@@ -108,19 +125,29 @@ abbrev pub IsLoadFault : Stage → Mode → Database → List ℕ → DumpFault 
 IsLoadFault start mode db input fault.BadFormat = ⊥
 IsLoadFault start mode db input fault.Read = ⊤
 IsLoadFault start mode db input (fault.BadDump number) = AtLine start mode db input number IsBad
-IsLoadFault start mode db input (fault.TooLarge number key) = AtLine start mode db input number (IsOversized db.size)
-IsLoadFault start mode db input (fault.Crowded number key) = AtLine start mode db input number (IsCrowded mode)
+IsLoadFault start mode db input (fault.TooLarge number key) = AtLine start mode db input number (IsOversized db.size key)
+IsLoadFault start mode db input (fault.Crowded number key) = AtLine start mode db input number (IsCrowded mode key)
 IsLoadFault start mode db input fault.CutOff = IsCutOff start mode db input
 IsLoadFault start mode db input fault.NoMemory = ⊤
 
 -- ---- one line
+
+-- nothing but an empty last piece is left, if the bytes are known
+abbrev pub IsEmptyEnd : Option (List (List ℕ)) → Type 0
+IsEmptyEnd None = ⊤
+IsEmptyEnd (Some pieces) = pieces ≡ [] ∷ []
+
+-- the next of the pieces that are left is a line, but for an empty last one after the first line
+abbrev pub GivesLine : ℕ → Option (List (List ℕ)) → Bool → List ℕ → Option (List (List ℕ)) → Type 0
+GivesLine number left true line left' = Gives left true line left' × (left ≡ Some ([] ∷ []) → number ≡ 1)
+GivesLine number left false line left' = Gives left false line left' ⊎ ((1 < number) × IsEmptyEnd left)
 
 -- the line is too long, or another fault, of which nothing is said
 abbrev pub IsLineFault : ℕ → Option (List (List ℕ)) → DumpFault → Type 0
 IsLineFault number left fault.BadFormat = ⊥
 IsLineFault number left fault.Read = ⊤
 IsLineFault number left (fault.BadDump n) = ⊥
-IsLineFault number left (fault.TooLarge n key) = (n ≡ number) × IsLongNext line_limit left
+IsLineFault number left (fault.TooLarge n key) = (n ≡ number) × ((key ≡ None) × IsLongNext line_limit left)
 IsLineFault number left (fault.Crowded n key) = ⊥
 IsLineFault number left fault.CutOff = ⊥
 IsLineFault number left fault.NoMemory = ⊤
@@ -135,13 +162,13 @@ pub record TakesLine (mode : Mode) (old : Loading) (line : List ℕ) (new : Load
   pub kind : new.image.kind ≡ old.image.kind
   pub size : new.image.size ≡ old.image.size
 
--- a pair is too large, or finds no room
+-- a pair is too large, or finds no room, and its key is reported
 abbrev pub IsStoreFault : Mode → Database → Pair → ℕ → DumpFault → Type 0
 IsStoreFault mode db e number fault.BadFormat = ⊥
 IsStoreFault mode db e number fault.Read = ⊥
 IsStoreFault mode db e number (fault.BadDump n) = ⊥
-IsStoreFault mode db e number (fault.TooLarge n key) = (n ≡ number) × (pair_limit db.size < length e.0 + length e.1)
-IsStoreFault mode db e number (fault.Crowded n key) = (n ≡ number) × ((after : Database) × Acts db (answered mode reply.Crowded e) after)
+IsStoreFault mode db e number (fault.TooLarge n key) = (n ≡ number) × IsLargePair db.size key e
+IsStoreFault mode db e number (fault.Crowded n key) = (n ≡ number) × (IsHead e.0 key × ((after : Database) × Acts db (answered mode reply.Crowded e) after))
 IsStoreFault mode db e number fault.CutOff = ⊥
 IsStoreFault mode db e number fault.NoMemory = ⊤
 
@@ -151,7 +178,7 @@ IsStepFault mode loading line number fault.BadFormat = ⊥
 IsStepFault mode loading line number fault.Read = ⊥
 IsStepFault mode loading line number (fault.BadDump n) = (n ≡ number) × (step loading.stage line ≡ None)
 IsStepFault mode loading line number (fault.TooLarge n key) =
-    (n ≡ number) × ((next : Next) × ((step loading.stage line ≡ Some next) × IsLarge loading.image.size next))
-IsStepFault mode loading line number (fault.Crowded n key) = (n ≡ number) × IsCrowded mode loading.stage loading.image line
+    (n ≡ number) × ((next : Next) × ((step loading.stage line ≡ Some next) × IsLarge loading.image.size key next))
+IsStepFault mode loading line number (fault.Crowded n key) = (n ≡ number) × IsCrowded mode key loading.stage loading.image line
 IsStepFault mode loading line number fault.CutOff = ⊥
 IsStepFault mode loading line number fault.NoMemory = ⊤

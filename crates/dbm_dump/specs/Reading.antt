@@ -40,9 +40,31 @@ abbrev pub whole : Option Read → Option (List Pair)
 whole None = None
 whole (Some r) = cond (is_end r.stage) (Some r.pairs) None
 
--- the pairs of a text, where it is a dump; its lines end with LF, the last one may lack it
+-- ---- the lines of a text
+
+-- a line before others, for which what is kept of them is known; a last line that is empty is dropped
+abbrev pub kept : List (List ℕ) → List ℕ → List (List ℕ) → List (List ℕ)
+kept [] [] rest = []
+kept [] (c ∷ cs) rest = (c ∷ cs) ∷ []
+kept (other ∷ others) line rest = line ∷ rest
+
+-- lines without the last one if it is empty
+abbrev pub without_empty_end : List (List ℕ) → List (List ℕ)
+without_empty_end [] = []
+without_empty_end (line ∷ lines) = kept lines line (without_empty_end lines)
+
+-- The same, but the first line stays.
+abbrev pub dump_lines : List (List ℕ) → List (List ℕ)
+dump_lines [] = []
+dump_lines (first ∷ others) = first ∷ without_empty_end others
+
+-- The lines of a text: each ends with LF, and the last one may lack it. A text without bytes has one empty line.
+abbrev pub lines_of : List ℕ → List (List ℕ)
+lines_of text = dump_lines (pieces_of 10 text)
+
+-- the pairs of a text, if it is a dump
 abbrev pub pairs_of : Stage → List ℕ → Option (List Pair)
-pairs_of start text = whole (read start (pieces_of 10 text))
+pairs_of start text = whole (read start (lines_of text))
 
 -- ---- dumps that were written
 

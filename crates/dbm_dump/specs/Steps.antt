@@ -1,5 +1,5 @@
 -- What each line of a dump may say, by what was read before it.
-use Rattle.std.specs.Prelude.{ℕ, ◌==◌, ◌+◌, ◌-◌, ◌*◌, ◌/◌, nat_le, Bool, true, false, List, [], ◌∷◌, ◌++◌, cond, codes, length, Option, Some, None, Result, Ok, Err}
+use Rattle.std.specs.Prelude.{ℕ, ◌==◌, ◌+◌, ◌-◌, ◌*◌, ◌/◌, ◌||◌, nat_le, Bool, true, false, List, [], ◌∷◌, ◌++◌, cond, codes, length, Option, Some, None, Result, Ok, Err}
 use Rattle.std.specs.Str.{bytes_eq}
 use Rattle.base64.specs.Engines.{standard}
 use Rattle.base64.specs.GeneralPurpose.{decode_of}
@@ -7,6 +7,7 @@ use Rattle.base64.specs.declared.decode.DecodeError.{DecodeError}
 use Rattle.sdbm_addr.specs.Pairs.{Pair}
 use Rattle.dbm_dump.specs.Texts.{plain_end, title}
 use Rattle.dbm_dump.specs.Marks.{mark_of, number_behind, pair_of}
+use Rattle.dbm_dump.specs.Symbols.{is_open}
 use Rattle.dbm_dump.specs.declared.marks.Mark.{Mark}
 use Rattle.dbm_dump.specs.declared.marks.Mark.TheVariants as mark
 use Rattle.dbm_dump.specs.declared.stage.Role.{Role}
@@ -57,9 +58,12 @@ pairs_step left (c ∷ cs) = cond (bytes_eq (c ∷ cs) plain_end) (closes left) 
 
 -- ---- gdbm's
 
--- the groups of four letters in a text hold so many bytes
+-- the groups of four among so many characters hold so many bytes
+abbrev pub holds : ℕ → ℕ → Bool
+holds len count = nat_le len (count / 4 * 3)
+
 abbrev pub is_full : ℕ → List ℕ → Bool
-is_full len text = nat_le len (length text / 4 * 3)
+is_full len text = holds len (length text)
 
 -- the bytes of a datum that is a key, or a value after a key
 abbrev pub closed : ℕ → Role → List ℕ → Option Next
@@ -89,12 +93,16 @@ between_step seen role mark.Note = Some (goes (Between seen role))
 between_step seen role mark.Text = None
 between_step seen role mark.Bad = None
 
+-- The line may stand after this text of a datum: it is the last line of the datum, or base64 that may go on.
+abbrev pub may_follow : ℕ → List ℕ → List ℕ → Bool
+may_follow len text line = is_full len (text ++ line) || is_open text line
+
 -- a line within a datum
 abbrev pub within_step : ℕ → Role → ℕ → List ℕ → List ℕ → Mark → Option Next
 within_step seen role len text line (mark.Len n) = None
 within_step seen role len text line (mark.Count n) = None
 within_step seen role len text line mark.Note = Some (goes (Within seen role len text))
-within_step seen role len text line mark.Text = grown seen role len (text ++ line)
+within_step seen role len text line mark.Text = cond (may_follow len text line) (grown seen role len (text ++ line)) None
 within_step seen role len text line mark.Bad = None
 
 -- a line after the end

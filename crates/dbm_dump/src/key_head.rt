@@ -1,12 +1,13 @@
-//! The first bytes of a key, as a fault tells them.
+//! The first bytes of a key, which a fault reports.
+ghost use Rattle.dbm_dump.specs.Heads.{IsHead};
 
 use std::fmt;
 
-/// So many bytes of a key are kept.
+/// At most this many bytes of a key are stored.
 const HEAD_LEN: usize = 32;
 
-/// The first bytes of a key, and how many there are in all. It prints as text in quotes where these bytes are one, and else in hex, with two
-/// dots after a key that goes on.
+/// The first 32 bytes of a key, and its length. It prints as text in quotes if these bytes are UTF-8 without control characters, otherwise in
+/// hex, with two dots after a longer key.
 #[derive(Clone, Copy, Debug)]
 pub struct KeyHead {
     bytes: [u8; 32],
@@ -15,10 +16,14 @@ pub struct KeyHead {
 
 impl KeyHead {
     /// The first bytes of a key.
-    pub fn of(key: &[u8]) -> KeyHead {
+    pub fn of(key: &[u8]) -> KeyHead
+        ensures { IsHead key.now result }
+    {
         let mut bytes = [0; 32];
-        for (place, byte) in bytes.iter_mut().zip(key) {
-            *place = *byte;
+        if key.len() < HEAD_LEN {
+            bytes[..key.len()].copy_from_slice(key);
+        } else {
+            bytes.copy_from_slice(&key[..HEAD_LEN]);
         }
         KeyHead {
             bytes,
@@ -26,7 +31,7 @@ impl KeyHead {
         }
     }
 
-    // The bytes that are kept.
+    // The bytes that are stored.
     fn kept(&self) -> &[u8] {
         if self.len < HEAD_LEN {
             return &self.bytes[..self.len];

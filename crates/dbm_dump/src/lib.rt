@@ -8,6 +8,7 @@ mod key_head;
 mod loading;
 mod marks;
 mod stage;
+mod symbols;
 mod writing;
 
 pub use fault::DumpFault;

@@ -1,8 +1,8 @@
 //! Dumps that are loaded into a database, line by line.
-ghost use Rattle.std.specs.Prelude.{◌≡◌, ◌<◌, true, false, IfOk, IfErr, IfSome};
+ghost use Rattle.std.specs.Prelude.{◌≡◌, ◌<◌, ◌==◌, cond, length, true, false, IfOk, IfErr, IfSome};
 ghost use Rattle.dbm_lines.specs.Lines.{Gives, lines_left};
 ghost use Rattle.dbm_dump.specs.Steps.{is_end};
-ghost use Rattle.dbm_dump.specs.Loading.{IsLineFault, IsLoadFault, IsLoaded, IsStepFault, IsStoreFault, StoresOne, TakesLine};
+ghost use Rattle.dbm_dump.specs.Loading.{GivesLine, IsLineFault, IsLoadFault, IsLoaded, IsStepFault, IsStoreFault, StoresOne, TakesLine};
 
 use crate::fault::DumpFault;
 use crate::key_head::KeyHead;
@@ -37,10 +37,10 @@ struct Loading {
 /// The dump is read line by line, so it may have any length.
 ///
 /// # Errors
-/// The first that is met: `Read` where the reader fails, `BadDump` with the first line that may not stand where it does, `TooLarge`
-/// with one of more than 16,384 bytes or one that brings a pair, or the length of a key or a value, above what pairs may have,
-/// `Crowded` with one whose pair finds no room, `CutOff` where the text ends before the dump does, and `NoMemory`. The database is
-/// gone then.
+/// The first that is met: `Read` if the reader fails, `BadDump` with the first line that is invalid where it stands, `TooLarge` with one of
+/// more than 16,384 bytes or one that brings a pair, or the length of a key or a value, above what pairs may have, `Crowded` with one
+/// whose pair finds no room, `CutOff` if the text ends before the dump does, and `NoMemory`. The LF at the end of a text begins no line.
+/// The database is dropped then.
 pub fn load<R: Read>(
     alloc: Global,
     reader: &mut R,
@@ -68,8 +68,38 @@ pub fn load<R: Read>(
     Err(DumpFault::Read)
 }
 
-// The next line, whose number this is, and whether there is one.
+// Reads the next line, whose number this is. Returns whether there is one: nothing after the last LF of a text is no line, except for the
+// empty first line of an empty text.
 fn next_line<R: Read>(
+    lines: &mut Lines,
+    reader: &mut R,
+    line: &mut Vec<u8>,
+    number: u64,
+) -> Result<bool, DumpFault>
+    ensures given { IfOk result (λ found. GivesLine number (lines_left lines.old (R.remaining reader.old)) found line.new.items (lines_left lines.new (R.remaining reader.new))) }
+    ensures fault { IfErr result (IsLineFault number (lines_left lines.old (R.remaining reader.old))) }
+{
+    if !next_piece(lines, reader, line, number)? {
+        return Ok(false);
+    }
+    if number == 1 {
+        return Ok(true);
+    }
+    Ok(!is_empty_end(lines, line.as_slice()))
+}
+
+// Whether a piece of a text is empty and the last.
+fn is_empty_end(lines: &Lines, line: &[u8]) -> bool
+    ensures { result ≡ cond lines.now.ended (length line.now == 0) false }
+{
+    if lines.has_ended() {
+        return line.is_empty();
+    }
+    false
+}
+
+// Reads the text up to the next LF, or to its end, as the line with this number. Returns whether there is one.
+fn next_piece<R: Read>(
     lines: &mut Lines,
     reader: &mut R,
     line: &mut Vec<u8>,

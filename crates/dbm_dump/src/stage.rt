@@ -1,11 +1,13 @@
 //! How far a dump was read, and what its next line adds.
 ghost use Rattle.std.specs.Prelude.{◌≡◌, ◌++◌, IfOk, Some};
-ghost use Rattle.dbm_dump.specs.Loading.{open_len};
+ghost use Rattle.dbm_dump.specs.Heads.{IsReported};
+ghost use Rattle.dbm_dump.specs.Loading.{open_key, open_len};
 ghost use Rattle.dbm_dump.specs.Marks.{mark_of};
 ghost use Rattle.dbm_dump.specs.Steps as spec;
 
 use crate::key_head::KeyHead;
 use crate::marks::{Mark, mark_of, number_behind, pair_of};
+use crate::symbols::is_open;
 use base64::DecodeAllocError;
 use base64::engine::general_purpose::STANDARD;
 use sdbm_addr::Bytes;
@@ -97,8 +99,10 @@ impl Stage {
         }
     }
 
-    /// The key of the value that is begun, where one is.
-    pub fn open_key(&self) -> Option<KeyHead> {
+    /// The key of the value that was begun, if a value was.
+    pub fn open_key(&self) -> Option<KeyHead>
+        ensures { IsReported (open_key self.now) result }
+    {
         match self {
             Stage::Within {
                 role: Role::Value(key),
@@ -301,9 +305,21 @@ fn within_step(
                 text,
             }))
         }
-        Mark::Text => grown(alloc, seen, role, len, longer(text, line)?),
+        Mark::Text => {
+            if !may_follow(len, &text, line) {
+                return Ok(None);
+            }
+            grown(alloc, seen, role, len, longer(text, line)?)
+        }
         Mark::Len(_) | Mark::Count(_) | Mark::Bad => Ok(None),
     }
+}
+
+// Whether a line may stand after this text of a datum of so many bytes: it completes the datum, or is base64 that may go on.
+fn may_follow(len: u64, text: &Part, line: &[u8]) -> bool
+    ensures { result ≡ spec.may_follow len text.now line.now }
+{
+    holds(len, text.text.len() + line.len()) || is_open(text.text.as_slice(), line)
 }
 
 // A text, and a line after it.
@@ -315,11 +331,17 @@ fn longer(text: Part, line: &[u8]) -> Result<Part, AllocError>
     Ok(text)
 }
 
-// Whether the groups of four letters in a text hold so many bytes.
+// Whether the groups of four among so many characters hold so many bytes.
+fn holds(len: u64, count: usize) -> bool
+    ensures { result ≡ spec.holds len count }
+{
+    len <= (count / 4 * 3) as u64
+}
+
 fn is_full(len: u64, text: &Part) -> bool
     ensures { result ≡ spec.is_full len text.now }
 {
-    len <= (text.text.len() / 4 * 3) as u64
+    holds(len, text.text.len())
 }
 
 // A key or a value of so many bytes, of which a text is there.

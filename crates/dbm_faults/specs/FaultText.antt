@@ -6,7 +6,7 @@ use Rattle.worker_pool.specs.FaultText as pool
 use Rattle.dbm_dump.specs.FaultText as dumping
 use Rattle.dbm_reports.specs.FaultText as reports
 use Rattle.dbm_faults.specs.declared.fault.ServeFault.{ServeFault}
-use Rattle.dbm_faults.specs.declared.fault.ServeFault.TheVariants.{NotText, ReadFile, FileTooLong, WriteFile, BadRedo, Unsafe, OtherSize, ReadClock, BadBase, Absent, Locked, Moved, Report, Dump, Submit, BadLine, Pool, Close, Write, Saved, NoMemory}
+use Rattle.dbm_faults.specs.declared.fault.ServeFault.TheVariants.{NotText, ReadFile, FileTooLong, WriteFile, BadRedo, Unsafe, OtherSize, ReadClock, BadBase, Absent, Locked, Moved, Report, Dump, Submit, BadLine, CutLine, Pool, Close, Write, Saved, NoMemory}
 
 abbrev pub fault_text : ServeFault → List ℕ
 fault_text NotText = codes "NotText"
@@ -25,6 +25,7 @@ fault_text (Report fault) = reports.fault_text fault
 fault_text (Dump fault) = dumping.fault_text fault
 fault_text (Submit fault) = registry.fault_text fault
 fault_text (BadLine number) = codes "bad line " ++ decimal number
+fault_text (CutLine number) = codes "CutLine(" ++ (decimal number ++ codes ")")
 fault_text (Pool fault) = pool.fault_text fault
 fault_text (Close fault) = closing.fault_text fault
 fault_text Write = codes "Write"

@@ -49,6 +49,8 @@ pub enum ServeFault {
     Submit(RegFault),
     /// The line of a batch with this number, from 1 on, asks no task.
     BadLine(usize),
+    /// The input of a session ends within the line with this number, from 1 on, which was not run. The changes before it are saved.
+    CutLine(u64),
     /// Not all tasks of a batch were done. The fault within is never `NoMemory`, but a task may be refused for it.
     Pool(PoolFault),
     /// The calls of a batch's workers are not those that its store has.
@@ -85,6 +87,7 @@ impl fmt::Display for ServeFault {
             ServeFault::Dump(fault) => fmt::Display::fmt(fault, f),
             ServeFault::Submit(fault) => fmt::Display::fmt(fault, f),
             ServeFault::BadLine(number) => write!(f, "bad line {number}"),
+            ServeFault::CutLine(number) => write!(f, "CutLine({number})"),
             ServeFault::Pool(fault) => fmt::Display::fmt(fault, f),
             ServeFault::Close(fault) => fmt::Display::fmt(fault, f),
             ServeFault::Write | ServeFault::Saved => f.write_str("Write"),

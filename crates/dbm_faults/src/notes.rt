@@ -94,3 +94,11 @@ pub fn line_end_note(line: u64) -> Sentence<'static> {
         Part::Number(line),
     )
 }
+
+/// The last line of a script or a batch, counted from 1, which has no LF after it and was run.
+pub fn half_line_note(line: u64) -> Sentence<'static> {
+    with_one(
+        "line {}, the last, has no LF after it, and was run as it is: if its sender was cut off, it may be a part of a line",
+        Part::Number(line),
+    )
+}

@@ -1,10 +1,10 @@
-//! Sentences about a session that has ended before its lines.
+//! Sentences about a session that ended with a fault.
 
 use crate::fault::ServeFault;
-use crate::sentence::{Sentence, plain};
+use crate::sentence::{Part, Sentence, plain, with_one};
 use dbm_reports::ReportFault;
 
-/// Of a session, where a sentence about other subcommands would be wrong. `None` where it would not.
+/// The sentence of a fault of a session. `None` if that about other subcommands is right.
 pub fn session_sentence(fault: ServeFault) -> Option<Sentence<'static>> {
     match fault {
         ServeFault::Write => Some(plain(
@@ -15,6 +15,10 @@ pub fn session_sentence(fault: ServeFault) -> Option<Sentence<'static>> {
         )),
         ServeFault::FileTooLong => Some(plain(
             "The database would have more than 1 GiB in its .pag, so it was not saved. What was saved before stands.",
+        )),
+        ServeFault::CutLine(line) => Some(with_one(
+            "Line {}, the last, has no LF after it, as if its sender was cut off, so it was not run. What the lines before it changed is saved.",
+            Part::Number(line),
         )),
         _ => None,
     }

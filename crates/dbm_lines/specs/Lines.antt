@@ -21,6 +21,13 @@ Gives (Some []) false line new = new ≡ Some []
 Gives (Some (l ∷ ls)) true line new = (line ≡ l) × (new ≡ Some ls)
 Gives (Some (l ∷ ls)) false line new = ⊥
 
+-- the next of the lines that end with LF is given, or else the last piece, which no LF ends
+abbrev pub GivesEnded : Option (List (List ℕ)) → Bool → List ℕ → Option (List (List ℕ)) → Type 0
+GivesEnded None is_ended line new = ⊤
+GivesEnded (Some []) is_ended line new = (is_ended ≡ false) × (new ≡ Some [])
+GivesEnded (Some (l ∷ [])) is_ended line new = (is_ended ≡ false) × ((line ≡ l) × (new ≡ Some []))
+GivesEnded (Some (l ∷ other ∷ others)) is_ended line new = (is_ended ≡ true) × ((line ≡ l) × (new ≡ Some (other ∷ others)))
+
 -- no end of a line
 abbrev pub IsPiece : List ℕ → Type 0
 IsPiece text = All (λ b. (b == 10) ≡ false) text

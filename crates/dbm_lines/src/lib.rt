@@ -3,7 +3,7 @@
 
 ghost use Rattle.std.specs.Prelude.{◌≡◌, ◌≤◌, [], false, vec_len, IfOk, IsErrOf};
 ghost use Rattle.std.specs.Io.KnownBytes.{Consumes};
-ghost use Rattle.dbm_lines.specs.Lines.{Gives, IsLongNext, Refills, TakesPiece, lines_left};
+ghost use Rattle.dbm_lines.specs.Lines.{Gives, GivesEnded, IsLongNext, Refills, TakesPiece, lines_left};
 ghost use Rattle.dbm_lines.specs.declared.LineFault.TheVariants.{NoMemory};
 
 use memchr::memchr;
@@ -100,6 +100,26 @@ impl Lines {
                 return Ok(true);
             }
         }
+    }
+
+    /// Like `next`, for a reader whose lines all end with LF. Returns `false` once what follows the last LF is in `line`: nothing, or a line
+    /// that was cut off.
+    ///
+    /// # Errors
+    /// Those of `next`.
+    pub fn next_ended<R: Read>(
+        &mut self,
+        reader: &mut R,
+        line: &mut Vec<u8>,
+        most: usize,
+    ) -> Result<bool, LineFault>
+        ensures given { IfOk result (λ is_ended. GivesEnded (lines_left self.old (R.remaining reader.old)) is_ended line.new.items (lines_left self.new (R.remaining reader.new))) }
+        ensures long { IsErrOf result LineFault.TooLong → IsLongNext most (lines_left self.old (R.remaining reader.old)) }
+    {
+        if !self.next(reader, line, most)? {
+            return Ok(false);
+        }
+        Ok(!self.ended)
     }
 
     // Puts what was read, up to the next LF, after a text, and tells whether there is one.

@@ -1,59 +1,59 @@
-//! What a session stands on.
+//! What a session is built on.
 ghost use Rattle.std.specs.Prelude.{◌≡◌, ◌∷◌, [], IfOk, List, None, OnErr, OnOk, Option};
-ghost use Rattle.sdbm_addr.specs.Database.{Database};
-ghost use Rattle.dbm_session.specs.Sessions.{IsProgram, Saves, SavesMaybe};
+ghost use Rattle.dbm_session.specs.HostCalls.{DidSave, GaveTime, HostCall, Logs};
+ghost use Rattle.dbm_session.specs.Sessions.{IsProgram, SavesMaybe};
 
 use dbm_script::TimeOfDay;
 use sdbm_files::Image;
 use std::alloc::{AllocError, Global};
 
-/// What stands for a line that scripts do not have.
+/// The result of a line that scripts do not have.
 #[derive(Drop)]
 pub enum Own {
     /// A text, which was put after another.
     Shown,
-    /// A line of a script.
+    /// A line of a script to run in its place.
     Line(Vec<u8>),
 }
 
-/// What a session stands on: who types its lines, its clock, and the files in which its database is saved.
+/// What a session is built on: the terminal at which its lines are typed, its clock, and the files in which its database is saved.
 pub trait Host {
     /// Why a database was not saved.
     type Fault: Drop;
 
-    // The databases that were saved, in order, where they are known.
-    ghost saved: { Self → Option (List Database) } = { λ _. None };
+    // A log of the saves and of the times that the clock gave, in order. None if nothing is known of them.
+    ghost log: { Self → Option (List HostCall) } = { λ _. None };
 
-    /// Asks for a line, before it is read; there is none where the input is over.
+    /// Asks for a line before it is read, or with `is_over` tells that the input has ended.
     fn ask(&mut self, is_over: bool)
-        ensures { saved self.new ≡ saved self.old };
+        ensures { log self.new ≡ log self.old };
 
-    /// The time of day for a line, where lines may ask it.
+    /// The time of day for a line. `None` if lines may not ask for it, or the system does not tell it.
     fn time(&mut self) -> Option<TimeOfDay>
-        ensures { saved self.new ≡ saved self.old };
+        ensures { Logs (log self.old) (log self.new) (GaveTime result ∷ []) };
 
-    /// Whether the database is to be saved after a line, which may have asked a change.
+    /// Whether to save the database after a line, and whether that line asked for a change.
     fn is_due(&mut self, asks_change: bool) -> bool
-        ensures { saved self.new ≡ saved self.old };
+        ensures { log self.new ≡ log self.old };
 
-    /// What stands for a line that scripts do not have: a text that it puts after another, or a line of a script that submits a program.
+    /// Answers a line that scripts do not have: puts a text after another, or returns a line of a script that submits a program.
     ///
     /// # Errors
-    /// `AllocError` where no memory is left.
+    /// `AllocError` if allocation fails.
     fn answer_own(
         &mut self,
         line: &[u8],
         image: &Image<Global>,
         text: &mut Vec<u8>,
     ) -> Result<Own, AllocError>
-        ensures same { saved self.new ≡ saved self.old }
+        ensures same { log self.new ≡ log self.old }
         ensures line { IfOk result IsProgram };
 
-    /// Saves a database. The call returns `Ok` once that is committed.
+    /// Saves a database. Returns `Ok` once the save is committed.
     ///
     /// # Errors
     /// The host's own. The database may be saved then, or not.
     fn save(&mut self, image: &Image<Global>) -> Result<(), Self::Fault>
-        ensures kept { OnOk result (Saves (saved self.old) (saved self.new) (image.now ∷ [])) }
-        ensures lost { OnErr result (SavesMaybe (saved self.old) (saved self.new) image.now) };
+        ensures kept { OnOk result (Logs (log self.old) (log self.new) (DidSave image.now ∷ [])) }
+        ensures lost { OnErr result (SavesMaybe (log self.old) (log self.new) image.now) };
 }

@@ -1,10 +1,11 @@
 //! The lines of a session, answered one by one.
-ghost use Rattle.std.specs.Prelude.{◌≡◌, ◌∷◌, [], IfErr, IfOk, IfSome, OnErr, OnOk};
+ghost use Rattle.std.specs.Prelude.{◌≡◌, ◌∷◌, [], IfErr, IfOk, IfSome, OnErr, OnOk, length};
 ghost use Rattle.std.specs.List.{All};
 ghost use Rattle.std.specs.Io.KnownBytes.{Appends};
 ghost use Rattle.dbm_script.specs.Pieces.{pieces_of};
 ghost use Rattle.dbm_script.specs.Script.{stage};
-ghost use Rattle.dbm_session.specs.Sessions.{AnswersOwn, AnswersScripted, Answered, Ends, IsOfScript, RunsAsScript, Saves, SavesAtMostOne, SavesMaybe, Stops, WritesSome};
+ghost use Rattle.dbm_session.specs.HostCalls.{DidSave, Logs};
+ghost use Rattle.dbm_session.specs.Sessions.{AnsweredOwn, AnsweredTimed, Answered, Ends, IsOfScript, RunsAsScript, SavesAtMostOne, SavesMaybe, Stops, WritesSome, ended_lines, half_after, half_line};
 
 use crate::fault::SessionFault;
 use crate::host::{Host, Own};
@@ -17,6 +18,14 @@ use sdbm_files::Image;
 use std::alloc::{AllocError, Global};
 use std::io::{Read, Write};
 
+/// How the lines of a session ended: the database after them, which is saved.
+#[derive(Drop)]
+pub struct Ended {
+    pub image: Image<Global>,
+    /// The number of the line, from 1 on, in which the input was cut off. It has no LF, and was not run.
+    pub half_line: Option<u64>,
+}
+
 // What a session works on: the database, and the programs that its lines have submitted.
 #[derive(Drop)]
 struct Session {
@@ -24,14 +33,16 @@ struct Session {
     registry: Registry<Global>,
 }
 
-/// Answers the lines of a reader in a notation on a database, until there are no more, and gives the database after them, which is
-/// saved then. The answer to each line is written and flushed before the next line is read. A line `save` saves the database, and is
-/// answered `saved` once that is committed; `help` and lines that begin with `.` are the host's; every other line is answered as in a
-/// script, whose programs are kept to the end. A save that the host finds due comes after a line and before its answer.
+/// Answers the lines of a reader in a notation on a database until there are no more, and saves the database after them. The answer to
+/// each line is written and flushed before the next line is read. A line `save` saves the database, and is answered `saved` once the save
+/// is committed; `help` and lines that begin with `.` are the host's; every other line is answered as in a script, at the time that the
+/// host gives for it. Submitted programs stay to the end. A save that the host finds due comes after a line and before its answer.
+///
+/// Each line ends with LF. If the input ends within a line, that line is not run, and its number is returned.
 ///
 /// # Errors
-/// `Read` where the reader fails, `TooLong` where a line has more than 16,777,216 bytes, `Write` where the writer fails, `Save` where
-/// a save failed, and `NoMemory`. Nothing more is done then: what is saved is what was saved last, or where a save failed maybe that.
+/// `Read` if the reader fails, `TooLong` if a line has more than 16,777,216 bytes, `Write` if the writer fails, `Save` if a save failed,
+/// and `NoMemory`. Nothing more is done then: the last save stands, or if a save failed maybe that one.
 pub fn run_session<R: Read, W: Write, H: Host>(
     alloc: Global,
     notation: &Notation<Global>,
@@ -39,20 +50,21 @@ pub fn run_session<R: Read, W: Write, H: Host>(
     reader: &mut R,
     writer: &mut W,
     host: &mut H,
-) -> Result<Image<Global>, SessionFault<H::Fault>>
-    ensures ok { IfOk result (λ after. IfSome (R.remaining reader.old) (λ input. Ends notation.now image (pieces_of 10 input) (W.contents writer.old) (W.contents writer.new) (H.saved host.old) (H.saved host.new) after)) }
-    ensures part { IfErr result (λ _. IfSome (R.remaining reader.old) (λ input. Stops notation.now image (pieces_of 10 input) (W.contents writer.old) (W.contents writer.new) (H.saved host.old) (H.saved host.new))) }
-    ensures script { IfOk result (λ after. IfSome (R.remaining reader.old) (λ input. All IsOfScript (pieces_of 10 input) → RunsAsScript notation.now image (pieces_of 10 input) (W.contents writer.old) (W.contents writer.new) after)) }
-    ensures kept { IfOk result (λ after. (after.kind ≡ image.kind) × (after.size ≡ image.size)) }
+) -> Result<Ended, SessionFault<H::Fault>>
+    ensures ok { IfOk result (λ ended. IfSome (R.remaining reader.old) (λ input. Ends notation.now image (ended_lines (pieces_of 10 input)) (W.contents writer.old) (W.contents writer.new) (H.log host.old) (H.log host.new) ended.image)) }
+    ensures half { IfOk result (λ ended. IfSome (R.remaining reader.old) (λ input. ended.half_line ≡ half_line (pieces_of 10 input))) }
+    ensures part { IfErr result (λ _. IfSome (R.remaining reader.old) (λ input. Stops notation.now image (ended_lines (pieces_of 10 input)) (W.contents writer.old) (W.contents writer.new) (H.log host.old) (H.log host.new))) }
+    ensures script { IfOk result (λ ended. IfSome (R.remaining reader.old) (λ input. All IsOfScript (ended_lines (pieces_of 10 input)) → RunsAsScript notation.now image (ended_lines (pieces_of 10 input)) (W.contents writer.old) (W.contents writer.new) (H.log host.old) (H.log host.new) ended.image)) }
+    ensures kept { IfOk result (λ ended. (ended.image.kind ≡ image.kind) × (ended.image.size ≡ image.size)) }
 {
     let registry = Registry::new(alloc)?;
     let mut session = Session { image, registry };
     let mut lines = Lines::new(alloc);
     let (mut line, mut text) = (Vec::new(alloc), Vec::new(alloc));
-    for _turn in 0..u64::MAX {
-        host.ask(lines.has_ended());
-        if !lines.next(reader, &mut line, SCRIPT_LIMIT)? {
-            return end(session, host);
+    for count in 0..u64::MAX {
+        host.ask(false);
+        if !lines.next_ended(reader, &mut line, SCRIPT_LIMIT)? {
+            return end(session, host, half_after(count, line.as_slice()));
         }
         session = answer_next(alloc, notation, session, host, line.as_slice(), &mut text)?;
         say(writer, text.as_slice())?;
@@ -60,19 +72,36 @@ pub fn run_session<R: Read, W: Write, H: Host>(
     Err(SessionFault::TooLong)
 }
 
+// The number of a line that no LF ends, after so many lines, if anything of it was read.
+fn half_after(count: u64, line: &[u8]) -> Option<u64>
+    requires { count < 18446744073709551615 }
+    ensures { result ≡ half_after count line.now }
+{
+    if line.is_empty() {
+        return None;
+    }
+    Some(count + 1)
+}
+
 // Saves what a session has come to at its end.
-fn end<H: Host>(session: Session, host: &mut H) -> Result<Image<Global>, SessionFault<H::Fault>>
-    ensures ok { IfOk result (λ after. (after ≡ session.image) × Saves (H.saved host.old) (H.saved host.new) (session.image ∷ [])) }
-    ensures lost { OnErr result (SavesAtMostOne (H.saved host.old) (H.saved host.new)) }
+fn end<H: Host>(
+    session: Session,
+    host: &mut H,
+    half_line: Option<u64>,
+) -> Result<Ended, SessionFault<H::Fault>>
+    ensures ok { IfOk result (λ ended. (ended.image ≡ session.image) × Logs (H.log host.old) (H.log host.new) (DidSave session.image ∷ [])) }
+    ensures half { IfOk result (λ ended. ended.half_line ≡ half_line) }
+    ensures lost { OnErr result (SavesAtMostOne (H.log host.old) (H.log host.new)) }
 {
     let Session { image, .. } = session;
+    host.ask(true);
     save(&image, host)?;
-    Ok(image)
+    Ok(Ended { image, half_line })
 }
 
 fn save<H: Host>(image: &Image<Global>, host: &mut H) -> Result<(), SessionFault<H::Fault>>
-    ensures kept { OnOk result (Saves (H.saved host.old) (H.saved host.new) (image.now ∷ [])) }
-    ensures lost { OnErr result (SavesAtMostOne (H.saved host.old) (H.saved host.new)) }
+    ensures kept { OnOk result (Logs (H.log host.old) (H.log host.new) (DidSave image.now ∷ [])) }
+    ensures lost { OnErr result (SavesAtMostOne (H.log host.old) (H.log host.new)) }
 {
     match host.save(image) {
         Ok(()) => Ok(()),
@@ -94,7 +123,7 @@ fn say<W: Write, F: Drop>(writer: &mut W, text: &[u8]) -> Result<(), SessionFaul
     }
 }
 
-// Answers a line: the answer is all that stands in the text then.
+// Answers a line. The text is its answer then, and nothing else.
 fn answer_next<H: Host>(
     alloc: Global,
     notation: &Notation<Global>,
@@ -103,8 +132,8 @@ fn answer_next<H: Host>(
     line: &[u8],
     text: &mut Vec<u8>,
 ) -> Result<Session, SessionFault<H::Fault>>
-    ensures answers { IfOk result (λ after. Answered notation.now (stage session.image session.registry.programs) line.now text.new.items (H.saved host.old) (H.saved host.new) (stage after.image after.registry.programs)) }
-    ensures lost { OnErr result (SavesAtMostOne (H.saved host.old) (H.saved host.new)) }
+    ensures answers { IfOk result (λ after. Answered notation.now (stage session.image session.registry.programs) line.now text.new.items (H.log host.old) (H.log host.new) (stage after.image after.registry.programs)) }
+    ensures lost { OnErr result (SavesAtMostOne (H.log host.old) (H.log host.new)) }
     ensures kept { IfOk result (λ after. (after.image.kind ≡ session.image.kind) × (after.image.size ≡ session.image.size)) }
 {
     text.clear();
@@ -117,18 +146,18 @@ fn answer_next<H: Host>(
         return answer_own(alloc, notation, session, host, line, text);
     }
     let session = answer_scripted(alloc, notation, session, host, line, text)?;
-    save_if_due(&session.image, host, asks_change(line))?;
+    save_if_due(&session.image, host, asks_change(line, text.as_slice()))?;
     Ok(session)
 }
 
-// Saves the database after a line, where the host finds that due.
+// Saves the database after a line if the host finds that due.
 fn save_if_due<H: Host>(
     image: &Image<Global>,
     host: &mut H,
     asks_change: bool,
 ) -> Result<(), SessionFault<H::Fault>>
-    ensures kept { OnOk result (SavesMaybe (H.saved host.old) (H.saved host.new) image.now) }
-    ensures lost { OnErr result (SavesAtMostOne (H.saved host.old) (H.saved host.new)) }
+    ensures kept { OnOk result (SavesMaybe (H.log host.old) (H.log host.new) image.now) }
+    ensures lost { OnErr result (SavesAtMostOne (H.log host.old) (H.log host.new)) }
 {
     if host.is_due(asks_change) {
         save(image, host)?;
@@ -145,8 +174,8 @@ fn answer_own<H: Host>(
     line: &[u8],
     text: &mut Vec<u8>,
 ) -> Result<Session, SessionFault<H::Fault>>
-    ensures same { H.saved host.new ≡ H.saved host.old }
-    ensures answers { IfOk result (λ after. AnswersOwn notation.now (stage session.image session.registry.programs) text.new.items (stage after.image after.registry.programs)) }
+    ensures answers { IfOk result (λ after. AnsweredOwn notation.now (stage session.image session.registry.programs) text.new.items (H.log host.old) (H.log host.new) (stage after.image after.registry.programs)) }
+    ensures lost { OnErr result (SavesAtMostOne (H.log host.old) (H.log host.new)) }
     ensures kept { IfOk result (λ after. (after.image.kind ≡ session.image.kind) × (after.image.size ≡ session.image.size)) }
 {
     match host.answer_own(line, &session.image, text)? {
@@ -158,7 +187,7 @@ fn answer_own<H: Host>(
     }
 }
 
-// Answers a line as that of a script.
+// Answers a line as the line of a script, at the time that the host gives.
 fn answer_scripted<H: Host>(
     alloc: Global,
     notation: &Notation<Global>,
@@ -168,8 +197,8 @@ fn answer_scripted<H: Host>(
     text: &mut Vec<u8>,
 ) -> Result<Session, AllocError>
     requires { text.old.items ≡ [] }
-    ensures same { H.saved host.new ≡ H.saved host.old }
-    ensures answers { IfOk result (λ after. AnswersScripted notation.now (stage session.image session.registry.programs) line.now text.new.items (stage after.image after.registry.programs)) }
+    ensures answers { IfOk result (λ after. AnsweredTimed notation.now (stage session.image session.registry.programs) line.now text.new.items (H.log host.old) (H.log host.new) (stage after.image after.registry.programs)) }
+    ensures lost { OnErr result (SavesAtMostOne (H.log host.old) (H.log host.new)) }
     ensures kept { IfOk result (λ after. (after.image.kind ≡ session.image.kind) × (after.image.size ≡ session.image.size)) }
 {
     let time = host.time();

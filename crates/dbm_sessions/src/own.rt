@@ -82,11 +82,11 @@ pub fn show_own(
     Ok(())
 }
 
-/// The line of a script that submits the program of a text. Where it is the text of none, there is no such line, and a line after `text`
-/// names the fault.
+/// The line of a script that submits the program of a text. Returns `None` if the text is not that of a program; a line after `text` names
+/// the fault then. A text without instructions is an empty program, which the verifier refuses.
 ///
 /// # Errors
-/// `AllocError` where no memory is left.
+/// `AllocError` if allocation fails.
 pub fn program_line(
     alloc: Global,
     file: &[u8],
@@ -102,9 +102,13 @@ pub fn program_line(
             return Ok(None);
         }
     };
-    let digits = hex::encode(alloc, image.as_slice())?;
     let mut line = Vec::new(alloc);
     line.extend_from_slice(b"program ")?;
+    if image.is_empty() {
+        line.push(b'.')?;
+        return Ok(Some(line));
+    }
+    let digits = hex::encode(alloc, image.as_slice())?;
     line.extend_from_slice(digits.as_bytes())?;
     Ok(Some(line))
 }

@@ -6,7 +6,7 @@ use dbm_files::RunFiles;
 use dbm_places::{FileBytes, FilesFault, RunPlace};
 use dbm_reports::{Given, ReportFault, notation_by, open};
 use dbm_script::Notation;
-use dbm_session::{SessionFault, run_session};
+use dbm_session::{Ended, SessionFault, run_session};
 use dbm_sessions::{Session, read_every};
 use sdbm_files::Image;
 use std::alloc::Global;
@@ -18,10 +18,10 @@ use std::time::Clock;
 /// Answers the lines of a reader on the database of files that were taken, and saves it there. The lock is held to the end.
 ///
 /// # Errors
-/// `Report` with `BadLayout` where the layout of values is none, with `BadNumber` where `--save-every` says nothing, and with `Open` where
-/// the files do not open, before a line is read; then `Report` with `Read`, and with `TooLong` where a line has more than 16,777,216
-/// bytes, `Write` where an answer was not written, those of a save, and `NoMemory`. What lines have asked since the last save is lost
-/// then, and a note says how many they were.
+/// `Report` with `BadLayout` if the layout of values is invalid, with `BadNumber` if `--save-every` is, and with `Open` if the files do not
+/// open, before a line is read; then `Report` with `Read`, and with `TooLong` if a line has more than 16,777,216 bytes, `Write` if an answer
+/// was not written, those of a save, and `NoMemory`. The changes since the last save are lost then, and a note says how many lines asked for
+/// them. `CutLine` if the input ends within a line: that line is not run, and the changes before it are saved.
 pub fn serve_session<R: Runtime<File = File> + Clock + AllocGlobal, I: Read>(
     rt: &R,
     session: Session<'_>,
@@ -42,7 +42,7 @@ pub fn serve_session<R: Runtime<File = File> + Clock + AllocGlobal, I: Read>(
     answer_lines(rt, &notation, image, reader, &mut shell)
 }
 
-// The database of the files, whose bytes are let go.
+// The database of the files. Their bytes are dropped.
 fn opened(
     alloc: Global,
     session: Session<'_>,
@@ -56,7 +56,7 @@ fn opened(
     Ok(open(alloc, &given, session.form)?)
 }
 
-// Answers the lines. After a fault it says how many of them are lost.
+// Answers the lines. After a fault it reports how many of them are lost.
 fn answer_lines<R: Runtime<File = File> + Clock + AllocGlobal, I: Read>(
     rt: &R,
     notation: &Notation<Global>,
@@ -66,6 +66,12 @@ fn answer_lines<R: Runtime<File = File> + Clock + AllocGlobal, I: Read>(
 ) -> Result<(), ServeFault> {
     let mut writer = io::writer(rt);
     match run_session(rt.alloc(), notation, image, reader, &mut writer, shell) {
+        Ok(
+            Ended {
+                half_line: Some(line),
+                ..
+            },
+        ) => Err(ServeFault::CutLine(line)),
         Ok(_) => Ok(()),
         Err(fault) => {
             shell.tell_unsaved();

@@ -1,6 +1,6 @@
 //! Lines of a script that ask nothing, found once it was answered.
 
-use dbm_faults::{Sentence, bad_lines_note, line_end_note};
+use dbm_faults::{Sentence, bad_lines_note, half_line_note, line_end_note};
 use dbm_reports::notation_by;
 use dbm_script::{Lines, Notation, TimeOfDay, read_line, spell_out};
 use dbm_words::NotationOptions;
@@ -152,6 +152,20 @@ pub fn note_of_line_end(lines: Lines, text: &[u8]) -> Option<Sentence<'static>> 
         }
     }
     None
+}
+
+/// The note on the last line of a script or a batch that was run, if it has no LF after it. A comment of a script needs none.
+pub fn note_of_half_line(lines: Lines, text: &[u8]) -> Option<Sentence<'static>> {
+    let mut count = 0u64;
+    let mut last = text;
+    for line in text.split(|byte| *byte == b'\n') {
+        count = count.saturating_add(1);
+        last = line;
+    }
+    if last.is_empty() || (lines == Lines::OfScript && last.starts_with(b"#")) {
+        return None;
+    }
+    Some(half_line_note(count))
 }
 
 // The first of the lines that ask nothing, counted from 0, and how many there are.

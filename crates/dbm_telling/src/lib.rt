@@ -9,7 +9,9 @@ mod terminal;
 mod told;
 mod waiting;
 
-pub use kept::{Kept, Watched, has_bad_line, is_refused, note_of_bad_lines, note_of_line_end};
+pub use kept::{
+    Kept, Watched, has_bad_line, is_refused, note_of_bad_lines, note_of_half_line, note_of_line_end,
+};
 pub use progress::{Counted, Work, tell_saving};
 pub use telling::{
     advise, note_absent, note_object, note_pending, note_refusal, note_that, note_unsaved,

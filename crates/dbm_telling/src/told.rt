@@ -1,6 +1,7 @@
 //! What of a request the notes and the sentences take.
 
 use dbm_places::RunPlace;
+use dbm_script::Lines;
 use dbm_words::{NotationOptions, Words};
 
 /// What of a request the notes and the sentences take. It names no wish, so they are not checked anew where one changes.
@@ -16,4 +17,6 @@ pub struct Told<'a> {
     pub strict: bool,
     /// Its lines may ask the time of day.
     pub clock: bool,
+    /// Whose lines are on standard input, of a script or a batch.
+    pub lines: Option<Lines>,
 }

@@ -22,8 +22,8 @@ use dbm_script::{Lines, read_number};
 use dbm_shell::serve_session;
 use dbm_telling::{
     Counted, Kept, Told, Watched, advise, has_bad_line, note_absent, note_object,
-    note_of_bad_lines, note_of_line_end, note_pending, note_refusal, note_that, take_and_tell,
-    tell_saving,
+    note_of_bad_lines, note_of_half_line, note_of_line_end, note_pending, note_refusal, note_that,
+    take_and_tell, tell_saving,
 };
 use ending::{Ending, ending_of, exit_status};
 use quick::{may_be_quick, print_quick, refusal_in, serve_quick};
@@ -105,9 +105,9 @@ fn run<R: Runtime<File = File> + AllocGlobal + Threads + Wait + Sync>(
     }
 }
 
-// Says what follows an answer that may not be what was meant: files that are not there, an object in place of an image, a program
-// that is refused, the lines of a script that ask nothing, and a save that is not done in its files. After a bad line it says too where
-// lines end in CR.
+// Prints notes beside an answer that may not be what was meant: missing files, an object instead of an image, a program that is refused, the
+// lines of a script that ask nothing, a last line without LF, and a save that is not done in its files. After a bad line it also reports
+// where lines end in CR.
 fn note<R: Runtime<File = File> + AllocGlobal, I: Read>(
     rt: &R,
     told: &Told<'_>,
@@ -135,6 +135,12 @@ fn note<R: Runtime<File = File> + AllocGlobal, I: Read>(
     {
         note_that(rt, note);
         note_line_end(rt, Lines::OfScript, input);
+    }
+    if matches!(ending, Ending::Served(0))
+        && let Some(lines) = told.lines
+        && let Some(note) = note_of_half_line(lines, input.text())
+    {
+        note_that(rt, note);
     }
 }
 

@@ -6,6 +6,7 @@ ghost use Rattle.sdbm_files.specs.Limits.{pag_limit};
 use dbm_command_line::{Ask, Request, Wish};
 use dbm_places::{FileBytes, RunPlace};
 use dbm_reports::Given;
+use dbm_script::Lines;
 use dbm_sessions::Session;
 use dbm_telling::{Told, Work};
 use dbm_words::{Numbers, Words};
@@ -78,6 +79,16 @@ fn told_of_wish<'a>(wish: &Wish<'a>) -> Told<'a> {
         notation: wish.notation(),
         strict: matches!(wish, Wish::Script(script) if script.strict),
         clock: wish.asks_clock(),
+        lines: lines_of(wish),
+    }
+}
+
+// Whose lines are on standard input, if it is that of a script or a batch.
+fn lines_of(wish: &Wish<'_>) -> Option<Lines> {
+    match wish {
+        Wish::Script(_) => Some(Lines::OfScript),
+        Wish::Batch(_) => Some(Lines::OfBatch),
+        _ => None,
     }
 }
 
@@ -88,6 +99,7 @@ fn told_of_session<'a>(session: &Session<'a>) -> Told<'a> {
         notation: session.notation,
         strict: false,
         clock: session.clock,
+        lines: None,
     }
 }
 

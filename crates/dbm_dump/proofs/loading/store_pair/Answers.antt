@@ -1,5 +1,5 @@
 use Rattle.std.proofs.Common.{refl}
-use Rattle.dbm_dump.proofs.MorePairs.{crowded, entry_of, no_other, stores}
+use Rattle.dbm_dump.proofs.MorePairs.{crowded, entry_of, head_of, no_other, stores}
 use Rattle.dbm_dump.proofs.loading.store_pair.Goals as goal
 
 pub returns-in-Stored-clause-ok : goal.returns-in-Stored-clause-ok
@@ -14,8 +14,11 @@ pub returns-in-Crowded-clause-fault : goal.returns-in-Crowded-clause-fault
 returns-in-Crowded-clause-fault c = (
   refl,
   (
-    c.answer_command.new.image,
-    crowded c.args.mode c.args.image c.answer_command.new.image _ c.in-Replied.entry c.args.key c.args.value c.in_ok-entry.ensures.answer c.in-Replied.is c.in-Crowded.is,
+    head_of c.args.key c.as_slice.result.now _ c.as_slice.ensures c.of.ensures,
+    (
+      c.answer_command.new.image,
+      crowded c.args.mode c.args.image c.answer_command.new.image _ c.in-Replied.entry c.args.key c.args.value c.in_ok-entry.ensures.answer c.in-Replied.is c.in-Crowded.is,
+    ),
   ),
 )
 

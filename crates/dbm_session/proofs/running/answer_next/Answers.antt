@@ -11,7 +11,7 @@ returns-then-is_own-clause-answers g c =
     let own : is_own c.args.line.now ≡ true = sym c.is_own.ensures ∙ c.if-is_own.true in
     IfOk-weaker c.answer_own.result _ _
     (λ after h. answers_own c.args.notation.now (stage c.args.session.image c.args.session.registry.programs) c.args.line.now c.answer_own.new.text.items (stage after.image after.registry.programs)
-    (g.H.Host.saved c.args.host.now) (g.H.Host.saved c.answer_own.new.host) save own c.answer_own.ensures.same h)
+    (g.H.Host.log c.args.host.now) (g.H.Host.log c.answer_own.new.host) save own c.answer_own.ensures.same h)
     c.answer_own.ensures.answers
 
 pub returns-then-is_own-clause-lost : goal.returns-then-is_own-clause-lost

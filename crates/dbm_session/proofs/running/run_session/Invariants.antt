@@ -5,10 +5,10 @@ use Rattle.dbm_session.proofs.Turns.{AllProgress}
 use Rattle.dbm_session.proofs.running.run_session.Given as goal
 
 -- some lines are answered, where the bytes are known
-abbrev pub invariant-loop-turn : goal.invariant-loop-turn
-invariant-loop-turn g l = record {
-  known : AllProgress l.fn.notation l.fn.image (g.R.Read.remaining l.fn.reader) (lines_left l.lines (g.R.Read.remaining l.reader)) (g.W.Write.contents l.fn.writer) (g.W.Write.contents l.writer)
-      (g.H.Host.saved l.fn.host) (g.H.Host.saved l.host) (stage l.session.image l.session.registry.programs);
+abbrev pub invariant-loop-count : goal.invariant-loop-count
+invariant-loop-count g l = record {
+  known : AllProgress l.fn.notation l.fn.image (g.R.Read.remaining l.fn.reader) l.count (lines_left l.lines (g.R.Read.remaining l.reader)) (g.W.Write.contents l.fn.writer) (g.W.Write.contents l.writer)
+      (g.H.Host.log l.fn.host) (g.H.Host.log l.host) (stage l.session.image l.session.registry.programs);
   kind : l.session.image.kind ≡ l.fn.image.kind;
   size : l.session.image.size ≡ l.fn.image.size;
 }

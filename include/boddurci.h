@@ -139,6 +139,12 @@ static inline const char *boddurci_text(uint32_t status)
 uint32_t boddurci_open(boddurci *db, const uint8_t *dir, size_t dir_length, const uint8_t *pag, size_t pag_length, uint32_t wide,
                        uint32_t unsigned_keys, uint8_t *text, size_t text_room, size_t *text_length);
 
+/* Sets *looks_small to 1 if files that are to be opened with wide pages look like those of a database with small ones, and else to 0: then no
+ * such database is in them, unless all its bytes are zeros. Small pages can read as wide ones by chance, and a change would destroy them.
+ * It wants no handle. boddurci_open does not call it; boddurci_open_files does. NO_MEMORY. */
+uint32_t boddurci_looks_small(const uint8_t *dir, size_t dir_length, const uint8_t *pag, size_t pag_length, uint32_t unsigned_keys,
+                              uint32_t *looks_small);
+
 /* 1 where the handle is open, and else 0. */
 uint32_t boddurci_is_open(boddurci *db);
 

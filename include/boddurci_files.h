@@ -53,7 +53,8 @@ enum boddurci_flags {
     BODDURCI_READ_ONLY = 4,     /* no lock is kept, and no save is made */
     BODDURCI_NO_WAIT = 8,       /* where another has the lock, do not wait for it, whatever time is given */
     BODDURCI_MUST_EXIST = 16,   /* where there is no BASE.pag, do not begin with an empty database */
-    BODDURCI_EMPTY = 32         /* begin with an empty database, whatever the files have */
+    BODDURCI_EMPTY = 32,        /* begin with an empty database, whatever the files have */
+    BODDURCI_ANY_SIZE = 64      /* with WIDE: open the files also if they look like those of small pages */
 };
 
 /* Statuses beside those of boddurci.h. */
@@ -70,7 +71,9 @@ enum boddurci_files_status {
     BODDURCI_FORKED = 39,      /* it was opened by another process, of which this one is a child */
     BODDURCI_BAD_NAME = 40,    /* the name is NULL or empty, . or .., or ends in one of these after a / */
     BODDURCI_INTERRUPTED = 41, /* a signal was handled while the lock was waited for */
-    BODDURCI_OPEN_HERE = 42    /* this thread has opened it already, and nobody has closed that: it would wait for itself */
+    BODDURCI_OPEN_HERE = 42,   /* this thread has opened it already, and nobody has closed that: it would wait for itself */
+    BODDURCI_OTHER_SIZE = 43   /* with WIDE: .pag looks like a file of small pages, which a change would destroy. Open it without WIDE, or
+                                  make its pages wide with `dbm widen`; if they are wide all the same, add ANY_SIZE */
 };
 
 /* Why a call failed: its status, errno where a call of the system did, and words, ended by a zero. A save that is DONE may tell of a call
@@ -89,7 +92,7 @@ const char *boddurci_files_text(uint32_t status);
  * It takes memory for what the files have on the disk, twice, and none for holes. It waits for the lock without an end, also after a signal.
  * Where it returns NULL nothing was changed but that such a save was ended, and
  * that a lock may have been made. Who may not write a .pag that is there makes no lock. FILE_FAILED, LOCKED (by NO_WAIT alone), BAD_REDO,
- * TOO_LONG, UNSAFE, MOVED, BAD_NAME, OPEN_HERE, and BAD_FILES and NO_MEMORY of boddurci.h. */
+ * TOO_LONG, UNSAFE, MOVED, BAD_NAME, OPEN_HERE, OTHER_SIZE, and BAD_FILES and NO_MEMORY of boddurci.h. */
 boddurci_base *boddurci_open_files(const char *base, uint32_t flags, boddurci_fault *fault);
 
 /* The same, which waits for the lock so long: LOCKED where another has it then. 0 tries once, and -1 waits without an end. INTERRUPTED where

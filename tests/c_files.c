@@ -583,6 +583,37 @@ static void test_bytes(void)
     boddurci_close_files(base);
 }
 
+/* A database of small pages is not opened with wide ones, however many it has, and stays as it is; one that is wide is opened. */
+static void test_other_size(void)
+{
+    char key[16];
+    for (int count = 500; count < 1100; count += 30) {
+        struct stat found;
+        boddurci_base *base = opened("size", BODDURCI_EMPTY);
+        for (int i = 0; i < count; i++)
+            store_one(base, i);
+        EXPECT(boddurci_save(base, &fault) == BODDURCI_DONE && stat("size.pag", &found) == 0 && found.st_size >= 8192);
+        boddurci_close_files(base);
+        EXPECT(truncate("size.pag", (found.st_size + 8191) / 8192 * 8192) == 0);
+        EXPECT(fails("size", BODDURCI_WIDE, BODDURCI_OTHER_SIZE) && fails("size", BODDURCI_WIDE | BODDURCI_READ_ONLY, BODDURCI_OTHER_SIZE));
+        base = boddurci_open_files("size", BODDURCI_WIDE | BODDURCI_ANY_SIZE, &fault);
+        EXPECT(base != NULL || fault.status == BODDURCI_BAD_FILES);
+        boddurci_close_files(base);
+        base = opened("size", 0);
+        EXPECT(count_of(base) == (size_t)count);
+        boddurci_close_files(base);
+    }
+    boddurci_base *base = opened("wide", BODDURCI_WIDE | BODDURCI_UNSIGNED_KEYS);
+    for (int i = 0; i < PAIRS; i++)
+        store_one(base, i);
+    snprintf(key, sizeof key, "key%d", PAIRS - 1);
+    EXPECT(boddurci_save(base, &fault) == BODDURCI_DONE);
+    boddurci_close_files(base);
+    base = opened("wide", BODDURCI_WIDE | BODDURCI_UNSIGNED_KEYS);
+    EXPECT(count_of(base) == PAIRS && value_of(base, key) == strlen(key));
+    boddurci_close_files(base);
+}
+
 /* ---- names, strangers, children and time */
 
 static void test_names(void)
@@ -595,7 +626,7 @@ static void test_names(void)
     boddurci_give(NULL);
     for (uint32_t status = 0; status < 50; status++) {
         int is_one = status <= BODDURCI_STALE || (status >= BODDURCI_IS_CLOSED && status <= BODDURCI_NO_TICKET) ||
-                     (status >= BODDURCI_FILE_FAILED && status <= BODDURCI_OPEN_HERE);
+                     (status >= BODDURCI_FILE_FAILED && status <= BODDURCI_OTHER_SIZE);
         EXPECT((strcmp(boddurci_files_text(status), "no status") != 0) == is_one);
     }
     EXPECT(strcmp(boddurci_version(), BODDURCI_VERSION) == 0);
@@ -782,6 +813,7 @@ int main(int argc, char **argv)
     test_cut_off();
     test_known();
     test_bytes();
+    test_other_size();
     test_names();
     test_unsafe();
     test_permissions();

@@ -570,6 +570,8 @@ static void test_files(void)
     struct files empty = files_of(&db);
     EXPECT(empty.pag_length == 0);
     free_files(empty);
+    uint32_t looks = 9;
+    EXPECT(boddurci_looks_small(BODDURCI_NO_BYTES, BODDURCI_NO_BYTES, 0, &looks) == BODDURCI_DONE && looks == 0);
     for (int i = 0; i < 2000; i++)
         EXPECT(boddurci_store(&db, (const uint8_t *)key, (size_t)snprintf(key, sizeof key, "%d", i), (const uint8_t *)&i, sizeof i, 1) ==
                BODDURCI_DONE);
@@ -577,6 +579,7 @@ static void test_files(void)
     EXPECT(boddurci_open(&other, files.dir, files.dir_length, files.pag, files.pag_length, 0, 0, text, sizeof text, &length) == BODDURCI_DONE);
     struct files again = files_of(&other);
     EXPECT(are_same(files, again));
+    EXPECT(boddurci_looks_small(files.dir, files.dir_length, files.pag, files.pag_length, 0, &looks) == BODDURCI_DONE && looks == 1);
     boddurci_close(&other);
     EXPECT(boddurci_open(&other, files.dir, files.dir_length, files.pag, files.pag_length - 1, 0, 0, text, sizeof text, &length) ==
            BODDURCI_BAD_FILES);

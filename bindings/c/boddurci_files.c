@@ -298,6 +298,17 @@ static const uint8_t *or_none(struct boddurci_bytes bytes)
     return bytes.at != NULL ? bytes.at : none;
 }
 
+/* Looks whether a base that is to be opened with wide pages has small ones, which may read as wide ones by chance. */
+static uint32_t look_at_size(const boddurci_base *base, struct boddurci_bytes dir, struct boddurci_bytes pag, boddurci_fault *fault)
+{
+    uint32_t looks_small = 0, status = BODDURCI_DONE;
+    if ((base->flags & (BODDURCI_WIDE | BODDURCI_ANY_SIZE)) == BODDURCI_WIDE)
+        status = boddurci_looks_small(or_none(dir), dir.length, or_none(pag), pag.length, (base->flags & BODDURCI_UNSIGNED_KEYS) != 0, &looks_small);
+    if (status == BODDURCI_DONE && looks_small)
+        status = BODDURCI_OTHER_SIZE;
+    return status == BODDURCI_DONE ? status : boddurci_fail(fault, status, 0, boddurci_files_text(status));
+}
+
 static uint32_t open_bytes(boddurci_base *base, const struct boddurci_bytes *files, boddurci_fault *fault)
 {
     uint8_t text[sizeof fault->text - 1];
@@ -339,6 +350,8 @@ static uint32_t read_base(boddurci_base *base, const char *name, int64_t millise
         status = read_again(base, files, status, milliseconds, fault);
     if (status != BODDURCI_DONE || reads)
         boddurci_give_lock(&base->place, 1);
+    if (status == BODDURCI_DONE)
+        status = look_at_size(base, files[BODDURCI_DIRECTORY], files[BODDURCI_PAGES], fault);
     if (status == BODDURCI_DONE)
         status = open_bytes(base, files, fault);
     let_both_go(files);

@@ -24,6 +24,7 @@ const char *boddurci_files_text(uint32_t status)
     case BODDURCI_BAD_NAME: return "no name of a database";
     case BODDURCI_INTERRUPTED: return "a signal came while the lock was waited for";
     case BODDURCI_OPEN_HERE: return "this thread has it open already";
+    case BODDURCI_OTHER_SIZE: return "the pages look small, and a change with wide ones would destroy them";
     default: return boddurci_text(status);
     }
 }

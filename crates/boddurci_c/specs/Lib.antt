@@ -3,6 +3,7 @@ pub mod Statuses
 pub mod Units
 pub mod Calls
 pub mod Texts
+pub mod Sizes
 pub mod Turns
 pub mod Plans
 pub mod Asked

@@ -5,6 +5,7 @@
 ghost use Rattle.std.specs.Prelude.{◌≡◌, ◌≢◌, ◌⊎◌, Option, Some, None, IfOk, IfErr, OnOk, OnErr};
 ghost use Rattle.store_cmd.specs.declared.Command.TheVariants.{Store, Delete};
 ghost use Rattle.boddurci_c.specs.Calls.{Denies, Never, Says, Fetches, Counts, Runs, DeniesRun, Limits, Numbers, Rejects, Writes, LacksMemory, Lists, Remarks, IsOpened, OpensOr, open_word, mode_for, blank_for, kind_for, size_for, empty_registry, status_of_fault, status_of_open};
+ghost use Rattle.boddurci_c.specs.Sizes.{LooksOr};
 ghost use Rattle.boddurci_c.specs.Texts.{Assembles, Garbles};
 ghost use Rattle.boddurci_c.specs.Turns.{Begins, GoesOn};
 ghost use Rattle.boddurci_c.specs.declared.opened.Db.{Db};
@@ -36,6 +37,7 @@ use rooms::{copy_both, copy_out, tell};
 use sdbm_addr::{KeyBytes, Mode, PageSize};
 use sdbm_files::{MemSink, OpenFault};
 use sdbm_saves::Marked;
+use sdbm_sizes::bytes_look_small;
 use status::Status;
 use std::alloc::Global;
 use store_cmd::Reply;
@@ -499,6 +501,32 @@ fn form_of(unsigned_keys: u32, wide: u32) -> (KeyBytes, PageSize)
         (0, _) => (KeyBytes::Signed, PageSize::Wide),
         (_, 0) => (KeyBytes::Unsigned, PageSize::Small),
         (_, _) => (KeyBytes::Unsigned, PageSize::Wide),
+    }
+}
+
+/// Returns whether files that are to be opened with wide pages look like those of a database with small ones, as 1 or 0 in a number. Opened
+/// with wide pages, such a database may be read by chance, and a change would destroy it.
+#[unsafe(no_mangle)]
+pub extern "C" fn boddurci_looks_small(
+    alloc: Global,
+    dir: &[u8],
+    pag: &[u8],
+    unsigned_keys: u32,
+    looks: &mut u32,
+) -> u32
+    ensures { LooksOr (kind_for unsigned_keys) dir.now pag.now result looks.old looks.new }
+{
+    let (kind, _) = form_of(unsigned_keys, 0);
+    match bytes_look_small(alloc, dir, kind, pag) {
+        Ok(true) => {
+            *looks = 1;
+            Status::Done.code()
+        }
+        Ok(false) => {
+            *looks = 0;
+            Status::Done.code()
+        }
+        Err(_) => Status::NoMemory.code(),
     }
 }
 

@@ -542,9 +542,14 @@ class Database(*_plain_calls, _Database):
 _databases = weakref.WeakValueDictionary()
 
 
+def _all_databases():
+    """A list of the databases that are open. It is taken in one step, so another thread may open one meanwhile."""
+    return [it for it in (ref() for ref in _databases.valuerefs()) if it is not None]
+
+
 def _leave_all():
     """Leaves all databases to the parent, in a child."""
-    for database in list(_databases.values()):
+    for database in _all_databases():
         database._leave_to_parent()
         database._release()
 
@@ -552,7 +557,7 @@ def _leave_all():
 def _finish_all():
     """Closes what is still open when the interpreter exits. The objects need not end then: a daemon thread may have them."""
     with contextlib.ExitStack() as stack:
-        for database in list(_databases.values()):
+        for database in _all_databases():
             stack.callback(database._finish)
 
 

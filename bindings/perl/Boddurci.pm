@@ -1,4 +1,5 @@
-# Boddurci for Perl: a key-value store with a proved core, in the two files of an sdbm database, with small verified programs on its records.
+# Boddurci for Perl: a key-value store with a proved core, in the two files of an sdbm database, with small verified programs on its
+# records.
 #
 #     use Boddurci;
 #     tie my %db, "Boddurci", "visits", "c" or die;
@@ -8,11 +9,11 @@
 #     untie %db;
 #
 # Keys and values are bytes. A database is in memory while it is tied, under an exclusive lock on BASE.lock unless it is only read ("r");
-# `sync` and `untie` write its files, and a crash in between leaves the database before or after. If a tied hash ends without `untie`, or is
-# still tied when the program ends, it is saved then; a warning names the base and the fault if that fails, and the lock is released in any
-# case. Options follow the mode: wide => 1, unsigned_keys => 1, no_wait => 1, and timeout => SECONDS, after which a lock that another process
-# holds is an error. In a child of the process that tied the hash every call but `untie` dies, and nothing is saved. A handler of a signal may
-# die while a hash is tied: the lock is released with it. Every failure dies.
+# `sync` and `untie` write its files, and a crash in between leaves the database before or after. If a tied hash ends without `untie`, or
+# is still tied when the program ends, it is saved then; a warning names the base and the fault if that fails, and the lock is released in
+# any case. Options follow the mode: wide => 1, unsigned_keys => 1, no_wait => 1, and timeout => SECONDS, after which a lock that another
+# process holds is an error. In a child of the process that tied the hash every call but `untie` dies, and nothing is saved. A handler of a
+# signal may die while a hash is tied: the lock is released with it. Every failure dies.
 #
 # It needs FFI::Platypus (Debian: libffi-platypus-perl) and the shared object that `./dbm --build-library` makes. It takes the file that
 # BODDURCI_LIBRARY names by its absolute path, else the one beside this module, else the one in out/boddurci of the repository, else the

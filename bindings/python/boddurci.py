@@ -114,7 +114,7 @@ _SONAME = "libboddurci.so.2"
 
 
 def _obeys_environment():
-    """Whether the environment may choose the library: not in `python -I` and `-E`, nor with rights that the process's user does not have."""
+    """Whether the environment may choose the library: not in `python -I` and `-E`, nor if the process has rights that its user lacks."""
     is_own = os.geteuid() == os.getuid() and os.getegid() == os.getgid()
     return is_own and not sys.flags.isolated and not sys.flags.ignore_environment
 
@@ -137,7 +137,8 @@ def _bind():
     try:
         waits, quick = ctypes.CDLL(path), ctypes.PyDLL(path)
     except OSError as why:
-        raise ImportError(f"{path} cannot be loaded: make libboddurci.so with ./dbm --build-library, and name it in BODDURCI_LIBRARY") from why
+        hint = "make libboddurci.so with ./dbm --build-library, and name it in BODDURCI_LIBRARY"
+        raise ImportError(f"{path} cannot be loaded: {hint}") from why
     u32, u64, size = ctypes.c_uint32, ctypes.c_uint64, ctypes.c_size_t
     text, at = ctypes.c_char_p, ctypes.c_void_p
     kinds = {

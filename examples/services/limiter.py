@@ -17,6 +17,7 @@ import signal
 import socketserver
 import struct
 import sys
+import tempfile
 import threading
 import time
 
@@ -67,12 +68,12 @@ def secret_of(base):
     """The secret of a database, which is made if it is missing. The lock of the database keeps other services away meanwhile."""
     path = pathlib.Path(base + ".secret")
     if not path.exists():
-        new = pathlib.Path(base + ".secret.new")
-        with open(os.open(new, os.O_WRONLY | os.O_CREAT | os.O_TRUNC, 0o600), "wb") as file:
+        number, new = tempfile.mkstemp(prefix=f"{path.name}.", dir=path.parent)
+        with open(number, "wb") as file:
             file.write(os.urandom(32))
             file.flush()
             os.fsync(file.fileno())
-        new.rename(path)
+        os.rename(new, path)
     return path.read_bytes()
 
 

@@ -13,8 +13,8 @@ bucket=$(dirname -- "$0")/../c/token_bucket.bin
 secret=$1.secret
 if [ ! -s "$secret" ]; then
     # The link is made at once or not at all, so callers side by side have one secret.
-    (umask 077 && dd if=/dev/urandom of="$secret.$$" bs=32 count=1 conv=fsync 2> /dev/null && ln -- "$secret.$$" "$secret" 2> /dev/null)
-    rm -f -- "$secret.$$"
+    new=$(mktemp -- "$secret.XXXXXX") && dd if=/dev/urandom of="$new" bs=32 count=1 conv=fsync 2> /dev/null && ln -- "$new" "$secret" 2> /dev/null
+    rm -f -- "${new:-}"
 fi
 if [ ! -s "$secret" ] || [ ! -r "$secret" ]; then
     echo "limiter.sh: $secret cannot be made or read" >&2

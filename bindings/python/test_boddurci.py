@@ -376,7 +376,7 @@ class Saves(InFolder):
         limits = resource.getrlimit(resource.RLIMIT_FSIZE)
         resource.setrlimit(resource.RLIMIT_FSIZE, (20000, limits[1]))
         try:
-            with self.assertRaisesRegex(boddurci.error, "BASE.redo cannot be written"):
+            with self.assertRaisesRegex(boddurci.error, "BASE.(redo|pag) cannot be written"):
                 db.sync()
         finally:
             resource.setrlimit(resource.RLIMIT_FSIZE, limits)

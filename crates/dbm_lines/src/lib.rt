@@ -119,7 +119,7 @@ impl Lines {
         if !self.next(reader, line, most)? {
             return Ok(false);
         }
-        Ok(!self.ended)
+        Ok(!self.has_ended())
     }
 
     // Puts what was read, up to the next LF, after a text, and tells whether there is one.

@@ -82,7 +82,8 @@ pub fn session_command<'a>(alloc: Global) -> Result<Command<'a>, AllocError>
     let notes =
         "Lines are those of script, and answered as there, each before the next is read. save saves, and is\n\
          answered saved once that is on the disk; the end of the input saves too. What was not saved is lost\n\
-         where the session is killed. It keeps the database locked from its first line to its last.\n\
+         if the session is killed. Each line ends in LF: one in which the input ends is not run, and is a fault.\n\
+         It keeps the database locked from its first line to its last.\n\
          help tells of the lines that scripts do not have: .list, .keys, .stats, and .program FILE.\n\n\
          Example: printf 'put 68 01\\nget 68\\n' | dbm session users";
     subcommand(alloc, "session", about, notes, args)

@@ -42,7 +42,7 @@ pub fn read_case(lines: &str) -> Option<Case<'_>> {
     let (who, rest) = head.split_once(' ')?;
     let (from, rest) = rest.split_once(' ')?;
     let (limit, manner) = rest.split_once(' ')?;
-    if !matches!(who, "turns" | "lean" | "apart") {
+    if !matches!(who, "turns" | "lean" | "apart" | "beside") {
         return None;
     }
     let kept = match from {

@@ -23,6 +23,11 @@ impl<'h, R: Threads + Wait + Sync> Bench<'h, R, Global> {
         self.work_apart(&store, case)?;
         self.show_closing(store, case.closing.unwrap_or(""))
     }
+
+    fn play_beside(&mut self, case: Case<'_>) -> Option<()> {
+        let store = self.open_store(case, NoGate)?;
+        self.work_beside(&store, case)
+    }
 }
 
 /// What cases work on that have sessions in turn, in a heap, and those that have them apart.
@@ -50,6 +55,7 @@ impl<'h, R: Threads + Wait + Sync> Benches<'h, R> {
             None
         };
         match (case.who, case.manner) {
+            ("beside", _) => self.apart.play_beside(case),
             ("apart", Manner::Free) => self.apart.play_apart(case, NoGate),
             ("apart", _) => self.apart.play_apart(case, watch.gate()),
             _ => self.turns.play_in_turn(case, watch.gate()),

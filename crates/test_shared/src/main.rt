@@ -5,7 +5,7 @@
 //!
 //! | Word | Says |
 //! |---|---|
-//! | `WHO` | `turns`: the sessions make their calls in turn; `lean`: so too, in memory that runs out; `apart`: each in a thread of its own |
+//! | `WHO` | `turns`: the sessions make their calls in turn; `lean`: so too, in memory that runs out; `apart`: each in a thread of its own; `beside`: two in threads of their own, one of which runs long programs |
 //! | `FROM` | the store is opened over an `empty` database, or over the one that was `kept` of the last that was closed |
 //! | `LIMIT` | how many entries the trail may have |
 //! | `GATE` | `free` works the jobs, and in `apart` is none; `passing` wants none, so that calls take no ticket; `refusing` hands the first one back, and `meeting` has two sessions at work at once; `keeping COUNT` keeps the first job of session 0 at work until so many jobs came and others wait for its page, and `dropping COUNT` then hands it back; `first` wants the job of the first call alone, and keeps it at work for a while |
@@ -22,6 +22,10 @@
 //! | `COUNT times CALLS COMMAND` | the same of so many calls of one command |
 //! | `COUNT rolls SEED KEYS CALLS` | the same of so many random calls on so many keys |
 //! | `COUNT grouped ..` | the same of each of these, 16 calls at once |
+//!
+//! In `beside` there are two lines, and no gate. The first line is `CALLS COUNT UNIT COMMAND`: a group of so many calls of one command, a
+//! run of a program in whose image `~` stands for so many times this unit. The second line is a short command. The answer is whether that
+//! is answered while the programs run.
 //!
 //! `end` ends the sessions, in their order, and tells the number of each that made calls, and how many. Their calls are put after
 //! those in hand, which have places from 0 on. The lines that follow close the store; without them it is let go.
@@ -40,6 +44,7 @@
 
 mod apart;
 mod bench;
+mod beside;
 mod calls;
 mod case;
 mod cases;

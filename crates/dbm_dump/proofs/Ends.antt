@@ -1,5 +1,5 @@
 -- The end of a text, after its last LF.
-use Rattle.std.proofs.Common.{◌≡◌, ℕ, ◌+◌, ◌<◌, List, [], ◌∷◌, ◌++◌, length, Bool, true, false, cond, Option, Some, None, inl, inr, refl, sym, ap, ◌∙◌, subst, arith, eqb}
+use Rattle.std.proofs.Common.{◌≡◌, ℕ, ◌+◌, ◌<◌, List, [], ◌∷◌, ◌++◌, length, Bool, true, false, not, cond, Option, Some, None, inl, inr, refl, sym, ap, ◌∙◌, subst, arith, eqb}
 use Rattle.std.proofs.lemmas.Bool.{false≢true}
 use Rattle.std.proofs.lemmas.Option.{same_Some}
 use Rattle.sdbm_addr.specs.Pairs.{Pair}
@@ -141,3 +141,9 @@ pub gives_end : (number : ℕ) (left : Option (List (List ℕ))) (line : List �
 gives_end number left line u known more gives end =
     let is = both_true u.ended line end in
     inr (more, last_piece left line (lines_left u known) is.1 (none_left u.ended u.rest known is.0) gives)
+
+-- a piece after the first, by whether it is the empty end
+pub gives_rest : (number : ℕ) (left : Option (List (List ℕ))) (line : List ℕ) (u : Unread) (known : Option (List ℕ)) (b : Bool) → 1 < number → Gives left true line (lines_left u known) → IsEnd u line ≡ b
+    → GivesLine number left (not b) line (lines_left u known)
+gives_rest number left line u known true more gives is = gives_end number left line u known more gives is
+gives_rest number left line u known false more gives is = gives_more number left line u known gives is

@@ -76,6 +76,7 @@ fn next_line<R: Read>(
     line: &mut Vec<u8>,
     number: u64,
 ) -> Result<bool, DumpFault>
+    requires { 0 < number }
     ensures given { IfOk result (λ found. GivesLine number (lines_left lines.old (R.remaining reader.old)) found line.new.items (lines_left lines.new (R.remaining reader.new))) }
     ensures fault { IfErr result (IsLineFault number (lines_left lines.old (R.remaining reader.old))) }
 {

@@ -1,0 +1,68 @@
+; A lease with a fencing token: an owner, an end, and a number that rises with each new owner.
+;
+; Record, 24 bytes: the number of the owner, the time at which the lease ends, and the last token.
+; A number is 8 bytes, the lowest first. Zeros are a lease that nobody has had.
+; Argument, 16 bytes: the number of who asks, and for how long from now on; 0 gives it back.
+;
+; Code 1: granted, and the reply word is the token; or given back or over, and the word is 0.
+; Code 0: another owner has the lease until the time in the reply word; or a length is too short,
+; and the word is 0.
+; Code 3: the tokens are used up, after 2^64 - 1 of them.
+;
+; The first token is 1. An owner who renews the lease while it lasts keeps the token; each other
+; grant has a greater one. Send the token with each request to the resource that the lease guards,
+; and let the resource refuse every token that is lower than one it has seen.
+; A lease ends at 2^64 - 1 at the latest: at that time each has ended, and anyone may take it.
+
+    jlt r2, 24, leave       ; R2 is the record's length
+    jlt r4, 16, leave       ; R4 is the argument's length
+    mov r6, r1              ; a call leaves R1 to R5 unset
+    ldxdw r7, [r3]          ; who asks
+    ldxdw r8, [r3+8]        ; for how long
+    call 2                  ; the time
+    mov r9, r0
+    ldxdw r1, [r6+8]        ; when the lease ends
+    jle r1, r9, free        ; it has ended
+    ldxdw r2, [r6]          ; who has it
+    jeq r2, r7, own         ; the owner may renew it and give it back
+    call 1                  ; says until when
+    mov r0, 0               ; change nothing
+    exit
+
+free:
+    jeq r8, 0, give_back
+    ldxdw r2, [r6+16]       ; the last token
+    add r2, 1
+    jeq r2, 0, used_up
+    stxdw [r6], r7
+    stxdw [r6+16], r2
+    ja grant
+
+own:
+    jeq r8, 0, give_back
+    ldxdw r2, [r6+16]       ; the owner's token
+
+grant:
+    add r8, r9              ; until when
+    jge r8, r9, write
+    mov r8, -1              ; past all times: the last one
+
+write:
+    stxdw [r6+8], r8
+    mov r1, r2
+    call 1                  ; says the token
+    mov r0, 1               ; save the record
+    exit
+
+give_back:
+    stdw [r6+8], 0          ; the lease is over, and the token stays
+    mov r0, 1
+    exit
+
+used_up:
+    mov r0, 3               ; change nothing
+    exit
+
+leave:
+    mov r0, 0               ; change nothing
+    exit

@@ -302,8 +302,10 @@ static const uint8_t *or_none(struct boddurci_bytes bytes)
 static uint32_t look_at_size(const boddurci_base *base, struct boddurci_bytes dir, struct boddurci_bytes pag, boddurci_fault *fault)
 {
     uint32_t looks_small = 0, status = BODDURCI_DONE;
-    if ((base->flags & (BODDURCI_WIDE | BODDURCI_ANY_SIZE)) == BODDURCI_WIDE)
-        status = boddurci_looks_small(or_none(dir), dir.length, or_none(pag), pag.length, (base->flags & BODDURCI_UNSIGNED_KEYS) != 0, &looks_small);
+    int is_tested = (base->flags & (BODDURCI_WIDE | BODDURCI_ANY_SIZE)) == BODDURCI_WIDE;
+    /* The keys may hash in the other way than the caller says. */
+    for (uint32_t is_unsigned = 0; is_tested && status == BODDURCI_DONE && !looks_small && is_unsigned < 2; is_unsigned++)
+        status = boddurci_looks_small(or_none(dir), dir.length, or_none(pag), pag.length, is_unsigned, &looks_small);
     if (status == BODDURCI_DONE && looks_small)
         status = BODDURCI_OTHER_SIZE;
     return status == BODDURCI_DONE ? status : boddurci_fail(fault, status, 0, boddurci_files_text(status));

@@ -43,7 +43,7 @@ impl SeenFiles {
         }
     }
 
-    /// Those to which the names of the data files lead now. Links to them are followed.
+    /// The files that the names of the data files refer to now. Links are followed.
     ///
     /// # Errors
     /// `Moved` with the first of them that cannot be looked at.
@@ -57,10 +57,23 @@ impl SeenFiles {
         Ok(SeenFiles { pages, directory })
     }
 
-    /// Says which data file others are not, where one is not.
+    /// The same files, with those that were missing as the names find them now: a save has made them. A file that was there stays the
+    /// one that it was, whatever has its name by now.
+    pub fn with_made<R: Files>(&self, rt: &R, names: &Names) -> SeenFiles {
+        SeenFiles {
+            pages: self
+                .pages
+                .or(id_of(rt, names.pages.as_str()).unwrap_or(None)),
+            directory: self
+                .directory
+                .or(id_of(rt, names.directory.as_str()).unwrap_or(None)),
+        }
+    }
+
+    /// Returns `Moved` with the first data file that differs.
     ///
     /// # Errors
-    /// `Moved` with that file.
+    /// `Moved` alone.
     pub fn must_be(&self, others: &SeenFiles) -> Result<(), FilesFault> {
         if self.pages != others.pages {
             return Err(FilesFault::Moved(MovedFile::Pages));

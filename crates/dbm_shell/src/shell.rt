@@ -187,8 +187,7 @@ impl<R: Runtime<File = File> + Clock + AllocGlobal> Host for Shell<'_, R> {
             return Err(FilesFault::FileTooLong);
         }
         self.log = self.save_logged(image)?;
-        // A save makes the files that were missing.
-        self.seen = SeenFiles::look(self.rt, &self.held.place.names)?;
+        self.seen = self.seen.with_made(self.rt, &self.held.place.names);
         self.changes = 0;
         self.saved_at = self.rt.monotonic().ok();
         Ok(())

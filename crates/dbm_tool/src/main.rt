@@ -30,7 +30,7 @@ use quick::{may_be_quick, print_quick, refusal_in, serve_quick};
 use request::{given_of, place_asked, told_of, work_asked, work_of};
 use sdbm_saves::{FoundRead, ReadFiles};
 use serve::serve;
-use sizes::{refuse_small, wide_kind};
+use sizes::{must_be_wide, refuse_small};
 use std::alloc::{AllocError, Global};
 use std::fs::File;
 use std::io::{ErrorKind, Read, Write};
@@ -159,7 +159,7 @@ fn serve_request<R: Runtime<File = File> + AllocGlobal + Threads + Wait + Sync, 
     request: Request<'_>,
     reader: &mut Kept<I>,
 ) -> Result<Ending, ServeFault> {
-    let kind = wide_kind(&request);
+    let is_wide = must_be_wide(&request);
     let Request { ask, access } = request;
     let place = place_asked(&ask);
     if let Some(base) = place.base
@@ -178,8 +178,8 @@ fn serve_request<R: Runtime<File = File> + AllocGlobal + Threads + Wait + Sync, 
     let peeks = may_be_quick(&ask) && (access.quick || is_quick(rt));
     let work = work_asked(&ask);
     let mut taken = take_and_tell(rt, place, peeks, patience, access.verbose, work)?;
-    if let Some(kind) = kind {
-        taken = refuse_small(rt, kind, place, taken, patience)?;
+    if is_wide {
+        taken = refuse_small(rt, place, taken, patience)?;
     }
     match ask {
         Ask::Wish(wish) => serve_timed(rt, wish, taking, taken, reader),

@@ -11,16 +11,12 @@ use std::fs::File;
 use std::rt::Files;
 use std::time::{Clock, Duration};
 
-/// How the keys of files hash that must not look small. `None` if the files are opened with small pages, or the user insists.
-pub fn wide_kind(request: &Request<'_>) -> Option<KeyBytes> {
-    let words = told_of(request).words;
-    if !words.wide || request.access.insist {
-        return None;
-    }
-    if words.unsigned {
-        return Some(KeyBytes::Unsigned);
-    }
-    Some(KeyBytes::Signed)
+// How the keys of a database may hash. The user may have given the other one.
+const KINDS: [KeyBytes; 2] = [KeyBytes::Signed, KeyBytes::Unsigned];
+
+/// Whether the files of a request must not look small: they are opened with wide pages, and the user does not insist.
+pub fn must_be_wide(request: &Request<'_>) -> bool {
+    told_of(request).words.wide && !request.access.insist
 }
 
 /// Refuses files that look small. A `.pag` of which nothing was read is read whole if its last page may be small: a database of small
@@ -30,33 +26,29 @@ pub fn wide_kind(request: &Request<'_>) -> Option<KeyBytes> {
 /// `OtherSize` if the files look small, `NoMemory`, and those of `take_rest`.
 pub fn refuse_small<R: Files<File = File> + Clock + AllocGlobal>(
     rt: &R,
-    kind: KeyBytes,
     place: RunPlace<'_>,
     taken: RunFiles,
     patience: Option<Duration>,
 ) -> Result<RunFiles, ServeFault> {
     let directory = taken.bytes.directory.as_slice();
     let taken = match &taken.unread {
-        Some(unread) if !may_be_small(rt.alloc(), kind, directory, unread)? => {
+        Some(unread) if !may_be_small(rt.alloc(), directory, unread)? => {
             return Ok(taken);
         }
         Some(_) => take_rest(rt, place, taken, patience)?,
         None => taken,
     };
     let directory = taken.bytes.directory.as_slice();
-    if pages_look_small(rt.alloc(), directory, kind, &taken.bytes.pages)? {
-        return Err(ServeFault::OtherSize);
+    for kind in KINDS {
+        if pages_look_small(rt.alloc(), directory, kind, &taken.bytes.pages)? {
+            return Err(ServeFault::OtherSize);
+        }
     }
     Ok(taken)
 }
 
 // Whether the last page of a `.pag` looks small, is all zeros, or cannot be read alone.
-fn may_be_small(
-    alloc: Global,
-    kind: KeyBytes,
-    directory: &[u8],
-    unread: &UnreadPages,
-) -> Result<bool, AllocError> {
+fn may_be_small(alloc: Global, directory: &[u8], unread: &UnreadPages) -> Result<bool, AllocError> {
     let pages = unread.len / PageSize::Wide.bytes();
     if pages == 0 || pages > MOST_PAGES {
         return Ok(pages != 0);
@@ -68,5 +60,10 @@ fn may_be_small(
     if page.iter().all(|byte| *byte == 0) {
         return Ok(true);
     }
-    page_looks_small(alloc, directory, kind, last, page.as_slice())
+    for kind in KINDS {
+        if page_looks_small(alloc, directory, kind, last, page.as_slice())? {
+            return Ok(true);
+        }
+    }
+    Ok(false)
 }

@@ -11,9 +11,10 @@
 # Keys and values are bytes. A database is in memory while it is tied, under an exclusive lock on BASE.lock unless it is only read ("r");
 # `sync` and `untie` write its files, and a crash in between leaves the database before or after. If a tied hash ends without `untie`, or
 # is still tied when the program ends, it is saved then; a warning names the base and the fault if that fails, and the lock is released in
-# any case. Options follow the mode: wide => 1, unsigned_keys => 1, no_wait => 1, and timeout => SECONDS, after which a lock that another
-# process holds is an error. In a child of the process that tied the hash every call but `untie` dies, and nothing is saved. A handler of a
-# signal may die while a hash is tied: the lock is released with it. Every failure dies.
+# any case. Options follow the mode: wide => 1, unsigned_keys => 1, no_wait => 1, timeout => SECONDS, after which a lock that another
+# process holds is an error, and any_size => 1, without which files that look like those of small pages are not opened as wide. In a child
+# of the process that tied the hash every call but `untie` dies, and nothing is saved. A handler of a signal may die while a hash is tied:
+# the lock is released with it. Every failure dies.
 #
 # It needs FFI::Platypus (Debian: libffi-platypus-perl) and the shared object that `./dbm --build-library` makes. It takes the file that
 # BODDURCI_LIBRARY names by its absolute path, else the one beside this module, else the one in out/boddurci of the repository, else the
@@ -46,7 +47,7 @@ my %WORDS = (
 
 # boddurci_files.h
 my %FLAGS = (r => 4 | 16, w => 16, c => 0, n => 32);
-my %OPTIONS = (wide => 1, unsigned_keys => 2, no_wait => 8);
+my %OPTIONS = (wide => 1, unsigned_keys => 2, no_wait => 8, any_size => 64);
 
 # The sizes of what calls write: a value, an image, a fault (as unpack reads it) and a cursor.
 my ($VALUE_MOST, $IMAGE_MOST, $FAULT, $CURSOR) = (8008, 32768, "L l Z200", 16);

@@ -111,6 +111,16 @@ tie %db, "Boddurci", "$base.ends", "w", no_wait => 1;
 is($db{a}, "new");
 untie %db;
 
+# Files of small pages are not opened as wide, unless that is insisted on.
+{
+    tie my %small, "Boddurci", "$base.small", "c";
+    $small{key} = "value";
+    untie %small;
+    truncate "$base.small.pag", 8192 or die;
+    dies_with(sub { tie my %wide, "Boddurci", "$base.small", "w", wide => 1 }, qr/look small/);
+    ok(eval { tie my %wide, "Boddurci", "$base.small", "r", wide => 1, any_size => 1; 1 } || $@ !~ /look small/);
+}
+
 # An object whose string is another each time is stored as one of them, and nothing beyond it is read.
 {
     package Changing;

@@ -51,7 +51,7 @@ _WORDS = {
 }
 
 # boddurci_files.h
-_WIDE, _UNSIGNED_KEYS, _READ_ONLY, _NO_WAIT, _MUST_EXIST, _EMPTY = 1, 2, 4, 8, 16, 32
+_WIDE, _UNSIGNED_KEYS, _READ_ONLY, _NO_WAIT, _MUST_EXIST, _EMPTY, _ANY_SIZE = 1, 2, 4, 8, 16, 32, 64
 
 _VALUE_MOST = 8008
 _IMAGE_MOST = 32768
@@ -576,11 +576,11 @@ def _of_fault(fault, name):
     return told
 
 
-def open(file, flag="r", mode=0o666, *, wide=False, unsigned_keys=False, wait=True, timeout=None):
-    """Opens FILE.dir and FILE.pag, as dbm.open does: 'r' reads only, 'w' writes too, 'c' makes the files where they are missing, 'n'
-    begins with an empty database. `wide` is for pages of 8,192 bytes, `unsigned_keys` for keys that hash by unsigned bytes; the files do
-    not say which. Without `wait` a lock that another has is an error, and with a `timeout` one that another still has after so many
-    seconds."""
+def open(file, flag="r", mode=0o666, *, wide=False, unsigned_keys=False, any_size=False, wait=True, timeout=None):
+    """Opens FILE.dir and FILE.pag, as dbm.open does: 'r' reads only, 'w' writes too, 'c' makes missing files, 'n' begins with an empty
+    database. `wide` is for pages of 8,192 bytes, `unsigned_keys` for keys that hash by unsigned bytes; the files do not say which. With
+    `wide`, files that look like those of small pages are an error, unless `any_size` is given. Without `wait` a lock that another process
+    holds is an error; with a `timeout` it is one after that many seconds."""
     if flag not in ("r", "w", "c", "n"):
         raise ValueError("flag must be 'r', 'w', 'c' or 'n'")
     name = os.fsencode(file)
@@ -589,7 +589,7 @@ def open(file, flag="r", mode=0o666, *, wide=False, unsigned_keys=False, wait=Tr
     if timeout is not None and not timeout >= 0:
         raise ValueError("a timeout is a number of seconds, 0 or more")
     flags = {"r": _READ_ONLY | _MUST_EXIST, "w": _MUST_EXIST, "c": 0, "n": _EMPTY}[flag]
-    flags |= (_WIDE if wide else 0) | (_UNSIGNED_KEYS if unsigned_keys else 0) | (0 if wait else _NO_WAIT)
+    flags |= (_WIDE if wide else 0) | (_UNSIGNED_KEYS if unsigned_keys else 0) | (_ANY_SIZE if any_size else 0) | (0 if wait else _NO_WAIT)
     db = Database(name, flags, timeout)
     try:
         if flag in ("c", "n"):

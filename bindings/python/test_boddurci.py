@@ -106,6 +106,20 @@ class Mapping(InFolder):
             db_files = os.path.getsize(self.base + ".pag")
         self.assertEqual(db_files % 8192, 0)
 
+    def test_wide_pages_of_files_with_small_ones(self):
+        with boddurci.open(self.base, "n") as db:
+            db[b"key"] = b"value"
+        os.truncate(self.base + ".pag", 8192)
+        for flag in "rw":
+            with self.assertRaisesRegex(boddurci.error, "look small"):
+                boddurci.open(self.base, flag, wide=True)
+        try:
+            boddurci.open(self.base, wide=True, any_size=True).close()
+        except boddurci.error as fault:
+            self.assertNotIn("look small", str(fault))
+        with boddurci.open(self.base) as db:
+            self.assertEqual(db.items(), [(b"key", b"value")])
+
     def test_open(self):
         for flag in "rw":
             with self.assertRaises(OSError):

@@ -69,7 +69,7 @@ pub fn verify<A: Allocator + Copy>(
         Err((fault, _)) => return Err((fault, code)),
     };
     match encode(alloc, &code) {
-        Ok(image) => Ok(Verified::new(code, passed.noted, passed.flats, image)),
+        Ok(image) => Ok(Verified::new(code, passed.noted, passed.flats, passed.kinds, image)),
         Err(AllocError) => Err((VerifyFault::NoMemory, code)),
     }
 }

@@ -10,6 +10,7 @@ mod examined;
 mod fault;
 mod flat;
 mod judging;
+mod kinds;
 mod noted;
 mod pass;
 mod refused;
@@ -19,6 +20,7 @@ mod verified;
 mod visits;
 
 pub use bpf_flow::State;
+pub use bpf_range::Kind;
 pub use examined::Examined;
 pub use fault::VerifyFault;
 pub use flat::Flat;

@@ -1,12 +1,14 @@
 //! The pass over a program's instructions.
 
-ghost use Rattle.std.specs.Prelude.{◌≡◌, ◌≢◌, ◌<◌, ◌≤◌, ◌+◌, ◌≤ℤ◌, pos, ℕ, Bool, IsTrue, OnOk, OnErr, IfOk, IfErr};
+ghost use Rattle.std.specs.Prelude.{◌≡◌, ◌≢◌, ◌<◌, ◌≤◌, ◌+◌, ◌≤ℤ◌, pos, ℕ, Bool, IsTrue, OnOk, OnErr, IfOk, IfErr, length, vec_len, vec_capacity};
 ghost use Rattle.std.specs.Box.{box_value};
 ghost use Rattle.bpf_insn.specs.Code.{units_of, unit_count};
 ghost use Rattle.bpf_insn.specs.Spelling.{HasSpelling, IsOperand};
 ghost use Rattle.bpf_flow.specs.declared.state.State.{State as StateOf};
 ghost use Rattle.bpf_flow.specs.Steps.{distance_of, edges_of, GoesNext, GoesJump, HasNext, HasJump, IsPlain, CanFlow};
 ghost use Rattle.bpf_verify.specs.Flats.{StandsFor, AreFlats};
+ghost use Rattle.bpf_verify.specs.Kinds.{AddsRow, AreRows};
+ghost use Rattle.bpf_verify.specs.States.{state_at};
 ghost use Rattle.bpf_verify.specs.Structure.{IsBuilt, IsMet};
 ghost use Rattle.bpf_verify.specs.Stopped.{Halts, Stays, IsStopped};
 ghost use Rattle.bpf_verify.specs.Verified.{IsVerified, Starts};
@@ -14,6 +16,7 @@ ghost use Rattle.bpf_verify.specs.Visits.{AreStates, Adds, ConsistentAt, Keeps, 
 
 use crate::fault::VerifyFault;
 use crate::flat::{Flat, flat_of, flat_plain};
+use crate::kinds::Kinds;
 use crate::noted::Noted;
 use crate::pass::Pass;
 use crate::table::States;
@@ -152,12 +155,13 @@ fn visit_insn<A: Allocator + Copy>(
     }
 }
 
-/// Takes the instruction at a unit, if a state stands there: what is known after it is added where it goes on. The result is what
-/// stands at the unit, made ready.
+/// Takes the instruction at a unit, if a state is there: adds what is known after it where it goes on, and notes the kinds of registers
+/// before it. The result is what stands at the unit, made ready.
 fn visit<A: Allocator + Copy>(
     alloc: A,
     code: &Code<A>,
     pass: &mut Pass<A>,
+    kinds: &mut Kinds<A>,
     all: bool,
     at: usize,
 ) -> Result<Flat, VerifyFault>
@@ -165,31 +169,39 @@ fn visit<A: Allocator + Copy>(
     requires are { AreStates code.now pass.old.noted.states }
     requires keeps { Keeps all at pass.old.noted.states pass.old.kept }
     requires short { at < unit_count code.now }
+    requires room { vec_len kinds.old.rows < vec_capacity kinds.old.rows }
+    requires few { length kinds.old.pool.items + 11 ≤ 0x1_0000 }
     ensures adds { IfOk result (λ _. Adds code.now pass.old.noted.states pass.new.noted.states at) }
     ensures consistent { IfOk result (λ _. ConsistentAt code.now pass.new.noted.states at) }
     ensures flat { IfOk result (StandsFor code.now pass.new.noted.states at) }
+    ensures kinds { OnOk result (AddsRow kinds.old.pool.items kinds.new.pool.items kinds.old.rows.items kinds.new.rows.items (state_at pass.old.noted.states at)) }
+    ensures room { OnOk result (vec_capacity kinds.new.rows ≡ vec_capacity kinds.old.rows) }
     ensures keeps { Keeps all (at + 1) pass.new.noted.states pass.new.kept }
     ensures met { IfErr result (IsMet code.now) }
     ensures stays { IfErr result (Stays pass.old.noted.states pass.new.noted.states at) }
 {
     let Some(insn) = code.insn_at(at) else {
+        kinds.skip();
         return Ok(Flat::Other);
     };
     let Some(state) = pass.take(alloc, all, at)? else {
+        kinds.skip();
         return Ok(flat_plain(insn));
     };
+    kinds.add(&state)?;
     let flat = flat_of(&state, insn);
     visit_insn(alloc, pass, at, insn, state)?;
     Ok(flat)
 }
 
-/// What the pass over a program has found: its states, as clauses see them, those that are kept, and what stands at its units, made
-/// ready.
+/// What the pass over a program has found: its states, as clauses see them, those that are kept, what stands at its units, made ready, and
+/// the kinds of registers there.
 #[derive(Drop)]
 pub(crate) struct Passed<A: Allocator> {
     pub(crate) noted: Noted,
     pub(crate) kept: States<A>,
     pub(crate) flats: Vec<Flat, A>,
+    pub(crate) kinds: Kinds<A>,
 }
 
 /// The pass before its first instruction: what is known at the start.
@@ -215,6 +227,7 @@ pub(crate) fn pass_over<A: Allocator + Copy>(
     requires { IsBuilt code.now }
     ensures verified { IfOk result (λ p. IsVerified code.now p.noted.states) }
     ensures flats { IfOk result (λ p. AreFlats code.now p.noted.states p.flats.items) }
+    ensures kinds { IfOk result (λ p. AreRows p.kinds.pool.items p.kinds.rows.items p.noted.states) }
     ensures whole { IsTrue all → IfOk result (λ p. p.kept ≡ p.noted.states) }
     ensures met { IfErr result (λ e. IsMet code.now e.0) }
     ensures stopped { IsTrue all → IfErr result (λ e. IsStopped code.now e.1 e.0) }
@@ -224,15 +237,24 @@ pub(crate) fn pass_over<A: Allocator + Copy>(
     let Ok(()) = flats.reserve(units) else {
         return Err((VerifyFault::NoMemory, States::empty(alloc)));
     };
+    let Ok(mut kinds) = Kinds::new(alloc, units) else {
+        return Err((VerifyFault::NoMemory, States::empty(alloc)));
+    };
     let Ok(mut pass) = begin(alloc, code) else {
         return Err((VerifyFault::NoMemory, States::empty(alloc)));
     };
     for at in 0..units {
-        match visit(alloc, code, &mut pass, all, at) {
+        match visit(alloc, code, &mut pass, &mut kinds, all, at) {
             Ok(flat) => flats.push_reserved(flat),
             Err(fault) => return Err((fault, pass.kept)),
         }
     }
     let Pass { noted, kept } = pass;
-    Ok(Passed { noted, kept, flats })
+    kinds.shrink();
+    Ok(Passed {
+        noted,
+        kept,
+        flats,
+        kinds,
+    })
 }

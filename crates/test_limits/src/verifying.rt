@@ -2,7 +2,7 @@
 
 use bpf_asm::assemble;
 use bpf_insn::Code;
-use bpf_verify::{Refused, VerifyFault, examine, verify};
+use bpf_verify::{Refused, State, Verified, VerifyFault, examine, verify};
 use linked_list_allocator::LocalHeap;
 use std::alloc::{AllocError, Global};
 use std::process::Abort;
@@ -108,13 +108,74 @@ fn kept(rt: &impl Abort, alloc: Global, text: &str) -> Result<usize, Fail> {
     Ok(heap.used().saturating_sub(before))
 }
 
-// A unit takes 8 bytes for its own and 8 for its ready form, whether it is reached or not.
+// A unit takes 8 bytes for its own, 8 for its ready form and 24 for the kinds of its registers, and 40 for each kind that is new there. So
+// it takes 80 where each instruction makes a new kind, and 40 where no state is.
 #[test]
 fn units_take_little(rt: HostRuntime) -> Result<(), Fail> {
     let line = straight_line(rt.alloc())?;
-    assert!(rt; kept(&rt, rt.alloc(), line.as_str())? < 70_000);
+    assert!(rt; kept(&rt, rt.alloc(), line.as_str())? < 332_000);
     let jump = jump_over(rt.alloc(), 4093)?;
-    assert!(rt; kept(&rt, rt.alloc(), jump.as_str())? < 70_000);
+    assert!(rt; kept(&rt, rt.alloc(), jump.as_str())? < 168_000);
+    Ok(())
+}
+
+// Whether a program has the kinds of a state at a unit, or none if there is no state.
+fn has_kinds(verified: &Verified, state: Option<&State>, at: usize) -> bool {
+    for register in 0..11u8 {
+        let kind = match state {
+            Some(known) => Some(known.kind(register)),
+            None => None,
+        };
+        if verified.kind(at, register as usize) != kind {
+            return false;
+        }
+    }
+    true
+}
+
+// Whether an accepted program has at each unit the kinds of the states by which it was accepted, and how many states there are.
+fn count_states(alloc: Global, text: &str) -> Result<Option<usize>, Fail> {
+    let Ok(verified) = verify(alloc, assemble(alloc, text)?) else {
+        return Err(Fail::from("it is refused"));
+    };
+    let Ok(examined) = examine(alloc, assemble(alloc, text)?) else {
+        return Err(Fail::from("it is refused once more"));
+    };
+    let mut count = 0usize;
+    for at in 0..verified.code().units() + 2 {
+        if !has_kinds(&verified, examined.states().get(at), at) {
+            return Ok(None);
+        }
+        if examined.states().get(at).is_some() {
+            count = count.wrapping_add(1);
+        }
+    }
+    Ok(Some(count))
+}
+
+// Kinds of a register, with joins, calls, a constant of two units and units that nothing reaches.
+#[test]
+fn kinds_of_registers(rt: HostRuntime) -> Result<(), Fail> {
+    assert_eq!(rt; count_states(rt.alloc(), COUNTER)?, Some(8));
+    assert_eq!(rt; count_states(rt.alloc(), "lddw r0, 7\nexit")?, Some(2));
+    assert_eq!(rt;
+        count_states(rt.alloc(), "mov r0, 0\nja +1\nmov r0, r1\nexit")?,
+        Some(3)
+    );
+    assert_eq!(rt;
+        count_states(
+            rt.alloc(),
+            "mov r6, r1\nmov r1, 5\ncall 1\nmov r0, r6\nmov r0, 1\nexit"
+        )?,
+        Some(6)
+    );
+    assert_eq!(rt;
+        count_states(
+            rt.alloc(),
+            "jlt r4, 8, +2\nldxb r6, [r3+7]\nja +1\nmov r6, r2\nmov r0, 0\nexit"
+        )?,
+        Some(6)
+    );
     Ok(())
 }
 

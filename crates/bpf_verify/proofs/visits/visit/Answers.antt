@@ -24,7 +24,7 @@ returns-clause-flat g c =
     let known = sym c.in_ok-state.ensures.value ∙ ap (option_map box_value) c.in-Some-2.is in
     let adds = (taken_adds _ _ _ c.args.at c.in-Some.insn (box_value c.in-Some-2.state) c.requires.built here known c.requires.are (rw c.take.ensures.noted at c.in_ok-visit_insn.ensures.taken)).0 in
     stands_still _ _ _ c.args.at c.flat_of-flat.result (Grows.same (Adds.grows adds) c.args.at (omega arith))
-    (reached_stands _ _ c.args.at c.in-Some.insn (box_value c.in-Some-2.state) c.flat_of-flat.result here known c.flat_of-flat.ensures.insn (rw c.deref.ensures at c.flat_of-flat.ensures.address) (rw c.deref.ensures at c.flat_of-flat.ensures.region))
+    (reached_stands _ _ c.args.at c.in-Some.insn (box_value c.in-Some-2.state) c.flat_of-flat.result here known c.flat_of-flat.ensures.insn (rw c.deref-2.ensures at c.flat_of-flat.ensures.address) (rw c.deref-2.ensures at c.flat_of-flat.ensures.region))
 
 pub returns-clause-keeps : goal.returns-clause-keeps
 returns-clause-keeps g c = c.visit_insn.ensures.keeps c.args.all _ c.take.ensures.keeps

@@ -247,9 +247,27 @@ DeniesRun number key arg blank now d TooLong =
     × ((FitsBlank d.image.size key blank × (length arg ≤ argument_limit)) × Outgrows d.limit d.image (commands.Run key program.code arg blank now)))
 DeniesRun number key arg blank now d NoTicket = ⊥
 
--- a run is not asked, for one of these reasons, but never as `.pag` would be too long
+-- a run is not asked: there is no such program, or else it is not taken for its sizes; or of one that is, memory ran out. What it would come to
+-- is not known yet, so `.pag` is never too long.
 abbrev pub DeniesAsk : ℕ → List ℕ → List ℕ → Option ℕ → ℕ → Db → Status → Type 0
-DeniesAsk number key arg blank now d status = DeniesRun number key arg blank now d status × (status ≢ TooLong)
+DeniesAsk number key arg blank now d Done = ⊥
+DeniesAsk number key arg blank now d Missing = ⊥
+DeniesAsk number key arg blank now d Exists = ⊥
+DeniesAsk number key arg blank now d Crowded = ⊥
+DeniesAsk number key arg blank now d ShortRoom = ⊥
+DeniesAsk number key arg blank now d Refused = ⊥
+DeniesAsk number key arg blank now d BadText = ⊥
+DeniesAsk number key arg blank now d BadFiles = ⊥
+DeniesAsk number key arg blank now d Changed = ⊥
+DeniesAsk number key arg blank now d Stale = ⊥
+DeniesAsk number key arg blank now d Closed = ⊥
+DeniesAsk number key arg blank now d Open = ⊥
+DeniesAsk number key arg blank now d PairTooLarge = IsSome (slice_get d.registry.programs number) × IsRunFault d.image.size key arg blank sizes.PairTooLarge
+DeniesAsk number key arg blank now d ArgTooLong = IsSome (slice_get d.registry.programs number) × IsRunFault d.image.size key arg blank sizes.ArgTooLong
+DeniesAsk number key arg blank now d NoProgram = slice_get d.registry.programs number ≡ None
+DeniesAsk number key arg blank now d NoMemory = IsSome (slice_get d.registry.programs number) × (FitsBlank d.image.size key blank × (length arg ≤ argument_limit))
+DeniesAsk number key arg blank now d TooLong = ⊥
+DeniesAsk number key arg blank now d NoTicket = ⊥
 
 -- the number with which a run ended, and its word, are told; where it did not run they are zeros
 abbrev pub IsEnd : Reply Global → ℕ → ℕ → Type 0

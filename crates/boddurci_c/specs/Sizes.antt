@@ -2,6 +2,7 @@
 use Rattle.std.specs.Prelude.{◌≡◌, ◌⊎◌, ℕ, List}
 use Rattle.sdbm_addr.specs.declared.KeyBytes.{KeyBytes}
 use Rattle.sdbm_sizes.specs.Sizes.{FileLooksSmall, SpellsNoSmall}
+use Rattle.boddurci_c.specs.declared.status.Status.{Status}
 use Rattle.boddurci_c.specs.declared.status.Status.TheVariants.{Done, NoMemory}
 use Rattle.boddurci_c.specs.Statuses.{code_of}
 
@@ -10,5 +11,10 @@ abbrev pub Looks : KeyBytes → List ℕ → List ℕ → ℕ → Type 0
 Looks kind dir pag looks = ((looks ≡ 1) × FileLooksSmall kind dir pag) ⊎ ((looks ≡ 0) × ((FileLooksSmall kind dir pag → ⊥) × SpellsNoSmall kind dir pag))
 
 -- that number is told; or memory ran out, and nothing is
-abbrev pub LooksOr : KeyBytes → List ℕ → List ℕ → ℕ → ℕ → ℕ → Type 0
-LooksOr kind dir pag code looks_old looks = ((code ≡ code_of Done) × Looks kind dir pag looks) ⊎ ((code ≡ code_of NoMemory) × (looks ≡ looks_old))
+abbrev pub IsLook : KeyBytes → List ℕ → List ℕ → ℕ → ℕ → Status → Type 0
+IsLook kind dir pag looks_old looks status = ((status ≡ Done) × Looks kind dir pag looks) ⊎ ((status ≡ NoMemory) × (looks ≡ looks_old))
+
+pub record LooksOr (kind : KeyBytes) (dir pag : List ℕ) (code looks_old looks : ℕ) : Type 0 where
+  pub status : Status
+  pub code_is : code ≡ code_of status
+  pub is : IsLook kind dir pag looks_old looks status

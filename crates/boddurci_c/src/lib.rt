@@ -21,6 +21,7 @@ mod loose;
 mod opened;
 mod plans;
 mod rooms;
+mod sizes;
 mod status;
 mod texts;
 mod ticket;
@@ -37,7 +38,7 @@ use rooms::{copy_both, copy_out, tell};
 use sdbm_addr::{KeyBytes, Mode, PageSize};
 use sdbm_files::{MemSink, OpenFault};
 use sdbm_saves::Marked;
-use sdbm_sizes::bytes_look_small;
+use sizes::look;
 use status::Status;
 use std::alloc::Global;
 use store_cmd::Reply;
@@ -517,17 +518,7 @@ pub extern "C" fn boddurci_looks_small(
     ensures { LooksOr (kind_for unsigned_keys) dir.now pag.now result looks.old looks.new }
 {
     let (kind, _) = form_of(unsigned_keys, 0);
-    match bytes_look_small(alloc, dir, kind, pag) {
-        Ok(true) => {
-            *looks = 1;
-            Status::Done.code()
-        }
-        Ok(false) => {
-            *looks = 0;
-            Status::Done.code()
-        }
-        Err(_) => Status::NoMemory.code(),
-    }
+    look(alloc, dir, pag, kind, looks).code()
 }
 
 /// Whether a handle is open, as 1 or 0.

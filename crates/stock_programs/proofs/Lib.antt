@@ -11,3 +11,5 @@ pub mod Sequencing
 pub mod Leasing
 pub mod Fencing
 pub mod Limiting
+pub mod Permitting
+pub mod Pouring

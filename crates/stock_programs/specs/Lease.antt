@@ -108,4 +108,5 @@ pub record IsRefused (bytes argument : List ℕ) (now : ℕ) (o : Outcome) : Typ
 
 abbrev pub Leases : List ℕ → List ℕ → Env → Outcome → Type 0
 Leases bytes argument env o =
-    IsGranted bytes argument env.now o ⊎ (IsGivenBack bytes argument env.now o ⊎ (IsRefused bytes argument env.now o ⊎ IsShort 16 16 bytes argument o))
+    IsGranted bytes argument env.now o
+    ⊎ (IsGivenBack bytes argument env.now o ⊎ (IsRefused bytes argument env.now o ⊎ IsShort 16 16 bytes argument o))

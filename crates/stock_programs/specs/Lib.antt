@@ -9,3 +9,5 @@ pub mod Sequence
 pub mod Lease
 pub mod FencedLease
 pub mod RateLimit
+pub mod Semaphore
+pub mod TokenBucket

@@ -6,5 +6,6 @@ use Rattle.bpf_helpers.specs.Runs.{Outcome, Ends, IsInput}
 
 -- Every run of the program ends, on each record, argument and environment that a run may have, and its outcome obeys the relation.
 pub record Means (program : List Insn) (Relation : List ℕ → List ℕ → Env → Outcome → Type 0) : Type 0 where
-  pub obeys : (bytes argument : List ℕ) (env : Env) (o : Outcome) → IsInput bytes argument env → Ends program bytes argument env o → Relation bytes argument env o
+  pub obeys : (bytes argument : List ℕ) (env : Env) (o : Outcome) → IsInput bytes argument env → Ends program bytes argument env o
+      → Relation bytes argument env o
   pub ends : (bytes argument : List ℕ) (env : Env) → IsInput bytes argument env → (o : Outcome) × Ends program bytes argument env o

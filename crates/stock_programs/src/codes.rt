@@ -11,6 +11,8 @@ ghost use Rattle.stock_programs.specs.Sequence.{sequence};
 ghost use Rattle.stock_programs.specs.Lease.{lease};
 ghost use Rattle.stock_programs.specs.FencedLease.{fenced_lease};
 ghost use Rattle.stock_programs.specs.RateLimit.{rate_limit};
+ghost use Rattle.stock_programs.specs.Semaphore.{semaphore};
+ghost use Rattle.stock_programs.specs.TokenBucket.{token_bucket};
 
 use bpf_insn::Operand::{Imm, Reg};
 use bpf_insn::{Code, Insn, Op, Size, Test, Width};
@@ -325,6 +327,85 @@ pub fn rate_limit_code<A: Allocator>(alloc: A) -> Result<Code<A>, AllocError>
         Insn::Exit,
         alu!(Sub, 7, Reg(0)),
         alu!(Mov, 1, Reg(7)),
+        Insn::Call { helper: 1 },
+        alu!(Mov, 0, Imm(0)),
+        Insn::Exit,
+        alu!(Mov, 0, Imm(0)),
+        Insn::Exit,
+    ];
+    code_from(alloc, &insns)
+}
+
+/// Makes the code of `examples/semaphore.s`.
+///
+/// # Errors
+/// `AllocError` if an allocation fails.
+pub fn semaphore_code<A: Allocator>(alloc: A) -> Result<Code<A>, AllocError>
+    ensures { IfOk result (λ code. code ≡ semaphore) }
+{
+    let insns = [
+        branch!(Lt, 2, Imm(8), 20),
+        branch!(Lt, 4, Imm(16), 19),
+        alu!(Mov, 6, Reg(1)),
+        load!(7, 6, 0),
+        load!(8, 3, 0),
+        load!(9, 3, 8),
+        branch!(Eq, 8, Imm(0), 3),
+        branch!(Ge, 7, Reg(9), 9),
+        alu!(Add, 7, Imm(1)),
+        Insn::Jump { offset: 2 },
+        branch!(Eq, 7, Imm(0), 6),
+        alu!(Sub, 7, Imm(1)),
+        store!(6, 0, 7),
+        alu!(Mov, 1, Reg(7)),
+        Insn::Call { helper: 1 },
+        alu!(Mov, 0, Imm(1)),
+        Insn::Exit,
+        alu!(Mov, 1, Reg(7)),
+        Insn::Call { helper: 1 },
+        alu!(Mov, 0, Imm(0)),
+        Insn::Exit,
+        alu!(Mov, 0, Imm(0)),
+        Insn::Exit,
+    ];
+    code_from(alloc, &insns)
+}
+
+/// Makes the code of `examples/token_bucket.s`.
+///
+/// # Errors
+/// `AllocError` if an allocation fails.
+pub fn token_bucket_code<A: Allocator>(alloc: A) -> Result<Code<A>, AllocError>
+    ensures { IfOk result (λ code. code ≡ token_bucket) }
+{
+    let insns = [
+        branch!(Lt, 2, Imm(8), 29),
+        branch!(Lt, 4, Imm(16), 28),
+        alu!(Mov, 6, Reg(1)),
+        load!(7, 3, 0),
+        load!(8, 3, 8),
+        Insn::Call { helper: 2 },
+        load!(9, 6, 0),
+        branch!(Ge, 9, Reg(0), 1),
+        alu!(Mov, 9, Reg(0)),
+        branch!(Gt, 7, Reg(8), 16),
+        alu!(Sub, 8, Reg(7)),
+        alu!(Mov, 1, Reg(9)),
+        alu!(Sub, 1, Reg(0)),
+        branch!(Gt, 1, Reg(8), 8),
+        alu!(Sub, 8, Reg(1)),
+        alu!(Add, 7, Reg(9)),
+        branch!(Lt, 7, Reg(9), 9),
+        store!(6, 0, 7),
+        alu!(Mov, 1, Reg(8)),
+        Insn::Call { helper: 1 },
+        alu!(Mov, 0, Imm(1)),
+        Insn::Exit,
+        alu!(Sub, 1, Reg(8)),
+        Insn::Call { helper: 1 },
+        alu!(Mov, 0, Imm(0)),
+        Insn::Exit,
+        alu!(Mov, 1, Imm(-1)),
         Insn::Call { helper: 1 },
         alu!(Mov, 0, Imm(0)),
         Insn::Exit,

@@ -8,6 +8,8 @@ ghost use Rattle.stock_programs.specs.Sequence.{sequence, Sequences};
 ghost use Rattle.stock_programs.specs.Lease.{lease, Leases};
 ghost use Rattle.stock_programs.specs.FencedLease.{fenced_lease, LeasesFenced};
 ghost use Rattle.stock_programs.specs.RateLimit.{rate_limit, Limits};
+ghost use Rattle.stock_programs.specs.Semaphore.{semaphore, Permits};
+ghost use Rattle.stock_programs.specs.TokenBucket.{token_bucket, Pours};
 
 /// The theorem on the counter.
 pub fn counter_means()
@@ -47,4 +49,14 @@ pub fn fenced_lease_means()
 /// The theorem on the rate limit.
 pub fn rate_limit_means()
     ensures { Means rate_limit Limits }
+{}
+
+/// The theorem on the semaphore.
+pub fn semaphore_means()
+    ensures { Means semaphore Permits }
+{}
+
+/// The theorem on the token bucket.
+pub fn token_bucket_means()
+    ensures { Means token_bucket Pours }
 {}

@@ -10,7 +10,7 @@ use std::alloc::{AllocError, Global};
 use std::{fs, io};
 use stock_programs::{
     bounded_add_code, bounded_counter_code, compare_and_set_code, counter_code, fenced_lease_code,
-    lease_code, rate_limit_code, sequence_code,
+    lease_code, rate_limit_code, semaphore_code, sequence_code, token_bucket_code,
 };
 
 // The code of a name.
@@ -24,6 +24,8 @@ fn code_named(alloc: Global, name: &str) -> Result<Option<Code>, AllocError> {
         "lease" => lease_code(alloc)?,
         "fenced_lease" => fenced_lease_code(alloc)?,
         "rate_limit" => rate_limit_code(alloc)?,
+        "semaphore" => semaphore_code(alloc)?,
+        "token_bucket" => token_bucket_code(alloc)?,
         _ => return Ok(None),
     };
     Ok(Some(code))

@@ -12,9 +12,11 @@
 # `sync` and `untie` write its files, and a crash in between leaves the database before or after. If a tied hash ends without `untie`, or
 # is still tied when the program ends, it is saved then; a warning names the base and the fault if that fails, and the lock is released in
 # any case. Options follow the mode: wide => 1, unsigned_keys => 1, no_wait => 1, timeout => SECONDS, after which a lock that another
-# process holds is an error, and any_size => 1, without which files that look like those of small pages are not opened as wide. In a child
-# of the process that tied the hash every call but `untie` dies, and nothing is saved. A handler of a signal may die while a hash is tied:
-# the lock is released with it. Every failure dies.
+# process holds is an error, any_size => 1, without which files that look like those of small pages are not opened as wide, and
+# limit => BYTES: a change that would make BASE.pag longer dies and is not made, and pages that exist stay. 1 GiB is the default and the
+# most. Set a limit if others choose your keys: they can make BASE.pag as long as it allows. In a child of the process that tied the hash
+# every call but `untie` dies, and nothing is saved. A handler of a signal may die while a hash is tied: the lock is released with it. Every
+# failure dies.
 #
 # It needs FFI::Platypus (Debian: libffi-platypus-perl) and the shared object that `./dbm --build-library` makes. It takes the file that
 # BODDURCI_LIBRARY names by its absolute path, else the one beside this module, else the one in out/boddurci of the repository, else the
@@ -41,7 +43,7 @@ my %WORDS = (
     18 => "key and value have too many bytes together",
     19 => "the argument has more than 1,024 bytes",
     20 => "no program of this database has the number",
-    22 => "too long: the pages would take more than 1 GiB; what is there can be saved",
+    22 => "too long: the pages would take more than the limit, 1 GiB if none is given; what is there can be saved",
     39 => "the database was opened by another process",
 );
 
@@ -89,6 +91,7 @@ $ffi->attach(["boddurci_$_->[0]" => "_$_->[0]"], $_->[1], $_->[2])
         ["close_files", ["opaque"] => "void"],
         ["take",        ["opaque"] => "opaque"],
         ["give",        ["opaque"] => "void"],
+        ["limit",       ["opaque", "size_t"] => "uint32"],
         ["fetch",       ["opaque", @bytes, @room] => "uint32"],
         ["store",       ["opaque", @bytes, @bytes, "uint32"] => "uint32"],
         ["delete",      ["opaque", @bytes] => "uint32"],
@@ -159,16 +162,20 @@ sub TIEHASH {
     my $flags = $FLAGS{ $mode // "r" } // croak "the mode is r, w, c or n";
     my $timeout = delete $options{timeout};
     $timeout = "$timeout" if defined $timeout;
+    my $limit = delete $options{limit};
+    $limit = "$limit" if defined $limit;
     $flags |= $options{$_} ? $OPTIONS{$_} // croak "no option $_" : 0 for keys %options;
     my $name = defined $base ? "$base" : "";
     croak "the name has a zero byte" if $name =~ /\0/;
     croak "a timeout is a number of seconds, 0 or more, and less than a billion"
         if defined $timeout && !($timeout =~ /^[0-9.]+$/ && $timeout >= 0 && $timeout < 1e9);
+    croak "a limit is a number of bytes of at most 15 digits" if defined $limit && $limit !~ /^[0-9]{1,15}\z/;
     _end_left();
     my $record = { name => $name, reads => $flags & 4, process => $$, token => [] };
     my $self = bless \$record, $class;
     $open{ refaddr $record } = $record;
     $self->_open($flags, $timeout);
+    _check(_limit($self->_db, $limit)) if defined $limit;
     # An object that ends before it is returned saves nothing: with the mode n that would be an empty database.
     return ($record->{keeps} = 1, $self)[1];
 }
@@ -331,6 +338,17 @@ sub _release {
     delete $open{ refaddr $$self };
 }
 
+# Returns a name for a message, as UTF-8. Backslashes and control and format characters (those that turn text round among them) are escaped,
+# and so are all other bytes but ASCII if the name is not UTF-8.
+sub _shown {
+    my ($text) = @_;
+    utf8::encode($text) if utf8::is_utf8($text);
+    my $strange = utf8::decode($text) ? qr/[\\\p{C}\p{Zl}\p{Zp}]/ : qr/[^\x20-\x5b\x5d-\x7e]/;
+    $text =~ s/($strange)/sprintf "\\x{%x}", ord $1/ge;
+    utf8::encode($text);
+    return $text;
+}
+
 # Saves and closes a database that nobody has closed. Changes that cannot be saved are lost, with a warning, and the lock is released.
 sub _end {
     my ($self) = @_;
@@ -343,7 +361,7 @@ sub _end {
     for (1 .. 100) {
         last if eval { $self->_release; 1 };
     }
-    carp "$$self->{name}: the changes that were not saved are lost: $why" unless $is_saved;
+    carp _shown($$self->{name}), ": the changes that were not saved are lost: $why" unless $is_saved;
 }
 
 # Ends the records to which this table alone refers, since their object is gone; with a true argument, all records.

@@ -121,6 +121,27 @@ untie %db;
     ok(eval { tie my %wide, "Boddurci", "$base.small", "r", wide => 1, any_size => 1; 1 } || $@ !~ /look small/);
 }
 
+# A limit of the length of .pag. The second key would need a page of the first MiB: nothing changes, in memory or on the disk.
+{
+    my ($first, $second, $value) = ("far180463", "far413", "x" x 900);
+    dies_with(sub { tie my %none, "Boddurci", "$base.limit", "c", limit => $_ }, qr/a limit is/) for -1, "x", "", "1\n", "1" x 16;
+    ok(!-e "$base.limit.lock");
+    tie my %limited, "Boddurci", "$base.limit", "c", limit => (1 << 20) - 1;
+    $limited{$first} = $value;
+    tied(%limited)->sync;
+    my $before = text_of("$base.limit.pag");
+    dies_with(sub { $limited{$second} = $value }, qr/too long: the pages would take more than the limit/);
+    my $program = tied(%limited)->program(text_of("$top/examples/counter.s"));
+    dies_with(sub { tied(%limited)->run($program, $second, blank => 900) }, qr/too long/);
+    is_deeply({%limited}, { $first => $value });
+    untie %limited;
+    is(text_of("$base.limit.pag"), $before);
+    tie %limited, "Boddurci", "$base.limit", "w", limit => 1 << 20;
+    $limited{$second} = $value;
+    is(scalar(keys %limited), 2);
+    untie %limited;
+}
+
 # An object whose string is another each time is stored as one of them, and nothing beyond it is read.
 {
     package Changing;
@@ -208,6 +229,17 @@ SKIP: {
     tie my %lost, "Boddurci", "$base.lost", "w", no_wait => 1;
     is($lost{a}, "1", "the lock is free");
     untie %lost;
+    # The name is escaped: it may be anything that the system takes.
+    for (["\e[31m\n\xe2\x80\xae\\\xc3\xa9", "\\x{1b}[31m\\x{a}\\x{202e}\\x{5c}\xc3\xa9"], ["\xff", "\\x{ff}"]) {
+        my ($name, $shown) = @$_;
+        @warned = ();
+        {
+            tie my %strange, "Boddurci", "$base.$name", "c";
+            $strange{a} = "1";
+            rename "$base.$name.lock", "$base.strange" or die;
+        }
+        like($warned[0], qr/^\Q$base.$shown\E: the changes that were not saved are lost/);
+    }
     my $script = 'tie %db, "Boddurci", shift, "w"; $db{a} = "3"; rename "$ARGV[0].lock", "$ARGV[0].away"';
     like(qx{$^X -I$top/bindings/perl -MBoddurci -e '$script' $base.lost $base.lost 2>&1}, qr/\.lost: the changes that were not saved are lost/);
     rename "$base.lost.away", "$base.lost.lock" or die;

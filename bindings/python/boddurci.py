@@ -46,7 +46,7 @@ _WORDS = {
     18: "key and value have too many bytes together",
     19: "the argument has more than 1,024 bytes",
     20: "no program has the number",
-    22: "too long: the pages would take more than 1 GiB; what is there can be saved",
+    22: "too long: the pages would take more than the limit, 1 GiB if none is given; what is there can be saved",
     39: "the database was opened by another process",
 }
 
@@ -124,6 +124,8 @@ def _path_of_library():
     named = os.environ.get("BODDURCI_LIBRARY") if _obeys_environment() else None
     if named and not os.path.isabs(named):
         raise ImportError(f"BODDURCI_LIBRARY is {named!r}: give the absolute path of the library")
+    if named and not os.path.exists(named):
+        raise ImportError(f"BODDURCI_LIBRARY is {named!r}, which is missing: make the library with ./dbm --build-library")
     here = pathlib.Path(__file__).resolve()
     for path in (named, here.parent / "libboddurci.so", here.parent.parent.parent / "out/boddurci/libboddurci.so"):
         if path and os.path.exists(path):
@@ -148,6 +150,7 @@ def _bind():
         "close_files": (waits, None, [at]),
         "take": (waits, at, [at]),
         "give": (quick, None, [at]),
+        "limit": (quick, u32, [at, size]),
         "fetch": (quick, u32, [at, text, size, at, size, at]),
         "store": (quick, u32, [at, text, size, text, size, u32]),
         "delete": (quick, u32, [at, text, size]),
@@ -234,11 +237,13 @@ class _Database(MutableMapping):
     # Whether it is saved when it is closed: not before it is opened completely.
     _keeps = False
 
-    def __init__(self, name, flags, timeout=None):
+    def __init__(self, name, flags, timeout=None, limit=None):
         self._process, self._name, self._held = os.getpid(), name, []
         try:
             _open_base(self._held, name, flags, timeout)
             self._set_up(flags)
+            if limit is not None:
+                _call.limit(self._db, limit)
         except BaseException:
             self._release()
             raise
@@ -493,7 +498,7 @@ class _Database(MutableMapping):
             raise
         except Exception as fault:
             name = os.fsdecode(self._name)
-            warnings.warn(f"{name}: the changes that were not saved are lost: {fault}", RuntimeWarning, stacklevel=2)
+            warnings.warn(f"{name!r}: the changes that were not saved are lost: {fault}", RuntimeWarning, stacklevel=2)
         finally:
             self._release()
 
@@ -576,11 +581,13 @@ def _of_fault(fault, name):
     return told
 
 
-def open(file, flag="r", mode=0o666, *, wide=False, unsigned_keys=False, any_size=False, wait=True, timeout=None):
+def open(file, flag="r", mode=0o666, *, wide=False, unsigned_keys=False, any_size=False, wait=True, timeout=None, limit=None):
     """Opens FILE.dir and FILE.pag, as dbm.open does: 'r' reads only, 'w' writes too, 'c' makes missing files, 'n' begins with an empty
     database. `wide` is for pages of 8,192 bytes, `unsigned_keys` for keys that hash by unsigned bytes; the files do not say which. With
     `wide`, files that look like those of small pages are an error, unless `any_size` is given. Without `wait` a lock that another process
-    holds is an error; with a `timeout` it is one after that many seconds."""
+    holds is an error; with a `timeout` it is one after that many seconds. A change that would make FILE.pag longer than `limit` bytes is an
+    error and is not made; pages that exist stay. 1 GiB is the default and the most. Set a limit if others choose your keys: they can make
+    FILE.pag as long as it allows."""
     if flag not in ("r", "w", "c", "n"):
         raise ValueError("flag must be 'r', 'w', 'c' or 'n'")
     name = os.fsencode(file)
@@ -588,9 +595,11 @@ def open(file, flag="r", mode=0o666, *, wide=False, unsigned_keys=False, any_siz
         raise ValueError("the name has a zero byte")
     if timeout is not None and not timeout >= 0:
         raise ValueError("a timeout is a number of seconds, 0 or more")
+    if limit is not None and not 0 <= limit <= _SIZE_MOST:
+        raise ValueError(f"limit is a number of bytes from 0 to {_SIZE_MOST}")
     flags = {"r": _READ_ONLY | _MUST_EXIST, "w": _MUST_EXIST, "c": 0, "n": _EMPTY}[flag]
     flags |= (_WIDE if wide else 0) | (_UNSIGNED_KEYS if unsigned_keys else 0) | (_ANY_SIZE if any_size else 0) | (0 if wait else _NO_WAIT)
-    db = Database(name, flags, timeout)
+    db = Database(name, flags, timeout, limit)
     try:
         if flag in ("c", "n"):
             _make_files(db, name, mode, flag == "n")

@@ -278,11 +278,22 @@ class Mapping(InFolder):
         db = boddurci.open(self.base, "c")
         db[b"a"] = b"1"
         os.rename(self.base + ".lock", self.base + ".away")
-        with self.assertWarnsRegex(RuntimeWarning, "db: the changes that were not saved are lost: BASE.lock is another file"):
+        with self.assertWarnsRegex(RuntimeWarning, "db': the changes that were not saved are lost: BASE.lock is another file"):
             del db
         os.rename(self.base + ".away", self.base + ".lock")
         with boddurci.open(self.base, "w", wait=False) as db:
             self.assertEqual(len(db), 0)
+
+    def test_a_warning_escapes_the_name(self):
+        name = self.base + "\n\x1b[31m\u202e"
+        db = boddurci.open(name, "c")
+        db[b"a"] = b"1"
+        os.rename(name + ".lock", self.base + ".away")
+        with self.assertWarns(RuntimeWarning) as caught:
+            del db
+        told = str(caught.warning)
+        self.assertTrue(told.isprintable(), ascii(told))
+        self.assertIn(r"db\n\x1b[31m\u202e': the changes", told)
 
 
 class Ends(InFolder):
@@ -322,7 +333,7 @@ if len(sys.argv) > 3:
     def test_what_cannot_be_saved_is_warned_of_by_name(self):
         self.ended("1")
         warned = self.ended("2", "moved")
-        self.assertRegex(warned, "RuntimeWarning: .*/db: the changes that were not saved are lost: BASE.lock is another file")
+        self.assertRegex(warned, "RuntimeWarning: '.*/db': the changes that were not saved are lost: BASE.lock is another file")
         os.rename(self.base + ".away", self.base + ".lock")
         self.assertEqual(list(self.values()), [b"1", b"other"])
 
@@ -359,6 +370,10 @@ class Library(InFolder):
         with unittest.mock.patch.dict(os.environ, {"BODDURCI_LIBRARY": "./libboddurci.so"}):
             with self.assertRaisesRegex(ImportError, "give the absolute path"):
                 boddurci._path_of_library()
+
+    def test_no_missing_file(self):
+        self.assertRegex(self.loads(named="missing.so"), "ImportError: BODDURCI_LIBRARY is '.*/missing.so', which is missing")
+        self.assertEqual(self.loads("-E", named="missing.so"), "")
 
     def test_no_library_of_the_working_folder(self):
         (self.folder / "module").mkdir()
@@ -409,7 +424,7 @@ class Saves(InFolder):
         db = boddurci.open(self.base, "c")
         for key in keys[:3]:
             db[key] = b"x" * 900
-        with self.assertRaisesRegex(boddurci.error, "too long: the pages would take more than 1 GiB"):
+        with self.assertRaisesRegex(boddurci.error, "too long: the pages would take more than the limit, 1 GiB if none is given"):
             db[keys[3]] = b"x" * 900
         self.assertEqual(sorted(db.keys()), sorted(keys[:3]))
         db.sync()
@@ -420,6 +435,32 @@ class Saves(InFolder):
         db.close()
         with boddurci.open(self.base) as reader:
             self.assertEqual(reader.keys(), [keys[1]])
+
+    def test_limit(self):
+        """The second key would need a page of the first MiB: a lower limit refuses it, and nothing changes, in memory or on the disk."""
+        keys, value = [b"far180463", b"far413"], b"x" * 900
+        for limit, fault in ((-1, ValueError), (2**64, ValueError), ("1", TypeError)):
+            with self.assertRaises(fault):
+                boddurci.open(self.base, "c", limit=limit)
+        self.assertEqual(os.listdir(self.room.name), [])
+        with boddurci.open(self.base, "c", limit=(1 << 20) - 1) as db:
+            db[keys[0]] = value
+            db.sync()
+            before = pathlib.Path(self.base + ".pag").read_bytes()
+            with self.assertRaisesRegex(boddurci.error, "too long: the pages would take more than the limit"):
+                db[keys[1]] = value
+            with self.assertRaisesRegex(boddurci.error, "too long"):
+                db.run(db.program((TOP / "examples/counter.s").read_text()), keys[1], blank=900)
+            self.assertEqual(db.items(), [(keys[0], value)])
+        self.assertEqual(pathlib.Path(self.base + ".pag").read_bytes(), before)
+        # What is above the limit stays, and can be replaced.
+        with boddurci.open(self.base, "w", limit=0) as db:
+            db[keys[0]] = value[1:]
+        for limit in (1 << 20, 2**63):
+            with boddurci.open(self.base, "w", limit=limit) as db:
+                db[keys[1]] = value
+                self.assertEqual(len(db), 2)
+                del db[keys[1]]
 
     def test_no_room_for_a_page(self):
         db = boddurci.open(self.base, "c")

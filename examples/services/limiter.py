@@ -32,6 +32,12 @@ RATE = struct.pack("<3Q", 100, 10, 1)
 # The most bytes of a user's name.
 LONGEST = 1000
 
+# The most bytes of BASE.pag: room for some half a million users, and no more, so whoever makes names up cannot fill the disk.
+MOST_BYTES = 64 << 20
+
+# The bytes of the secret.
+SECRET = 32
+
 
 class Asking(socketserver.StreamRequestHandler):
     """A client, in a separate thread. A line that is too long, or is cut off, ends the connection."""
@@ -65,16 +71,30 @@ class Limiter(socketserver.ThreadingUnixStreamServer):
 
 
 def secret_of(base):
-    """The secret of a database, which is made if it is missing. The lock of the database keeps other services away meanwhile."""
+    """The secret of a database, which is made if it is missing. The lock of the database keeps other services away meanwhile. A secret of
+    another length ends the service: with an empty one the hash would have no key."""
     path = pathlib.Path(base + ".secret")
     if not path.exists():
         number, new = tempfile.mkstemp(prefix=f"{path.name}.", dir=path.parent)
         with open(number, "wb") as file:
-            file.write(os.urandom(32))
+            file.write(os.urandom(SECRET))
             file.flush()
             os.fsync(file.fileno())
         os.rename(new, path)
-    return path.read_bytes()
+        sync_folder(path.parent)
+    secret = path.read_bytes()
+    if len(secret) != SECRET:
+        sys.exit(f"limiter.py: {str(path)!r} has {len(secret)} bytes, and a secret has {SECRET}: put the right file back, or delete it")
+    return secret
+
+
+def sync_folder(path):
+    """Makes the names in a folder durable."""
+    number = os.open(path, os.O_RDONLY | os.O_DIRECTORY)
+    try:
+        os.fsync(number)
+    finally:
+        os.close(number)
 
 
 def main():
@@ -82,12 +102,13 @@ def main():
         sys.exit("usage: limiter.py BASE SOCKET")
     base, where = sys.argv[1:]
     over = threading.Event()
-    with boddurci.open(base, "c") as db:
+    with boddurci.open(base, "c", limit=MOST_BYTES) as db:
         for number in (signal.SIGTERM, signal.SIGINT):
             signal.signal(number, lambda *_: over.set())
+        secret = secret_of(base)
         if os.path.exists(where):
             os.unlink(where)
-        with Limiter(where, db, secret_of(base)) as limiter:
+        with Limiter(where, db, secret) as limiter:
             threading.Thread(target=limiter.serve_forever, daemon=True).start()
             while not over.wait(1):
                 db.sync()

@@ -617,7 +617,14 @@ pub fn save_files<R: Files<File = File> + AllocGlobal, W: Write>(
 ) -> Result<Saved, FilesFault> {
     let LockedFiles { place, seen, lock } = held;
     place.must_be_held(rt, &lock, &seen)?;
-    let change = change_of(old, new)?;
+    let change = Change {
+        before: old.files,
+        redo: old.redo,
+        after: new,
+    };
+    if plan_in(change.redo).is_some() {
+        return Err(FilesFault::BadRedo);
+    }
     let mut lock = Some(lock);
     let files = RealFiles::new(rt, &place.names, seen, CallLog::new(rt.alloc())?);
     let mut disk = Recorded::<RealFiles<'_, R>, Unknown, FoundRead<'_>>::new(files, old);
@@ -639,7 +646,14 @@ pub fn save_held<R: Files<File = File> + AllocGlobal>(
 ) -> Result<Saved, FilesFault> {
     let LockedFiles { place, lock, .. } = held;
     place.must_be_held(rt, lock, seen)?;
-    let change = change_of(old, new)?;
+    let change = Change {
+        before: old.files,
+        redo: old.redo,
+        after: new,
+    };
+    if plan_in(change.redo).is_some() {
+        return Err(FilesFault::BadRedo);
+    }
     let mut kept: Option<File> = None;
     let files = RealFiles::new(rt, &place.names, *seen, CallLog::new(rt.alloc())?);
     let mut disk = Recorded::<RealFiles<'_, R>, Unknown, FoundRead<'_>>::new(files, old);
@@ -647,18 +661,6 @@ pub fn save_held<R: Files<File = File> + AllocGlobal>(
     let saved = save_change(rt.alloc(), &mut disk, change, &[], writer, &mut kept);
     forget_failed(rt, &place.names, &saved);
     saved
-}
-
-// The change from files that were read to a database. The fault is `BadRedo`, where the redo file is marked.
-fn change_of<'a>(old: &FoundRead<'a>, new: &'a Image<Global>) -> Result<Change<'a>, FilesFault> {
-    if plan_in(old.redo).is_some() {
-        return Err(FilesFault::BadRedo);
-    }
-    Ok(Change {
-        before: old.files,
-        redo: old.redo,
-        after: new,
-    })
 }
 
 /// What `save_files` does, of a database of which one page was read, by a plan that knows its files.

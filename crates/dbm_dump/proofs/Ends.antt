@@ -1,6 +1,8 @@
 -- The end of a text, after its last LF.
-use Rattle.std.proofs.Common.{◌≡◌, ℕ, ◌+◌, ◌<◌, List, [], ◌∷◌, ◌++◌, length, Bool, true, false, not, cond, Option, Some, None, inl, inr, refl, sym, ap, ◌∙◌, subst, arith, eqb}
-use Rattle.std.proofs.lemmas.Bool.{false≢true}
+use Rattle.std.proofs.Common.{◌≡◌, ℕ, ◌+◌, ◌<◌, List, [], ◌∷◌, ◌++◌, length, take, Bool, true, false, not, cond, Option, Some, None, inl, inr, refl, sym, ap, ◌∙◌, subst, arith, eqb}
+use Rattle.std.proofs.lemmas.Bool.{false≢true, ne_eqb}
+use Rattle.std.proofs.lemmas.List.{take-append-le, take_all}
+use Rattle.std.proofs.Math.Seq.{take-length}
 use Rattle.std.proofs.lemmas.Option.{same_Some}
 use Rattle.sdbm_addr.specs.Pairs.{Pair}
 use Rattle.dbm_lines.specs.Lines.{Gives, Unread, lines_left}
@@ -130,7 +132,7 @@ none_left ended rest known now = ap (λ (b : Bool). lines_left (record { rest = 
 
 no_bytes : (line : List ℕ) → eqb (length line) 0 ≡ true → line ≡ []
 no_bytes [] h = refl
-no_bytes (c ∷ cs) h = absurd (false≢true h)
+no_bytes (c ∷ cs) h = absurd (false≢true (sym (ne_eqb (length (c ∷ cs)) 0 (λ is. omega arith)) ∙ h))
 
 both_true : (ended : Bool) (line : List ℕ) → cond ended (eqb (length line) 0) false ≡ true → (ended ≡ true) × (line ≡ [])
 both_true true line h = (refl, no_bytes line h)
@@ -147,3 +149,9 @@ pub gives_rest : (number : ℕ) (left : Option (List (List ℕ))) (line : List �
     → GivesLine number left (not b) line (lines_left u known)
 gives_rest number left line u known true more gives is = gives_end number left line u known more gives is
 gives_rest number left line u known false more gives is = gives_more number left line u known gives is
+
+-- ---- the head of a key
+
+pub head_bytes : (key bytes rest : List ℕ) → bytes ≡ key → length key < 32 → take (length key) (bytes ++ rest) ≡ take 32 key
+head_bytes key bytes rest same short =
+    ap (λ (b : List ℕ). take (length key) (b ++ rest)) same ∙ take-append-le (length key) key rest (omega arith) ∙ take-length key ∙ sym (take_all 32 key (omega arith))

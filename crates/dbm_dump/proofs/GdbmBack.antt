@@ -1,6 +1,6 @@
 -- A dump in gdbm's format reads back.
 use Rattle.std.proofs.Common.{◌≡◌, ℕ, zero, suc, ◌+◌, ◌-◌, ◌*◌, ◌/◌, ◌%◌, ◌<◌, ◌≤◌, ◌^◌, Bool, true, false, cond, List, [], ◌∷◌, ◌++◌, length, length-append, decimal, codes, Option, Some, None, Result, Ok, Err, refl, sym, ap, ◌∙◌, subst, append_assoc, arith, eqb, replicate}
-use Rattle.std.specs.Prelude.{nat_le}
+use Rattle.std.specs.Prelude.{◌||◌, nat_le}
 use Rattle.std.specs.List.{All, flat_map}
 use Rattle.std.proofs.lemmas.Bool.{ne_eqb}
 use Rattle.std.proofs.lemmas.List.{length-replicate}
@@ -19,6 +19,7 @@ use Rattle.dbm_dump.specs.Texts.{◌⏎◌, datum_lines, gdbm_end, gdbm_header, 
 use Rattle.dbm_dump.specs.Marks.{count_mark, len_mark, mark_of, sign_of}
 use Rattle.dbm_dump.specs.Steps.{between_step, closed, decoded, ended, goes, goes_if, grown, is_full, step, within_step}
 use Rattle.dbm_dump.specs.Reading.{IsGood, Read, before_read, pairs_of, read, read_on, read_so, whole}
+use Rattle.dbm_dump.specs.Symbols.{is_open}
 use Rattle.dbm_dump.specs.declared.marks.Mark.{Mark}
 use Rattle.dbm_dump.specs.declared.marks.Mark.TheVariants as mark
 use Rattle.dbm_dump.specs.declared.stage.Next.{Next}

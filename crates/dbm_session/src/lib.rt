@@ -3,11 +3,9 @@
 
 mod fault;
 mod host;
-mod host_log;
 mod lines;
 mod running;
 
 pub use fault::SessionFault;
 pub use host::{Host, Own};
-pub use host_log::HostLog;
 pub use running::{Ended, run_session};

@@ -14,7 +14,7 @@ pub returns-in-Crowded-clause-fault : goal.returns-in-Crowded-clause-fault
 returns-in-Crowded-clause-fault c = (
   refl,
   (
-    head_of c.args.key c.as_slice.result.now _ c.as_slice.ensures c.of.ensures,
+    head_of c.args.key c.as_slice.result.now _ c.as_slice.ensures c.of-head.ensures,
     (
       c.answer_command.new.image,
       crowded c.args.mode c.args.image c.answer_command.new.image _ c.in-Replied.entry c.args.key c.args.value c.in_ok-entry.ensures.answer c.in-Replied.is c.in-Crowded.is,

@@ -1,5 +1,5 @@
 //! The lines of a session, answered one by one.
-ghost use Rattle.std.specs.Prelude.{◌≡◌, ◌∷◌, [], IfErr, IfOk, IfSome, OnErr, OnOk, length};
+ghost use Rattle.std.specs.Prelude.{◌≡◌, ◌<◌, ◌∷◌, [], IfErr, IfOk, IfSome, OnErr, OnOk};
 ghost use Rattle.std.specs.List.{All};
 ghost use Rattle.std.specs.Io.KnownBytes.{Appends};
 ghost use Rattle.dbm_script.specs.Pieces.{pieces_of};
@@ -64,7 +64,7 @@ pub fn run_session<R: Read, W: Write, H: Host>(
     for count in 0..u64::MAX {
         host.ask(false);
         if !lines.next_ended(reader, &mut line, SCRIPT_LIMIT)? {
-            return end(session, host, half_after(count, line.as_slice()));
+            return end(session, host, half_after(count, &line));
         }
         session = answer_next(alloc, notation, session, host, line.as_slice(), &mut text)?;
         say(writer, text.as_slice())?;
@@ -73,9 +73,9 @@ pub fn run_session<R: Read, W: Write, H: Host>(
 }
 
 // The number of a line that no LF ends, after so many lines, if anything of it was read.
-fn half_after(count: u64, line: &[u8]) -> Option<u64>
+fn half_after(count: u64, line: &Vec<u8>) -> Option<u64>
     requires { count < 18446744073709551615 }
-    ensures { result ≡ half_after count line.now }
+    ensures { result ≡ half_after count line.now.items }
 {
     if line.is_empty() {
         return None;

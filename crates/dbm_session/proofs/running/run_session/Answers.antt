@@ -1,11 +1,11 @@
-use Rattle.std.proofs.Common.{◌≡◌, Bool, false, true, IfSome, List, ℕ, Option, refl, sym, subst, ◌∙◌}
+use Rattle.std.proofs.Common.{◌≡◌, Bool, false, true, IfSome, List, ℕ, Option, refl, sym, ap, subst, ◌∙◌}
 use Rattle.std.proofs.lemmas.Result.{IfErr-weaker, IfOk-weaker}
 use Rattle.std.specs.Io.KnownBytes.{Appends}
 use Rattle.dbm_lines.specs.Lines.{GivesEnded, lines_left}
 use Rattle.dbm_script.specs.Pieces.{pieces_of}
 use Rattle.dbm_script.specs.Script.{stage}
 use Rattle.dbm_session.specs.Sessions.{Answered, Stops, WritesSome}
-use Rattle.dbm_session.proofs.Turns.{all_answered, all_as_script, all_ended, all_same, all_stopped, all_stopped_within, all_unread, any_err, saves_no_more}
+use Rattle.dbm_session.proofs.Turns.{all_answered, all_as_script, all_begun, all_ended, all_half, all_same, all_stopped, all_stopped_within, all_unread, any_err, saves_no_more}
 use Rattle.dbm_session.proofs.running.run_session.Goals as goal
 
 pub returns-in_err-registry-clause-part : goal.returns-in_err-registry-clause-part
@@ -22,10 +22,20 @@ returns-then-not-branch-clause-ok g c =
     let left' = lines_left c.next_ended.new.self (g.R.Read.remaining c.next_ended.new.reader) in
     let gives : GivesEnded left false c.next_ended.new.line.items left' = subst (λ (b : Bool). GivesEnded left b c.next_ended.new.line.items left') c.if-not-branch.true c.in_ok-next_ended.ensures.given in
     IfOk-weaker c.end.result _ _
-    (λ after h. all_ended c.args.notation.now c.args.image (g.R.Read.remaining c.args.reader.now) c.loop-count.count left (g.W.Write.contents c.args.writer.now) (g.W.Write.contents c.loop-count.writer)
-    (g.H.Host.log c.args.host.now) (g.H.Host.log c.ask.new.self) (g.H.Host.log c.end.new.host) c.loop-count.session.image c.loop-count.session.registry.programs c.next_ended.new.line.items left' after
+    (λ ended h. all_ended c.args.notation.now c.args.image (g.R.Read.remaining c.args.reader.now) c.loop-count.count left (g.W.Write.contents c.args.writer.now) (g.W.Write.contents c.loop-count.writer)
+    (g.H.Host.log c.args.host.now) (g.H.Host.log c.ask.new.self) (g.H.Host.log c.end.new.host) c.loop-count.session.image c.loop-count.session.registry.programs c.next_ended.new.line.items left' ended.image
     (all_same c.args.notation.now c.args.image (g.R.Read.remaining c.args.reader.now) c.loop-count.count left _ _ _ _ _ _ c.ask.ensures c.loop-count.invariant.known) gives h.0 h.1)
     c.end.ensures.ok
+
+pub returns-then-not-branch-clause-half : goal.returns-then-not-branch-clause-half
+returns-then-not-branch-clause-half g c =
+    let left = lines_left c.loop-count.lines (g.R.Read.remaining c.loop-count.reader) in
+    let left' = lines_left c.next_ended.new.self (g.R.Read.remaining c.next_ended.new.reader) in
+    let gives : GivesEnded left false c.next_ended.new.line.items left' = subst (λ (b : Bool). GivesEnded left b c.next_ended.new.line.items left') c.if-not-branch.true c.in_ok-next_ended.ensures.given in
+    IfOk-weaker c.end.result _ _
+    (λ ended h. all_half c.args.notation.now c.args.image (g.R.Read.remaining c.args.reader.now) c.loop-count.count left _ _ _ _ _ c.next_ended.new.line.items left' ended.half_line
+    c.loop-count.invariant.known gives (h ∙ c.half_after.ensures))
+    c.end.ensures.half
 
 pub returns-then-not-branch-clause-part : goal.returns-then-not-branch-clause-part
 returns-then-not-branch-clause-part g c =
@@ -82,6 +92,13 @@ returns-clause-part g c = all_stopped c.args.notation.now c.args.image (g.R.Read
 pub returns-then-not-branch-clause-script : goal.returns-then-not-branch-clause-script
 returns-then-not-branch-clause-script g c =
     IfOk-weaker c.end.result _ _
-    (λ after e. all_as_script c.args.notation.now c.args.image (g.R.Read.remaining c.args.reader.now) (g.W.Write.contents c.args.writer.now) (g.W.Write.contents c.loop-count.writer)
-    (g.H.Host.log c.args.host.now) (g.H.Host.log c.end.new.host) after e)
+    (λ ended e. all_as_script c.args.notation.now c.args.image (g.R.Read.remaining c.args.reader.now) (g.W.Write.contents c.args.writer.now) (g.W.Write.contents c.loop-count.writer)
+    (g.H.Host.log c.args.host.now) (g.H.Host.log c.end.new.host) ended.image e)
     (returns-then-not-branch-clause-ok g c)
+
+pub loop-count-init : goal.loop-count-init
+loop-count-init g c = record {
+  known = all_begun c.args.notation.now c.args.image (g.R.Read.remaining c.args.reader.now) c.new-lines.result _ _ _ c.new-lines.ensures.rest c.new-lines.ensures.open (ap (λ r. stage c.args.image r.programs) c.in_ok-registry.ensures);
+  kind = refl;
+  size = refl;
+}

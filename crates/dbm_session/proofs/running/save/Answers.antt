@@ -1,4 +1,5 @@
+use Rattle.dbm_session.proofs.Turns.{saves_at_most_one}
 use Rattle.dbm_session.proofs.running.save.Goals as goal
 
 pub returns-in-Err-clause-lost : goal.returns-in-Err-clause-lost
-returns-in-Err-clause-lost g c = record { db = c.args.image.now; maybe = c.in-Err.ensures.lost }
+returns-in-Err-clause-lost g c = saves_at_most_one _ _ c.args.image.now c.in-Err.ensures.lost

@@ -67,7 +67,7 @@ pub fn save_change<D: Disk, W: Write, L: Drop>(
     ensures part { IsErrOf result fault.Write → WritesPart (W.contents writer.old) (W.contents writer.new) lines.now }
     ensures unprinted { IfErr result (λ why. why ≢ fault.Write → W.contents writer.new ≡ W.contents writer.old) }
 
-    // The lock is given back exactly where the change stands.
+    // The lock is released exactly if the change is committed, and before its lines are printed.
     ensures released { OnOk result (lock.new ≡ None) }
     ensures unprinted_released { IsErrOf result fault.Write → lock.new ≡ None }
     ensures held { IfErr result (λ why. why ≢ fault.Write → lock.new ≡ lock.old) }
@@ -81,14 +81,15 @@ pub fn save_change<D: Disk, W: Write, L: Drop>(
         Some(plan) => save_plan(disk, change.redo, plan.as_slice(), lines, writer, lock),
         None => {
             *lock = None;
-            print(writer, lines)?;
+            print(writer, lines, lock)?;
             Ok(Saved::Unchanged)
         }
     }
 }
 
-// Prints the lines of a change.
-fn print<W: Write>(writer: &mut W, lines: &[u8]) -> Result<(), FilesFault>
+// Prints the lines of a change, once the lock is released.
+fn print<W: Write, L>(writer: &mut W, lines: &[u8], _lock: &Option<L>) -> Result<(), FilesFault>
+    requires released { _lock.now ≡ None }
     ensures printed { OnOk result (Appends (W.contents writer.old) (W.contents writer.new) lines.now) }
     ensures part { IfErr result (λ why. (why ≡ fault.Write) × WritesPart (W.contents writer.old) (W.contents writer.new) lines.now) }
 {
@@ -131,7 +132,7 @@ pub fn save_plan<D: Disk, W: Write, L: Drop>(
     commit_plan(disk, redo, plan)?;
     let ended = finish(disk, plan);
     *lock = None;
-    print(writer, lines)?;
+    print(writer, lines, lock)?;
     match ended {
         Ok(()) => Ok(Saved::Whole),
         Err(_) => Ok(Saved::Pending),

@@ -1,5 +1,5 @@
 -- How far the lines of a session were answered.
-use Rattle.std.proofs.Common.{◌≡◌, ◌≤◌, ◌⊎◌, ℕ, ◌+◌, List, [], ◌∷◌, ◌++◌, length, length-append, Bool, true, false, Option, Some, None, IfSome, inl, inr, codes, refl, sym, ap, ◌∙◌, subst, append_assoc, append-nil, Result, Ok, Err, IfErr, arith}
+use Rattle.std.proofs.Common.{◌≡◌, ◌≤◌, ℕ, ◌+◌, List, [], ◌∷◌, ◌++◌, length, length-append, Bool, true, false, Option, Some, None, IfSome, codes, refl, sym, ap, ◌∙◌, subst, append_assoc, append-nil, Result, Ok, Err, IfErr, arith}
 use Rattle.std.specs.Io.KnownBytes.{Appends, Keeps}
 use Rattle.std.proofs.KnownBytes.{Appends-kept, Appends-nil, Appends-trans}
 use Rattle.std.proofs.Math.Seq.{take-append-add, take-length}
@@ -20,7 +20,7 @@ use Rattle.dbm_lines.specs.Lines.{GivesEnded, Unread, lines_left}
 use Rattle.dbm_lines.proofs.CutTexts.{unread}
 use Rattle.dbm_lines.proofs.LinesGiven.{known, some_pieces}
 use Rattle.dbm_session.specs.HostCalls.{DidSave, GaveTime, HostCall, Logs, saves_in, times_in}
-use Rattle.dbm_session.specs.Sessions.{Answered, AnsweredOwn, AnsweredTimed, AnswersAs, AnswersLine, AnswersOwn, AnswersScripted, AnswersThenSaves, AnswersTimed, AreSpelled, Ends, IsOfScript, MaySave, RunsAsScript, RunsSession, SavesAtMostOne, SavesMaybe, Stops, WritesSome, before_last, ended_lines, half_after, half_line, is_own, is_save, last_after, last_piece}
+use Rattle.dbm_session.specs.Sessions.{Answered, AnsweredOwn, AnsweredTimed, AnswersAs, AnswersLine, AnswersThenSaves, AreSpelled, Ends, IsOfScript, MaySave, RunsAsScript, RunsSession, SavesAtMostOne, SavesMaybe, Stops, WritesSome, before_last, ended_lines, half_after, half_line, is_own, is_save, last_after, last_piece}
 
 -- ---- logs
 

@@ -1,10 +1,9 @@
-use Rattle.std.proofs.Common.{◌≡◌, Bool, false, true, IfSome, List, ℕ, Option, refl, sym, ap, subst, ◌∙◌}
+use Rattle.std.proofs.Common.{Bool, false, true, List, ℕ, refl, sym, ap, subst, ◌∙◌}
 use Rattle.std.proofs.lemmas.Result.{IfErr-weaker, IfOk-weaker}
 use Rattle.std.specs.Io.KnownBytes.{Appends}
 use Rattle.dbm_lines.specs.Lines.{GivesEnded, lines_left}
-use Rattle.dbm_script.specs.Pieces.{pieces_of}
 use Rattle.dbm_script.specs.Script.{stage}
-use Rattle.dbm_session.specs.Sessions.{Answered, Stops, WritesSome}
+use Rattle.dbm_session.specs.Sessions.{WritesSome}
 use Rattle.dbm_session.proofs.Turns.{all_answered, all_as_script, all_begun, all_ended, all_half, all_same, all_stopped, all_stopped_within, all_unread, any_err, saves_no_more}
 use Rattle.dbm_session.proofs.running.run_session.Goals as goal
 

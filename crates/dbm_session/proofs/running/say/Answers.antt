@@ -1,6 +1,3 @@
-use Rattle.std.proofs.Common.{length, sym, subst, List, ℕ}
-use Rattle.std.specs.Io.KnownBytes.{Appends}
-use Rattle.std.proofs.KnownBytes.{Appends-kept}
 use Rattle.dbm_session.proofs.Turns.{writes_all}
 use Rattle.dbm_session.proofs.running.say.Goals as goal
 

@@ -101,7 +101,51 @@ fn run<R: Runtime<File = File> + AllocGlobal + Threads + Wait + Sync>(
             ending
         }
         Err(ToolFault::NoMemory) => tell(rt, None, Ending::Failed(ServeFault::NoMemory)),
-        Err(fault) => tell(rt, None, Ending::Refused(fault)),
+        Err(fault) => {
+            let fault = refused_in_lines(alloc, words.as_slice(), fault);
+            tell(rt, None, Ending::Refused(fault))
+        }
+    }
+}
+
+// The refusal of the same words with `\n` for each line feed, if one has a line feed: `clap` shows words as they are, and what looks like a
+// line of this program is to be one.
+fn refused_in_lines(alloc: Global, words: &[&str], fault: ToolFault) -> ToolFault {
+    if !words.iter().any(|word| word.contains('\n')) {
+        return fault;
+    }
+    match words_in_lines(alloc, words) {
+        Ok(plain) => refused_again(alloc, plain.as_slice()).unwrap_or(fault),
+        Err(_) => fault,
+    }
+}
+
+// Words with `\n` for each line feed.
+fn words_in_lines(alloc: Global, words: &[&str]) -> Result<Vec<String>, AllocError> {
+    let mut plain: Vec<String> = Vec::new(alloc);
+    for word in words {
+        let mut text = String::new(alloc);
+        for c in word.chars() {
+            if c == '\n' {
+                text.push_str("\\n")?;
+            } else {
+                text.push(c)?;
+            }
+        }
+        plain.push(text)?;
+    }
+    Ok(plain)
+}
+
+// Why words are refused. `None` if they are not, or memory runs out.
+fn refused_again(alloc: Global, words: &[String]) -> Option<ToolFault> {
+    let mut lent: Vec<&str> = Vec::new(alloc);
+    for word in words {
+        lent.push(word.as_str()).ok()?;
+    }
+    match read_words(alloc, lent.as_slice()) {
+        Err(ToolFault::NoMemory) | Ok(_) => None,
+        Err(fault) => Some(fault),
     }
 }
 

@@ -126,7 +126,7 @@ untie %db;
     my ($first, $second, $value) = ("far180463", "far413", "x" x 900);
     dies_with(sub { tie my %none, "Boddurci", "$base.limit", "c", limit => $_ }, qr/a limit is/) for -1, "x", "", "1\n", "1" x 16;
     ok(!-e "$base.limit.lock");
-    tie my %limited, "Boddurci", "$base.limit", "c", limit => (1 << 20) - 1;
+    tie my %limited, "Boddurci", "$base.limit", "c", limit => 256 << 10;
     $limited{$first} = $value;
     tied(%limited)->sync;
     my $before = text_of("$base.limit.pag");

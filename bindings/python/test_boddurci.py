@@ -443,7 +443,7 @@ class Saves(InFolder):
             with self.assertRaises(fault):
                 boddurci.open(self.base, "c", limit=limit)
         self.assertEqual(os.listdir(self.room.name), [])
-        with boddurci.open(self.base, "c", limit=(1 << 20) - 1) as db:
+        with boddurci.open(self.base, "c", limit=256 << 10) as db:
             db[keys[0]] = value
             db.sync()
             before = pathlib.Path(self.base + ".pag").read_bytes()

@@ -1,4 +1,5 @@
-/* Boddurci for C: a proved key-value store in the two files of an sdbm database, and small verified programs on its records.
+/* Boddurci for C: the proved core of a key-value store, whose two files are those of an sdbm database, with small verified programs on its
+ * records.
  *
  *     #include <boddurci.h>
  *     #include <stdio.h>

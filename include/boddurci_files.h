@@ -65,8 +65,8 @@ enum boddurci_files_status {
                                   or another program wrote them. Move it away to have the files as they are */
     BODDURCI_NO_SAVE = 35,     /* it was opened to be read only */
     BODDURCI_TOO_LONG = 36,    /* a file has more bytes than dbm takes: 1 GiB of .pag, 256 MiB of .dir */
-    BODDURCI_UNSAFE = 37,      /* BASE.redo or BASE.lock may be a stranger's; the text says why. In the name that it has, controls, bytes
-                                  that are not UTF-8 and what turns text round are escaped */
+    BODDURCI_UNSAFE = 37,      /* BASE.redo or BASE.lock may be a stranger's; the text says why. Control characters, invalid UTF-8 and
+                                  bidirectional controls in the name are escaped */
     BODDURCI_MOVED = 38,       /* BASE.lock, .pag, .dir or .redo is another file than was opened, or links lead elsewhere */
     BODDURCI_FORKED = 39,      /* it was opened by another process, of which this one is a child */
     BODDURCI_BAD_NAME = 40,    /* the name is NULL or empty, . or .., or ends in one of these after a / */
@@ -88,10 +88,9 @@ typedef struct boddurci_fault {
 const char *boddurci_files_text(uint32_t status);
 
 /* Opens the database in BASE.dir and BASE.pag, each of which may be missing, or returns NULL and says why. A save that was cut off is ended
- * first, no matter who made it; a base that is read only writes nothing, and reads what the save would have left, once that is kept on the disk.
- * It takes memory for what the files have on the disk, twice, and none for holes. It waits for the lock without an end, also after a signal.
- * Where it returns NULL nothing was changed but that such a save was ended, and
- * that a lock may have been made. Who may not write a .pag that is there makes no lock. FILE_FAILED, LOCKED (by NO_WAIT alone), BAD_REDO,
+ * first, no matter who made it; a base that is read only writes nothing, and reads what the save would have left, once that is kept on the
+ * disk. It waits for the lock without an end, also after a signal. Where it returns NULL nothing was changed but that such a save was ended,
+ * and that a lock may have been made. Memory: twice the data that the files have on the disk. Holes cost nothing. Who may not write a .pag that is there makes no lock. FILE_FAILED, LOCKED (by NO_WAIT alone), BAD_REDO,
  * TOO_LONG, UNSAFE, MOVED, BAD_NAME, OPEN_HERE, OTHER_SIZE, and BAD_FILES and NO_MEMORY of boddurci.h. */
 boddurci_base *boddurci_open_files(const char *base, uint32_t flags, boddurci_fault *fault);
 

@@ -28,7 +28,7 @@ static void hold_signal(struct boddurci_disk *disk)
     disk->is_signal_held = pthread_sigmask(SIG_BLOCK, &only, &disk->mask) == 0;
 }
 
-/* Takes back the signal that has come meanwhile, and lets those come that came before. */
+/* Discards a SIGXFSZ that this thread's writes raised, and restores the mask. */
 static void give_signal(struct boddurci_disk *disk)
 {
     static const struct timespec now = {0, 0};

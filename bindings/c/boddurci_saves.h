@@ -14,7 +14,7 @@
 
 enum boddurci_file { BODDURCI_PAGES, BODDURCI_DIRECTORY, BODDURCI_REDO, BODDURCI_LOCK };
 
-/* The bytes of a file, which boddurci_let_go frees: a mapping of so many bytes, or, where room is 0, memory of malloc. It begins with zeros. */
+/* The bytes of a file. `boddurci_let_go` frees them: a mapping of `room` bytes, or memory of malloc if `room` is 0. */
 struct boddurci_bytes {
     uint8_t *at;
     size_t length;

@@ -161,11 +161,11 @@ pub fn moved_sentence<'a>(base: Option<&'a str>, file: MovedFile) -> Sentence<'a
             base,
         ),
         MovedFile::Pages => with_one(
-            "{}.pag is another file than this run has read: it was renamed, taken away or put in its place. Nothing was saved: run the command again on the files as they are now.",
+            "{}.pag is another file than this run has read: it was renamed, removed or replaced. Nothing was saved: run the command again on the files as they are now.",
             base,
         ),
         MovedFile::Directory => with_one(
-            "{}.dir is another file than this run has read: it was renamed, taken away or put in its place. Nothing was saved: run the command again on the files as they are now.",
+            "{}.dir is another file than this run has read: it was renamed, removed or replaced. Nothing was saved: run the command again on the files as they are now.",
             base,
         ),
     }

@@ -22,14 +22,14 @@ fn name_of(names: &Names, part: Part) -> &str {
 }
 
 // The files of a database, each opened when it is first written or synced, made where it was not there, and kept open. They are written in
-// place, so they keep owner, permissions and links. A data file is the one that was read: another under its name is not opened, and where
-// there was none no other is taken.
+// place, so they keep owner, permissions and links. A data file is the one that was read: another under its name is not opened. If there was
+// no data file, a file that appears later is not used.
 #[derive(Drop)]
 struct OpenFiles<'a, R: Files<File = File>> {
     rt: &'a R,
     names: &'a Names,
     seen: SeenFiles,
-    // A file may have so many bytes: the system would end the run that writes more.
+    // The longest file that this process may write; a longer one raises SIGXFSZ.
     most: u64,
     pages: Option<File>,
     directory: Option<File>,

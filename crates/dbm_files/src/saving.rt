@@ -43,8 +43,8 @@ pub struct Change<'a> {
 /// # Errors
 /// `FileTooLong` where a file has 2^32 bytes or more or would have, `NoMemory`, and `WriteFile` where the disk has failed, with nothing
 /// printed; where it failed at the mark the save may be committed or not. `Write` where the lines could not be printed, or only their
-/// first bytes: the change stands then, and the lock is given back. At the other faults it is held still. What fails after the mark is no fault, and the save is `Pending`: the next run ends it. So that a
-/// full disk is found before, the room is tried that the files may want.
+/// first bytes: the change stands then, and the lock is given back. At the other faults it is held still. What fails after the mark is no
+/// fault, and the save is `Pending`: the next run ends it. So that a full disk is found before, the room is tried that the files may want.
 pub fn save_change<D: Disk, W: Write, L: Drop>(
     alloc: Global,
     disk: &mut D,
@@ -99,8 +99,8 @@ fn print<W: Write, L>(writer: &mut W, lines: &[u8], _lock: &Option<L>) -> Result
     }
 }
 
-/// Saves a change by its plan, which knows the files, gives the lock back, and then prints the lines that tell of it, as `save_change` does. `redo` are the bytes
-/// of the redo file, which is not marked.
+/// Saves a change by its plan, which knows the files, gives the lock back, and then prints the lines that tell of it, as `save_change`
+/// does. `redo` are the bytes of the redo file, which is not marked.
 ///
 /// # Errors
 /// Those of `save_change` but for those of the plan.

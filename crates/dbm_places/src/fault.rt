@@ -31,7 +31,7 @@ pub enum FilesFault {
     Unsafe,
     /// Another run has had the lock for as long as this one was to wait.
     Locked,
-    /// The lock that the run holds, or a data file that it has read, has lost its name to another file. Nothing is written then.
+    /// `BASE.lock`, `.pag` or `.dir` is no longer the file that this run locked or read. Nothing was saved.
     Moved(MovedFile),
     /// The lines that tell of a save could not be written. The save stands.
     Write,

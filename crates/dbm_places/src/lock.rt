@@ -24,7 +24,7 @@ struct Take {
 
 /// Waits for the lock of a run that writes, and takes it. It is held until the file that is handed out is dropped. Where its file is
 /// missing it is made, so that all who may use the pages can lock it; but a run that may not write the pages makes none. With a patience
-/// it waits no longer than that. Where the file has lost its name meanwhile, the one that has the name is waited for.
+/// it waits no longer than that. If the name refers to another file by then, it waits for that file's lock.
 ///
 /// # Errors
 /// `Unsafe` where the file of the lock is one that others could have planted, `WriteFile` where it cannot be made, or cannot be locked,
@@ -54,7 +54,7 @@ pub fn lock_to_write<R: Files<File = File> + Clock>(
 }
 
 /// Waits for the lock of a run that reads, and takes it. `None` where its file is missing: then no run of the program has written.
-/// With a patience it waits no longer than that. Where the file has lost its name meanwhile, the one that has the name is waited for.
+/// With a patience it waits no longer than that. If the name refers to another file by then, it waits for that file's lock.
 ///
 /// # Errors
 /// `Unsafe` where the file is one that others could have planted, `ReadFile` where it cannot be opened or locked, `Locked` where a run

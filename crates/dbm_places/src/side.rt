@@ -9,7 +9,7 @@ use std::io::{self, ErrorKind};
 use std::os::unix::fs::{MetadataExt, OpenOptionsExt, PermissionsExt, fchown};
 use std::rt::Files;
 
-/// A file beside a database is looked at and opened so often, where its name goes from file to file meanwhile.
+/// Attempts to open a file beside a database if its name changes between the look and the opening.
 const MOST_LOOKS: usize = 10;
 
 /// Which file beside a database one is.

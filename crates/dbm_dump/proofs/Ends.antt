@@ -1,5 +1,5 @@
 -- The end of a text, after its last LF.
-use Rattle.std.proofs.Common.{◌≡◌, ℕ, ◌+◌, ◌<◌, List, [], ◌∷◌, ◌++◌, length, take, Bool, true, false, not, cond, Option, Some, None, inl, inr, refl, sym, ap, ◌∙◌, subst, arith, eqb}
+use Rattle.std.proofs.Common.{◌≡◌, ℕ, ◌+◌, ◌<◌, List, [], ◌∷◌, ◌++◌, length, take, Bool, true, false, not, cond, Option, Some, None, inr, refl, sym, ap, ◌∙◌, subst, arith, eqb}
 use Rattle.std.proofs.lemmas.Bool.{false≢true, ne_eqb}
 use Rattle.std.proofs.lemmas.List.{take-append-le, take_all}
 use Rattle.std.proofs.Math.Seq.{take-length}
@@ -11,7 +11,7 @@ use Rattle.dbm_dump.specs.declared.stage.Stage.{Stage}
 use Rattle.dbm_dump.specs.declared.stage.Stage.TheVariants.{First, Title, Keys, Pages, Count, Gap, Pairs, Between, Within, Over}
 use Rattle.dbm_dump.specs.declared.stage.Next.{Next}
 use Rattle.dbm_dump.specs.Loading.{GivesLine, IsEmptyEnd}
-use Rattle.dbm_dump.specs.Reading.{Read, before_read, dump_lines, kept, pair_list, read, read_on, read_so, whole, without_empty_end}
+use Rattle.dbm_dump.specs.Reading.{Read, before_read, dump_lines, kept, pair_list, read, read_on, whole, without_empty_end}
 use Rattle.dbm_dump.specs.Steps.{is_end, step}
 
 -- ---- an empty last line changes no pairs

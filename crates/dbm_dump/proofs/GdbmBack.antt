@@ -1,26 +1,24 @@
 -- A dump in gdbm's format reads back.
-use Rattle.std.proofs.Common.{◌≡◌, ℕ, zero, suc, ◌+◌, ◌-◌, ◌*◌, ◌/◌, ◌%◌, ◌<◌, ◌≤◌, ◌^◌, Bool, true, false, cond, List, [], ◌∷◌, ◌++◌, length, length-append, decimal, codes, Option, Some, None, Result, Ok, Err, refl, sym, ap, ◌∙◌, subst, append_assoc, arith, eqb, replicate}
+use Rattle.std.proofs.Common.{◌≡◌, ℕ, ◌+◌, ◌*◌, ◌/◌, ◌<◌, ◌≤◌, ◌^◌, Bool, true, false, cond, List, [], ◌∷◌, ◌++◌, length, length-append, decimal, codes, Option, Some, None, refl, sym, ap, ◌∙◌, append_assoc, arith, eqb, replicate}
 use Rattle.std.specs.Prelude.{◌||◌, nat_le}
 use Rattle.std.specs.List.{All, flat_map}
 use Rattle.std.proofs.lemmas.Bool.{ne_eqb}
 use Rattle.std.proofs.lemmas.List.{length-replicate}
 use Rattle.std.proofs.lemmas.List.Elements.{All-head, All-tail}
 use Rattle.base64.specs.Engines.{standard}
-use Rattle.base64.specs.GeneralPurpose.{IsConsistent, decode_of, encode_of}
+use Rattle.base64.specs.GeneralPurpose.{decode_of, encode_of}
 use Rattle.base64.specs.Rfc4648.{encode_symbols, padding_len, unpadded_len}
 use Rattle.base64.proofs.EngineFacts.{decode_of-encode_of, encode_of-nil}
 use Rattle.base64.proofs.RoundTrip.{length-encode_symbols}
 use Rattle.hex.specs.Hex.{IsBytes}
 use Rattle.sdbm_addr.specs.Pairs.{Pair}
-use Rattle.dbm_script.specs.Numbers.{number_of}
 use Rattle.dbm_script.specs.Pieces.{pieces_of}
 use Rattle.byte_text.proofs.Decimals.{number_is}
 use Rattle.dbm_dump.specs.Texts.{◌⏎◌, datum_lines, gdbm_end, gdbm_header, gdbm_pair, gdbm_text}
 use Rattle.dbm_dump.specs.Marks.{count_mark, len_mark, mark_of, sign_of}
-use Rattle.dbm_dump.specs.Steps.{between_step, closed, decoded, ended, goes, goes_if, grown, is_full, step, within_step}
+use Rattle.dbm_dump.specs.Steps.{between_step, closed, decoded, goes, goes_if, grown, is_full, step, within_step}
 use Rattle.dbm_dump.specs.Reading.{IsGood, Read, before_read, pairs_of, read, read_on, read_so, whole}
 use Rattle.dbm_dump.specs.Symbols.{is_open}
-use Rattle.dbm_dump.specs.declared.marks.Mark.{Mark}
 use Rattle.dbm_dump.specs.declared.marks.Mark.TheVariants as mark
 use Rattle.dbm_dump.specs.declared.stage.Next.{Next}
 use Rattle.dbm_dump.specs.declared.stage.Role.{Role}

@@ -1,10 +1,10 @@
 -- Pairs that are stored one after another.
-use Rattle.std.proofs.Common.{◌≡◌, ◌+◌, ◌<◌, ◌≤◌, ℕ, List, [], ◌∷◌, ◌++◌, length, true, Option, Some, None, Result, Ok, Err, IfErr, IsErrAnd, IsSomeAnd, inl, inr, refl, sym, ap, ◌∙◌, subst, arith}
+use Rattle.std.proofs.Common.{◌≡◌, ◌≤◌, ℕ, List, [], ◌∷◌, ◌++◌, length, true, Option, Some, None, Result, Ok, Err, IfErr, IsErrAnd, IsSomeAnd, inr, refl, sym, ◌∙◌, subst, arith}
 use Rattle.std.specs.declared.alloc.Global.{Global}
 use Rattle.sdbm_addr.specs.declared.Mode.{Mode}
 use Rattle.sdbm_addr.specs.declared.Mode.TheVariants.{Insert, Replace}
 use Rattle.sdbm_addr.specs.Database.{Database}
-use Rattle.sdbm_addr.specs.Pairs.{Pair, pair_limit}
+use Rattle.sdbm_addr.specs.Pairs.{Pair}
 use Rattle.store_cmd.specs.declared.Command.TheVariants.{Store}
 use Rattle.store_cmd.specs.declared.Entry.{Entry}
 use Rattle.store_cmd.specs.declared.Reply.{Reply}

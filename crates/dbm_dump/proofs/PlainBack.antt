@@ -1,5 +1,5 @@
 -- A dump in our own format reads back.
-use Rattle.std.proofs.Common.{◌≡◌, ℕ, zero, suc, ◌+◌, ◌-◌, ◌<◌, ◌≤◌, ◌^◌, ◌&&◌, Bool, true, false, cond, List, [], ◌∷◌, ◌++◌, length, length-append, decimal, codes, Option, Some, None, refl, sym, ap, ◌∙◌, subst, append_assoc, arith, eqb}
+use Rattle.std.proofs.Common.{◌≡◌, ℕ, ◌+◌, ◌-◌, ◌<◌, ◌^◌, Bool, true, false, cond, List, [], ◌∷◌, ◌++◌, length, length-append, decimal, codes, Option, Some, None, refl, sym, ap, ◌∙◌, subst, append_assoc, arith, eqb}
 use Rattle.std.specs.List.{All, flat_map}
 use Rattle.std.specs.Result.{result_ok}
 use Rattle.std.specs.Str.{bytes_eq}
@@ -16,11 +16,10 @@ use Rattle.sdbm_addr.specs.declared.PageSize.{PageSize}
 use Rattle.sdbm_addr.specs.declared.PageSize.TheVariants.{Small, Wide}
 use Rattle.sdbm_addr.specs.Pairs.{Pair}
 use Rattle.dbm_script.specs.Notation.{hex_bytes, hex_shown}
-use Rattle.dbm_script.specs.Numbers.{number_of}
 use Rattle.dbm_script.specs.Pieces.{pieces_of}
 use Rattle.byte_text.proofs.Decimals.{number_is}
 use Rattle.dbm_dump.specs.Texts.{◌⏎◌, keys_line, pages_line, pair_line, pair_words, plain_end, plain_header, plain_text, title}
-use Rattle.dbm_dump.specs.Marks.{number_behind, pair_of, pair_in}
+use Rattle.dbm_dump.specs.Marks.{pair_of, pair_in}
 use Rattle.dbm_dump.specs.Steps.{closes, counted, goes, listed, pairs_step, step}
 use Rattle.dbm_dump.specs.Reading.{AreBytes, Read, before_read, pairs_of, read, read_on, read_so, whole}
 use Rattle.dbm_dump.specs.declared.stage.Next.{Next}

@@ -1,7 +1,6 @@
 -- How far a dump was loaded.
 use Rattle.std.proofs.Common.{◌≡◌, ℕ, ◌+◌, ◌<◌, List, [], ◌∷◌, ◌++◌, length, length-append, Bool, true, false, cond, Option, Some, None, IfSome, inl, inr, refl, sym, ap, ◌∙◌, subst, append_assoc, arith}
 use Rattle.std.proofs.lemmas.List.{append-nil}
-use Rattle.std.proofs.lemmas.Option.{same_Some}
 use Rattle.sdbm_addr.specs.declared.Mode.{Mode}
 use Rattle.sdbm_addr.specs.Database.{Database}
 use Rattle.sdbm_addr.specs.Pairs.{Pair}
@@ -11,8 +10,8 @@ use Rattle.dbm_dump.specs.declared.fault.DumpFault.TheVariants as fault
 use Rattle.dbm_dump.specs.declared.key_head.KeyHead.{KeyHead}
 use Rattle.dbm_dump.specs.declared.loading.Loading.{Loading}
 use Rattle.dbm_dump.specs.declared.stage.Stage.{Stage}
-use Rattle.dbm_dump.specs.Steps.{is_end, step}
-use Rattle.dbm_dump.specs.Reading.{Read, lines_of, pair_list, pairs_of, read, read_so, whole, without_empty_end}
+use Rattle.dbm_dump.specs.Steps.{is_end}
+use Rattle.dbm_dump.specs.Reading.{lines_of, pair_list, read, read_so, whole, without_empty_end}
 use Rattle.dbm_dump.specs.Loading.{AtLine, GivesLine, IsBad, IsCrowded, IsCutOff, IsLineFault, IsLoadFault, IsLoaded, IsOversized, IsStepFault, StoresAll, TakesLine, line_limit}
 use Rattle.dbm_lines.specs.Lines.{Gives, IsLongNext, Unread, lines_left}
 use Rattle.dbm_lines.proofs.CutTexts.{unread}

@@ -1,5 +1,5 @@
 -- The text of a fault.
-use Rattle.std.specs.Prelude.{ℕ, List, [], ◌∷◌, ◌++◌, codes, decimal}
+use Rattle.std.specs.Prelude.{ℕ, List, ◌++◌, codes, decimal}
 use Rattle.dbm_dump.specs.declared.fault.DumpFault.{DumpFault}
 use Rattle.dbm_dump.specs.declared.fault.DumpFault.TheVariants.{BadFormat, Read, BadDump, TooLarge, Crowded, CutOff, NoMemory}
 

@@ -1,4 +1,4 @@
-use Rattle.std.proofs.Common.{◌≡◌, ◌≤◌, ◌∙◌, List, ℕ, Bool, true, false, IfSome, length, refl, sym, subst, arith}
+use Rattle.std.proofs.Common.{◌∙◌, List, ℕ, Bool, true, false, IfSome, refl, sym, subst, arith}
 use Rattle.std.proofs.lemmas.Result.{IfErr-weaker, IfOk-weaker}
 use Rattle.dbm_dump.specs.declared.fault.DumpFault.{DumpFault}
 use Rattle.dbm_dump.specs.declared.loading.Loading.{Loading}

@@ -1,6 +1,6 @@
-use Rattle.std.proofs.Common.{◌≡◌, ◌≤◌, ◌<◌, ◌^◌, ap, ◌∙◌, length, arith, rules}
+use Rattle.std.proofs.Common.{◌≤◌, ◌<◌, ◌^◌, ap, ◌∙◌, length, rules}
 use Rattle.dbm_dump.specs.Reading.{IsGood, pairs_of}
-use Rattle.dbm_dump.specs.Texts.{gdbm_header, gdbm_pair, gdbm_text}
+use Rattle.dbm_dump.specs.Texts.{gdbm_header, gdbm_pair}
 use Rattle.dbm_dump.specs.declared.stage.Stage.TheVariants.{First}
 use Rattle.dbm_dump.proofs.GdbmBack.{gdbm_reads}
 use Rattle.dbm_dump.proofs.MoreTexts.{gdbm_whole, good_all, good_more, written_more}

@@ -1,4 +1,4 @@
-use Rattle.std.proofs.Common.{◌≡◌, ◌<◌, ℕ, length, refl, rules}
+use Rattle.std.proofs.Common.{◌<◌, length, refl, rules}
 use Rattle.dbm_dump.proofs.Ends.{head_bytes}
 use Rattle.dbm_dump.proofs.key_head.KeyHead.of.Goals as goal
 

@@ -5,6 +5,8 @@ pub mod OfLeases
 pub mod OfFences
 pub mod OfBounds
 pub mod OfSequences
+pub mod OfSemaphores
+pub mod OfBuckets
 pub mod OfLimits
 pub mod TrailTests
 mod Examples

@@ -159,15 +159,15 @@ during_window r r' (t ∷ ts) from start count length number h names after times
 
 -- ---- whole histories
 
-names_after : (Q : Turn → Type 0) (ts us : List Turn) → AllByRecursion Q (ts ++ us) → AllByRecursion Q us
+pub names_after : (Q : Turn → Type 0) (ts us : List Turn) → AllByRecursion Q (ts ++ us) → AllByRecursion Q us
 names_after Q [] us h = h
 names_after Q (t ∷ ts) us h = names_after Q ts us h.1
 
-names_before : (Q : Turn → Type 0) (ts us : List Turn) → AllByRecursion Q (ts ++ us) → AllByRecursion Q ts
+pub names_before : (Q : Turn → Type 0) (ts us : List Turn) → AllByRecursion Q (ts ++ us) → AllByRecursion Q ts
 names_before Q [] us h = tt
 names_before Q (t ∷ ts) us h = (h.0, names_before Q ts us h.1)
 
-times_before : (from : ℕ) (ts us : List Turn) → NeverFalls from (ts ++ us) → NeverFalls from ts
+pub times_before : (from : ℕ) (ts us : List Turn) → NeverFalls from (ts ++ us) → NeverFalls from ts
 times_before from [] us h = tt
 times_before from (t ∷ ts) us h = (h.0, times_before t.now ts us h.1)
 

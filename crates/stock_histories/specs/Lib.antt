@@ -5,3 +5,5 @@ pub mod SequenceLaw
 pub mod LeaseLaw
 pub mod FencingLaw
 pub mod LimitLaw
+pub mod SemaphoreLaw
+pub mod BucketLaw

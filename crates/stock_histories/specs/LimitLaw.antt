@@ -32,7 +32,8 @@ HasBegun r = (value : List ℕ) → r ≡ Some value → 1 ≤ admitted value
 abbrev pub AdmitsAtMost : Type 0 → Type 0
 AdmitsAtMost A =
     (size : PageSize) (kind : KeyBytes) (m m' : Map) (es : List (Entry A)) (key : List ℕ) (length number : ℕ)
-    → IsAlone rate_limit size kind m es m' key → HasBegun (map.get m key) → NeverFalls 0 (turns_of key es) → AllByRecursion (Names length number) (turns_of key es)
+    → IsAlone rate_limit size kind m es m' key → HasBegun (map.get m key) → NeverFalls 0 (turns_of key es)
+    → AllByRecursion (Names length number) (turns_of key es)
     → (before during after : List Turn) (first : Turn) → turns_of key es ≡ before ++ (first ∷ (during ++ after))
     → Begins number first → length ≤ first.now → AllByRecursion (λ (t : Turn). t.now < first.now + length) during
     → 1 + admitted_in during ≤ number

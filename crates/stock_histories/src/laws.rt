@@ -1,9 +1,11 @@
 //! The laws. Each holds in every legal history in which runs of one program alone change a key; the premises are in `specs/`.
 ghost use Rattle.stock_histories.specs.BoundsLaw.{StaysBelow, StaysBetween};
+ghost use Rattle.stock_histories.specs.BucketLaw.{PoursAtMost};
 ghost use Rattle.stock_histories.specs.CounterLaw.{LosesNoRun};
 ghost use Rattle.stock_histories.specs.FencingLaw.{TokensRise};
 ghost use Rattle.stock_histories.specs.LeaseLaw.{NeverOverlap};
 ghost use Rattle.stock_histories.specs.LimitLaw.{AdmitsAtMost};
+ghost use Rattle.stock_histories.specs.SemaphoreLaw.{NeverMore};
 ghost use Rattle.stock_histories.specs.SequenceLaw.{TakesOnce};
 
 use std::alloc::Allocator;
@@ -36,6 +38,16 @@ pub fn bounded_sums_stay_below<A: Allocator>()
 /// A sequence takes each number once, and in rising order.
 pub fn sequences_take_numbers_once<A: Allocator>()
     ensures { TakesOnce A }
+{}
+
+/// A semaphore never has more holders than permits.
+pub fn semaphores_hold<A: Allocator>()
+    ensures { NeverMore A }
+{}
+
+/// No more is taken out of a token bucket than was in it and flowed in.
+pub fn token_buckets_hold<A: Allocator>()
+    ensures { PoursAtMost A }
 {}
 
 /// A window of a rate limit admits at most its number.

@@ -9,4 +9,5 @@ pub mod OfSemaphores
 pub mod OfBuckets
 pub mod OfLimits
 pub mod TrailTests
+pub mod Openings
 mod Examples

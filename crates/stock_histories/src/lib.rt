@@ -11,4 +11,4 @@ pub use laws::{
     leases_never_overlap, rate_limits_hold, semaphores_hold, sequences_take_numbers_once,
     token_buckets_hold, tokens_rise,
 };
-pub use premises::{has_premises, is_alone, never_falls};
+pub use premises::{has_premises, is_alone, never_falls, opens_with_record};

@@ -1,7 +1,9 @@
 //! Tests whether the premises of the laws hold in the trail of a store.
-ghost use Rattle.std.specs.Prelude.{◌≡◌, ◌↔◌, IsTrue};
+ghost use Rattle.std.specs.Prelude.{◌≡◌, ◌↔◌, ◌≤◌, IsTrue, length};
+ghost use Rattle.std.specs.FinMap as map;
+ghost use Rattle.sdbm_addr.specs.Pairs.{key_cmp};
 ghost use Rattle.std.specs.Option.{option_map};
-ghost use Rattle.bpf_helpers.specs.Runs.{AreBytes};
+ghost use Rattle.bpf_helpers.specs.Runs.{AreBytes, record_limit};
 ghost use Rattle.stock_histories.specs.Turns.{
   turn_in,
   turns_of,
@@ -10,23 +12,30 @@ ghost use Rattle.stock_histories.specs.Turns.{
   HasWords,
   HaveWords,
   NeverFalls,
+  IsRecord,
 };
 
+use bpf_helpers::RECORD_LIMIT;
 use bpf_insn::Code;
+use sdbm_addr::Bytes;
 use std::alloc::Allocator;
 use store_cmd::{Command, KeptEntry, Program, Reply, Trail};
 
-/// Tests the premises of the laws on a trail: runs of this program alone change the key, and the times of its runs never fall. Fetches,
-/// counts and commands on other keys are allowed. It takes no memory, and time in the entries.
+/// Tests the premises of the laws on the trail of a closed store: runs of this program alone change the key, the times of its runs never
+/// fall, and the value at the start has at most 8,008 bytes, as in each file. Fetches, counts and commands on other keys are allowed. That
+/// the history is legal is a promise of the store that closed. It takes no memory, and time in the pairs and entries.
 pub fn has_premises<A: Allocator>(trail: &Trail<A>, program: &Code<A>, key: &[u8]) -> bool
-    ensures tested { IsTrue result ↔ (RunsAlone program.now key.now trail.now.entries.items × NeverFalls 0 (turns_of key.now trail.now.entries.items)) }
+    ensures tested { IsTrue result ↔ (RunsAlone program.now key.now trail.now.entries.items × (NeverFalls 0 (turns_of key.now trail.now.entries.items) × IsRecord (map.get (map.from_entries {R = key_cmp} trail.now.opening) key.now))) }
     ensures words { IsTrue result → HaveWords trail.now.entries.items }
 {
     let entries = trail.entries.as_slice();
     if !is_alone(entries, program, key) {
         return false;
     }
-    never_falls(entries, key)
+    if !never_falls(entries, key) {
+        return false;
+    }
+    opens_with_record(trail.opening.as_slice(), key)
 }
 
 /// Tests whether runs of this program alone change the key in the entries of a trail. It takes no memory.
@@ -57,6 +66,26 @@ pub fn never_falls<A: Allocator>(entries: &[KeptEntry<A>], key: &[u8]) -> bool
         }
     }
     true
+}
+
+/// Tests whether the value of a key in an opening, if there is one, has at most 8,008 bytes. It takes no memory.
+pub fn opens_with_record<A: Allocator>(pairs: &[(Bytes<A>, Bytes<A>)], key: &[u8]) -> bool
+    ensures { IsTrue result ↔ IsRecord (map.get (map.from_entries {R = key_cmp} pairs.now) key.now) }
+{
+    for pair in pairs {
+        if pair.0.as_slice() == key {
+            return is_record(pair.1.as_slice());
+        }
+    }
+    true
+}
+
+// Whether bytes may be a record.
+fn is_record(bytes: &[u8]) -> bool
+    ensures { IsTrue result ↔ (AreBytes bytes.now × (length bytes.now ≤ record_limit)) }
+{
+    take_bytes(bytes);
+    bytes.len() <= RECORD_LIMIT
 }
 
 // Whether a command leaves the key alone or is a run of the program.

@@ -1,7 +1,8 @@
-use Rattle.std.proofs.Common.{ℕ, Bool, List, refl, sym, ap, ◌∙◌, subst}
+use Rattle.std.proofs.Common.{ℕ, Bool, List, Option, inr, refl, sym, ap, ◌∙◌, subst}
 use Rattle.std.specs.Option.{option_map}
 use Rattle.sdbm_addr.specs.declared.PageSize.{PageSize}
 use Rattle.sdbm_addr.specs.Database.{pairs_at}
+use Rattle.sdbm_split.specs.Planned.{PageChange}
 use Rattle.store_moves.specs.Leads.{IsPlaceOf}
 use Rattle.store_moves.specs.Works.{change_of, key_of}
 use Rattle.boddurci_marks.specs.Growth.{has_pairs, may_grow, most_in}
@@ -44,3 +45,18 @@ invariant_of-db c = record {
 
 pub returns-clause-err : goal.returns-clause-err
 returns-clause-err c = same_db c.args.db.now c.put_marked.new.image c.put_marked.new.marks _ c.in-Err.ensures.err c.in-Err.ensures.kept
+
+pub returns-then-not-may_grow-clause-why : goal.returns-then-not-may_grow-clause-why
+returns-then-not-may_grow-clause-why c =
+    let db = c.args.db.now.image in
+    let p = c.place-place.ensures in
+    let page = c.place-place.result.page in
+    let change = option_map change_of c.in-Ok.worked.change in
+    let leads : IsPlaceOf db (key_of c.args.command) c.place-place.result =
+    subst (λ (key : List ℕ). IsPlaceOf db key c.place-place.result) c.key_in.ensures (record { depth = p.depth; shallow = p.shallow; low_bits = p.low_bits; bit = p.bit }) in
+    let out =
+    ap (λ (put : Option PageChange). may_grow (most_in db.size c.args.db.now.limit) (has_pairs (pairs_at db page)) page put) (sym c.in-Ok.ensures.worked.change)
+    ∙ ap (λ (s : PageSize). may_grow (most_in s c.args.db.now.limit) (has_pairs (pairs_at db page)) page change) (sym c.page_size.ensures)
+    ∙ ap (λ (most : ℕ). may_grow most (has_pairs (pairs_at db page)) page change) (sym c.most_pages-most.ensures)
+    ∙ ap (λ (there : Bool). may_grow c.most_pages-most.result there page change) (sym c.has_pairs-there.ensures) ∙ sym c.if-not-may_grow.ensures in
+    inr (refl, record { place = c.place-place.result; leads = leads; out = out })

@@ -352,6 +352,7 @@ static int save_in_child(const char *name, int sync, int was_held)
         EXPECT(saved == BODDURCI_DONE || (saved == BODDURCI_FILE_FAILED && fault.system == EFBIG));
         EXPECT(sigprocmask(SIG_BLOCK, NULL, &mask) == 0 && sigismember(&mask, SIGXFSZ) == was_held);
         EXPECT(sigpending(&mask) == 0 && sigismember(&mask, SIGXFSZ) == was_held);
+        boddurci_close_files(base);
         _exit(saved != BODDURCI_DONE ? 1 : fault.system == EFBIG ? 2 : 0);
     }
     EXPECT(child > 0 && waitpid(child, &status, 0) == child);

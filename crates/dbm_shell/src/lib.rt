@@ -1,6 +1,7 @@
 //! Sessions on the files of a database, and at a terminal.
 #![tactic(auto)]
 
+mod host_log;
 mod serving;
 mod shell;
 

@@ -1,7 +1,9 @@
 //! The host of a session: the files of its database, the clock, and the terminal at which its lines are typed.
-ghost use Rattle.std.specs.Prelude.{◌≡◌, IfOk, IfSome, codes, nat_eq, true};
+ghost use Rattle.std.specs.Prelude.{◌≡◌, ◌++◌, ◌∷◌, [], IfOk, IfSome, codes, nat_eq, true};
 ghost use Rattle.std.specs.List.{starts_with};
+ghost use Rattle.dbm_session.specs.HostCalls.{DidSave};
 
+use crate::host_log::HostLog;
 use dbm_faults::ServeFault;
 use dbm_files::{LockedFiles, Saved, read_again, read_program, save_held};
 use dbm_places::{FilesFault, RunPlace, SeenFiles};
@@ -19,7 +21,7 @@ use std::time::{Clock, Duration, SystemTime, UNIX_EPOCH};
 
 /// The files of a session's database, the clock, and the terminal at which its lines are typed, if there is one. It keeps nothing that it
 /// has read of the files: each save reads them again, and finds what differs. It keeps which files they are, since a save is into these
-/// alone.
+/// alone. Clauses see its saves and the times that it gave by a log.
 #[derive(Drop)]
 pub struct Shell<'a, R: Runtime> {
     rt: &'a R,
@@ -34,6 +36,7 @@ pub struct Shell<'a, R: Runtime> {
     changes: u64,
     // When it was saved last. If the system does not tell, a save is due.
     saved_at: Option<Duration>,
+    log: HostLog,
 }
 
 impl<'a, R: Runtime<File = File> + Clock + AllocGlobal> Shell<'a, R> {
@@ -57,6 +60,7 @@ impl<'a, R: Runtime<File = File> + Clock + AllocGlobal> Shell<'a, R> {
             is_prompted: is_terminal(rt, 0) && is_terminal(rt, 2),
             changes: 0,
             saved_at: rt.monotonic().ok(),
+            log: HostLog::none(),
         }
     }
 
@@ -65,6 +69,40 @@ impl<'a, R: Runtime<File = File> + Clock + AllocGlobal> Shell<'a, R> {
         if self.changes > 0 {
             note_unsaved(self.rt, self.changes);
         }
+    }
+
+    // The time of day. `None` if lines may not ask for it, or the system does not tell it.
+    fn clock_time(&self) -> Option<TimeOfDay> {
+        if !self.clock {
+            return None;
+        }
+        let since = SystemTime::now(self.rt)
+            .ok()?
+            .duration_since(UNIX_EPOCH)
+            .ok()?;
+        Some(TimeOfDay {
+            seconds: since.as_secs(),
+            millis: u64::try_from(since.as_millis()).ok()?,
+        })
+    }
+
+    // Saves a database in the files, which are read again, and returns the log with that save. No other function logs a save.
+    fn save_logged(&self, image: &Image<Global>) -> Result<HostLog, FilesFault>
+        ensures { IfOk result (λ log. log.calls ≡ self.now.log.calls ++ DidSave image.now ∷ []) }
+    {
+        let read = read_again(self.rt, self.place, self.held, &self.seen)?;
+        let found = FoundRead {
+            files: ReadFiles {
+                pages: &read.pages,
+                directory: read.directory.as_slice(),
+            },
+            redo: &[],
+        };
+        let saved = save_held(self.rt, self.held, &read.seen, &found, image)?;
+        if saved == Saved::Pending {
+            note_waiting_save(self.rt, self.place.base);
+        }
+        Ok(self.log.with_save(image))
     }
 
     // The seconds since the last save, as far as the system tells them.
@@ -97,7 +135,11 @@ impl<'a, R: Runtime<File = File> + Clock + AllocGlobal> Shell<'a, R> {
 }
 
 impl<R: Runtime<File = File> + Clock + AllocGlobal> Host for Shell<'_, R> {
+    ghost use Rattle.std.specs.Prelude.{Some};
+
     type Fault = FilesFault;
+
+    ghost log = { λ shell. Some shell.log.calls };
 
     fn ask(&mut self, is_over: bool) {
         if !self.is_prompted {
@@ -111,17 +153,9 @@ impl<R: Runtime<File = File> + Clock + AllocGlobal> Host for Shell<'_, R> {
     }
 
     fn time(&mut self) -> Option<TimeOfDay> {
-        if !self.clock {
-            return None;
-        }
-        let since = SystemTime::now(self.rt)
-            .ok()?
-            .duration_since(UNIX_EPOCH)
-            .ok()?;
-        Some(TimeOfDay {
-            seconds: since.as_secs(),
-            millis: u64::try_from(since.as_millis()).ok()?,
-        })
+        let time = self.clock_time();
+        self.log = self.log.with_time(&time);
+        time
     }
 
     fn is_due(&mut self, asks_change: bool) -> bool {
@@ -153,19 +187,8 @@ impl<R: Runtime<File = File> + Clock + AllocGlobal> Host for Shell<'_, R> {
         if is_too_long(image) {
             return Err(FilesFault::FileTooLong);
         }
-        let read = read_again(self.rt, self.place, self.held, &self.seen)?;
-        let found = FoundRead {
-            files: ReadFiles {
-                pages: &read.pages,
-                directory: read.directory.as_slice(),
-            },
-            redo: &[],
-        };
-        let saved = save_held(self.rt, self.held, &read.seen, &found, image)?;
+        self.log = self.save_logged(image)?;
         self.seen = self.seen.with_made(self.rt, &self.held.place.names);
-        if saved == Saved::Pending {
-            note_waiting_save(self.rt, self.place.base);
-        }
         self.changes = 0;
         self.saved_at = self.rt.monotonic().ok();
         Ok(())

@@ -1,0 +1,51 @@
+//! A log of what a session asks of its host, which only clauses read.
+ghost use Rattle.std.specs.Prelude.{◌≡◌, ◌++◌, ◌∷◌, [], List};
+ghost use Rattle.std.specs.Coded.{coded_list};
+ghost use base.Fml.{ftrue};
+ghost use Rattle.dbm_session.specs.HostCalls.{DidSave, GaveTime, HostCall};
+ghost use Rattle.dbm_shell.specs.CallCodes.{coded_call};
+
+use dbm_script::TimeOfDay;
+use sdbm_files::Image;
+use std::alloc::Global;
+use std::marker::Model;
+
+/// The saves of a host and the times that it gave, in order, as clauses see them. It has no bytes and owns nothing.
+pub(crate) struct HostLog {
+    pub(crate) ghost calls: { List HostCall } by { coded_list coded_call },
+}
+
+impl Model for HostLog {
+    ghost also_owns = { λ _. ftrue };
+}
+
+impl HostLog {
+    /// An empty log.
+    pub(crate) fn none() -> HostLog
+        ensures { result.calls ≡ [] }
+    {
+        HostLog {}
+    }
+
+    /// The log with a time after it.
+    pub(crate) fn with_time(&self, time: &Option<TimeOfDay>) -> HostLog
+        ensures { result.calls ≡ self.now.calls ++ GaveTime time.now ∷ [] }
+    {
+        let _ = time;
+        HostLog {}
+    }
+
+    /// The log with a save after it, which was committed.
+    pub(crate) fn with_save(&self, image: &Image<Global>) -> HostLog
+        ensures { result.calls ≡ self.now.calls ++ DidSave image.now ∷ [] }
+    {
+        let _ = image;
+        HostLog {}
+    }
+}
+
+impl Drop for HostLog {
+    fn drop(self) {
+        let HostLog {} = self;
+    }
+}

@@ -1,0 +1,66 @@
+-- The stock programs by name.
+use Rattle.std.specs.Prelude.{ℕ, Bool, true, false, List, [], ◌∷◌, Option, Some, None, codes, cond, nat_eq}
+use Rattle.std.specs.List.{find}
+use Rattle.std.specs.Str.{bytes_eq}
+use Rattle.bpf_insn.specs.declared.insn.Insn.{Insn}
+use Rattle.bpf_insn.specs.Code.{IsImage}
+use Rattle.bpf_asm.specs.Denotes.{Denotes}
+use Rattle.stock_programs.specs.Counter.{counter}
+use Rattle.stock_programs.specs.BoundedAdd.{bounded_add}
+use Rattle.stock_programs.specs.BoundedCounter.{bounded_counter}
+use Rattle.stock_programs.specs.CompareAndSet.{compare_and_set}
+use Rattle.stock_programs.specs.Sequence.{sequence}
+use Rattle.stock_programs.specs.Lease.{lease}
+use Rattle.stock_programs.specs.FencedLease.{fenced_lease}
+use Rattle.stock_programs.specs.RateLimit.{rate_limit}
+use Rattle.stock_programs.specs.Semaphore.{semaphore}
+use Rattle.stock_programs.specs.TokenBucket.{token_bucket}
+use Rattle.stock_names.specs.declared.Stock.{Stock}
+use Rattle.stock_names.specs.declared.Stock.TheVariants as stocks
+use Rattle.stock_names.specs.declared.TheConstants.{ALL}
+use Rattle.stock_names.specs.declared.ProgramWord.{ProgramWord}
+use Rattle.stock_names.specs.declared.ProgramWord.TheVariants as words
+
+-- The name of a program.
+abbrev pub name_of : Stock → List ℕ
+name_of stocks.Counter = codes "counter"
+name_of stocks.BoundedAdd = codes "bounded_add"
+name_of stocks.BoundedCounter = codes "bounded_counter"
+name_of stocks.CompareAndSet = codes "compare_and_set"
+name_of stocks.Sequence = codes "sequence"
+name_of stocks.Lease = codes "lease"
+name_of stocks.FencedLease = codes "fenced_lease"
+name_of stocks.RateLimit = codes "rate_limit"
+name_of stocks.Semaphore = codes "semaphore"
+name_of stocks.TokenBucket = codes "token_bucket"
+
+-- The code of a program, whose meaning is proved.
+abbrev pub code_of : Stock → List Insn
+code_of stocks.Counter = counter
+code_of stocks.BoundedAdd = bounded_add
+code_of stocks.BoundedCounter = bounded_counter
+code_of stocks.CompareAndSet = compare_and_set
+code_of stocks.Sequence = sequence
+code_of stocks.Lease = lease
+code_of stocks.FencedLease = fenced_lease
+code_of stocks.RateLimit = rate_limit
+code_of stocks.Semaphore = semaphore
+code_of stocks.TokenBucket = token_bucket
+
+-- The program with a name.
+unfoldable pub stock_named : List ℕ → Option Stock
+stock_named name = find (λ s. bytes_eq (name_of s) name) ALL
+
+abbrev of_name : Option Stock → ProgramWord
+of_name (Some s) = words.Stock s
+of_name None = words.Unknown
+
+-- What a word names: a stock program by its name after an @, or a file.
+abbrev pub word_named : List ℕ → ProgramWord
+word_named [] = words.File
+word_named (c ∷ name) = cond (nat_eq c 64) (of_name (stock_named name)) words.File
+
+-- A file has a code: it is the program image, or a text that denotes the code.
+abbrev pub IsFileOf : Bool → List Insn → List ℕ → Type 0
+IsFileOf true code file = IsImage code file
+IsFileOf false code file = Denotes file code

@@ -1,0 +1,164 @@
+//! The stock programs by name, as codes, images and texts. Their meaning is proved in `stock_programs`.
+#![tactic(auto)]
+
+ghost use Rattle.std.specs.Prelude.{◌≡◌, IfOk, Some, string_bytes};
+ghost use Rattle.bpf_asm.specs.Denotes.{Denotes};
+ghost use Rattle.bpf_insn.specs.Code.{IsImage};
+ghost use Rattle.stock_names.specs.Names.{IsFileOf, code_of, name_of, stock_named, word_named};
+
+use bpf_asm::disassemble;
+use bpf_insn::{Code, encode};
+use std::alloc::{AllocError, Allocator};
+use stock_programs::{
+    bounded_add_code, bounded_counter_code, compare_and_set_code, counter_code, fenced_lease_code,
+    lease_code, rate_limit_code, semaphore_code, sequence_code, token_bucket_code,
+};
+
+/// A stock program.
+#[derive(Clone, Copy, Debug, PartialEq, Eq)]
+pub enum Stock {
+    Counter,
+    BoundedAdd,
+    BoundedCounter,
+    CompareAndSet,
+    Sequence,
+    Lease,
+    FencedLease,
+    RateLimit,
+    Semaphore,
+    TokenBucket,
+}
+
+/// All stock programs, in the order in which they are listed.
+pub const ALL: [Stock; 10] = [
+    Stock::Counter,
+    Stock::BoundedAdd,
+    Stock::BoundedCounter,
+    Stock::CompareAndSet,
+    Stock::Sequence,
+    Stock::Lease,
+    Stock::FencedLease,
+    Stock::RateLimit,
+    Stock::Semaphore,
+    Stock::TokenBucket,
+];
+
+/// The names of all stock programs, as a fault lists them.
+pub const NAMES: &str =
+    "counter, bounded_add, bounded_counter, compare_and_set, sequence, lease, fenced_lease, rate_limit, semaphore, token_bucket";
+
+/// What a word names that stands for a program.
+#[derive(Clone, Copy, Debug, PartialEq, Eq)]
+pub enum ProgramWord {
+    /// A file: the word does not begin with `@`.
+    File,
+    /// A stock program: its name stands after the `@`.
+    Stock(Stock),
+    /// No stock program has the name after the `@`.
+    Unknown,
+}
+
+/// What a word names: `@counter` a stock program, `counter.s` or `./@counter` a file.
+pub fn read_word(word: &[u8]) -> ProgramWord
+    ensures { result ≡ word_named word.now }
+{
+    let Some((first, name)) = word.split_first() else {
+        return ProgramWord::File;
+    };
+    if *first != b'@' {
+        return ProgramWord::File;
+    }
+    match Stock::named(name) {
+        Some(stock) => ProgramWord::Stock(stock),
+        None => ProgramWord::Unknown,
+    }
+}
+
+impl Stock {
+    /// Name of the program, as in `examples/NAME.s`. It is found by this name.
+    pub fn name(self) -> &'static str
+        ensures name { result.now ≡ name_of self }
+        ensures own { stock_named result.now ≡ Some self }
+    {
+        match self {
+            Stock::Counter => "counter",
+            Stock::BoundedAdd => "bounded_add",
+            Stock::BoundedCounter => "bounded_counter",
+            Stock::CompareAndSet => "compare_and_set",
+            Stock::Sequence => "sequence",
+            Stock::Lease => "lease",
+            Stock::FencedLease => "fenced_lease",
+            Stock::RateLimit => "rate_limit",
+            Stock::Semaphore => "semaphore",
+            Stock::TokenBucket => "token_bucket",
+        }
+    }
+
+    /// The program with a name. Returns `None` if there is none.
+    #[tactic(auto, unfolding(crate::specs::Names::stock_named))]
+    pub fn named(name: &[u8]) -> Option<Stock>
+        ensures { result ≡ stock_named name.now }
+    {
+        ALL.iter()
+            .copied()
+            .find(|stock| stock.name().as_bytes() == name)
+    }
+
+    /// Makes the code of the program.
+    ///
+    /// # Errors
+    /// `AllocError` if an allocation fails.
+    pub fn code<A: Allocator>(self, alloc: A) -> Result<Code<A>, AllocError>
+        ensures { IfOk result (λ code. code ≡ code_of self) }
+    {
+        match self {
+            Stock::Counter => counter_code(alloc),
+            Stock::BoundedAdd => bounded_add_code(alloc),
+            Stock::BoundedCounter => bounded_counter_code(alloc),
+            Stock::CompareAndSet => compare_and_set_code(alloc),
+            Stock::Sequence => sequence_code(alloc),
+            Stock::Lease => lease_code(alloc),
+            Stock::FencedLease => fenced_lease_code(alloc),
+            Stock::RateLimit => rate_limit_code(alloc),
+            Stock::Semaphore => semaphore_code(alloc),
+            Stock::TokenBucket => token_bucket_code(alloc),
+        }
+    }
+
+    /// Makes the program image: the bytes of the code, 8 a unit (RFC 9669, section 3).
+    ///
+    /// # Errors
+    /// `AllocError` if an allocation fails.
+    pub fn image<A: Allocator + Copy>(self, alloc: A) -> Result<Vec<u8, A>, AllocError>
+        ensures { IfOk result (λ image. IsImage (code_of self) image.items) }
+    {
+        encode(alloc, &self.code(alloc)?)
+    }
+
+    /// Makes a text of the program, one instruction a line, which the assembler takes back to the same code.
+    ///
+    /// # Errors
+    /// `AllocError` if an allocation fails.
+    pub fn text<A: Allocator + Copy>(self, alloc: A) -> Result<String<A>, AllocError>
+        ensures { IfOk result (λ text. Denotes (string_bytes text) (code_of self)) }
+    {
+        disassemble(alloc, &self.code(alloc)?)
+    }
+
+    /// Makes what a file of the program has: its image, or its text.
+    ///
+    /// # Errors
+    /// `AllocError` if an allocation fails.
+    pub fn file<A: Allocator + Copy>(
+        self,
+        alloc: A,
+        is_image: bool,
+    ) -> Result<Vec<u8, A>, AllocError>
+        ensures { IfOk result (λ file. IsFileOf is_image (code_of self) file.items) }
+    {
+        if is_image {
+            return self.image(alloc);
+        }
+        Ok(self.text(alloc)?.into_bytes())
+    }
+}

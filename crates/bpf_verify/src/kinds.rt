@@ -24,14 +24,14 @@ pub(crate) struct Kinds<A: Allocator> {
 fn is_same(one: &Kind, other: &Kind) -> bool
     ensures { result ≡ true → one.now ≡ other.now }
 {
-    match (*one, *other) {
+    match (one, other) {
         (Kind::Unset, Kind::Unset) => true,
         (Kind::RecLen, Kind::RecLen) => true,
         (Kind::ArgLen, Kind::ArgLen) => true,
-        (Kind::Num(one), Kind::Num(other)) => one == other,
-        (Kind::Rec { lo, hi }, Kind::Rec { lo: low, hi: high }) => lo == low && hi == high,
-        (Kind::Arg { lo, hi }, Kind::Arg { lo: low, hi: high }) => lo == low && hi == high,
-        (Kind::Stack { lo, hi }, Kind::Stack { lo: low, hi: high }) => lo == low && hi == high,
+        (Kind::Num(one), Kind::Num(other)) => *one == *other,
+        (Kind::Rec { lo, hi }, Kind::Rec { lo: low, hi: high }) => *lo == *low && *hi == *high,
+        (Kind::Arg { lo, hi }, Kind::Arg { lo: low, hi: high }) => *lo == *low && *hi == *high,
+        (Kind::Stack { lo, hi }, Kind::Stack { lo: low, hi: high }) => *lo == *low && *hi == *high,
         _ => false,
     }
 }
@@ -48,7 +48,7 @@ impl<A: Allocator> Kinds<A> {
         let mut rows = Vec::new(alloc);
         rows.reserve(units)?;
         let mut pool = Vec::new(alloc);
-        pool.reserve(units)?;
+        pool.reserve(units + 16)?;
         pool.push(Kind::Unset)?;
         Ok(Kinds {
             pool,

@@ -19,6 +19,7 @@ use Rattle.dbm_dumps.specs.Dump.{dump}
 use Rattle.dbm_dumps.specs.Load.{load}
 use Rattle.dbm_programs.specs.Asm.{asm}
 use Rattle.dbm_programs.specs.Disasm.{disasm}
+use Rattle.dbm_programs.specs.Programs.{programs}
 use Rattle.dbm_programs.specs.Verify.{verify}
 
 -- the program's name, with a version
@@ -37,5 +38,5 @@ bare = record titled {
 abbrev pub tool : App
 tool = record {
   top = record bare { is_leaf = false };
-  subs = fetch ∷ store ∷ delete ∷ rename ∷ list ∷ keys ∷ check ∷ stats ∷ script ∷ session ∷ widen ∷ dump ∷ load ∷ asm ∷ disasm ∷ verify ∷ run ∷ batch ∷ [];
+  subs = fetch ∷ store ∷ delete ∷ rename ∷ list ∷ keys ∷ check ∷ stats ∷ script ∷ session ∷ widen ∷ dump ∷ load ∷ asm ∷ disasm ∷ verify ∷ programs ∷ run ∷ batch ∷ [];
 }

@@ -20,6 +20,7 @@ use Rattle.dbm_pairs.specs.Rename.{RenameAsks}
 use Rattle.dbm_pairs.specs.Store.{StoreAsks}
 use Rattle.dbm_programs.specs.Asm.{AsmAsks}
 use Rattle.dbm_programs.specs.Disasm.{DisasmAsks}
+use Rattle.dbm_programs.specs.Programs.{ProgramsAsks}
 use Rattle.dbm_programs.specs.Verify.{VerifyAsks}
 use Rattle.dbm_runs.specs.Batch.{BatchAsks, each_core}
 use Rattle.dbm_runs.specs.Run.{RunAsks}
@@ -66,6 +67,14 @@ file_of (wish.Asm asm) = Some asm.file.now
 file_of (wish.Disasm disasm) = Some disasm.file.now
 file_of (wish.Verify verify) = Some verify.file.now
 file_of _ = None
+
+-- the program's file is to be an image
+abbrev pub takes_image : Wish → Bool
+takes_image (wish.Run run) = run.image
+takes_image (wish.Batch batch) = batch.image
+takes_image (wish.Verify verify) = verify.image
+takes_image (wish.Disasm disasm) = true
+takes_image _ = false
 
 -- the files of its database are written once it was served, also where nothing has changed
 abbrev pub writes_files : Wish → Bool
@@ -170,6 +179,7 @@ WishAsks name rows (wish.Verify verify) = (name ≡ codes "verify") × VerifyAsk
 abbrev pub SubcommandAsks : Text → List Row → Ask → Type 0
 SubcommandAsks name rows (ask.Wish wish) = WishAsks name rows wish
 SubcommandAsks name rows (ask.Session session) = (name ≡ codes "session") × SessionAsks rows session
+SubcommandAsks name rows (ask.Programs programs) = (name ≡ codes "programs") × ProgramsAsks rows programs
 
 -- the matches name a subcommand, and this is what it asks
 abbrev pub IsAsked : Option (Text × List Row) → Ask → Type 0

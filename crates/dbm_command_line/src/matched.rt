@@ -8,7 +8,7 @@ use clap::ArgMatches;
 use dbm_dumps::{Dump, Load};
 use dbm_listings::{Check, Keys, List, Stats};
 use dbm_pairs::{Delete, Fetch, Rename, Store};
-use dbm_programs::{Asm, Disasm, Verify};
+use dbm_programs::{Asm, Disasm, Programs, Verify};
 use dbm_runs::{Batch, Run};
 use dbm_scripts::{Script, Widen};
 use dbm_sessions::Session;
@@ -21,13 +21,15 @@ pub fn asked<'a>(name: &str, matches: &ArgMatches<'a>) -> Option<Ask<'a>>
 {
     match name {
         "session" => Some(Ask::Session(Session::matched(matches)?)),
+        "programs" => Some(Ask::Programs(Programs::matched(matches))),
         _ => Some(Ask::Wish(wished(name, matches)?)),
     }
 }
 
 // What any other subcommand asks.
 fn wished<'a>(name: &str, matches: &ArgMatches<'a>) -> Option<Wish<'a>>
-    requires { name.now ≢ codes "session" }
+    requires session { name.now ≢ codes "session" }
+    requires programs { name.now ≢ codes "programs" }
     ensures some { IfSome result (WishAsks name.now (rows_of (found_of matches.now))) }
     ensures none { IsNone result → lacks_word (Some (name.now, rows_of (found_of matches.now))) ≡ true }
 {

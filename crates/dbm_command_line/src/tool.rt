@@ -10,7 +10,7 @@ use clap::Command;
 use dbm_dumps::{dump_command, load_command};
 use dbm_listings::{check_command, keys_command, list_command, stats_command};
 use dbm_pairs::{delete_command, fetch_command, rename_command, store_command};
-use dbm_programs::{asm_command, disasm_command, verify_command};
+use dbm_programs::{asm_command, disasm_command, programs_command, verify_command};
 use dbm_runs::{batch_command, run_command};
 use dbm_scripts::{script_command, widen_command};
 use dbm_sessions::session_command;
@@ -37,6 +37,7 @@ pub fn tool_command<'a>(alloc: Global) -> Result<Command<'a>, AllocError>
     let command = with_subcommand(command, asm_command(alloc));
     let command = with_subcommand(command, disasm_command(alloc));
     let command = with_subcommand(command, verify_command(alloc));
+    let command = with_subcommand(command, programs_command(alloc));
     let command = with_subcommand(command, run_command(alloc));
     with_subcommand(command, batch_command(alloc))
 }

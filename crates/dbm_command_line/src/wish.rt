@@ -1,11 +1,11 @@
 //! What a command line can ask.
 ghost use Rattle.std.specs.Prelude.{◌≡◌, option_map};
-ghost use Rattle.dbm_command_line.specs.Wishes.{asks_clock, asks_cores, base_of, file_of, notation_of, time_asked, with_clock, with_time, with_workers, writes_files};
+ghost use Rattle.dbm_command_line.specs.Wishes.{asks_clock, asks_cores, base_of, file_of, notation_of, takes_image, time_asked, with_clock, with_time, with_workers, writes_files};
 
 use dbm_dumps::{Dump, Load};
 use dbm_listings::{Check, Keys, List, Stats};
 use dbm_pairs::{Delete, Fetch, Rename, Store};
-use dbm_programs::{Asm, Disasm, Verify};
+use dbm_programs::{Asm, Disasm, Programs, Verify};
 use dbm_runs::{Batch, EACH_CORE, Run};
 use dbm_script::TimeOfDay;
 use dbm_scripts::{Script, Widen};
@@ -42,6 +42,8 @@ pub enum Ask<'a> {
     Wish(Wish<'a>),
     /// Lines that are answered one by one.
     Session(Session<'a>),
+    /// The stock programs.
+    Programs(Programs<'a>),
 }
 
 /// What a command line asks, and how its database is come by.
@@ -86,6 +88,19 @@ impl<'a> Wish<'a> {
             Wish::Disasm(disasm) => Some(disasm.file),
             Wish::Verify(verify) => Some(verify.file),
             _ => None,
+        }
+    }
+
+    /// Whether the program's file has an image and not a text: for `disasm`, and with `--image`.
+    pub fn takes_image(&self) -> bool
+        ensures { result ≡ takes_image self.now }
+    {
+        match *self {
+            Wish::Run(run) => run.image,
+            Wish::Batch(batch) => batch.image,
+            Wish::Verify(verify) => verify.image,
+            Wish::Disasm(_) => true,
+            _ => false,
         }
     }
 

@@ -7,7 +7,8 @@ use crate::files::{
     small_sentence, too_long_sentence, unread_sentence, untaken_sentence, unwritten_sentence,
 };
 use crate::programs::{
-    assemble_sentence, decode_sentence, no_text_sentence, pool_sentence, submit_sentence,
+    assemble_sentence, decode_sentence, no_text_sentence, pool_sentence, stock_sentence,
+    submit_sentence,
 };
 use crate::sentence::{Part, Sentence, plain, with_one};
 use crate::sessions::session_sentence;
@@ -90,6 +91,7 @@ fn rest_sentence<'a>(words: &Words<'a>, fault: ServeFault) -> Sentence<'a> {
         ServeFault::OtherSize => small_sentence(words.base),
         ServeFault::BadBase => base_sentence(words.base),
         ServeFault::Absent => absent_sentence(words.base),
+        ServeFault::NoStock => stock_sentence(words.file),
         ServeFault::Locked => lock_sentence(words.base, words.numbers.timeout),
         ServeFault::Moved(file) => moved_sentence(words.base, file),
         ServeFault::ReadClock => {

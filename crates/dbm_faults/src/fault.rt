@@ -37,6 +37,8 @@ pub enum ServeFault {
     BadBase,
     /// Neither file of the database is there, which has to be.
     Absent,
+    /// No stock program has the name that is given.
+    NoStock,
     /// Another run has had the lock for as long as this one was to wait.
     Locked,
     /// The lock that the run holds, or a data file that it has read, has lost its name to another file. Nothing was saved.
@@ -81,6 +83,7 @@ impl fmt::Display for ServeFault {
             ServeFault::ReadClock => f.write_str("ReadClock"),
             ServeFault::BadBase => f.write_str("BadBase"),
             ServeFault::Absent => f.write_str("Absent"),
+            ServeFault::NoStock => f.write_str("NoStock"),
             ServeFault::Locked => f.write_str("Locked"),
             ServeFault::Moved(_) => f.write_str("Moved"),
             ServeFault::Report(fault) => fmt::Display::fmt(fault, f),

@@ -5,6 +5,7 @@ use bpf_asm::{AsmFault, FaultKind};
 use bpf_insn::DecodeFault;
 use dbm_words::{Subject, Words};
 use prog_registry::RegFault;
+use stock_names::NAMES;
 use store_cmd::Refusal;
 use worker_pool::PoolFault;
 
@@ -26,6 +27,15 @@ pub fn no_text_sentence<'a>(words: &Words<'a>) -> Sentence<'a> {
             file,
         ),
     }
+}
+
+/// Of an unknown stock program. It lists the names of all.
+pub fn stock_sentence<'a>(word: Option<&'a str>) -> Sentence<'a> {
+    with_two(
+        "There is no stock program {}. The stock programs are {}. ./ before the word names a file.",
+        Part::Quoted(word.unwrap_or("")),
+        Part::Text(NAMES),
+    )
 }
 
 /// Of a text that is no program. `None` where memory ran out.

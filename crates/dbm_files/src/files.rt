@@ -109,8 +109,11 @@ fn take_to_write<R: Files<File = File> + Clock + AllocGlobal>(
 ) -> Result<RunFiles, FilesFault> {
     let lock = lock_to_write(rt, &files.names, patience)?;
     files.must_not_lead(rt)?;
+    let mut files = files;
+    files.hold_data(rt);
     if peeks && let Some((bytes, unread)) = peek(rt, place, &files) {
         let seen = bytes.seen;
+        files.must_be_open(&seen)?;
         return Ok(RunFiles {
             bytes,
             held: Some(LockedFiles {
@@ -123,6 +126,7 @@ fn take_to_write<R: Files<File = File> + Clock + AllocGlobal>(
     }
     let bytes = read_database(rt, place, &files, None)?;
     let seen = bytes.seen;
+    files.must_be_open(&seen)?;
     let held = LockedFiles {
         place: files,
         seen,
@@ -202,6 +206,7 @@ pub fn take_rest<R: Files<File = File> + Clock + AllocGlobal>(
             ..
         } = held;
         let read = read_database(rt, place, &files, None)?;
+        files.must_be_open(&read.seen)?;
         let held = LockedFiles {
             place: files,
             seen: read.seen,

@@ -1,5 +1,6 @@
 //! The folder of a database, which a run holds open, and which files it has found in it.
 
+use crate::absent::is_special;
 use crate::fault::{FilesFault, MovedFile};
 use crate::links::resolve;
 use crate::names::{Names, folder_of, names_of};
@@ -10,7 +11,8 @@ use std::os::fd::AsRawFd;
 use std::os::unix::fs::MetadataExt;
 use std::rt::Files;
 
-/// Which file a name leads to: no two files have the same numbers at the same time.
+/// Which file a name leads to: its device and inode. No two files have the same at the same time, and a file that is removed keeps them for
+/// as long as it is open.
 #[derive(Clone, Copy, Debug, PartialEq, Eq)]
 pub struct FileId {
     device: u64,
@@ -57,16 +59,18 @@ impl SeenFiles {
         Ok(SeenFiles { pages, directory })
     }
 
-    /// The same files, with those that were missing as the names find them now: a save has made them. A file that was there stays the
-    /// one that it was, whatever has its name by now.
-    pub fn with_made<R: Files>(&self, rt: &R, names: &Names) -> SeenFiles {
+    /// Whether a data file is missing.
+    pub fn lacks_file(&self) -> bool {
+        self.pages.is_none() || self.directory.is_none()
+    }
+
+    /// The same files, and those that a save has made of the missing ones. A file that existed stays the one that it was, whatever has its
+    /// name by now.
+    pub fn with_made(&self, made: &DataFiles) -> SeenFiles {
+        let made = made.seen();
         SeenFiles {
-            pages: self
-                .pages
-                .or(id_of(rt, names.pages.as_str()).unwrap_or(None)),
-            directory: self
-                .directory
-                .or(id_of(rt, names.directory.as_str()).unwrap_or(None)),
+            pages: self.pages.or(made.pages),
+            directory: self.directory.or(made.directory),
         }
     }
 
@@ -85,11 +89,67 @@ impl SeenFiles {
     }
 }
 
+/// The data files of a database, held open. Until they are closed, no other file gets their devices and inodes.
+#[derive(Drop)]
+pub struct DataFiles {
+    pages: Option<File>,
+    directory: Option<File>,
+}
+
+impl DataFiles {
+    /// No files.
+    pub fn none() -> DataFiles {
+        DataFiles {
+            pages: None,
+            directory: None,
+        }
+    }
+
+    /// Opens the data files to be read that are not open yet. One that is missing or cannot be opened is left out, and so is a FIFO, whose
+    /// other end would be waited for.
+    pub fn open_more<R: Files<File = File>>(&mut self, rt: &R, names: &Names) {
+        if self.pages.is_none() {
+            self.pages = open_plain(rt, names.pages.as_str());
+        }
+        if self.directory.is_none() {
+            self.directory = open_plain(rt, names.directory.as_str());
+        }
+    }
+
+    /// Which files they are.
+    pub fn seen(&self) -> SeenFiles {
+        SeenFiles {
+            pages: id_of_opened(&self.pages),
+            directory: id_of_opened(&self.directory),
+        }
+    }
+}
+
+// Opens a file to be read. `None` if it is missing, cannot be opened, or is a FIFO or a device.
+fn open_plain<R: Files<File = File>>(rt: &R, name: &str) -> Option<File> {
+    if is_special(rt, name) {
+        return None;
+    }
+    fs::open(rt, name).ok()
+}
+
+// Which file an opened one is.
+fn id_of_opened(file: &Option<File>) -> Option<FileId> {
+    let Some(file) = file else {
+        return None;
+    };
+    match file.metadata() {
+        Ok(found) => Some(FileId::of(&found)),
+        Err(_) => None,
+    }
+}
+
 /// The files of a database under their names in a folder that is held open: whatever the folder's own name leads to by now, these names
 /// lead into it. Where the system does not allow that, they are the names that the folder had.
 #[derive(Drop)]
 pub struct Place {
     pub names: Names,
+    data: DataFiles,
     _folder: Option<File>,
 }
 
@@ -116,8 +176,22 @@ impl Place {
         let inside = format!(in rt.alloc(); "/proc/self/fd/{number}/{last}")?;
         Ok(Place {
             names: names_of(rt.alloc(), inside.as_str())?,
+            data: DataFiles::none(),
             _folder: Some(folder),
         })
+    }
+
+    /// Holds the data files open that the names refer to now. Files that are read afterwards have to be these (`must_be_open`).
+    pub fn hold_data<R: Files<File = File>>(&mut self, rt: &R) {
+        self.data.open_more(rt, &self.names);
+    }
+
+    /// Compares the data files that were read with those that are held open.
+    ///
+    /// # Errors
+    /// `Moved` with the first that differs.
+    pub fn must_be_open(&self, read: &SeenFiles) -> Result<(), FilesFault> {
+        read.must_be(&self.data.seen())
     }
 
     /// The base of the names: what stands before `.pag`.
@@ -158,6 +232,7 @@ impl Place {
 fn plain_place<R: Files + AllocGlobal>(rt: &R, base: &str) -> Result<Place, FilesFault> {
     Ok(Place {
         names: names_of(rt.alloc(), base)?,
+        data: DataFiles::none(),
         _folder: None,
     })
 }

@@ -2,3 +2,4 @@ pub mod Judging
 pub mod Asm
 pub mod Disasm
 pub mod Verify
+pub mod Programs

@@ -48,7 +48,12 @@ impl<'a> Asm<'a> {
 pub fn asm_command<'a>(alloc: Global) -> Result<Command<'a>, AllocError>
     ensures { IfOk result (IsSubcommand spec.asm) }
 {
-    let args = vec![in alloc; file(alloc, "The program as text, one instruction a line")]?;
+    let args = vec![in alloc;
+        file(
+            alloc,
+            "The program as text, one instruction a line; or @NAME for a stock program"
+        ),
+    ]?;
     let about = "Print the image of a program's text, in hex";
     let notes = "Prints one line, two digits a byte.\n\nExample: dbm asm counter.s";
     subcommand(alloc, "asm", about, notes, args)

@@ -50,7 +50,12 @@ impl<'a> Disasm<'a> {
 pub fn disasm_command<'a>(alloc: Global) -> Result<Command<'a>, AllocError>
     ensures { IfOk result (IsSubcommand spec.disasm) }
 {
-    let args = vec![in alloc; file(alloc, "The program as the bytes of its image")]?;
+    let args = vec![in alloc;
+        file(
+            alloc,
+            "The program as the bytes of its image; or @NAME for a stock program"
+        ),
+    ]?;
     let about = "Print the text of a program's image";
     let notes =
         "Prints one instruction a line. The bytes of an image come from the hex that asm prints so:\n\

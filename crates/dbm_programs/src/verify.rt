@@ -62,7 +62,10 @@ pub fn verify_command<'a>(alloc: Global) -> Result<Command<'a>, AllocError>
     ensures { IfOk result (IsSubcommand spec.verify) }
 {
     let args = vec![in alloc;
-        file(alloc, "The program as text, one instruction a line"),
+        file(
+            alloc,
+            "The program as text, one instruction a line; or @NAME for a stock program"
+        ),
         image(alloc),
         flag(
             alloc,

@@ -98,7 +98,10 @@ pub fn batch_command<'a>(alloc: Global) -> Result<Command<'a>, AllocError>
         "Take now and now-ms as NOW of a line: the time in seconds or in thousandths, the same in all lines";
     let args = vec![in alloc;
         base(alloc),
-        file(alloc, "The program as text, one instruction a line"),
+        file(
+            alloc,
+            "The program as text, one instruction a line; or @NAME for a stock program"
+        ),
         workers_word(alloc),
         image(alloc),
         flag(alloc, "clock", clock),
@@ -118,6 +121,6 @@ pub fn batch_command<'a>(alloc: Global) -> Result<Command<'a>, AllocError>
          missing, or crowded (there is no room for a new record). Nothing is printed or written where a line is no\n\
          task, the program is not accepted, or a task is refused; the fault is then bad line N, Verify(FAULT), or\n\
          Refused(N, FAULT) with the task's number from 0 on.\n\n\
-         Example: printf '6162 . 8 now\\n6364 . 8 now\\n' | dbm batch users counter.s --clock";
+         Example: printf '6162 . 8 now\\n6364 . 8 now\\n' | dbm batch users @counter --clock";
     subcommand(alloc, "batch", about, notes, args)
 }

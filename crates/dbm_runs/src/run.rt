@@ -105,7 +105,10 @@ pub fn run_command<'a>(alloc: Global) -> Result<Command<'a>, AllocError>
     let args = vec![in alloc;
         base(alloc),
         key(alloc),
-        file(alloc, "The program as text, one instruction a line"),
+        file(
+            alloc,
+            "The program as text, one instruction a line; or @NAME for a stock program"
+        ),
         required_word(
             alloc,
             "ARG",
@@ -144,7 +147,7 @@ pub fn run_command<'a>(alloc: Global) -> Result<Command<'a>, AllocError>
         "Prints ran CODE WORD, or with status 1 (3 with --expect) missing, crowded (there is no room for a new record) or\n\
          refused FAULT (the program is not accepted, or KEY and BLANK or ARG are too long). CODE 1 kept the\n\
          record, 2 deleted the pair, and any other changed nothing; WORD is what the program replied.\n\n\
-         Example: dbm run users hits counter.s . 8 now --text";
+         Example: dbm run users hits @counter . 8 now --text";
     subcommand(alloc, "run", about, notes, args)
 }
 

@@ -14,7 +14,7 @@ get KEY              put KEY VALUE       del KEY
 insert KEY VALUE     count               save
 program IMAGE        run KEY PROG ARG BLANK NOW
 .list [PREFIX]       .keys [PREFIX]      .stats
-.program FILE        .help
+.program FILE        .program @NAME       .help
 The end of the input, Ctrl-D at a terminal, saves and ends the session.
 ";
 

@@ -6,7 +6,7 @@ ghost use Rattle.dbm_session.specs.HostCalls.{DidSave};
 use crate::host_log::HostLog;
 use dbm_faults::ServeFault;
 use dbm_files::{LockedFiles, Saved, read_again, read_program, save_held};
-use dbm_places::{FilesFault, RunPlace, SeenFiles};
+use dbm_places::{DataFiles, FilesFault, RunPlace, SeenFiles};
 use dbm_reports::is_too_long;
 use dbm_script::{Notation, TimeOfDay};
 use dbm_session::{Host, Own};
@@ -18,6 +18,7 @@ use std::alloc::{AllocError, Global};
 use std::fs::File;
 use std::rt::Runtime;
 use std::time::{Clock, Duration, SystemTime, UNIX_EPOCH};
+use stock_names::{NAMES, ProgramWord, read_word};
 
 /// The files of a session's database, the clock, and the terminal at which its lines are typed, if there is one. It keeps nothing that it
 /// has read of the files: each save reads them again, and finds what differs. It keeps which files they are, since a save is into these
@@ -28,6 +29,8 @@ pub struct Shell<'a, R: Runtime> {
     place: RunPlace<'a>,
     held: &'a LockedFiles,
     seen: SeenFiles,
+    // The data files that its saves have made, held open.
+    made: DataFiles,
     notation: &'a Notation<Global>,
     every: Every,
     clock: bool,
@@ -54,6 +57,7 @@ impl<'a, R: Runtime<File = File> + Clock + AllocGlobal> Shell<'a, R> {
             place,
             held,
             seen: held.seen,
+            made: DataFiles::none(),
             notation,
             every,
             clock,
@@ -113,20 +117,38 @@ impl<'a, R: Runtime<File = File> + Clock + AllocGlobal> Shell<'a, R> {
         now.saturating_sub(saved_at).as_secs()
     }
 
-    // The line that submits the program in a file of this name, or none, where a line after the text says why.
+    // The bytes of a program's file.
+    fn read_file(&self, name: &[u8]) -> Result<Vec<u8>, FilesFault> {
+        match str::from_utf8(name) {
+            Ok(name) => read_program(self.rt, name),
+            Err(_) => Err(FilesFault::ReadFile),
+        }
+    }
+
+    // The line that submits the program that a word names: a stock program, or the one in a file of this name. `None` if there is no such
+    // program, and then a line after the text says why.
     fn program(&self, name: &[u8], text: &mut Vec<u8>) -> Result<Option<Vec<u8>>, AllocError>
         ensures { IfOk result (λ line. IfSome line (λ full. starts_with nat_eq full.items (codes "program ") ≡ true)) }
     {
-        let read = match str::from_utf8(name) {
-            Ok(name) => read_program(self.rt, name),
-            Err(_) => Err(FilesFault::ReadFile),
+        let alloc = self.rt.alloc();
+        let read = match read_word(name) {
+            ProgramWord::Stock(stock) => {
+                let file = stock.file(alloc, false)?;
+                return program_line(alloc, file.as_slice(), text);
+            }
+            ProgramWord::Unknown => {
+                let line = format!(in alloc; "refused {}: {NAMES}\n", ServeFault::NoStock)?;
+                text.extend_from_slice(line.as_bytes())?;
+                return Ok(None);
+            }
+            ProgramWord::File => self.read_file(name),
         };
         match read {
-            Ok(file) => program_line(self.rt.alloc(), file.as_slice(), text),
+            Ok(file) => program_line(alloc, file.as_slice(), text),
             Err(FilesFault::NoMemory) => Err(AllocError),
             Err(fault) => {
                 let fault = ServeFault::from(fault);
-                let line = format!(in self.rt.alloc(); "refused {fault}\n")?;
+                let line = format!(in alloc; "refused {fault}\n")?;
                 text.extend_from_slice(line.as_bytes())?;
                 Ok(None)
             }
@@ -188,7 +210,10 @@ impl<R: Runtime<File = File> + Clock + AllocGlobal> Host for Shell<'_, R> {
             return Err(FilesFault::FileTooLong);
         }
         self.log = self.save_logged(image)?;
-        self.seen = self.seen.with_made(self.rt, &self.held.place.names);
+        if self.seen.lacks_file() {
+            self.made.open_more(self.rt, &self.held.place.names);
+            self.seen = self.seen.with_made(&self.made);
+        }
         self.changes = 0;
         self.saved_at = self.rt.monotonic().ok();
         Ok(())

@@ -2,3 +2,4 @@ pub mod Services
 pub mod Outcomes
 pub mod Endings
 pub mod Clocks
+pub mod Stock

@@ -11,6 +11,7 @@ mod quick;
 mod request;
 mod serve;
 mod sizes;
+mod stock;
 
 use clock::{read_clock, read_time};
 use dbm_command_line::{Ask, Request, ToolFault, Wish, read_words};
@@ -40,6 +41,7 @@ use std::sync::Wait;
 use std::thread::Threads;
 use std::time::Duration;
 use std::{env, fs, io, thread};
+use stock::{print_programs, stock_file};
 
 fn main(rt: HostRuntime) -> ExitCode {
     let _standard = hold_standard(&rt);
@@ -205,6 +207,14 @@ fn serve_request<R: Runtime<File = File> + AllocGlobal + Threads + Wait + Sync, 
 ) -> Result<Ending, ServeFault> {
     let is_wide = must_be_wide(&request);
     let Request { ask, access } = request;
+    let stock = match &ask {
+        Ask::Wish(wish) => stock_file(rt.alloc(), wish)?,
+        Ask::Session(_) => None,
+        Ask::Programs(programs) => {
+            print_programs(rt, programs, reader)?;
+            return Ok(Ending::Served(0));
+        }
+    };
     let place = place_asked(&ask);
     if let Some(base) = place.base
         && !is_name(base)
@@ -225,12 +235,16 @@ fn serve_request<R: Runtime<File = File> + AllocGlobal + Threads + Wait + Sync, 
     if is_wide {
         taken = refuse_small(rt, place, taken, patience)?;
     }
+    if let Some(program) = stock {
+        taken.bytes.program = program;
+    }
     match ask {
         Ask::Wish(wish) => serve_timed(rt, wish, taking, taken, reader),
         Ask::Session(session) => {
             serve_session(rt, session, place, taken, reader)?;
             Ok(Ending::Served(0))
         }
+        Ask::Programs(_) => Ok(Ending::Served(0)),
     }
 }
 

@@ -1,28 +1,31 @@
 //! A request as the files and the sentences take it: plain records of its words.
 ghost use Rattle.std.specs.Prelude.{◌≡◌, option_map};
 ghost use Rattle.dbm_command_line.specs.Wishes.{base_of, file_of, writes_files};
+ghost use Rattle.dbm_tool.specs.Stock.{file_in};
 ghost use Rattle.sdbm_files.specs.Limits.{pag_limit};
 
+use crate::stock::{file_in, file_or_unknown};
 use dbm_command_line::{Ask, Request, Wish};
 use dbm_places::{FileBytes, RunPlace};
+use dbm_programs::Programs;
 use dbm_reports::Given;
 use dbm_script::Lines;
 use dbm_sessions::Session;
 use dbm_telling::{Told, Work};
-use dbm_words::{Numbers, Words};
+use dbm_words::{NotationOptions, Numbers, Words};
 use sdbm_addr::PageSize;
 use sdbm_files::PAG_LIMIT;
 
 /// What a wish says of its files.
 pub fn place_of<'a>(wish: &Wish<'a>) -> RunPlace<'a>
     ensures base { option_map (λ text. text.now) result.base ≡ base_of wish.now }
-    ensures file { option_map (λ text. text.now) result.file ≡ file_of wish.now }
+    ensures file { option_map (λ text. text.now) result.file ≡ file_in (file_of wish.now) }
     ensures writes { result.writes ≡ writes_files wish.now }
     ensures limit { result.pages_limit ≡ pag_limit }
 {
     RunPlace {
         base: wish.base(),
-        file: wish.file(),
+        file: file_in(wish.file()),
         writes: wish.writes(),
         pages_limit: PAG_LIMIT,
         page_size: size_of(&wish.words()),
@@ -54,6 +57,7 @@ pub fn told_of<'a>(request: &Request<'a>) -> Told<'a> {
     let told = match &request.ask {
         Ask::Wish(wish) => told_of_wish(wish),
         Ask::Session(session) => told_of_session(session),
+        Ask::Programs(programs) => told_of_programs(programs),
     };
     let numbers = Numbers {
         timeout: request.access.timeout,
@@ -73,7 +77,7 @@ fn told_of_wish<'a>(wish: &Wish<'a>) -> Told<'a> {
         place: place_of(wish),
         words: Words {
             base: wish.base(),
-            file: wish.file(),
+            file: file_or_unknown(wish.file()),
             ..wish.words()
         },
         notation: wish.notation(),
@@ -103,11 +107,37 @@ fn told_of_session<'a>(session: &Session<'a>) -> Told<'a> {
     }
 }
 
+fn told_of_programs<'a>(programs: &Programs<'a>) -> Told<'a> {
+    Told {
+        place: no_place(),
+        words: programs.words(),
+        notation: NotationOptions {
+            text: false,
+            layout: None,
+        },
+        strict: false,
+        clock: false,
+        lines: None,
+    }
+}
+
+// The place of a request that has no files.
+fn no_place() -> RunPlace<'static> {
+    RunPlace {
+        base: None,
+        file: None,
+        writes: false,
+        pages_limit: PAG_LIMIT,
+        page_size: PageSize::Small,
+    }
+}
+
 /// What a request says of its files.
 pub fn place_asked<'a>(ask: &Ask<'a>) -> RunPlace<'a> {
     match ask {
         Ask::Wish(wish) => place_of(wish),
         Ask::Session(session) => place_of_session(session),
+        Ask::Programs(_) => no_place(),
     }
 }
 
@@ -126,7 +156,7 @@ fn place_of_session<'a>(session: &Session<'a>) -> RunPlace<'a> {
 pub fn work_asked(ask: &Ask<'_>) -> Option<Work> {
     match ask {
         Ask::Wish(wish) => work_of(wish),
-        Ask::Session(_) => None,
+        Ask::Session(_) | Ask::Programs(_) => None,
     }
 }
 

@@ -8,9 +8,9 @@ use Rattle.sdbm_saves.specs.Disk.{written, resized}
 use Rattle.sdbm_saves.specs.Redo.{number_at, data_file, file_of, offset_of, size_of, data_of, was_of, span_of, rest_of, rest_after, effect, replayed, new_length, old_length, count_of, renewed, data_in, IsPlan, Knows}
 use Rattle.sdbm_saves.specs.Drafts.{change_bytes, plan_bytes, part_of, length_in, FitsIn, AreChanges}
 use Rattle.sdbm_saves.proofs.Lists.{length-written, read_resized, written_before, written_inside, written_after}
-use Rattle.sdbm_saves.proofs.Replay.{rest_next, replayed_next}
+use Rattle.sdbm_saves.proofs.Replays.{rest_next, replayed_next}
 
-number_append : (xs ys : List ℕ) (at : ℕ) → at + 4 ≤ length xs → number_at (xs ++ ys) at ≡ number_at xs at
+pub number_append : (xs ys : List ℕ) (at : ℕ) → at + 4 ≤ length xs → number_at (xs ++ ys) at ≡ number_at xs at
 unfolding number_at
 number_append xs ys at inside =
     let first = get_or_append_left xs ys 0 at (omega (arith, inside)) in
@@ -32,29 +32,29 @@ effect_same Redo Redo xs zs x offsets datas = refl
 
 -- what follows a change does not touch it
 module _ (xs ys : List ℕ) (whole : span_of xs ≤ length xs) where
-  size_append : size_of (xs ++ ys) ≡ size_of xs
+  pub size_append : size_of (xs ++ ys) ≡ size_of xs
   size_append = number_append xs ys 5 (omega (arith, whole))
 
-  offset_append : offset_of (xs ++ ys) ≡ offset_of xs
+  pub offset_append : offset_of (xs ++ ys) ≡ offset_of xs
   offset_append = number_append xs ys 1 (omega (arith, whole))
 
-  file_append : file_of (xs ++ ys) ≡ file_of xs
+  pub file_append : file_of (xs ++ ys) ≡ file_of xs
   file_append = ap (λ n. data_file n) (get_or_append_left xs ys 0 0 (omega (arith, whole)))
 
-  data_append : data_of (xs ++ ys) ≡ data_of xs
+  pub data_append : data_of (xs ++ ys) ≡ data_of xs
   data_append = ap (λ n. take n (drop 9 (xs ++ ys))) size_append
       ∙ ap (λ (l : List ℕ). take (size_of xs) l) (drop-append-le 9 xs ys (omega (arith, whole)))
       ∙ take-append-le (size_of xs) (drop 9 xs) ys (omega (arith, whole, length-drop 9 xs))
 
-  was_append : was_of (xs ++ ys) ≡ was_of xs
+  pub was_append : was_of (xs ++ ys) ≡ was_of xs
   was_append = ap (λ n. take n (drop (9 + n) (xs ++ ys))) size_append
       ∙ ap (λ (l : List ℕ). take (size_of xs) l) (drop-append-le (9 + size_of xs) xs ys (omega (arith, whole)))
       ∙ take-append-le (size_of xs) (drop (9 + size_of xs) xs) ys (omega (arith, whole, length-drop (9 + size_of xs) xs))
 
-  rest_append : rest_of (xs ++ ys) ≡ rest_of xs ++ ys
+  pub rest_append : rest_of (xs ++ ys) ≡ rest_of xs ++ ys
   rest_append = ap (λ n. drop (9 + (n + n)) (xs ++ ys)) size_append ∙ drop-append-le (span_of xs) xs ys whole
 
-  effect_append : (file : File) (x : List ℕ) → effect (file_of (xs ++ ys)) file (xs ++ ys) x ≡ effect (file_of xs) file xs x
+  pub effect_append : (file : File) (x : List ℕ) → effect (file_of (xs ++ ys)) file (xs ++ ys) x ≡ effect (file_of xs) file xs x
   effect_append file x = ap (λ t. effect t file (xs ++ ys) x) file_append ∙ effect_same (file_of xs) file xs (xs ++ ys) x offset_append data_append
 
 module _ (pages directory : ℕ) (before : List ℕ × List ℕ) where

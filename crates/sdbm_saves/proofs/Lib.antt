@@ -6,7 +6,7 @@ pub mod Moments
 pub mod PageDrafts
 pub mod Parts
 pub mod Recording
-pub mod Replay
+pub mod Replays
 pub mod Runs
 pub mod PartRead
 pub mod Puts

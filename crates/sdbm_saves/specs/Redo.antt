@@ -182,6 +182,18 @@ pub record Alike (plan : List ℕ) (old new : Image) : Type 0 where
   pub same : renewed_files plan new ≡ renewed_files plan old
   pub known : Knows plan (files old) → Knows plan (files new)
 
+-- a plan whose last changes are those of another, and whose new lengths are the same
+pub record EndsWith (whole plan : List ℕ) : Type 0 where
+  pub is_plan : IsPlan whole
+  pub before : ℕ
+  pub count : count_of whole ≡ before + count_of plan
+  pub changes : rest_after before (changes_of whole) ≡ changes_of plan
+  pub lengths : (g : ℕ) → new_length (data_file g) whole ≡ new_length (data_file g) plan
+
+-- two images that are alike for each plan that ends with this one
+abbrev pub AlikeFor : List ℕ → Image → Image → Type 0
+AlikeFor plan old new = (whole : List ℕ) → EndsWith whole plan → Alike whole old new
+
 abbrev pub IsOldOrNew : List ℕ × List ℕ → List ℕ × List ℕ → Image → Type 0
 IsOldOrNew old new image = (stands_for image ≡ old) ⊎ (stands_for image ≡ new)
 

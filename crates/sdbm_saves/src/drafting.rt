@@ -15,9 +15,8 @@ pub(crate) struct Draft<A: Allocator> {
     pub(crate) count: usize,
 }
 
-// A number as four bytes, the low one first.
-fn spelled(number: usize) -> [u8; 4]
-    requires { number < 2 ^ 32 }
+/// A number as four bytes, the low one first; of a larger one than 2^32 - 1, its remainder.
+pub fn spelled(number: usize) -> [u8; 4]
     ensures { result ≡ spelled number }
 {
     [

@@ -25,8 +25,9 @@ pub fn can_end(found: &Found) -> bool
     }
 }
 
-// Whether a plan knows the files.
-fn knows(plan: &[u8], both: Contents<'_>) -> bool
+/// Whether a plan knows the files: each byte of a block that it plans is one that it has for that place, and each length is the old one,
+/// the new one, or between.
+pub fn knows(plan: &[u8], both: Contents<'_>) -> bool
     requires { IsPlan plan.now }
     ensures { IsTrue result ↔ Knows plan.now (both.entry.pages.now, both.entry.directory.now) }
 {
@@ -69,8 +70,8 @@ fn knows_block(plan: &[u8], change: &[u8], file: &[u8]) -> bool
     true
 }
 
-// A byte of a file, where one past its end counts as zero.
-fn byte_at(file: &[u8], at: usize) -> u8
+/// The byte of a file at this offset, or zero past its end.
+pub fn byte_at(file: &[u8], at: usize) -> u8
     ensures { result ≡ get_or file.now at 0 }
 {
     if at < file.len() { file[at] } else { 0 }
@@ -143,11 +144,13 @@ fn offers(change: &[u8], file: File, at: usize, byte: u8) -> bool
     has(change, at - start, byte)
 }
 
-// The bytes of both data files of a database.
+/// The bytes of both data files of a database.
 #[derive(Clone, Copy)]
-struct Contents<'a> {
-    pages: &'a [u8],
-    directory: &'a [u8],
+pub struct Contents<'a> {
+    /// The bytes of `.pag`.
+    pub pages: &'a [u8],
+    /// The bytes of `.dir`.
+    pub directory: &'a [u8],
 }
 
 // The bytes of one data file.

@@ -19,11 +19,12 @@ mod room;
 
 pub use call_log::CallLog;
 pub use disk::{Disk, DiskError, File};
-pub use known::can_end;
+pub use drafting::spelled;
+pub use known::{Contents, byte_at, can_end, knows};
 pub use marked::{Marked, plan_marked};
-pub use overlay::read_through;
+pub use overlay::{lay_over, read_through, write_in};
 pub use part::{Part, plan_part};
-pub use plan::{is_plan, lengths_after, plan_in};
+pub use plan::{is_plan, lengths_after, number, plan_in, replay};
 pub use planning::SavePlanFault;
 pub use reading::{ReadFiles, plan_read};
 pub use recorded::{Before, Found, FoundPart, FoundRead, Host, Past, Recorded, Unknown};

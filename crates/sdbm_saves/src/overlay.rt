@@ -37,8 +37,12 @@ pub fn read_through(alloc: Global, found: &Found) -> Result<Found, AllocError>
     })
 }
 
-// The bytes of a data file with a plan laid over them.
-fn lay_over<A: Allocator>(
+/// The bytes of a data file with a plan done in them, in memory.
+///
+/// # Errors
+///
+/// `AllocError` if memory runs out.
+pub fn lay_over<A: Allocator>(
     alloc: A,
     plan: &[u8],
     file: File,
@@ -77,8 +81,8 @@ fn lay_change<A: Allocator>(laid: &mut Vec<u8, A>, file: File, change: &[u8])
     }
 }
 
-// Writes bytes over those that are there.
-fn write_in(file: &mut [u8], at: usize, bytes: &[u8])
+/// Writes bytes over those at this offset.
+pub fn write_in(file: &mut [u8], at: usize, bytes: &[u8])
     requires { at + length bytes.now ≤ length file.old }
     ensures { file.new ≡ written at bytes.now file.old }
 {

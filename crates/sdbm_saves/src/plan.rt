@@ -2,7 +2,7 @@
 ghost use Rattle.std.specs.Prelude.{◌≡◌, ◌≢◌, ◌*◌, ◌<◌, ◌≤◌, ◌^◌, ◌+◌, ◌↔◌, ℕ, length, take, drop, get_or, IsTrue, IfSome, IsNone, OnOk, IfOk};
 ghost use Rattle.sdbm_saves.specs.Disk.{content, put, resized, written, Torn, Within, Through, HasCause};
 ghost use Rattle.sdbm_saves.specs.declared.disk.File.TheVariants.{Pages, Directory};
-ghost use Rattle.sdbm_saves.specs.Redo.{number_at, data_file, file_of, offset_of, size_of, data_of, span_of, rest_of, new_length, count_of, replayed_image, renewed_image, signature, Fits, IsPlan, Alike};
+ghost use Rattle.sdbm_saves.specs.Redo.{number_at, data_file, file_of, offset_of, size_of, data_of, span_of, rest_of, new_length, count_of, replayed_image, renewed_image, signature, Fits, IsPlan, AlikeFor};
 
 use crate::{Disk, DiskError, File};
 use std::alloc::{AllocError, Allocator};
@@ -12,9 +12,9 @@ pub(crate) const MARKED: u8 = 1;
 /// What every plan begins with.
 pub(crate) const SIGNATURE: [u8; 8] = *b"sdbmred2";
 
-// Four bytes as a number, the low one first.
+/// Four bytes as a number, the low one first.
 #[tactic(auto, unfolding(crate::specs::Redo::number_at))]
-pub(crate) fn number(bytes: &[u8], at: usize) -> usize
+pub fn number(bytes: &[u8], at: usize) -> usize
     requires { at + 4 ≤ length bytes.now }
     ensures value { result ≡ number_at bytes.now at }
     ensures small { result < 2 ^ 32 }
@@ -135,7 +135,7 @@ fn replay_changes<D: Disk>(disk: &mut D, plan: &[u8]) -> Result<(), DiskError>
     requires sized { (file : ℕ) → length (content (data_file file) (D.seen disk.old)) ≡ new_length (data_file file) plan.now }
 
     ensures done { OnOk result (D.seen disk.new ≡ replayed_image (count_of plan.now) plan.now (D.seen disk.old)) }
-    ensures any_moment { Through D.moment D.left_since D.may_leave (Alike plan.now) disk.old disk.new }
+    ensures any_moment { Through D.moment D.left_since D.may_leave (AlikeFor plan.now) disk.old disk.new }
     ensures cause { HasCause (D.has_failed disk.old) (D.has_failed disk.new) result }
 {
     let count = number(plan, 24);
@@ -147,12 +147,17 @@ fn replay_changes<D: Disk>(disk: &mut D, plan: &[u8]) -> Result<(), DiskError>
     Ok(())
 }
 
-// The whole plan. A crash in it leaves files that the plan makes the same.
-pub(crate) fn replay<D: Disk>(disk: &mut D, plan: &[u8]) -> Result<(), DiskError>
+/// Does a plan: gives both data files their new lengths and writes its changes in order. It syncs nothing. A crash leaves files of which
+/// every plan that ends with this one makes what it makes of the files before (`AlikeFor`).
+///
+/// # Errors
+///
+/// As the disk says. A part of the plan may be done then.
+pub fn replay<D: Disk>(disk: &mut D, plan: &[u8]) -> Result<(), DiskError>
     requires { IsPlan plan.now }
 
     ensures done { OnOk result (D.seen disk.new ≡ renewed_image plan.now (D.seen disk.old)) }
-    ensures any_moment { Through D.moment D.left_since D.may_leave (Alike plan.now) disk.old disk.new }
+    ensures any_moment { Through D.moment D.left_since D.may_leave (AlikeFor plan.now) disk.old disk.new }
     ensures cause { HasCause (D.has_failed disk.old) (D.has_failed disk.new) result }
 {
     let pages = number(plan, 8);

@@ -17,15 +17,25 @@ use stock_programs::{
 /// A stock program.
 #[derive(Clone, Copy, Debug, PartialEq, Eq)]
 pub enum Stock {
+    /// Adds 1 to a number.
     Counter,
+    /// Adds an amount to a number, up to a bound.
     BoundedAdd,
+    /// Adds a signed amount to a number, within a floor and a ceiling.
     BoundedCounter,
+    /// Replaces a number if it is the expected one.
     CompareAndSet,
+    /// Takes a message if its number is greater than the last one's.
     Sequence,
+    /// Gives a key to one owner at a time, until an end.
     Lease,
+    /// A lease with a token that rises with each new owner.
     FencedLease,
+    /// Admits a number of runs in each window of time.
     RateLimit,
+    /// Takes and gives back permits.
     Semaphore,
+    /// Takes a cost out of a bucket that fills as time goes by.
     TokenBucket,
 }
 
@@ -47,7 +57,7 @@ pub const ALL: [Stock; 10] = [
 pub const NAMES: &str =
     "counter, bounded_add, bounded_counter, compare_and_set, sequence, lease, fenced_lease, rate_limit, semaphore, token_bucket";
 
-/// What a word names that stands for a program.
+/// A program argument: a file, a stock program, or an unknown name.
 #[derive(Clone, Copy, Debug, PartialEq, Eq)]
 pub enum ProgramWord {
     /// A file: the word does not begin with `@`.
@@ -58,7 +68,7 @@ pub enum ProgramWord {
     Unknown,
 }
 
-/// What a word names: `@counter` a stock program, `counter.s` or `./@counter` a file.
+/// Reads a program argument: `@counter` is a stock program, `counter.s` and `./@counter` are files.
 pub fn read_word(word: &[u8]) -> ProgramWord
     ensures { result ≡ word_named word.now }
 {

@@ -13,6 +13,7 @@ use Rattle.dbm_dumps.specs.Dump.{dump}
 use Rattle.dbm_dumps.specs.Load.{load}
 use Rattle.dbm_programs.specs.Asm.{asm}
 use Rattle.dbm_programs.specs.Disasm.{disasm}
+use Rattle.dbm_programs.specs.Programs.{programs}
 use Rattle.dbm_programs.specs.Verify.{verify}
 use Rattle.dbm_runs.specs.Run.{run}
 use Rattle.dbm_runs.specs.Batch.{batch}
@@ -36,5 +37,6 @@ returns c =
     let assembled = c.with_subcommand-command-14.ensures _ asm loaded c.asm_command.ensures in
     let disassembled = c.with_subcommand-command-15.ensures _ disasm assembled c.disasm_command.ensures in
     let verified = c.with_subcommand-command-16.ensures _ verify disassembled c.verify_command.ensures in
-    let ran = c.with_subcommand-command-17.ensures _ run verified c.run_command.ensures in
+    let shown = c.with_subcommand-command-17.ensures _ programs verified c.programs_command.ensures in
+    let ran = c.with_subcommand-command-18.ensures _ run shown c.run_command.ensures in
     c.with_subcommand.ensures _ batch ran c.batch_command.ensures

@@ -1,7 +1,7 @@
 use Rattle.std.proofs.Common.{sym, ◌∙◌, ap, subst, arith, length-drop, below_more}
 use Rattle.std.proofs.lemmas.List.{take_all}
 use Rattle.sdbm_saves.specs.Redo.{rest_of, changes_of, Offers}
-use Rattle.sdbm_saves.proofs.Replay.{rest_next}
+use Rattle.sdbm_saves.proofs.Replays.{rest_next}
 use Rattle.sdbm_saves.proofs.Knowing.{never}
 use Rattle.sdbm_saves.proofs.known.has_byte.Goals as goal
 

@@ -2,7 +2,7 @@ use Rattle.std.proofs.Common.{◌≡◌, ◌<◌, ◌≤◌, length, refl, List,
 use Rattle.std.proofs.lemmas.List.{take_all}
 use Rattle.sdbm_saves.specs.declared.disk.File.TheVariants.{Pages, Directory}
 use Rattle.sdbm_saves.specs.Redo.{file_of, rest_of, new_length, changes_of, count_of, data_in, IsBetween, KnowsBlock}
-use Rattle.sdbm_saves.proofs.Replay.{rest_next}
+use Rattle.sdbm_saves.proofs.Replays.{rest_next}
 use Rattle.sdbm_saves.proofs.Knowing.{never, all_known}
 use Rattle.sdbm_saves.proofs.known.knows.Goals as goal
 

@@ -3,7 +3,7 @@ use Rattle.std.proofs.lemmas.List.{take_all}
 use Rattle.sdbm_saves.specs.Disk.{resized}
 use Rattle.sdbm_saves.specs.Redo.{file_of, rest_of, rest_after, changes_of, count_of, new_length, effect, Fits}
 use Rattle.sdbm_saves.proofs.Lists.{length-resized}
-use Rattle.sdbm_saves.proofs.Replay.{rest_next, replayed_next, length-replayed}
+use Rattle.sdbm_saves.proofs.Replays.{rest_next, replayed_next, length-replayed}
 use Rattle.sdbm_saves.proofs.overlay.lay_over.Goals as goal
 
 pub loop-index-init : goal.loop-index-init

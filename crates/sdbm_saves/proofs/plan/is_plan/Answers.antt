@@ -1,7 +1,7 @@
 use Rattle.std.proofs.Common.{rules, sym, ◌∙◌, ap, subst, arith, length-drop, below_more}
 use Rattle.std.proofs.lemmas.List.{take_all}
 use Rattle.sdbm_saves.specs.Redo.{rest_of, changes_of, Fits}
-use Rattle.sdbm_saves.proofs.Replay.{rest_next}
+use Rattle.sdbm_saves.proofs.Replays.{rest_next}
 use Rattle.sdbm_saves.proofs.plan.is_plan.Goals as goal
 
 pub loop-index-init : goal.loop-index-init

@@ -1,9 +1,9 @@
 use Rattle.std.proofs.Common.{◌≡◌, ◌∙◌, ap}
 use Rattle.sdbm_saves.specs.Disk.{Image}
 use Rattle.sdbm_saves.specs.Redo.{files, renewed_files, stands_for, CanEnd, Alike}
-use Rattle.sdbm_saves.proofs.Moments.{no_step, joined, leaves, then_on}
+use Rattle.sdbm_saves.proofs.Moments.{no_step, through_by, joined, leaves, then_on}
 use Rattle.sdbm_saves.proofs.Marks.{half_done, half_ended, cleared, cleared_ended}
-use Rattle.sdbm_saves.proofs.Replay.{alike_self, alike_joins}
+use Rattle.sdbm_saves.proofs.Replays.{alike_self, alike_joins, ends_itself}
 use Rattle.sdbm_saves.proofs.redo.apply.Goals as goal
 
 pub returns-clause-any_moment : goal.returns-clause-any_moment
@@ -11,7 +11,8 @@ returns-clause-any_moment g c =
     let plan = c.args.plan.now in
     let first = g.D.Disk.seen c.args.disk.now in
     let P : Image → Type 0 = λ o. (stands_for o ≡ renewed_files plan first) × CanEnd o in
-    let one = joined g.D.Disk.moment g.D.Disk.left_since g.D.Disk.may_leave (Alike plan) c.args.disk.now c.replay.new.disk c.sync.new.self (alike_joins plan) c.replay.ensures.any_moment
+    let one = joined g.D.Disk.moment g.D.Disk.left_since g.D.Disk.may_leave (Alike plan) c.args.disk.now c.replay.new.disk c.sync.new.self (alike_joins plan)
+    (through_by g.D.Disk.moment g.D.Disk.left_since g.D.Disk.may_leave _ (Alike plan) c.args.disk.now c.replay.new.disk (λ d o for. for plan (ends_itself plan c.requires.plan)) c.replay.ensures.any_moment)
     (no_step g.D.Disk.moment g.D.Disk.left_since g.D.Disk.may_leave g.met.D.Disk.only_now (Alike plan) c.replay.new.disk c.sync.new.self (alike_self plan) c.sync.ensures.crash c.sync.ensures.time) in
     let two = joined g.D.Disk.moment g.D.Disk.left_since g.D.Disk.may_leave (Alike plan) c.args.disk.now c.sync.new.self c.sync-2.new.self (alike_joins plan) one
     (no_step g.D.Disk.moment g.D.Disk.left_since g.D.Disk.may_leave g.met.D.Disk.only_now (Alike plan) c.sync.new.self c.sync-2.new.self (alike_self plan) c.sync-2.ensures.crash c.sync-2.ensures.time) in

@@ -1,7 +1,7 @@
 use Rattle.std.proofs.Common.{sym, ◌∙◌, ap, arith, length-drop}
 use Rattle.std.proofs.lemmas.List.{take_all}
 use Rattle.sdbm_saves.specs.Redo.{rest_of, changes_of}
-use Rattle.sdbm_saves.proofs.Replay.{rest_next}
+use Rattle.sdbm_saves.proofs.Replays.{rest_next}
 use Rattle.sdbm_saves.proofs.room.new_blocks.Goals as goal
 
 pub loop-index-init : goal.loop-index-init

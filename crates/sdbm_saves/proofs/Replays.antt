@@ -5,7 +5,7 @@ use Rattle.std.proofs.lemmas.Bool.{cases_lt}
 use Rattle.sdbm_saves.specs.declared.disk.File.{File}
 use Rattle.sdbm_saves.specs.declared.disk.File.TheVariants.{Pages, Directory, Redo}
 use Rattle.sdbm_saves.specs.Disk.{Image, content, put, written, resized, Torn, TornLength, Within}
-use Rattle.sdbm_saves.specs.Redo.{data_file, file_of, offset_of, size_of, data_of, span_of, rest_of, rest_after, effect, replayed, replayed_image, new_length, old_length, count_of, changes_of, renewed, Fits, IsPlan, IsChangeOf, IsBetween, HasByte, Knows, data_in, Alike}
+use Rattle.sdbm_saves.specs.Redo.{data_file, file_of, offset_of, size_of, data_of, span_of, rest_of, rest_after, effect, replayed, replayed_image, new_length, old_length, count_of, changes_of, renewed, Fits, IsPlan, IsChangeOf, IsBetween, HasByte, Knows, data_in, Alike, EndsWith, AlikeFor}
 use Rattle.sdbm_saves.proofs.Lists.{Elsewhere, length-written, absorbs, written_elsewhere, length-resized, resized_elsewhere, resized_same}
 
 pub length-data : (change : List ℕ) → span_of change ≤ length change → length (data_of change) ≡ size_of change
@@ -15,7 +15,7 @@ data_inside : (change : List ℕ) (n : ℕ) (x : List ℕ) → span_of change �
 data_inside change n x whole inside is = omega (arith, length-data change whole, inside, is)
 
 module _ (plan change : List ℕ) (whole : span_of change ≤ length change) where
-  length-effect : (touched file : File) (x : List ℕ) → offset_of change + size_of change ≤ new_length touched plan → length x ≡ new_length file plan → length (effect touched file change x) ≡ length x
+  pub length-effect : (touched file : File) (x : List ℕ) → offset_of change + size_of change ≤ new_length touched plan → length x ≡ new_length file plan → length (effect touched file change x) ≡ length x
   length-effect Pages Pages x inside is = length-written (offset_of change) (data_of change) x (data_inside change (new_length Pages plan) x whole inside is)
   length-effect Pages Directory x inside is = refl
   length-effect Pages Redo x inside is = refl
@@ -237,3 +237,26 @@ alike_change plan is_plan i lt change is d c within =
 
 pub alike_length : (plan : List ℕ) → IsPlan plan → (g n : ℕ) → n ≡ new_length (data_file g) plan → (d c : Image) → Within (data_file g) (TornLength n) d c → Alike plan d c
 alike_length plan is_plan g n is d c within = alike_resized plan is_plan g d c (subst (λ k. Within (data_file g) (TornLength k) d c) is within)
+
+-- the changes after n of them, and after m more
+pub after_split : (n m : ℕ) (xs : List ℕ) → rest_after (n + m) xs ≡ rest_after m (rest_after n xs)
+after_split zero m xs = let is : 0 + m ≡ m = omega arith in ap (λ k. rest_after k xs) is
+after_split (suc n) m xs = let is : suc n + m ≡ suc (n + m) = omega arith in ap (λ k. rest_after k xs) is ∙ after_split n m (rest_of xs)
+
+-- the same for each plan that ends with this one
+pub for_self : (plan : List ℕ) (d : Image) → AlikeFor plan d d
+for_self plan d = λ whole ends. alike_self whole d
+
+pub for_joins : (plan : List ℕ) (a b c : Image) → AlikeFor plan a b → AlikeFor plan b c → AlikeFor plan a c
+for_joins plan a b c first next = λ whole ends. alike_joins whole a b c (first whole ends) (next whole ends)
+
+pub for_change : (plan : List ℕ) (i : ℕ) → i < count_of plan → (change : List ℕ) → change ≡ rest_after i (changes_of plan) → (d c : Image) → Within (file_of change) (Torn (offset_of change) (data_of change)) d c → AlikeFor plan d c
+for_change plan i lt change is d c within = λ whole ends.
+    alike_change whole ends.is_plan (ends.before + i) (omega (arith, lt, ends.count)) change
+    (is ∙ ap (λ (l : List ℕ). rest_after i l) (sym ends.changes) ∙ sym (after_split ends.before i (changes_of whole))) d c within
+
+pub for_length : (plan : List ℕ) (g n : ℕ) → n ≡ new_length (data_file g) plan → (d c : Image) → Within (data_file g) (TornLength n) d c → AlikeFor plan d c
+for_length plan g n is d c within = λ whole ends. alike_length whole ends.is_plan g n (is ∙ sym (ends.lengths g)) d c within
+
+pub ends_itself : (plan : List ℕ) → IsPlan plan → EndsWith plan plan
+ends_itself plan is_plan = record { is_plan = is_plan; before = 0; count = omega arith; changes = refl; lengths = λ g. refl }

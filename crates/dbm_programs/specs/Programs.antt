@@ -1,0 +1,12 @@
+-- What `programs` takes and asks.
+use Rattle.std.specs.Prelude.{List, [], ◌∷◌, codes}
+use Rattle.clap.specs.Words.{Shape, Row, new_rule}
+use Rattle.dbm_words.specs.Given.{IsGiven}
+use Rattle.dbm_words.specs.CommandLine.{subcommand}
+use Rattle.dbm_programs.specs.declared.programs.Programs.{Programs}
+
+abbrev pub programs : Shape
+programs = subcommand (codes "programs") (new_rule (codes "NAME") ∷ [])
+
+abbrev pub ProgramsAsks : List Row → Programs → Type 0
+ProgramsAsks rows programs = IsGiven (codes "NAME") rows programs.name

@@ -1,0 +1,77 @@
+//! `programs`: the stock programs, and what each takes and answers.
+ghost use Rattle.std.specs.Prelude.{IfOk};
+ghost use Rattle.clap.specs.Words.{found_of, rows_of};
+ghost use Rattle.dbm_words.specs.CommandLine.{IsSubcommand};
+ghost use Rattle.dbm_programs.specs.Programs as spec;
+ghost use Rattle.dbm_programs.specs.Programs.{ProgramsAsks};
+
+use crate::stock::{show_all, show_one};
+use clap::{Arg, ArgMatches, Command};
+use dbm_words::{Words, subcommand, word};
+use std::alloc::{AllocError, Global};
+use stock_names::{ProgramWord, Stock, read_word};
+
+/// Lists the stock programs, or describes the one that is named.
+#[derive(Clone, Copy, Debug)]
+pub struct Programs<'a> {
+    pub name: Option<&'a str>,
+}
+
+impl<'a> Programs<'a> {
+    /// What the matches of `programs` ask.
+    pub fn matched(matches: &ArgMatches<'a>) -> Programs<'a>
+        ensures { ProgramsAsks (rows_of (found_of matches.now)) result }
+    {
+        Programs {
+            name: word(matches, "NAME"),
+        }
+    }
+
+    /// Its words, as sentences show them.
+    pub fn words(&self) -> Words<'a> {
+        Words {
+            file: self.name,
+            ..Words::none()
+        }
+    }
+
+    /// What is printed: a line for each stock program, or the table of the one that is named, with or without `@`. `None` if no stock
+    /// program has the name.
+    ///
+    /// # Errors
+    /// `AllocError` if an allocation fails.
+    pub fn text(&self, alloc: Global) -> Result<Option<String>, AllocError> {
+        let Some(name) = self.name else {
+            return Ok(Some(show_all(alloc)?));
+        };
+        match stock_named(name) {
+            Some(stock) => Ok(Some(show_one(alloc, stock)?)),
+            None => Ok(None),
+        }
+    }
+}
+
+// The stock program with a name, with or without `@`.
+fn stock_named(name: &str) -> Option<Stock> {
+    match read_word(name.as_bytes()) {
+        ProgramWord::Stock(stock) => Some(stock),
+        ProgramWord::Unknown => None,
+        ProgramWord::File => Stock::named(name.as_bytes()),
+    }
+}
+
+/// The subcommand `programs`, as `clap` is told it.
+///
+/// # Errors
+/// `AllocError` if an allocation fails.
+pub fn programs_command<'a>(alloc: Global) -> Result<Command<'a>, AllocError>
+    ensures { IfOk result (IsSubcommand spec.programs) }
+{
+    let help = "The stock program to describe; without it, all are listed";
+    let args = vec![in alloc; Arg::new(alloc, "NAME").help(help)]?;
+    let about = "List the stock programs, or describe one";
+    let notes =
+        "A stock program is named @NAME wherever a command takes a program's FILE: what it does is proved.\n\n\
+         Example: dbm programs lease";
+    subcommand(alloc, "programs", about, notes, args)
+}

@@ -1,0 +1,69 @@
+//! Stock programs, where the words of a command line name them.
+ghost use Rattle.std.specs.Prelude.{◌≡◌, ◌⊎◌, IfOk, IfErr, option_map};
+ghost use Rattle.dbm_command_line.specs.Wishes.{file_of, takes_image};
+ghost use Rattle.dbm_faults.specs.declared.fault.ServeFault.TheVariants.{NoMemory, NoStock};
+ghost use Rattle.stock_names.specs.declared.ProgramWord.TheVariants.{Unknown};
+ghost use Rattle.dbm_tool.specs.Stock.{IsStockFile, file_in, word_in};
+
+use crate::quick::print_quick;
+use dbm_command_line::Wish;
+use dbm_faults::ServeFault;
+use dbm_programs::Programs;
+use dbm_telling::Kept;
+use std::alloc::Global;
+use std::fs::File;
+use std::io::Read;
+use std::rt::Runtime;
+use stock_names::{ProgramWord, read_word};
+
+/// The file that a word names. `None` if there is no word, or if it begins with `@`.
+pub fn file_in<'a>(word: Option<&'a str>) -> Option<&'a str>
+    ensures { option_map (λ text. text.now) result ≡ file_in (option_map (λ text. text.now) word.entry) }
+{
+    match read_word(word?.as_bytes()) {
+        ProgramWord::File => word,
+        _ => None,
+    }
+}
+
+/// The word for a program, unless it names a stock program: a file, or an unknown name.
+pub fn file_or_unknown<'a>(word: Option<&'a str>) -> Option<&'a str> {
+    match read_word(word?.as_bytes()) {
+        ProgramWord::Stock(_) => None,
+        _ => word,
+    }
+}
+
+/// What a file of the stock program that a wish names would have: its image where the wish takes one, or else its text. `None` if the wish
+/// names a file, or no program.
+///
+/// # Errors
+/// `NoStock` if no stock program has the name, and `NoMemory`.
+pub fn stock_file(alloc: Global, wish: &Wish<'_>) -> Result<Option<Vec<u8>>, ServeFault>
+    ensures ok { IfOk result (IsStockFile (takes_image wish.now) (word_in (file_of wish.now))) }
+    ensures fault { IfErr result (λ fault. (fault ≡ NoMemory) ⊎ ((fault ≡ NoStock) × (word_in (file_of wish.now) ≡ Unknown))) }
+{
+    let Some(word) = wish.file() else {
+        return Ok(None);
+    };
+    match read_word(word.as_bytes()) {
+        ProgramWord::File => Ok(None),
+        ProgramWord::Unknown => Err(ServeFault::NoStock),
+        ProgramWord::Stock(stock) => Ok(Some(stock.file(alloc, wish.takes_image())?)),
+    }
+}
+
+/// Prints the stock programs, or one of them.
+///
+/// # Errors
+/// `NoStock` if no stock program has the name, `Write` if the text cannot be printed, and `NoMemory`.
+pub fn print_programs<R: Runtime<File = File> + AllocGlobal, I: Read>(
+    rt: &R,
+    programs: &Programs<'_>,
+    reader: &mut Kept<I>,
+) -> Result<(), ServeFault> {
+    let Some(text) = programs.text(rt.alloc())? else {
+        return Err(ServeFault::NoStock);
+    };
+    print_quick(rt, true, text.as_bytes(), reader)
+}

@@ -4,8 +4,13 @@ records.
     import boddurci
     with boddurci.open("visits", "c") as db:
         db[b"ab"] = b"xyz"
-        counter = db.program(open("examples/counter.s").read())
-        db.run(counter, b"hits", blank=8)
+        db.counter(b"hits").add(5)
+        end = db.lease(b"door").acquire(owner=7, seconds=30)
+        histogram = db.program(open("examples/histogram.s").read())
+        db.run(histogram, b"sizes", arg=b"\\3", blank=64)
+
+The methods `counter`, `lease`, `fenced_lease`, `semaphore` and `rate_limit` of a database run stock programs. What these do is proved
+(docs/PROGRAMS.md), if one of them alone changes a key.
 
 `open` can replace `dbm.open`: keys and values are bytes, a str counts as its UTF-8. A database is in memory while it is open, under an
 exclusive lock on BASE.lock unless it is only read; `sync` and `close` write its files, and a crash in between leaves the database before or
@@ -24,8 +29,10 @@ The store behind the calls is proved. This module, the files, the lock and the o
 import atexit
 import contextlib
 import ctypes
+import operator
 import os
 import pathlib
+import struct
 import sys
 import threading
 import time
@@ -35,10 +42,11 @@ from collections import deque
 from collections.abc import MutableMapping
 from typing import NamedTuple
 
-__all__ = ["Database", "Program", "ProgramError", "Ran", "error", "open"]
+__all__ = ["Counter", "Database", "FencedLease", "Grant", "Lease", "Program", "ProgramError", "Ran", "RateLimit", "RecordError"]
+__all__ += ["Semaphore", "error", "open"]
 
 # Statuses, and what some are called here: boddurci.h, boddurci_files.h. The library has words for the others.
-_DONE, _MISSING, _REFUSED, _BAD_TEXT, _IS_CLOSED, _FORKED, _INTERRUPTED = 0, 1, 5, 6, 16, 39, 41
+_DONE, _MISSING, _REFUSED, _BAD_TEXT, _IS_CLOSED, _NO_STOCK, _FORKED, _INTERRUPTED = 0, 1, 5, 6, 16, 24, 39, 41
 _WORDS = {
     2: "the key is there",
     3: "crowded: no room for the pair, however often its page is split",
@@ -76,6 +84,10 @@ class ProgramError(error, ValueError):
         self.at = at
 
 
+class RecordError(error, ValueError):
+    """A record that is too short for a stock program, which then changes nothing."""
+
+
 class Ran(NamedTuple):
     """How a run ended: its number (1 saved the record, 2 deleted it, any other changed nothing) and its reply word."""
 
@@ -99,6 +111,13 @@ class Program:
 
     def __repr__(self):
         return f"Program({self.number})"
+
+
+class Grant(NamedTuple):
+    """A lease that `FencedLease` gives: the time at which it ends, and its token."""
+
+    end: int
+    token: int
 
 
 class _Fault(ctypes.Structure):
@@ -157,6 +176,7 @@ def _bind():
         "count": (quick, u32, [at, at]),
         "assemble": (quick, u32, [text, size, at, size, at, at, at, size, at]),
         "submit": (quick, u32, [at, text, size, at, at, at, size, at]),
+        "stock": (quick, u32, [at, text, at]),
         "run": (quick, u32, [at, u32, text, size, text, size, u32, size, u64, at, at]),
         "first": (quick, u32, [at, at]),
         "next": (quick, u32, [at, at, at, size, at, at, size, at]),
@@ -253,7 +273,7 @@ class _Database(MutableMapping):
         # How often it was changed, for those who walk over it.
         self._changes = 0
         # What keeps threads apart: a lock of this object; while a save is under way the mutex of the base too.
-        self._taken, self._token = _Taken(self._base), object()
+        self._taken, self._token, self._stocks = _Taken(self._base), object(), {}
         self._set_locks()
         _databases[id(self)] = self
         # Taken and given back once: it stays the same.
@@ -413,6 +433,45 @@ class _Database(MutableMapping):
             raise _error(status)
         return image.taken(self._other.value)
 
+    def stock(self, name):
+        """The stock program of this name, for `run`: "counter", "bounded_add", "bounded_counter", "compare_and_set", "sequence", "lease",
+        "fenced_lease", "rate_limit", "semaphore" or "token_bucket". docs/PROGRAMS.md has the record, argument, codes and reply word of
+        each. ProgramError lists the names if there is no such program."""
+        if not isinstance(name, str):
+            raise TypeError(f"the name of a program is a str, not {type(name).__name__}")
+        with self._lock, self._beside:
+            self._need_open()
+            if name not in self._stocks:
+                text, number = str.encode(name, "utf-8"), ctypes.c_uint32()
+                # The library reads a name up to its first zero byte.
+                status = _call.stock(self._db, b"" if b"\0" in text else text, ctypes.byref(number))
+                if status == _NO_STOCK:
+                    raise ProgramError(f"{name!r}: {_call.files_text(status).decode()}", None)
+                if status != _DONE:
+                    raise _error(status)
+                self._stocks[name] = Program(number.value, self._token)
+            return self._stocks[name]
+
+    def counter(self, key, floor=0, ceiling=_TIME_MOST):
+        """A number on this key, which `add` changes; see Counter."""
+        return Counter(self, key, floor, ceiling)
+
+    def lease(self, key):
+        """A lease on this key, which `acquire` gives to one owner at a time; see Lease."""
+        return Lease(self, key)
+
+    def fenced_lease(self, key):
+        """A lease on this key with a token that rises with each new owner; see FencedLease."""
+        return FencedLease(self, key)
+
+    def semaphore(self, key, size):
+        """A semaphore on this key with `size` permits; see Semaphore."""
+        return Semaphore(self, key, size)
+
+    def rate_limit(self, key, count, seconds):
+        """A limit on this key of `count` calls in a window of so many seconds; see RateLimit."""
+        return RateLimit(self, key, count, seconds)
+
     def run(self, program, key, arg=b"", blank=None, now=None):
         """Runs a program on the record of a key, or on so many zeros where the key is not there and `blank` says how many, as one step.
         The program is told the time `now`, which is the system's in seconds where none is given: a program that counts in another unit
@@ -542,6 +601,164 @@ class Database(*_plain_calls, _Database):
     """A database that is open: a mapping from bytes to bytes. `open` makes it."""
 
     __slots__ = ()
+
+
+def _whole(name, value, least=0, most=_TIME_MOST):
+    """A number for a program, of the range that it takes."""
+    if not hasattr(type(value), "__index__"):
+        raise TypeError(f"{name} is an int, not {type(value).__name__}")
+    number = operator.index(value)
+    if not least <= number <= most:
+        raise ValueError(f"{name} is a number from {least} to {most}")
+    return number
+
+
+def _time(now):
+    """The time of a run: `now`, or the system's in seconds if it is None."""
+    return int(time.time()) if now is None else _whole("now", now)
+
+
+class _Stocked:
+    """A key of a database, and the stock program that runs on its record."""
+
+    # The program, and how many bytes of a record it uses.
+    _name, _size = "", 8
+
+    def __init__(self, db, key):
+        self._db, self._key, self._program = db, _bytes(key), db.stock(self._name)
+
+    def __repr__(self):
+        return f"{type(self).__name__}({self._key!r})"
+
+    def _run(self, now, *numbers):
+        """How a run ended, with these numbers as its argument. A record that is too short ends with 0 and 0, and so may others."""
+        arg = struct.pack(f"<{len(numbers)}Q", *numbers)
+        with self._db._lock:
+            ran = self._db.run(self._program, self._key, arg, self._size, now)
+            if ran == (0, 0):
+                self._record()
+        return ran
+
+    def _record(self):
+        """The record, or None if the key is missing."""
+        record = self._db.get(self._key)
+        if record is not None and len(record) < self._size:
+            raise RecordError(f"the record of {self._key!r} has {len(record)} bytes: {self._name} takes {self._size} or more")
+        return record
+
+
+class Counter(_Stocked):
+    """A number from `floor` to `ceiling`, in the first 8 bytes of a record, the lowest byte first; 0 if the key is missing.
+    `db.counter(key)` makes it, and it runs the stock program bounded_counter.
+
+    Proved is that each run adds its amount or changes nothing; and that a number within the bounds stays within them, if every run names
+    these and nothing else changes the key."""
+
+    _name = "bounded_counter"
+
+    def __init__(self, db, key, floor=0, ceiling=_TIME_MOST):
+        super().__init__(db, key)
+        self._ceiling = _whole("ceiling", ceiling)
+        self._floor = _whole("floor", floor, most=self._ceiling)
+
+    def add(self, amount=1):
+        """Adds an amount, which may be negative, and returns the new number. OverflowError if that would be outside floor and ceiling: then
+        nothing changes."""
+        amount = _whole("amount", amount, -(2**63), 2**63 - 1)
+        end, number = self._run(None, amount % 2**64, self._floor, self._ceiling)
+        if end != 1:
+            raise OverflowError(f"{self._key!r}: {number} plus {amount} is outside {self._floor} to {self._ceiling}")
+        return number
+
+    def get(self):
+        """The number."""
+        record = self._record()
+        return 0 if record is None else int.from_bytes(record[:8], "little")
+
+
+class Lease(_Stocked):
+    """A lease, which one owner at a time has, until it ends. `db.lease(key)` makes it, and it runs the stock program lease. An owner is a
+    number below 2^64 that nobody else has, such as a random one.
+
+    Proved is that two owners never hold a lease at one time, if nothing else changes the key and the times of its runs never fall. So give
+    `now` in no call, or in each from one clock. From the time at which a lease ends it may be another's: stop before."""
+
+    _name, _size = "lease", 16
+
+    def acquire(self, owner, seconds, now=None):
+        """Gives the lease to the owner, or renews it, for so many seconds from now on. Returns the time at which it ends, or None if
+        another owner has it. A renewal may be for a shorter time."""
+        ran = self._run(_time(now), _whole("owner", owner), _whole("seconds", seconds, least=1))
+        return ran.word if ran.end == 1 else None
+
+    def release(self, owner, now=None):
+        """Gives the lease back. Returns whether the owner had it. Another's lease stays, unless it has ended."""
+        owner, now = _whole("owner", owner), _time(now)
+        with self._db._lock:
+            record = self._record()
+            if record is None:
+                return False
+            self._run(now, owner, 0)
+        holder, end = struct.unpack_from("<2Q", record)
+        return holder == owner and now < end
+
+
+class FencedLease(Lease):
+    """A lease with a token. `db.fenced_lease(key)` makes it, and it runs the stock program fenced_lease. Each new owner has a greater token
+    than all before, and a renewal keeps it. Send the token with each request to what the lease guards, and let that refuse a token below
+    the greatest that it has seen: so it refuses an owner who does not know that his lease has ended.
+
+    Proved is that tokens rise, if nothing else changes the key, even if times fall."""
+
+    _name, _size = "fenced_lease", 24
+
+    def acquire(self, owner, seconds, now=None):
+        """Gives the lease to the owner, or renews it, for so many seconds from now on. Returns a Grant, or None if another owner has it.
+        OverflowError if all 2^64 - 1 tokens are used up."""
+        now, seconds = _time(now), _whole("seconds", seconds, least=1)
+        code, word = self._run(now, _whole("owner", owner), seconds)
+        if code == 3:
+            raise OverflowError(f"all tokens of {self._key!r} are used up")
+        return Grant(min(now + seconds, _TIME_MOST), word) if code == 1 else None
+
+
+class Semaphore(_Stocked):
+    """Permits, of which at most `size` are taken at a time. `db.semaphore(key, size)` makes it, and it runs the stock program semaphore. A
+    permit does not end by itself: if its holder dies, it is lost until somebody gives it back.
+
+    Proved is that there are never more holders than permits, if every run names this size and nothing else changes the key."""
+
+    _name = "semaphore"
+
+    def __init__(self, db, key, size):
+        super().__init__(db, key)
+        self._permits = _whole("size", size, least=1)
+
+    def acquire(self):
+        """Takes a permit. Returns False at once if none is free."""
+        return self._run(None, 1, self._permits).end == 1
+
+    def release(self):
+        """Gives a permit back. Returns False if nobody has one."""
+        return self._run(None, 0, self._permits).end == 1
+
+
+class RateLimit(_Stocked):
+    """A limit of `count` calls in each window of so many seconds. `db.rate_limit(key, count, seconds)` makes it, and it runs the stock
+    program rate_limit. The first call after a window is over begins the next one.
+
+    Proved is that a window admits at most its count, if every run names the same count and seconds, nothing else changes the key, and the
+    times of its runs never fall. A time before the window began begins a new one."""
+
+    _name, _size = "rate_limit", 16
+
+    def __init__(self, db, key, count, seconds):
+        super().__init__(db, key)
+        self._count, self._seconds = _whole("count", count, least=1), _whole("seconds", seconds, least=1)
+
+    def admit(self, now=None):
+        """Whether a call is admitted."""
+        return self._run(_time(now), self._seconds, self._count).end == 1
 
 
 # The databases that are open.

@@ -1,6 +1,7 @@
-"""Tests of boddurci.py: a mapping in files, programs, threads, the cases of CPython's own tests of dbm modules, and a random run of calls
-beside a dict. BODDURCI_LIBRARY names the shared object; BODDURCI_CALLS, how many random calls there are (100,000 where it is not set);
-BODDURCI_WAY, whether calls go by "ctypes", or by the "extension", which has to be there then: else they go by what is there."""
+"""Tests of boddurci.py: a mapping in files, programs, stock programs, threads, the cases of CPython's own tests of dbm modules, and a
+random run of calls beside a dict. BODDURCI_LIBRARY names the shared object; BODDURCI_CALLS, how many random calls there are (100,000 where
+it is not set); BODDURCI_WAY, whether calls go by "ctypes", or by the "extension", which has to be there then: else they go by what is
+there."""
 
 import dbm
 import errno
@@ -12,6 +13,7 @@ import resource
 import shutil
 import signal
 import stat
+import struct
 import subprocess
 import sys
 import tempfile
@@ -725,6 +727,273 @@ class Programs(InFolder):
             for it in threads:
                 it.join()
             self.assertEqual(int.from_bytes(db[b"all"], "little"), 2000)
+
+
+NAMES = ("counter", "bounded_add", "bounded_counter", "compare_and_set", "sequence")
+NAMES += ("lease", "fenced_lease", "rate_limit", "semaphore", "token_bucket")
+MOST = 2**64 - 1
+
+
+def packed(*numbers):
+    return struct.pack(f"<{len(numbers)}Q", *numbers)
+
+
+class Stocks(InFolder):
+    """The stock programs by name, and the classes over them."""
+
+    def setUp(self):
+        super().setUp()
+        self.db = boddurci.open(self.base, "c")
+        self.addCleanup(self.db.close)
+
+    def test_names(self):
+        for name in NAMES:
+            program = self.db.stock(name)
+            self.assertEqual(program, self.db.program((TOP / f"examples/{name}.s").read_text()))
+            self.assertEqual(self.db.stock(name), program)
+        self.assertEqual(self.db.run(self.db.stock("lease"), b"door", packed(7, 30), 16, 1000), (1, 1030))
+        for name in ("", "Lease", "lease ", "lease.s", "lease\0", "\0lease", "@lease", "mu\u00df", "x" * 2000):
+            with self.assertRaises(boddurci.ProgramError) as caught:
+                self.db.stock(name)
+            self.assertIsNone(caught.exception.at)
+            for each in NAMES:
+                self.assertRegex(str(caught.exception), rf"\b{each}\b")
+        for name in (None, 7, b"lease"):
+            with self.assertRaises(TypeError):
+                self.db.stock(name)
+        with boddurci.open(self.base + "2", "c") as other:
+            self.assertNotEqual(other.stock("lease"), self.db.stock("lease"))
+            with self.assertRaisesRegex(boddurci.ProgramError, "not accepted by this database"):
+                other.run(self.db.stock("lease"), b"door", blank=16)
+
+    def test_counter(self):
+        hits = self.db.counter("hits")
+        self.assertEqual((hits.get(), b"hits" in self.db), (0, False))
+        self.assertEqual([hits.add(5), hits.add(-3), hits.add(), hits.add(0), hits.get()], [5, 2, 3, 3, 3])
+        self.assertEqual(self.db[b"hits"], packed(3))
+        self.db[b"hits"] = packed(MOST - 1) + b"tail"
+        self.assertEqual((hits.add(1), hits.get()), (MOST, MOST))
+        self.assertEqual(hits.add(-(2**63)), 2**63 - 1)
+        self.assertEqual(hits.add(2**63 - 1), MOST - 1)
+        self.assertEqual(self.db[b"hits"], packed(MOST - 1) + b"tail")
+
+    def test_counter_at_its_bounds(self):
+        self.db[b"hits"] = packed(MOST)
+        with self.assertRaisesRegex(OverflowError, f"b'hits': {MOST} plus 1 is outside 0 to {MOST}$"):
+            self.db.counter("hits").add(1)
+        self.assertEqual(self.db[b"hits"], packed(MOST))
+        for amount in (-1, -(2**63)):
+            with self.assertRaises(OverflowError):
+                self.db.counter("none").add(amount)
+        self.assertNotIn(b"none", self.db)
+        seats = self.db.counter("seats", floor=2, ceiling=10)
+        with self.assertRaisesRegex(OverflowError, "0 plus 1 is outside 2 to 10"):
+            seats.add(1)
+        self.assertEqual([seats.add(2), seats.add(8)], [2, 10])
+        for amount in (1, -9, 2**63 - 1, -(2**63)):
+            with self.assertRaisesRegex(OverflowError, f"10 plus {amount} is outside 2 to 10"):
+                seats.add(amount)
+            self.assertEqual(seats.get(), 10)
+        self.assertEqual(seats.add(-8), 2)
+
+    def test_counter_in_threads(self):
+        def work():
+            hits = self.db.counter("hits")
+            for _ in range(500):
+                hits.add(3)
+                hits.add(-1)
+
+        threads = [threading.Thread(target=work) for _ in range(4)]
+        for it in threads:
+            it.start()
+        for _ in range(5):
+            self.db.sync()
+        for it in threads:
+            it.join()
+        self.assertEqual(self.db.counter("hits").get(), 4000)
+
+    def test_lease(self):
+        door = self.db.lease("door")
+        self.assertEqual(door.acquire(7, 30, now=1000), 1030)
+        self.assertEqual(self.db[b"door"], packed(7, 1030))
+        self.assertIsNone(door.acquire(8, 30, now=1029))
+        self.assertEqual(door.acquire(7, 60, now=1010), 1070)
+        self.assertEqual(door.acquire(7, 5, now=1020), 1025)
+        self.assertIsNone(door.acquire(8, 30, now=1024))
+        self.assertEqual(door.acquire(8, 30, now=1025), 1055)
+        self.assertIs(door.release(7, now=1026), False)
+        self.assertEqual(self.db[b"door"], packed(8, 1055))
+        self.assertIs(door.release(8, now=1026), True)
+        self.assertNotIn(b"door", self.db)
+        self.assertIs(door.release(8, now=1026), False)
+        self.assertNotIn(b"door", self.db)
+        # A lease that has ended is nobody's.
+        self.assertEqual(door.acquire(7, 1, now=2000), 2001)
+        self.assertIs(door.release(7, now=2001), False)
+        self.assertNotIn(b"door", self.db)
+        self.assertEqual(door.acquire(0, MOST, now=5), MOST)
+        self.assertIsNone(door.acquire(1, 1, now=MOST - 1))
+        self.assertEqual(door.acquire(MOST, 1, now=MOST), MOST)
+
+    def test_lease_by_the_clock(self):
+        door = self.db.lease("door")
+        with unittest.mock.patch("time.time", lambda: 5000.9):
+            self.assertEqual(door.acquire(7, 30), 5030)
+            self.assertIsNone(door.acquire(8, 30))
+        with unittest.mock.patch("time.time", lambda: 5029.9):
+            self.assertIsNone(door.acquire(8, 30))
+            self.assertIs(door.release(8), False)
+        with unittest.mock.patch("time.time", lambda: 5030.0):
+            self.assertEqual(door.acquire(8, 30), 5060)
+            self.assertIs(door.release(8), True)
+        self.assertAlmostEqual(door.acquire(7, 30), time.time() + 30, delta=20)
+
+    def test_fenced_lease(self):
+        door = self.db.fenced_lease("door")
+        self.assertIs(door.release(7, now=1), False)
+        self.assertNotIn(b"door", self.db)
+        self.assertEqual(door.acquire(7, 30, now=1000), boddurci.Grant(end=1030, token=1))
+        self.assertEqual(door.acquire(7, 5, now=1010), (1015, 1))
+        self.assertIsNone(door.acquire(8, 30, now=1014))
+        self.assertEqual(door.acquire(8, 30, now=1015), (1045, 2))
+        self.assertIs(door.release(7, now=1016), False)
+        self.assertIs(door.release(8, now=1016), True)
+        self.assertEqual(self.db[b"door"], packed(8, 0, 2))
+        self.assertEqual(door.acquire(8, MOST, now=1016), (MOST, 3))
+        self.db[b"door"] = packed(8, 1020, MOST)
+        self.assertEqual(door.acquire(8, 5, now=1019), (1024, MOST))
+        with self.assertRaisesRegex(OverflowError, "all tokens of b'door' are used up"):
+            door.acquire(8, 5, now=1024)
+        self.assertEqual(self.db[b"door"], packed(8, 1024, MOST))
+
+    def test_semaphore(self):
+        pool = self.db.semaphore("pool", 2)
+        self.assertIs(pool.release(), False)
+        self.assertNotIn(b"pool", self.db)
+        self.assertEqual([pool.acquire() for _ in range(4)], [True, True, False, False])
+        self.assertEqual(self.db[b"pool"], packed(2))
+        self.assertIs(self.db.semaphore("pool", 3).acquire(), True)
+        self.assertEqual([pool.release() for _ in range(4)], [True, True, True, False])
+        self.assertEqual(self.db[b"pool"], packed(0))
+
+    def test_rate_limit(self):
+        calls = self.db.rate_limit("ann", 3, 10)
+        self.assertEqual([calls.admit(now) for now in (100, 100, 101, 102, 109)], [True, True, True, False, False])
+        self.assertEqual(self.db[b"ann"], packed(100, 3))
+        self.assertEqual([calls.admit(now) for now in (110, 119, 119, 119, 120)], [True, True, True, False, True])
+        # A time before the window began begins another.
+        self.assertIs(calls.admit(50), True)
+        self.assertEqual(self.db[b"ann"], packed(50, 1))
+        once = self.db.rate_limit("bob", 1, 3600)
+        with unittest.mock.patch("time.time", lambda: 5000.9):
+            self.assertEqual([once.admit(), once.admit()], [True, False])
+        with unittest.mock.patch("time.time", lambda: 8600.0):
+            self.assertIs(once.admit(), True)
+
+    def calls(self, key=b"it"):
+        """Each method of each class on a key, with the length of its record."""
+        db, counter = self.db, self.db.counter(key)
+        return (
+            (8, counter.get),
+            (8, lambda: counter.add(1)),
+            (8, lambda: counter.add(-1)),
+            (16, lambda: db.lease(key).acquire(7, 30)),
+            (16, lambda: db.lease(key).release(7)),
+            (24, lambda: db.fenced_lease(key).acquire(7, 30)),
+            (24, lambda: db.fenced_lease(key).release(7)),
+            (8, db.semaphore(key, 1).acquire),
+            (8, db.semaphore(key, 1).release),
+            (16, db.rate_limit(key, 1, 60).admit),
+        )
+
+    def test_records_of_other_lengths(self):
+        for length, call in self.calls():
+            for short in (0, 1, length - 1):
+                self.db[b"it"] = b"\1" * short
+                with self.assertRaisesRegex(boddurci.RecordError, f"b'it' has {short} bytes: [a-z_]+ takes {length} or more"):
+                    call()
+                self.assertEqual(self.db[b"it"], b"\1" * short)
+            self.db[b"it"] = packed(1, 0, 0) + b"tail"
+            call()
+            self.assertTrue(self.db.get(b"it", b"tail").endswith(b"tail"))
+        self.assertTrue(issubclass(boddurci.RecordError, (boddurci.error, ValueError)))
+
+    def test_arguments(self):
+        db, door = self.db, self.db.lease("door")
+        fenced, calls, pool = db.fenced_lease("door"), db.rate_limit("door", 1, 1), db.semaphore("door", 1)
+        numbers = {
+            "amount": (db.counter("door").add, -(2**63), 2**63 - 1),
+            "floor": (lambda n: db.counter("door", floor=n, ceiling=9), 0, 9),
+            "ceiling": (lambda n: db.counter("door", ceiling=n), 0, MOST),
+            "owner": (lambda n: (door.acquire(n, 1, 1), fenced.acquire(n, 1, 1)), 0, MOST),
+            "seconds": (lambda n: (door.acquire(7, n, 1), fenced.acquire(7, n, 1), db.rate_limit("door", 1, n)), 1, MOST),
+            "now": (lambda n: (door.acquire(7, 1, n), fenced.acquire(7, 1, n), calls.admit(n)), 0, MOST),
+            "size": (lambda n: db.semaphore("door", n), 1, MOST),
+            "count": (lambda n: db.rate_limit("door", n, 1), 1, MOST),
+        }
+        for name, (call, least, most) in numbers.items():
+            for number in (least - 1, most + 1, -(2**200), 2**200):
+                with self.assertRaisesRegex(ValueError, f"^{name} is a number from {least} to {most}$"):
+                    call(number)
+            for strange in ("7", b"7", 7.0, [7]):
+                with self.assertRaisesRegex(TypeError, f"^{name} is an int, not {type(strange).__name__}$"):
+                    call(strange)
+        for call in (lambda: door.release(-1), lambda: door.release(7, now=MOST + 1), lambda: fenced.release(MOST + 1)):
+            with self.assertRaises(ValueError):
+                call()
+        for call in (lambda: door.acquire(None, 1), lambda: door.release("ann"), lambda: door.acquire(7, 1, now=1.5)):
+            with self.assertRaises(TypeError):
+                call()
+        for call in (lambda: db.counter(7), lambda: db.lease(None), lambda: db.semaphore("door")):
+            with self.assertRaises(TypeError):
+                call()
+        self.assertEqual(db.keys(), [])
+        self.assertIs(pool.release(), False)
+
+    def test_read_only_and_closed(self):
+        self.db.counter("hits").add(4)
+        self.db.close()
+        self.db = boddurci.open(self.base)
+        self.assertEqual(self.db.counter("hits").get(), 4)
+        calls = [call for _, call in self.calls(b"hits")]
+        hits = self.db.counter("hits")
+        for call in (lambda: hits.add(1), calls[3], calls[7], calls[9]):
+            with self.assertRaisesRegex(boddurci.error, "read only"):
+                call()
+        self.db.close()
+        for call in (hits.get, *calls, lambda: self.db.stock("lease"), lambda: self.db.lease("door")):
+            with self.assertRaisesRegex(boddurci.error, "the database is closed"):
+                call()
+
+    def test_in_turn_with_perl(self):
+        """Python and Perl change the same records, one after the other."""
+        if not shutil.which("perl") or subprocess.run(["perl", "-MFFI::Platypus", "-e", "1"], capture_output=True).returncode:
+            self.skipTest("Perl has no FFI::Platypus")
+        script = """
+            tie my %db, "Boddurci", shift, "w";
+            my ($db, $owner, $now) = (tied %db, @ARGV);
+            my @told = ($db->counter("hits")->add(-2), $db->lease("door")->acquire($owner, 30, now => $now) // "none");
+            push @told, join("/", $db->fenced_lease("gate")->acquire($owner, 30, now => $now)) || "none";
+            push @told, map { $_ ? 1 : 0 } $db->semaphore("pool", 3)->acquire, $db->rate_limit("ann", 3, 60)->admit(now => $now);
+            print "@told";
+        """
+
+        def in_perl(owner, now):
+            words = ["perl", f"-I{TOP / 'bindings/perl'}", "-MBoddurci", "-e", script, self.base, str(owner), str(now)]
+            return subprocess.run(words, capture_output=True, text=True, check=True).stdout
+
+        def here(owner, now):
+            with boddurci.open(self.base, "w") as db:
+                leases = [lease.acquire(owner, 30, now) for lease in (db.lease("door"), db.fenced_lease("gate"))]
+                return db.counter("hits").add(10), *leases, db.semaphore("pool", 3).acquire(), db.rate_limit("ann", 3, 60).admit(now)
+
+        self.db.close()
+        self.assertEqual(here(1, 1000), (10, 1030, (1030, 1), True, True))
+        self.assertEqual(in_perl(2, 1029), "8 none none 1 1")
+        self.assertEqual(in_perl(2, 1030), "6 1060 1060/2 1 1")
+        self.assertEqual(here(1, 1059), (16, None, None, False, False))
+        self.assertEqual(here(1, 1060), (26, 1090, (1090, 3), False, True))
+        self.assertEqual(in_perl(1, 1061), "24 1091 1091/3 0 1")
 
 
 class BesideADict(InFolder):

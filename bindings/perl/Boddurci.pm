@@ -4,9 +4,13 @@
 #     use Boddurci;
 #     tie my %db, "Boddurci", "visits", "c" or die;
 #     $db{ab} = "xyz";
+#     tied(%db)->counter("hits")->add(5);
+#     my $until = tied(%db)->lease("door")->acquire(7, 30);
 #     my $counter = tied(%db)->program(do { local (@ARGV, $/) = "examples/counter.s"; <> });
-#     my ($end, $word) = tied(%db)->run($counter, "hits", blank => 8);
+#     my ($end, $word) = tied(%db)->run($counter, "runs", blank => 8);
 #     untie %db;
+#
+# The methods `counter`, `lease`, `fenced_lease`, `semaphore` and `rate_limit` run stock programs, as the POD below the code says.
 #
 # Keys and values are bytes. A database is in memory while it is tied, under an exclusive lock on BASE.lock unless it is only read ("r");
 # `sync` and `untie` write its files, and a crash in between leaves the database before or after. If a tied hash ends without `untie`, or
@@ -35,7 +39,7 @@ use Scalar::Util qw(refaddr);
 use Time::HiRes qw(clock_gettime CLOCK_MONOTONIC);
 
 # Statuses of boddurci.h and boddurci_files.h, and the words for some of them. The library has words for the others.
-my ($DONE, $MISSING, $REFUSED, $BAD_TEXT, $IS_CLOSED, $NO_PROGRAM, $FORKED, $INTERRUPTED) = (0, 1, 5, 6, 16, 20, 39, 41);
+my ($DONE, $MISSING, $REFUSED, $BAD_TEXT, $IS_CLOSED, $NO_PROGRAM, $NO_STOCK, $FORKED, $INTERRUPTED) = (0, 1, 5, 6, 16, 20, 24, 39, 41);
 my %WORDS = (
     2  => "the key is there",
     3  => "crowded: no room for the pair, however often its page is split",
@@ -97,6 +101,7 @@ $ffi->attach(["boddurci_$_->[0]" => "_$_->[0]"], $_->[1], $_->[2])
         ["delete",      ["opaque", @bytes] => "uint32"],
         ["assemble",    [@bytes, @room, "size_t*", @room] => "uint32"],
         ["submit",      ["opaque", @bytes, "uint32*", "size_t*", @room] => "uint32"],
+        ["stock",       ["opaque", "string", "uint32*"] => "uint32"],
         ["run",         ["opaque", "uint32", @bytes, @bytes, "uint32", "size_t", "uint64", "uint64*", "uint64*"] => "uint32"],
         ["first",       ["opaque", "opaque"] => "uint32"],
         ["next",        ["opaque", "opaque", @room, @room] => "uint32"],
@@ -288,6 +293,29 @@ sub image {
     return bless { number => $number, of => $$self->{token} }, "Boddurci::Program";
 }
 
+# Returns the stock program of a name, for `run` of this database alone. Dies with the ten names if there is no such program.
+sub stock {
+    my ($self, $name) = @_;
+    my $text = defined $name ? "$name" : "";
+    my $db = $self->_db;
+    # The library reads a name up to its first zero byte.
+    my $status = _stock($db, $text =~ /\0/ ? "" : $text, \my $number);
+    croak _shown($text), ": ", _files_text($status) if $status == $NO_STOCK;
+    _check($status);
+    return bless { number => $number, of => $$self->{token} }, "Boddurci::Program";
+}
+
+# Return a record that a stock program changes, by the methods of its package.
+sub counter { return Boddurci::Counter->new(@_) }
+
+sub lease { return Boddurci::Lease->new(@_) }
+
+sub fenced_lease { return Boddurci::FencedLease->new(@_) }
+
+sub semaphore { return Boddurci::Semaphore->new(@_) }
+
+sub rate_limit { return Boddurci::RateLimit->new(@_) }
+
 # Returns the number of a program that this database has accepted.
 sub _number {
     my ($self, $program) = @_;
@@ -379,4 +407,265 @@ sub DESTROY { $_[0]->_end }
 # At the end of the program, while all that a save needs still exists.
 END { _end_left(1) }
 
+# A key of a database, and the stock program that runs on its record.
+package Boddurci::Stocked;
+use Carp qw(croak);
+
+our @CARP_NOT = ("Boddurci", map { "Boddurci::$_" } qw(Counter Lease FencedLease Semaphore RateLimit));
+
+my $MOST = "18446744073709551615";
+
+sub _of {
+    my ($class, $db, $key) = @_;
+    my ($bytes) = Boddurci::_given($key);
+    return bless { db => $db, key => $bytes, program => $db->stock($class->_name) }, $class;
+}
+
+# How many bytes of a record the program uses.
+sub _size { 8 }
+
+# Returns a whole number from $least to 2^64 - 1.
+sub _whole {
+    my ($name, $given, $least) = @_;
+    my ($number) = (defined $given ? "$given" : "") =~ /^0*([0-9]{1,20})\z/;
+    my $is_right = defined $number && (length $number < 20 || $number le $MOST) && $number >= $least;
+    croak "$name is a whole number from $least to $MOST" unless $is_right;
+    return 0 + $number;
+}
+
+# Dies if there are other options than these.
+sub _need_options {
+    my ($options, @names) = @_;
+    my %is_known = map { $_ => 1 } @names;
+    $is_known{$_} or croak "no option $_" for sort keys %$options;
+}
+
+# Returns the time of a run: the option `now`, or the system's in seconds.
+sub _time {
+    my (%options) = @_;
+    _need_options(\%options, "now");
+    return defined $options{now} ? _whole("now", $options{now}, 0) : time;
+}
+
+# Runs the program with the argument on the record. Returns its code and reply word. A record that is too short ends with 0 and 0, and so may
+# others.
+sub _run {
+    my ($self, $arg, $now) = @_;
+    my ($code, $word) = $self->{db}->run($self->{program}, $self->{key}, arg => $arg, blank => $self->_size, now => $now);
+    $self->_record if $code == 0 && $word == 0;
+    return ($code, $word);
+}
+
+# Returns the record, or undef if the key is missing.
+sub _record {
+    my ($self) = @_;
+    my $record = $self->{db}->FETCH($self->{key});
+    return $record if !defined $record || length $record >= $self->_size;
+    croak "the record of ", Boddurci::_shown($self->{key}), " has ", length $record, " bytes: ", $self->_name, " takes ", $self->_size,
+        " or more";
+}
+
+package Boddurci::Counter;
+use Carp qw(croak);
+our @ISA = ("Boddurci::Stocked");
+
+sub _name { "bounded_counter" }
+
+sub new {
+    my ($class, $db, $key, %options) = @_;
+    Boddurci::Stocked::_need_options(\%options, "floor", "ceiling");
+    my $self = $class->_of($db, $key);
+    $self->{floor} = Boddurci::Stocked::_whole("floor", $options{floor} // 0, 0);
+    $self->{ceiling} = Boddurci::Stocked::_whole("ceiling", $options{ceiling} // $MOST, $self->{floor});
+    return $self;
+}
+
+sub add {
+    my ($self, $amount) = @_;
+    my $text = defined $amount ? "$amount" : "1";
+    my ($sign, $number) = $text =~ /^([-+]?)0*([0-9]{1,19})\z/;
+    my $most = ($sign // "") eq "-" ? "9223372036854775808" : "9223372036854775807";
+    croak "an amount is a whole number from -9223372036854775808 to 9223372036854775807"
+        unless defined $number && (length $number < 19 || $number le $most);
+    my ($code, $word) = $self->_run(pack("q<Q<2", "$sign$number", $self->{floor}, $self->{ceiling}), time);
+    return $word if $code == 1;
+    croak Boddurci::_shown($self->{key}), ": $word plus $text is outside $self->{floor} to $self->{ceiling}";
+}
+
+sub get {
+    my ($self) = @_;
+    my $record = $self->_record;
+    return defined $record ? unpack("Q<", $record) : 0;
+}
+
+package Boddurci::Lease;
+our @ISA = ("Boddurci::Stocked");
+
+sub _name { "lease" }
+
+sub _size { 16 }
+
+sub new {
+    my ($class, $db, $key) = @_;
+    return $class->_of($db, $key);
+}
+
+# Runs the program for an owner and a term. Returns the time, the term, the code and the reply word.
+sub _ask {
+    my ($self, $owner, $seconds, %options) = @_;
+    my $now = Boddurci::Stocked::_time(%options);
+    my $arg = pack "Q<2", Boddurci::Stocked::_whole("owner", $owner, 0), my $term = Boddurci::Stocked::_whole("seconds", $seconds, 1);
+    return ($now, $term, $self->_run($arg, $now));
+}
+
+sub acquire {
+    my $self = shift;
+    my ($now, $term, $code, $word) = $self->_ask(@_);
+    return $code == 1 ? $word : undef;
+}
+
+sub release {
+    my ($self, $owner, %options) = @_;
+    my $now = Boddurci::Stocked::_time(%options);
+    $owner = Boddurci::Stocked::_whole("owner", $owner, 0);
+    my $record = $self->_record;
+    return "" unless defined $record;
+    $self->_run(pack("Q<2", $owner, 0), $now);
+    my ($holder, $end) = unpack "Q<2", $record;
+    return $holder == $owner && $now < $end;
+}
+
+package Boddurci::FencedLease;
+use Carp qw(croak);
+our @ISA = ("Boddurci::Lease");
+
+sub _name { "fenced_lease" }
+
+sub _size { 24 }
+
+sub acquire {
+    my $self = shift;
+    my ($now, $term, $code, $word) = $self->_ask(@_);
+    croak "all tokens of ", Boddurci::_shown($self->{key}), " are used up" if $code == 3;
+    return unless $code == 1;
+    return ($term > $MOST - $now ? $MOST : $now + $term, $word);
+}
+
+package Boddurci::Semaphore;
+our @ISA = ("Boddurci::Stocked");
+
+sub _name { "semaphore" }
+
+sub new {
+    my ($class, $db, $key, $size) = @_;
+    my $self = $class->_of($db, $key);
+    $self->{permits} = Boddurci::Stocked::_whole("size", $size, 1);
+    return $self;
+}
+
+sub acquire {
+    my ($self) = @_;
+    return ($self->_run(pack("Q<2", 1, $self->{permits}), time))[0] == 1;
+}
+
+sub release {
+    my ($self) = @_;
+    return ($self->_run(pack("Q<2", 0, $self->{permits}), time))[0] == 1;
+}
+
+package Boddurci::RateLimit;
+our @ISA = ("Boddurci::Stocked");
+
+sub _name { "rate_limit" }
+
+sub _size { 16 }
+
+sub new {
+    my ($class, $db, $key, $count, $seconds) = @_;
+    my $self = $class->_of($db, $key);
+    $self->{count} = Boddurci::Stocked::_whole("count", $count, 1);
+    $self->{seconds} = Boddurci::Stocked::_whole("seconds", $seconds, 1);
+    return $self;
+}
+
+sub admit {
+    my ($self, %options) = @_;
+    my $now = Boddurci::Stocked::_time(%options);
+    return ($self->_run(pack("Q<2", $self->{seconds}, $self->{count}), $now))[0] == 1;
+}
+
 1;
+
+__END__
+
+=head1 NAME
+
+Boddurci - a key-value store with a proved core, and stock programs on its records
+
+=head1 SYNOPSIS
+
+    use Boddurci;
+    tie my %db, "Boddurci", "visits", "c" or die;
+    my $db = tied %db;
+
+    my $hits = $db->counter("hits")->add(5);
+    if (defined(my $end = $db->lease("door")->acquire($owner, 30))) {
+        ...    # the door is ours until $end
+    }
+    print "slow down\n" unless $db->rate_limit("ann", 10, 60)->admit;
+
+=head1 DESCRIPTION
+
+The head of this file says how a hash is tied, which options there are, and how programs of your own run.
+
+Here are the stock programs. What they do is proved (docs/PROGRAMS.md of Boddurci has each with its record, argument, codes and reply word),
+if one of them alone changes a key. Numbers are whole, and below 2^64 where nothing else is said.
+
+Every failure dies: a number that is out of range, and a record that is too short for the program, which then changes nothing.
+
+=head1 METHODS
+
+=over
+
+=item $db->stock($name)
+
+Returns the stock program of this name, for C<run>: C<counter>, C<bounded_add>, C<bounded_counter>, C<compare_and_set>, C<sequence>, C<lease>,
+C<fenced_lease>, C<rate_limit>, C<semaphore> or C<token_bucket>. Dies with the ten names if there is no such program.
+
+=item $db->counter($key, floor => $floor, ceiling => $ceiling)
+
+A number in the first 8 bytes of the record, the lowest byte first; 0 if the key is missing. The floor is 0 and the ceiling 2^64 - 1 if they
+are not given. The program is C<bounded_counter>.
+
+C<< ->add($amount) >> adds an amount, which may be negative, or 1 if none is given, and returns the new number. It dies if that would be
+outside floor and ceiling: then nothing changes. C<< ->get >> returns the number.
+
+=item $db->lease($key)
+
+A lease, which one owner at a time has. An owner is a number that nobody else has, such as a random one.
+
+C<< ->acquire($owner, $seconds) >> gives the lease to the owner, or renews it, for so many seconds from now on. It returns the time at which
+the lease ends, or undef if another owner has it. From that time on it may be another's: stop before. C<< ->release($owner) >> gives it back,
+and returns whether the owner had it.
+
+Two owners never hold a lease at one time if times never fall. Both methods take C<< now => $time >>, which stands in place of the system's
+clock: give it in no call, or in each from one clock.
+
+=item $db->fenced_lease($key)
+
+The same, but C<acquire> returns two numbers, the end and a token; and nothing if another owner has the lease. Each new owner has a greater
+token than all before, and a renewal keeps it. Let what the lease guards refuse a token below the greatest that it has seen.
+
+=item $db->semaphore($key, $size)
+
+C<< ->acquire >> takes a permit, and returns whether one was free. It does not wait. C<< ->release >> gives a permit back, and returns whether
+anybody had one. A permit does not end by itself.
+
+=item $db->rate_limit($key, $count, $seconds)
+
+C<< ->admit >> returns whether a call is admitted: at most so many in each window of so many seconds. The first call after a window is over
+begins the next one. It takes C<< now => $time >> as a lease does.
+
+=back
+
+=cut

@@ -303,6 +303,177 @@ for my $mode ("w", "n") {
     like($trace, qr/^(loaded\z|libboddurci\.so\.2 cannot be loaded)/);
 }
 
+# The stock programs by name, and the packages over them.
+{
+    tie my %stock, "Boddurci", "$base.stock", "c";
+    my $db = tied %stock;
+    my @names = qw(counter bounded_add bounded_counter compare_and_set sequence lease fenced_lease rate_limit semaphore token_bucket);
+    is($db->stock($_)->{number}, $db->program(text_of("$top/examples/$_.s"))->{number}, $_) for @names;
+    is_deeply([$db->run($db->stock("lease"), "door", arg => pack("Q<2", 7, 30), blank => 16, now => 1000)], [1, 1030]);
+    delete $stock{door};
+    for my $name ("", undef, "Lease", "lease\0", "\0lease", "\@lease") {
+        for my $each (@names) {
+            dies_with(sub { $db->stock($name) }, qr/\b$each\b/);
+        }
+    }
+    my $most = "18446744073709551615";
+
+    # Counters.
+    my $hits = $db->counter("hits");
+    is($hits->get, 0);
+    ok(!exists $stock{hits});
+    is_deeply([$hits->add(5), $hits->add(-3), $hits->add, $hits->add(0), $hits->get], [5, 2, 3, 3, 3]);
+    is($stock{hits}, pack("Q<", 3));
+    $stock{hits} = pack("Q<", $most - 1) . "tail";
+    is($hits->add(1), $most);
+    dies_with(sub { $hits->add(1) }, qr/^hits: $most plus 1 is outside 0 to $most at/);
+    is($hits->add("-9223372036854775808"), "9223372036854775807");
+    is($hits->add("9223372036854775807"), $most - 1);
+    is($stock{hits}, pack("Q<", $most - 1) . "tail");
+    my $seats = $db->counter("seats", floor => 2, ceiling => 10);
+    dies_with(sub { $seats->add(1) }, qr/^seats: 0 plus 1 is outside 2 to 10 at/);
+    ok(!exists $stock{seats});
+    is_deeply([$seats->add(2), $seats->add(8)], [2, 10]);
+    for my $amount (1, -9, "9223372036854775807", "-9223372036854775808") {
+        dies_with(sub { $seats->add($amount) }, qr/^seats: 10 plus $amount is outside 2 to 10 at/);
+        is($seats->get, 10);
+    }
+
+    # Leases: two owners, renewals, the end, and giving back.
+    my $door = $db->lease("door");
+    is($door->acquire(7, 30, now => 1000), 1030);
+    is($stock{door}, pack("Q<2", 7, 1030));
+    is($door->acquire(8, 30, now => 1029), undef);
+    is($door->acquire(7, 60, now => 1010), 1070);
+    is($door->acquire(7, 5, now => 1020), 1025);
+    is($door->acquire(8, 30, now => 1024), undef);
+    is($door->acquire(8, 30, now => 1025), 1055);
+    ok(!$door->release(7, now => 1026));
+    is($stock{door}, pack("Q<2", 8, 1055));
+    ok($door->release(8, now => 1026));
+    ok(!exists $stock{door});
+    ok(!$door->release(8, now => 1026));
+    is($door->acquire(7, 1, now => 2000), 2001);
+    ok(!$door->release(7, now => 2001), "a lease that has ended is nobody's");
+    is($door->acquire(0, $most, now => 5), $most);
+    is($door->acquire($most, 1, now => $most), $most);
+    delete $stock{door};
+    my $about = time + 30;
+    my $end = $door->acquire(7, 30);
+    ok($about - 1 <= $end && $end <= $about + 20, "the clock");
+    ok($door->release(7));
+
+    # Leases with tokens.
+    my $gate = $db->fenced_lease("gate");
+    ok(!$gate->release(7, now => 1));
+    ok(!exists $stock{gate});
+    is_deeply([$gate->acquire(7, 30, now => 1000)], [1030, 1]);
+    is_deeply([$gate->acquire(7, 5, now => 1010)], [1015, 1]);
+    is_deeply([$gate->acquire(8, 30, now => 1014)], []);
+    is_deeply([$gate->acquire(8, 30, now => 1015)], [1045, 2]);
+    ok(!$gate->release(7, now => 1016));
+    ok($gate->release(8, now => 1016));
+    is($stock{gate}, pack("Q<3", 8, 0, 2));
+    is_deeply([$gate->acquire(8, $most, now => 1016)], [$most, 3]);
+    $stock{gate} = pack("Q<3", 8, 1020, $most);
+    is_deeply([$gate->acquire(8, 5, now => 1019)], [1024, $most]);
+    dies_with(sub { $gate->acquire(8, 5, now => 1024) }, qr/^all tokens of gate are used up/);
+
+    # Semaphores and limits.
+    my $pool = $db->semaphore("pool", 2);
+    ok(!$pool->release);
+    is_deeply([map { $pool->acquire ? 1 : 0 } 1 .. 4], [1, 1, 0, 0]);
+    is_deeply([map { $pool->release ? 1 : 0 } 1 .. 3], [1, 1, 0]);
+    my $calls = $db->rate_limit("ann", 3, 10);
+    is_deeply([map { $calls->admit(now => $_) ? 1 : 0 } 100, 100, 101, 102, 109], [1, 1, 1, 0, 0]);
+    is_deeply([map { $calls->admit(now => $_) ? 1 : 0 } 110, 119, 119, 119, 120], [1, 1, 1, 0, 1]);
+    my $once = $db->rate_limit("bob", 1, 3600);
+    is_deeply([map { $once->admit ? 1 : 0 } 1, 2], [1, 0]);
+
+    # Records of other lengths.
+    my @each = (
+        [8, sub { $db->counter("it")->get }],
+        [8, sub { $db->counter("it")->add(1) }],
+        [8, sub { $db->counter("it")->add(-1) }],
+        [16, sub { $db->lease("it")->acquire(7, 30) }],
+        [16, sub { $db->lease("it")->release(7) }],
+        [24, sub { $db->fenced_lease("it")->acquire(7, 30) }],
+        [24, sub { $db->fenced_lease("it")->release(7) }],
+        [8, sub { $db->semaphore("it", 1)->acquire }],
+        [8, sub { $db->semaphore("it", 1)->release }],
+        [16, sub { $db->rate_limit("it", 1, 60)->admit }],
+    );
+    for (@each) {
+        my ($length, $call) = @$_;
+        for my $short (0, 1, $length - 1) {
+            $stock{it} = "\1" x $short;
+            dies_with($call, qr/^the record of it has $short bytes: [a-z_]+ takes $length or more at \Q$0\E line/);
+            is($stock{it}, "\1" x $short);
+        }
+        $stock{it} = pack("Q<3", 1, 0, 0) . "tail";
+        $call->();
+        like($stock{it} // "tail", qr/tail\z/);
+    }
+    delete $stock{it};
+
+    # Numbers that are out of range, or none.
+    my %wants = (
+        owner   => [0, sub { $door->acquire($_[0], 1, now => 1) }, sub { $door->release($_[0]) }, sub { $gate->acquire($_[0], 1) }],
+        seconds => [1, sub { $door->acquire(7, $_[0]) }, sub { $gate->acquire(7, $_[0]) }, sub { $db->rate_limit("it", 1, $_[0]) }],
+        size    => [1, sub { $db->semaphore("it", $_[0]) }],
+        count   => [1, sub { $db->rate_limit("it", $_[0], 1) }],
+    );
+    for my $name (sort keys %wants) {
+        my ($least, @calls) = @{ $wants{$name} };
+        for my $call (@calls) {
+            for my $number ($least - 1, "18446744073709551616", "9" x 30, 1.5, "1e3", "x", "1\n", "", undef) {
+                dies_with(sub { $call->($number) }, qr/^$name is a whole number from $least to $most at \Q$0\E line/);
+            }
+        }
+    }
+    for my $number (-1, "18446744073709551616", 1.5, "x", "") {
+        dies_with(sub { $door->acquire(7, 1, now => $number) }, qr/^now is a whole number/);
+        dies_with(sub { $calls->admit(now => $number) }, qr/^now is a whole number/);
+        dies_with(sub { $db->counter("it", floor => $number) }, qr/^floor is a whole number/);
+        dies_with(sub { $db->counter("it", ceiling => $number) }, qr/^ceiling is a whole number/);
+    }
+    dies_with(sub { $db->counter("it", floor => 3, ceiling => 2) }, qr/^ceiling is a whole number from 3/);
+    for my $amount ("9223372036854775808", "-9223372036854775809", 1.5, "x", "--1", "", "1\n") {
+        dies_with(sub { $db->counter("it")->add($amount) }, qr/^an amount is a whole number from -9223372036854775808 to 9223372036854775807/);
+    }
+    for my $call (
+        sub { $db->counter("it", top => 1) }, sub { $door->acquire(7, 1, later => 1) },
+        sub { $door->release(7, later => 1) }, sub { $calls->admit(later => 1) },
+    ) {
+        dies_with($call, qr/^no option (top|later) at/);
+    }
+    dies_with(sub { $db->counter("\x{263a}") }, qr/bytes/);
+    ok(!exists $stock{it});
+    untie %stock;
+    dies_with($_, qr/the database is closed at \Q$0\E/)
+        for sub { $hits->get }, sub { $hits->add(1) }, sub { $door->release(7) }, sub { $db->stock("lease") };
+
+    # What is only read; and other texts of the same numbers.
+    tie my %read, "Boddurci", "$base.stock";
+    is(tied(%read)->counter("seats")->get, 10);
+    dies_with(sub { tied(%read)->counter("seats")->add(1) }, qr/only read/);
+    untie %read;
+    tie %stock, "Boddurci", "$base.stock", "w";
+    is(tied(%stock)->counter("new")->add("+007"), 7);
+    is(tied(%stock)->counter("new")->add("-0"), 7);
+    is(tied(%stock)->lease("new lease")->acquire("0" x 30 . "7", "010", now => "0"), 10);
+    untie %stock;
+}
+
+# The POD has no errors.
+SKIP: {
+    skip "no Pod::Checker", 1 unless eval { require Pod::Checker; 1 };
+    my $checker = Pod::Checker->new(-warnings => 2);
+    open(my $said, ">", \my $text) or die;
+    $checker->parse_from_file("$top/bindings/perl/Boddurci.pm", $said);
+    is($checker->num_errors + $checker->num_warnings, 0, $text // "");
+}
+
 SKIP: {
     skip "no SDBM_File", 1 unless eval { require SDBM_File; require Fcntl; 1 };
     tie my %other, "SDBM_File", $base, Fcntl::O_RDONLY(), 0666 or die;

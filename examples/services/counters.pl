@@ -10,11 +10,9 @@
 use strict;
 use warnings;
 use Fcntl qw(:flock O_RDONLY);
-use File::Basename qw(dirname);
 use SDBM_File;
 
 my $dbm = $ENV{DBM} // "dbm";
-my $counter = dirname(__FILE__) . "/../counter.s";
 
 # The status of dbm on these words, and what it prints. No shell reads them.
 sub run_of {
@@ -87,7 +85,7 @@ sub take {
 
 sub count {
     my ($base, @keys) = @_;
-    my ($status, $image) = run_of("asm", $counter);
+    my ($status, $image) = run_of("asm", '@counter');
     die "counters.pl: dbm ended with $status\n" if $status;
     chomp $image;
     my @lines = map { my $key = unpack("H*", $_) || "."; ("run $key 0 . 8 0", "fetch $key") } @keys;

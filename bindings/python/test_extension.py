@@ -88,6 +88,8 @@ class Beside(InFolder):
         arg = rng.choice(strange) if rng.random() < 0.1 else bytes(arg)
         blank, now = (rng.choice(odd) if rng.random() < 0.1 else it for it in (number, 1000))
         which, is_odd = rng.randrange(3), rng.random() < 0.1
+        owner, amount, seconds = (rng.choice(odd) if rng.random() < 0.1 else it for it in (rng.randrange(3), rng.randint(-3, 5), 20))
+        later = 1000 + rng.randrange(100)
 
         def program(programs):
             odd = None, boddurci.Program(0), boddurci.Program(2**33, programs[0]._of)
@@ -108,6 +110,13 @@ class Beside(InFolder):
             lambda db, programs: db.run(program(programs), key, blank=8, now=now),
             lambda db, programs: db.run(program(programs), key=key, arg=arg, blank=blank, now=now),
             lambda db, programs: db.run(program(programs), key, blank=blank, now=now),
+            lambda db, _: db.counter(key, ceiling=1000).add(amount),
+            lambda db, _: db.counter(key).get(),
+            lambda db, _: db.lease(key).acquire(owner, seconds, later),
+            lambda db, _: db.lease(key).release(owner, now),
+            lambda db, _: db.fenced_lease(key).acquire(owner, seconds, now=later),
+            lambda db, _: db.semaphore(key, 2).acquire() if which else db.semaphore(key, amount).release(),
+            lambda db, _: db.rate_limit(key, 3, seconds).admit(later),
         )
 
     def test_random_calls(self):

@@ -866,6 +866,27 @@ class Stocks(InFolder):
             door.acquire(8, 5, now=1024)
         self.assertEqual(self.db[b"door"], packed(8, 1024, MOST))
 
+    def test_leases_never_overlap(self):
+        """Random calls of three owners at times that never fall: a lease is granted exactly if no other owner's has an end to come, and tokens
+        rise with each new owner."""
+        rng = random.Random(3)
+        for lease in (self.db.lease("door"), self.db.fenced_lease("gate")):
+            now, ends, token = 0, {}, 0
+            for _ in range(3000):
+                now, owner = now + rng.choice((0, 0, 1, 3)), rng.randrange(3)
+                is_own = now < ends.get(owner, 0)
+                if rng.random() < 0.2:
+                    self.assertIs(lease.release(owner, now), is_own)
+                    ends.pop(owner, None)
+                    continue
+                seconds, is_barred = rng.randrange(1, 9), any(now < ends[other] for other in ends if other != owner)
+                told = lease.acquire(owner, seconds, now)
+                self.assertEqual(told is None, is_barred)
+                if told is not None:
+                    ends[owner], token = now + seconds, token if is_own else token + 1
+                    is_fenced = isinstance(lease, boddurci.FencedLease)
+                    self.assertEqual(told, (ends[owner], token) if is_fenced else ends[owner])
+
     def test_semaphore(self):
         pool = self.db.semaphore("pool", 2)
         self.assertIs(pool.release(), False)

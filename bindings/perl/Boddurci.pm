@@ -618,10 +618,10 @@ Boddurci - a key-value store with a proved core, and stock programs on its recor
 
 The head of this file says how a hash is tied, which options there are, and how programs of your own run.
 
-Here are the stock programs. What they do is proved (docs/PROGRAMS.md of Boddurci has each with its record, argument, codes and reply word),
-if one of them alone changes a key. Numbers are whole, and below 2^64 where nothing else is said.
+The methods below run stock programs. What these do is proved, if one of them alone changes a key; docs/PROGRAMS.md of Boddurci has the
+record, argument, codes and reply word of each. Numbers are whole and below 2^64, but for amounts, which are from -2^63 to 2^63 - 1.
 
-Every failure dies: a number that is out of range, and a record that is too short for the program, which then changes nothing.
+Every failure dies, and changes nothing: a number out of its range, a record that is too short for the program.
 
 =head1 METHODS
 
@@ -648,8 +648,8 @@ C<< ->acquire($owner, $seconds) >> gives the lease to the owner, or renews it, f
 the lease ends, or undef if another owner has it. From that time on it may be another's: stop before. C<< ->release($owner) >> gives it back,
 and returns whether the owner had it.
 
-Two owners never hold a lease at one time if times never fall. Both methods take C<< now => $time >>, which stands in place of the system's
-clock: give it in no call, or in each from one clock.
+Two owners never hold a lease at one time if times never fall. Both methods take C<< now => $time >> instead of the system's seconds: give
+it in no call, or in each from one clock.
 
 =item $db->fenced_lease($key)
 

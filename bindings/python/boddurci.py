@@ -176,7 +176,7 @@ def _bind():
         "count": (quick, u32, [at, at]),
         "assemble": (quick, u32, [text, size, at, size, at, at, at, size, at]),
         "submit": (quick, u32, [at, text, size, at, at, at, size, at]),
-        "stock": (quick, u32, [at, text, at]),
+        "submit_stock": (quick, u32, [at, text, size, at]),
         "run": (quick, u32, [at, u32, text, size, text, size, u32, size, u64, at, at]),
         "first": (quick, u32, [at, at]),
         "next": (quick, u32, [at, at, at, size, at, at, size, at]),
@@ -443,8 +443,7 @@ class _Database(MutableMapping):
             self._need_open()
             if name not in self._stocks:
                 text, number = str.encode(name, "utf-8"), ctypes.c_uint32()
-                # The library reads a name up to its first zero byte.
-                status = _call.stock(self._db, b"" if b"\0" in text else text, ctypes.byref(number))
+                status = _call.submit_stock(self._db, text, len(text), ctypes.byref(number))
                 if status == _NO_STOCK:
                     raise ProgramError(f"{name!r}: {_call.files_text(status).decode()}", None)
                 if status != _DONE:
@@ -631,7 +630,7 @@ class _Stocked:
         return f"{type(self).__name__}({self._key!r})"
 
     def _run(self, now, *numbers):
-        """How a run ended, with these numbers as its argument. A record that is too short ends with 0 and 0, and so may others."""
+        """How a run ended, with these numbers as its argument: with 0 and 0 if the record is too short, and sometimes otherwise."""
         arg = struct.pack(f"<{len(numbers)}Q", *numbers)
         with self._db._lock:
             ran = self._db.run(self._program, self._key, arg, self._size, now)

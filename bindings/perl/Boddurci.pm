@@ -101,7 +101,7 @@ $ffi->attach(["boddurci_$_->[0]" => "_$_->[0]"], $_->[1], $_->[2])
         ["delete",      ["opaque", @bytes] => "uint32"],
         ["assemble",    [@bytes, @room, "size_t*", @room] => "uint32"],
         ["submit",      ["opaque", @bytes, "uint32*", "size_t*", @room] => "uint32"],
-        ["stock",       ["opaque", "string", "uint32*"] => "uint32"],
+        ["submit_stock", ["opaque", @bytes, "uint32*"] => "uint32"],
         ["run",         ["opaque", "uint32", @bytes, @bytes, "uint32", "size_t", "uint64", "uint64*", "uint64*"] => "uint32"],
         ["first",       ["opaque", "opaque"] => "uint32"],
         ["next",        ["opaque", "opaque", @room, @room] => "uint32"],
@@ -296,11 +296,9 @@ sub image {
 # Returns the stock program of a name, for `run` of this database alone. Dies with the ten names if there is no such program.
 sub stock {
     my ($self, $name) = @_;
-    my $text = defined $name ? "$name" : "";
-    my $db = $self->_db;
-    # The library reads a name up to its first zero byte.
-    my $status = _stock($db, $text =~ /\0/ ? "" : $text, \my $number);
-    croak _shown($text), ": ", _files_text($status) if $status == $NO_STOCK;
+    my @name = _given($name);
+    my $status = _submit_stock($self->_db, @name, \my $number);
+    croak _shown($name[0]), ": ", _files_text($status) if $status == $NO_STOCK;
     _check($status);
     return bless { number => $number, of => $$self->{token} }, "Boddurci::Program";
 }
@@ -447,8 +445,8 @@ sub _time {
     return defined $options{now} ? _whole("now", $options{now}, 0) : time;
 }
 
-# Runs the program with the argument on the record. Returns its code and reply word. A record that is too short ends with 0 and 0, and so may
-# others.
+# Runs the program with the argument on the record. Returns its code and reply word. They are 0 and 0 if the record is too short, and sometimes
+# otherwise.
 sub _run {
     my ($self, $arg, $now) = @_;
     my ($code, $word) = $self->{db}->run($self->{program}, $self->{key}, arg => $arg, blank => $self->_size, now => $now);
@@ -629,8 +627,8 @@ Every failure dies, and changes nothing: a number out of its range, a record tha
 
 =item $db->stock($name)
 
-Returns the stock program of this name, for C<run>: C<counter>, C<bounded_add>, C<bounded_counter>, C<compare_and_set>, C<sequence>, C<lease>,
-C<fenced_lease>, C<rate_limit>, C<semaphore> or C<token_bucket>. Dies with the ten names if there is no such program.
+Returns the stock program of this name, for C<run>: C<counter>, C<bounded_add>, C<bounded_counter>, C<compare_and_set>, C<sequence>,
+C<lease>, C<fenced_lease>, C<rate_limit>, C<semaphore> or C<token_bucket>. Dies with the ten names if there is no such program.
 
 =item $db->counter($key, floor => $floor, ceiling => $ceiling)
 
@@ -645,8 +643,8 @@ outside floor and ceiling: then nothing changes. C<< ->get >> returns the number
 A lease, which one owner at a time has. An owner is a number that nobody else has, such as a random one.
 
 C<< ->acquire($owner, $seconds) >> gives the lease to the owner, or renews it, for so many seconds from now on. It returns the time at which
-the lease ends, or undef if another owner has it. From that time on it may be another's: stop before. C<< ->release($owner) >> gives it back,
-and returns whether the owner had it.
+the lease ends, or undef if another owner has it. From that time on it may be another's: stop before. C<< ->release($owner) >> gives it
+back, and returns whether the owner had it.
 
 Two owners never hold a lease at one time if times never fall. Both methods take C<< now => $time >> instead of the system's seconds: give
 it in no call, or in each from one clock.
@@ -658,8 +656,8 @@ token than all before, and a renewal keeps it. Let what the lease guards refuse 
 
 =item $db->semaphore($key, $size)
 
-C<< ->acquire >> takes a permit, and returns whether one was free. It does not wait. C<< ->release >> gives a permit back, and returns whether
-anybody had one. A permit does not end by itself.
+C<< ->acquire >> takes a permit, and returns whether one was free. It does not wait. C<< ->release >> gives a permit back, and returns
+whether anybody had one. A permit does not end by itself.
 
 =item $db->rate_limit($key, $count, $seconds)
 

@@ -445,7 +445,7 @@ sub _time {
     return defined $options{now} ? _whole("now", $options{now}, 0) : time;
 }
 
-# Runs the program with the argument on the record. Returns its code and reply word. They are 0 and 0 if the record is too short, and sometimes
+# Runs the program with the argument on the record. Returns its code and reply word: 0 and 0 if the record is too short, and sometimes
 # otherwise.
 sub _run {
     my ($self, $arg, $now) = @_;

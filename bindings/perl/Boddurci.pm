@@ -512,8 +512,9 @@ sub new {
 sub _ask {
     my ($self, $owner, $seconds, %options) = @_;
     my $now = Boddurci::Stocked::_time(%options);
-    my $arg = pack "Q<2", Boddurci::Stocked::_whole("owner", $owner, 0), my $term = Boddurci::Stocked::_whole("seconds", $seconds, 1);
-    return ($now, $term, $self->_run($arg, $now));
+    my $who = Boddurci::Stocked::_whole("owner", $owner, 0);
+    my $term = Boddurci::Stocked::_whole("seconds", $seconds, 1);
+    return ($now, $term, $self->_run(pack("Q<2", $who, $term), $now));
 }
 
 sub acquire {

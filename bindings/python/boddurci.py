@@ -439,17 +439,17 @@ class _Database(MutableMapping):
         each. ProgramError lists the names if there is no such program."""
         if not isinstance(name, str):
             raise TypeError(f"the name of a program is a str, not {type(name).__name__}")
+        text, number = _bytes(name), ctypes.c_uint32()
         with self._lock, self._beside:
             self._need_open()
-            if name not in self._stocks:
-                text, number = str.encode(name, "utf-8"), ctypes.c_uint32()
+            if text not in self._stocks:
                 status = _call.submit_stock(self._db, text, len(text), ctypes.byref(number))
                 if status == _NO_STOCK:
                     raise ProgramError(f"{name!r}: {_call.files_text(status).decode()}", None)
                 if status != _DONE:
                     raise _error(status)
-                self._stocks[name] = Program(number.value, self._token)
-            return self._stocks[name]
+                self._stocks[text] = Program(number.value, self._token)
+            return self._stocks[text]
 
     def counter(self, key, floor=0, ceiling=_TIME_MOST):
         """A number on this key, which `add` changes; see Counter."""

@@ -733,6 +733,26 @@ static void test_moved(void)
     }
 }
 
+/* A file that was removed does not leave its inode to another one while a base has it: none of 100 files that are made gets it. */
+static void test_made_anew(void)
+{
+    struct stat was, is;
+    make_database("anew");
+    boddurci_base *base = opened("anew", 0);
+    store_one(base, 10);
+    EXPECT(stat("anew.pag", &was) == 0 && rename("anew.pag", "away") == 0 && unlink("away") == 0);
+    for (int i = 0; i < 100; i++) {
+        char name[16];
+        snprintf(name, sizeof name, "made%d", i);
+        write_text(name, "", 0);
+        EXPECT(stat(name, &is) == 0 && is.st_ino != was.st_ino);
+        if (is.st_ino == was.st_ino)
+            EXPECT(rename(name, "anew.pag") == 0);
+    }
+    EXPECT(boddurci_save(base, &fault) == BODDURCI_MOVED);
+    boddurci_close_files(base);
+}
+
 /* A chdir, and a folder that is renamed, lead no save astray. */
 static void test_folder(void)
 {
@@ -857,6 +877,7 @@ int main(int argc, char **argv)
     test_unsafe();
     test_permissions();
     test_moved();
+    test_made_anew();
     test_folder();
     test_forked();
     test_within();

@@ -60,6 +60,7 @@ void boddurci_place_close(struct boddurci_place *place)
 {
     for (enum boddurci_file file = BODDURCI_PAGES; file <= BODDURCI_LOCK; file++)
         free(place->names[file]);
+    boddurci_see_none(place);
     if (place->folder >= 0)
         close(place->folder);
     if (place->lock >= 0)
@@ -76,9 +77,17 @@ static int leave(int opened, int system)
 
 /* ---- the data files */
 
+static void see_nothing(struct boddurci_seen *seen)
+{
+    if (seen->is_there)
+        close(seen->opened);
+    seen->is_there = 0;
+}
+
 void boddurci_see_none(struct boddurci_place *place)
 {
-    place->seen[BODDURCI_PAGES].is_there = place->seen[BODDURCI_DIRECTORY].is_there = 0;
+    see_nothing(&place->seen[BODDURCI_PAGES]);
+    see_nothing(&place->seen[BODDURCI_DIRECTORY]);
 }
 
 int boddurci_see(struct boddurci_place *place, enum boddurci_file file, int opened)
@@ -94,6 +103,11 @@ int boddurci_see(struct boddurci_place *place, enum boddurci_file file, int open
     if (!S_ISREG(found.st_mode)) {
         errno = S_ISDIR(found.st_mode) ? EISDIR : EINVAL;
         return -1;
+    }
+    if (!seen->is_there) {
+        seen->opened = fcntl(opened, F_DUPFD_CLOEXEC, 3);
+        if (seen->opened < 0)
+            return -1;
     }
     seen->is_there = 1;
     seen->device = found.st_dev;

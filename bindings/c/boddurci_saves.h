@@ -76,9 +76,10 @@ int boddurci_lay_over(struct boddurci_bytes redo, enum boddurci_file file, struc
 
 /* ---- boddurci_place.c: the folder of a database, and its files */
 
-/* Which file a name has led to. */
+/* Which file a name has led to. It is held open, since a file that is removed leaves its inode to a later one once nobody has it open. */
 struct boddurci_seen {
     int is_there;
+    int opened; /* if it is there */
     dev_t device;
     ino_t number;
 };

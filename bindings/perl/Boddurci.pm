@@ -547,7 +547,8 @@ sub acquire {
     my ($now, $term, $code, $word) = $self->_ask(@_);
     croak "all tokens of ", Boddurci::_shown($self->{key}), " are used up" if $code == 3;
     return unless $code == 1;
-    return ($term > $MOST - $now ? $MOST : $now + $term, $word);
+    my $end = $term > $MOST - $now ? $MOST : $now + $term;
+    return wantarray ? ($end, $word) : $end;
 }
 
 package Boddurci::Semaphore;
@@ -643,7 +644,7 @@ outside floor and ceiling: then nothing changes. C<< ->get >> returns the number
 
 A lease, which one owner at a time has. An owner is a number that nobody else has, such as a random one.
 
-C<< ->acquire($owner, $seconds) >> gives the lease to the owner, or renews it, for so many seconds from now on. It returns the time at which
+C<< ->acquire($owner, $seconds) >> gives the lease to the owner, or renews it, for C<$seconds> from now on. It returns the time at which
 the lease ends, or undef if another owner has it. From that time on it may be another's: stop before. C<< ->release($owner) >> gives it
 back, and returns whether the owner had it.
 
@@ -652,7 +653,8 @@ it in no call, or in each from one clock.
 
 =item $db->fenced_lease($key)
 
-The same, but C<acquire> returns two numbers, the end and a token; and nothing if another owner has the lease. Each new owner has a greater
+The same, but in a list C<acquire> returns two numbers, the end and a token, and nothing if another owner has the lease; in a scalar it
+returns the end. Each new owner has a greater
 token than all before, and a renewal keeps it. Let what the lease guards refuse a token below the greatest that it has seen.
 
 =item $db->semaphore($key, $size)
@@ -662,7 +664,7 @@ whether anybody had one. A permit does not end by itself.
 
 =item $db->rate_limit($key, $count, $seconds)
 
-C<< ->admit >> returns whether a call is admitted: at most so many in each window of so many seconds. The first call after a window is over
+C<< ->admit >> returns whether a call is admitted: at most C<$count> in each window of C<$seconds>. The first call after a window is over
 begins the next one. It takes C<< now => $time >> as a lease does.
 
 =back

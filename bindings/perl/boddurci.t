@@ -375,6 +375,9 @@ for my $mode ("w", "n") {
     ok($gate->release(8, now => 1016));
     is($stock{gate}, pack("Q<3", 8, 0, 2));
     is_deeply([$gate->acquire(8, $most, now => 1016)], [$most, 3]);
+    is(scalar $gate->acquire(8, 60, now => 1016), 1076);
+    is(scalar $gate->acquire(7, 60, now => 1016), undef);
+    is_deeply([$gate->acquire(8, $most, now => 1016)], [$most, 3]);
     $stock{gate} = pack("Q<3", 8, 1020, $most);
     is_deeply([$gate->acquire(8, 5, now => 1019)], [1024, $most]);
     dies_with(sub { $gate->acquire(8, 5, now => 1024) }, qr/^all tokens of gate are used up/);

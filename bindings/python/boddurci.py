@@ -468,7 +468,7 @@ class _Database(MutableMapping):
         return Semaphore(self, key, size)
 
     def rate_limit(self, key, count, seconds):
-        """A limit on this key of `count` calls in a window of so many seconds; see RateLimit."""
+        """A limit on this key of `count` calls in each window of `seconds`; see RateLimit."""
         return RateLimit(self, key, count, seconds)
 
     def run(self, program, key, arg=b"", blank=None, now=None):
@@ -604,7 +604,7 @@ class Database(*_plain_calls, _Database):
 
 def _whole(name, value, least=0, most=_TIME_MOST):
     """A number for a program, of the range that it takes."""
-    if not hasattr(type(value), "__index__"):
+    if isinstance(value, bool) or not hasattr(type(value), "__index__"):
         raise TypeError(f"{name} is an int, not {type(value).__name__}")
     number = operator.index(value)
     if not least <= number <= most:
@@ -612,9 +612,15 @@ def _whole(name, value, least=0, most=_TIME_MOST):
     return number
 
 
+def _given(now):
+    """The time of a run if the caller gives it, or None: then a run takes the system's, in seconds."""
+    return None if now is None else _whole("now", now)
+
+
 def _time(now):
-    """The time of a run: `now`, or the system's in seconds if it is None."""
-    return int(time.time()) if now is None else _whole("now", now)
+    """The same, but the system's time instead of None. Call it under the lock of the database: so a run never has an earlier time than one
+    before it, unless the system's falls."""
+    return int(time.time()) if now is None else now
 
 
 class _Stocked:
@@ -685,16 +691,16 @@ class Lease(_Stocked):
     _name, _size = "lease", 16
 
     def acquire(self, owner, seconds, now=None):
-        """Gives the lease to the owner, or renews it, for so many seconds from now on. Returns the time at which it ends, or None if
-        another owner has it. A renewal may be for a shorter time."""
-        ran = self._run(_time(now), _whole("owner", owner), _whole("seconds", seconds, least=1))
+        """Gives the lease to the owner, or renews it, for this number of seconds from now on. Returns the time at which it ends, or None
+        if another owner has it. A renewal may be for a shorter time."""
+        ran = self._run(_given(now), _whole("owner", owner), _whole("seconds", seconds, least=1))
         return ran.word if ran.end == 1 else None
 
     def release(self, owner, now=None):
         """Gives the lease back. Returns whether the owner had it. Another's lease stays, unless it has ended."""
-        owner, now = _whole("owner", owner), _time(now)
+        owner, now = _whole("owner", owner), _given(now)
         with self._db._lock:
-            record = self._record()
+            now, record = _time(now), self._record()
             if record is None:
                 return False
             self._run(now, owner, 0)
@@ -712,10 +718,12 @@ class FencedLease(Lease):
     _name, _size = "fenced_lease", 24
 
     def acquire(self, owner, seconds, now=None):
-        """Gives the lease to the owner, or renews it, for so many seconds from now on. Returns a Grant, or None if another owner has it.
-        OverflowError if all 2^64 - 1 tokens are used up."""
-        now, seconds = _time(now), _whole("seconds", seconds, least=1)
-        code, word = self._run(now, _whole("owner", owner), seconds)
+        """Gives the lease to the owner, or renews it, for this number of seconds from now on. Returns a Grant, or None if another owner
+        has it. OverflowError if all 2^64 - 1 tokens are used up."""
+        owner, seconds, now = _whole("owner", owner), _whole("seconds", seconds, least=1), _given(now)
+        with self._db._lock:
+            now = _time(now)
+            code, word = self._run(now, owner, seconds)
         if code == 3:
             raise OverflowError(f"all tokens of {self._key!r} are used up")
         return Grant(min(now + seconds, _TIME_MOST), word) if code == 1 else None
@@ -743,11 +751,11 @@ class Semaphore(_Stocked):
 
 
 class RateLimit(_Stocked):
-    """A limit of `count` calls in each window of so many seconds. `db.rate_limit(key, count, seconds)` makes it, and it runs the stock
-    program rate_limit. The first call after a window is over begins the next one.
+    """A limit of `count` calls in each window of `seconds`. `db.rate_limit(key, count, seconds)` makes it, and it runs the stock program
+    rate_limit. The first call after a window is over begins the next one.
 
-    Proved is that a window admits at most its count, if every run names the same count and seconds, nothing else changes the key, and the
-    times of its runs never fall. A time before the window began begins a new one."""
+    Proved is that a window admits at most its count, if every run names the same count and seconds, nothing else changes the key, the
+    times of its runs never fall, and the first is greater than `seconds`. A time before the window began begins a new one."""
 
     _name, _size = "rate_limit", 16
 
@@ -757,7 +765,7 @@ class RateLimit(_Stocked):
 
     def admit(self, now=None):
         """Whether a call is admitted."""
-        return self._run(_time(now), self._seconds, self._count).end == 1
+        return self._run(_given(now), self._seconds, self._count).end == 1
 
 
 # The databases that are open.

@@ -911,6 +911,35 @@ class Stocks(InFolder):
         with unittest.mock.patch("time.time", lambda: 8600.0):
             self.assertIs(once.admit(), True)
 
+    def test_times_are_those_of_the_runs(self):
+        """A thread that waits for its turn takes the time when it has it, so that times do not fall."""
+        clock = [100]
+        gate = self.db.fenced_lease("gate")
+        gate.acquire(7, 1000, now=50)
+        for key, record, call in (
+            (b"ann", packed(105, 2), lambda: self.db.rate_limit("ann", 3, 60).admit()),
+            (b"door", packed(7, 135), lambda: self.db.lease("door").acquire(7, 30)),
+            (b"gate", packed(7, 135, 1), lambda: gate.acquire(7, 30)),
+        ):
+            with unittest.mock.patch("time.time", lambda: clock[0]):
+                clock[0] = 100
+                late = threading.Thread(target=call)
+                with self.db._lock:
+                    late.start()
+                    time.sleep(0.2)
+                    clock[0] = 105
+                    call()
+                late.join()
+            self.assertEqual(self.db[key], record)
+
+    def test_keys_that_are_too_long(self):
+        db, key = self.db, b"k" * 1001
+        for call in (db.counter(key).add, db.semaphore(key, 1).acquire, db.rate_limit(key, 1, 60).admit,
+                     lambda: db.lease(key).acquire(7, 30), lambda: db.fenced_lease(key).acquire(7, 30)):
+            with self.assertRaises(boddurci.error):
+                call()
+        self.assertEqual(len(db), 0)
+
     def calls(self, key=b"it"):
         """Each method of each class on a key, with the length of its record."""
         db, counter = self.db, self.db.counter(key)
@@ -956,7 +985,7 @@ class Stocks(InFolder):
             for number in (least - 1, most + 1, -(2**200), 2**200):
                 with self.assertRaisesRegex(ValueError, f"^{name} is a number from {least} to {most}$"):
                     call(number)
-            for strange in ("7", b"7", 7.0, [7]):
+            for strange in ("7", b"7", 7.0, [7], True):
                 with self.assertRaisesRegex(TypeError, f"^{name} is an int, not {type(strange).__name__}$"):
                     call(strange)
         for call in (lambda: door.release(-1), lambda: door.release(7, now=MOST + 1), lambda: fenced.release(MOST + 1)):

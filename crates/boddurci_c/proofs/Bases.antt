@@ -1,11 +1,11 @@
 -- An open database: its base, and the pages that it does not share with it.
-use Rattle.std.proofs.Common.{◌≡◌, ◌<◌, ◌≤◌, ◌+◌, ◌-◌, ◌*◌, ◌/◌, ℕ, List, [], length, get_or, drop, Bool, true, false, inl, inr, refl, sym, ap, ◌∙◌, subst, arith}
-use Rattle.std.specs.Prelude.{slice_range, slice_get, IfOk, OnOk, OnErr, Option, Some}
+use Rattle.std.proofs.Common.{◌≡◌, ◌<◌, ◌≤◌, ◌+◌, ◌*◌, ◌/◌, ℕ, List, [], length, get_or, Bool, true, false, inl, inr, refl, sym, ap, ◌∙◌, subst, arith}
+use Rattle.std.specs.Prelude.{slice_get, IfOk, OnOk, OnErr, Option, Some}
 use Rattle.std.specs.List.{Contains}
 use Rattle.std.specs.declared.result.Result.{Result}
 use Rattle.std.specs.declared.result.Result.TheVariants.{Ok, Err}
 use Rattle.std.proofs.lemmas.Bool.{cases_lt}
-use Rattle.std.proofs.lemmas.List.{get_or-take, get_or-drop, get_or_past, get_or-replicate}
+use Rattle.std.proofs.lemmas.List.{get_or_past, get_or-replicate}
 use Rattle.sdbm_addr.specs.declared.PageSize.{PageSize}
 use Rattle.sdbm_addr.specs.declared.PageSize.TheVariants.{Small, Wide}
 use Rattle.sdbm_addr.specs.Pairs.{Pair, page_bytes}
@@ -19,10 +19,10 @@ use Rattle.bpf_verify.specs.Verified.{Accepted}
 use Rattle.store_cmd.specs.declared.Command.{Command}
 use Rattle.store_cmd.specs.declared.Command.TheVariants.{Run}
 use Rattle.store_cmd.specs.declared.Reply.{Reply}
-use Rattle.boddurci_c.specs.declared.status.Status.{Status}
-use Rattle.boddurci_c.specs.Calls.{Does, RunsBy}
-use Rattle.boddurci_c.specs.declared.opened.Db.{Db}
-use Rattle.boddurci_marks.specs.Marks.{DifferOn, DifferOn-prop, AreForeign}
+use Rattle.boddurci_handles.specs.declared.status.Status.{Status}
+use Rattle.boddurci_c.specs.Calls.{Does, RunsBy, ReadsUnmarked}
+use Rattle.boddurci_handles.specs.declared.opened.Db.{Db}
+use Rattle.boddurci_marks.specs.Marks.{DifferOn, DifferOn-prop}
 
 abbrev with : (d : Db) (image : Database) (marks : List ℕ) → DifferOn marks d.base.database image → Db
 with d image marks differ = record { image = image; registry = d.registry; marks = marks; limit = d.limit; base = d.base; differ = differ }
@@ -63,10 +63,6 @@ runs_again (Err status) number key arg blank now d d' program there does = tt
 
 -- ---- what an unmarked page of the opened file reads as
 
-read_inside : (bytes : ℕ) (pag own : List ℕ) (n i : ℕ) → i < bytes → slice_range pag (n * bytes) (n * bytes + bytes) ≡ own → get_or pag (n * bytes + i) 0 ≡ get_or own i 0
-read_inside bytes pag own n i low is =
-    sym (ap (λ (l : List ℕ). get_or l i 0) (sym is) ∙ (get_or-take (n * bytes + bytes - n * bytes) (drop (n * bytes) pag) i 0 (omega arith) ∙ get_or-drop (n * bytes) pag i 0))
-
 counted : (size : PageSize) (count : ℕ) → count * page_bytes size / page_bytes size ≡ count
 counted Small count = omega arith
 counted Wide count = omega arith
@@ -77,11 +73,10 @@ read_past Small pag count n i long past low =
 read_past Wide pag count n i long past low =
     get_or_past pag (n * 8192 + i) 0 (omega (arith, long, past)) ∙ sym (ap (λ (l : List ℕ). get_or l i 0) (empty_page Wide) ∙ get_or-replicate 8192 i 0 0 low)
 
-pub reads_opened : (image : Database) (dir pag marks : List ℕ) → SpellsDatabase image dir pag → AreForeign image pag marks → (n : ℕ) → (Contains marks n → ⊥) → ReadsPage image.size pag n (bytes_of_page image.size (pairs_at image n))
-reads_opened image dir pag marks spells foreign n none i low =
+pub reads_opened : (image : Database) (dir pag marks : List ℕ) → SpellsDatabase image dir pag → ReadsUnmarked image pag marks → (n : ℕ) → (Contains marks n → ⊥) → ReadsPage image.size pag n (bytes_of_page image.size (pairs_at image n))
+reads_opened image dir pag marks spells reads n none i low =
     let pages : SpellsPages image pag spells.count = spells.pages in
     elim (cases_lt n spells.count) [
-      | inl inside ↦ read_inside (page_bytes image.size) pag (bytes_of_page image.size (pairs_at image n)) n i low
-          (foreign n (subst (λ (k : ℕ). n < k) (sym (ap (λ (m : ℕ). m / page_bytes image.size) pages.long ∙ counted image.size spells.count)) inside) none)
+      | inl inside ↦ reads n (subst (λ (k : ℕ). n < k) (sym (ap (λ (m : ℕ). m / page_bytes image.size) pages.long ∙ counted image.size spells.count)) inside) none i low
       | inr past ↦ read_past image.size pag spells.count n i pages.long (omega (arith, past)) low ∙ sym (ap (λ (ps : List Pair). get_or (bytes_of_page image.size ps) i 0) (pages.past n (omega (arith, past))))
     ]

@@ -6,7 +6,7 @@ use Rattle.sdbm_addr.specs.Layout.{bytes_of_page}
 use Rattle.sdbm_addr.specs.Database.{pairs_at}
 use Rattle.sdbm_saves.specs.declared.marked.Marked.{Marked}
 use Rattle.sdbm_saves.specs.Parts.{ReadsPage, ReadPages, IsMarkedIn}
-use Rattle.boddurci_c.specs.declared.opened.Db.{Db}
+use Rattle.boddurci_handles.specs.declared.opened.Db.{Db}
 use Rattle.boddurci_marks.specs.Marks.{AreAmong}
 use Rattle.boddurci_c.specs.Plans.{IsReadBeside}
 

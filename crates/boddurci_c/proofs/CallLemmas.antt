@@ -9,10 +9,10 @@ use Rattle.sdbm_addr.specs.declared.KeyBytes.{KeyBytes}
 use Rattle.sdbm_addr.specs.declared.PageSize.{PageSize}
 use Rattle.sdbm_addr.specs.Database.{Database, IsDatabase, map_of, pairs_at}
 use Rattle.sdbm_addr.proofs.DatabaseLemmas.{get-map_of}
-use Rattle.boddurci_c.specs.declared.opened.Db.{Db}
-use Rattle.boddurci_c.specs.declared.status.Status.{Status}
-use Rattle.boddurci_c.specs.declared.status.Status.TheVariants.{Closed}
-use Rattle.boddurci_c.specs.Statuses.{code_of}
+use Rattle.boddurci_handles.specs.declared.opened.Db.{Db}
+use Rattle.boddurci_handles.specs.declared.status.Status.{Status}
+use Rattle.boddurci_handles.specs.declared.status.Status.TheVariants.{Closed}
+use Rattle.boddurci_handles.specs.Statuses.{code_of}
 use Rattle.boddurci_c.specs.Calls.{Shows, Why, Denies, IsOpened, open_word}
 
 -- a call of a closed handle

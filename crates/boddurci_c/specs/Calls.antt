@@ -32,10 +32,10 @@ use Rattle.prog_registry.specs.Registry.{Registered, Gives, Refuses}
 use Rattle.prog_registry.specs.declared.registry.ProgId.{ProgId}
 use Rattle.prog_registry.specs.declared.fault.RegFault.{RegFault}
 use Rattle.prog_registry.specs.declared.fault.RegFault.TheVariants as faults
-use Rattle.boddurci_c.specs.declared.opened.Db.{Db}
-use Rattle.boddurci_c.specs.declared.status.Status.{Status}
-use Rattle.boddurci_c.specs.declared.status.Status.TheVariants.{Done, Missing, Exists, Crowded, ShortRoom, Refused, BadText, BadFiles, Changed, Stale, Closed, Open, PairTooLarge, ArgTooLong, NoProgram, NoMemory, TooLong, NoTicket}
-use Rattle.boddurci_c.specs.Statuses.{code_of, status_of}
+use Rattle.boddurci_handles.specs.declared.opened.Db.{Db}
+use Rattle.boddurci_handles.specs.declared.status.Status.{Status}
+use Rattle.boddurci_handles.specs.declared.status.Status.TheVariants.{Done, Missing, Exists, Crowded, ShortRoom, Refused, BadText, BadFiles, Changed, Stale, Closed, Open, PairTooLarge, ArgTooLong, NoProgram, NoMemory, TooLong, NoTicket, NoStock}
+use Rattle.boddurci_handles.specs.Statuses.{code_of, status_of}
 use Rattle.boddurci_c.specs.Units.{unit_in, nowhere}
 use Rattle.boddurci_marks.specs.Growth.{FitsWithin, Outgrows}
 use Rattle.boddurci_marks.specs.Marks.{HasMore}
@@ -106,6 +106,7 @@ DeniesBy d command NoProgram = ⊥
 DeniesBy d command NoMemory = IsSmall d.image.size command
 DeniesBy d command TooLong = IsSmall d.image.size command × Outgrows d.limit d.image command
 DeniesBy d command NoTicket = ⊥
+DeniesBy d command NoStock = ⊥
 
 -- a command is done, and the status is that of its reply
 pub record Answers (command : Command Global) (old : Option Db) (code : ℕ) (new : Option Db) : Type 0 where
@@ -149,6 +150,7 @@ IsCopied bytes old new len NoProgram = ⊥
 IsCopied bytes old new len NoMemory = ⊥
 IsCopied bytes old new len TooLong = ⊥
 IsCopied bytes old new len NoTicket = ⊥
+IsCopied bytes old new len NoStock = ⊥
 
 -- The text of a fault stands in a room, or the room is too short for it.
 pub record IsTold (text old new : List ℕ) (len : ℕ) : Type 0 where
@@ -246,6 +248,7 @@ DeniesRun number key arg blank now d TooLong =
     (program : Accepted) × ((slice_get d.registry.programs number ≡ Some program)
     × ((FitsBlank d.image.size key blank × (length arg ≤ argument_limit)) × Outgrows d.limit d.image (commands.Run key program.code arg blank now)))
 DeniesRun number key arg blank now d NoTicket = ⊥
+DeniesRun number key arg blank now d NoStock = ⊥
 
 -- a run is not asked: there is no such program, or else it is not taken for its sizes; or of one that is, memory ran out. What it would come to
 -- is not known yet, so `.pag` is never too long.
@@ -268,6 +271,7 @@ DeniesAsk number key arg blank now d NoProgram = slice_get d.registry.programs n
 DeniesAsk number key arg blank now d NoMemory = IsSome (slice_get d.registry.programs number) × (FitsBlank d.image.size key blank × (length arg ≤ argument_limit))
 DeniesAsk number key arg blank now d TooLong = ⊥
 DeniesAsk number key arg blank now d NoTicket = ⊥
+DeniesAsk number key arg blank now d NoStock = ⊥
 
 -- the number with which a run ended, and its word, are told; where it did not run they are zeros
 abbrev pub IsEnd : Reply Global → ℕ → ℕ → Type 0
@@ -308,6 +312,7 @@ AreCopied dir pag dir_old dir_new pag_old pag_new NoProgram = ⊥
 AreCopied dir pag dir_old dir_new pag_old pag_new NoMemory = ⊥
 AreCopied dir pag dir_old dir_new pag_old pag_new TooLong = ⊥
 AreCopied dir pag dir_old dir_new pag_old pag_new NoTicket = ⊥
+AreCopied dir pag dir_old dir_new pag_old pag_new NoStock = ⊥
 
 -- The bytes of both files of a database. Its `.pag` is no longer than the longest where that has room for it.
 pub record HasFiles (dir pag : List ℕ) (d : Db) : Type 0 where
@@ -389,6 +394,10 @@ pub record IsOpened (kind : KeyBytes) (size : PageSize) (dir pag : List ℕ) (d 
   pub limit : d.limit ≡ pag_limit / page_bytes size
   pub base : d.base.database ≡ d.image
   pub reads : (n : ℕ) → (Contains d.marks n → ⊥) → ReadsPage size pag n (bytes_of_page size (pairs_at d.image n))
+
+-- Each whole page of a file that is not marked reads as it is written for a database.
+abbrev pub ReadsUnmarked : Database → List ℕ → List ℕ → Type 0
+ReadsUnmarked db pag marks = (n : ℕ) → n < length pag / page_bytes db.size → (Contains marks n → ⊥) → ReadsPage db.size pag n (bytes_of_page db.size (pairs_at db n))
 
 -- a closed handle is open
 pub record Opens (kind : KeyBytes) (size : PageSize) (dir pag : List ℕ) (old : Option Db) (code : ℕ) (new : Option Db) : Type 0 where

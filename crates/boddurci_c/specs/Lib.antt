@@ -1,10 +1,9 @@
-pub mod Held
-pub mod Statuses
 pub mod Units
 pub mod Calls
 pub mod Texts
 pub mod Sizes
 pub mod Turns
 pub mod Plans
-pub mod Asked
 pub mod Tickets
+pub mod Readings
+pub mod Stocks

@@ -8,10 +8,10 @@ use Rattle.sdbm_files.specs.Limits.{pag_limit, FitsFiles}
 use Rattle.sdbm_saves.specs.declared.disk.File.TheVariants.{Pages}
 use Rattle.sdbm_saves.specs.Redo.{renewed}
 use Rattle.sdbm_saves.specs.Saves.{AreFilesFor, IsSaving, IsTooLong}
-use Rattle.boddurci_c.specs.declared.opened.Db.{Db}
-use Rattle.boddurci_c.specs.declared.status.Status.{Status}
-use Rattle.boddurci_c.specs.declared.status.Status.TheVariants.{Done, ShortRoom, Stale, TooLong, NoMemory}
-use Rattle.boddurci_c.specs.Statuses.{code_of}
+use Rattle.boddurci_handles.specs.declared.opened.Db.{Db}
+use Rattle.boddurci_handles.specs.declared.status.Status.{Status}
+use Rattle.boddurci_handles.specs.declared.status.Status.TheVariants.{Done, ShortRoom, Stale, TooLong, NoMemory}
+use Rattle.boddurci_handles.specs.Statuses.{code_of}
 use Rattle.boddurci_c.specs.Calls.{At, IsCopied}
 use Rattle.boddurci_marks.specs.Marks.{AreAmong}
 

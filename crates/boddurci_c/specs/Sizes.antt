@@ -2,9 +2,9 @@
 use Rattle.std.specs.Prelude.{◌≡◌, ◌⊎◌, ℕ, List}
 use Rattle.sdbm_addr.specs.declared.KeyBytes.{KeyBytes}
 use Rattle.sdbm_sizes.specs.Sizes.{FileLooksSmall, SpellsNoSmall}
-use Rattle.boddurci_c.specs.declared.status.Status.{Status}
-use Rattle.boddurci_c.specs.declared.status.Status.TheVariants.{Done, NoMemory}
-use Rattle.boddurci_c.specs.Statuses.{code_of}
+use Rattle.boddurci_handles.specs.declared.status.Status.{Status}
+use Rattle.boddurci_handles.specs.declared.status.Status.TheVariants.{Done, NoMemory}
+use Rattle.boddurci_handles.specs.Statuses.{code_of}
 
 -- 1 if they do; 0 if not, and then no database of small pages is in them
 abbrev pub Looks : KeyBytes → List ℕ → List ℕ → ℕ → Type 0

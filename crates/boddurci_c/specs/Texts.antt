@@ -10,9 +10,9 @@ use Rattle.bpf_asm.specs.declared.fault.FaultKind.TheVariants as kinds
 use Rattle.boddurci_c.specs.declared.texts.TextFault.{TextFault}
 use Rattle.boddurci_c.specs.declared.texts.TextFault.TheVariants.{NotText, Line}
 use Rattle.boddurci_c.specs.Calls.{IsCopied, IsToldAs}
-use Rattle.boddurci_c.specs.Statuses.{code_of}
-use Rattle.boddurci_c.specs.declared.status.Status.{Status}
-use Rattle.boddurci_c.specs.declared.status.Status.TheVariants.{BadText, NoMemory}
+use Rattle.boddurci_handles.specs.Statuses.{code_of}
+use Rattle.boddurci_handles.specs.declared.status.Status.{Status}
+use Rattle.boddurci_handles.specs.declared.status.Status.TheVariants.{BadText, NoMemory}
 
 -- the program image of the one code that the text denotes
 pub record IsTextImage (text image : List ℕ) : Type 0 where

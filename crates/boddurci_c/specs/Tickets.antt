@@ -1,47 +1,15 @@
 -- Runs that are asked, worked and finished one after another (own).
-use Rattle.std.specs.Prelude.{◌≡◌, ◌⊎◌, ℕ, true, false, List, Option, Some, None, IsSome, slice_get}
+use Rattle.std.specs.Prelude.{◌≡◌, ◌⊎◌, ℕ, true, List, Option, Some, None, IsSome, slice_get}
 use Rattle.std.specs.declared.alloc.Global.{Global}
-use Rattle.sdbm_addr.specs.Database.{Database, pairs_at}
-use Rattle.store_cmd.specs.declared.Command.{Command}
 use Rattle.store_cmd.specs.declared.Command.TheVariants as commands
 use Rattle.store_cmd.specs.declared.Reply.{Reply}
-use Rattle.store_moves.specs.Works.{key_of}
-use Rattle.store_moves.specs.Leads.{IsPlaceOf}
 use Rattle.bpf_verify.specs.Verified.{Accepted}
-use Rattle.boddurci_c.specs.declared.opened.Db.{Db}
-use Rattle.boddurci_c.specs.declared.status.Status.{Status}
-use Rattle.boddurci_c.specs.declared.status.Status.TheVariants.{Done, Changed, NoMemory, NoTicket, TooLong}
-use Rattle.boddurci_c.specs.Statuses.{code_of, status_of}
+use Rattle.boddurci_handles.specs.declared.opened.Db.{Db}
+use Rattle.boddurci_handles.specs.declared.status.Status.{Status}
+use Rattle.boddurci_handles.specs.declared.status.Status.TheVariants.{Done, NoMemory, NoTicket}
+use Rattle.boddurci_handles.specs.Statuses.{code_of, status_of}
 use Rattle.boddurci_c.specs.Calls.{At, Shows, Denies, DeniesAsk, Does, IsEnd}
-use Rattle.boddurci_marks.specs.Growth.{Outgrows}
-use Rattle.boddurci_c.specs.Asked.{Asked}
-
--- a page as it was asked is the page of its key in a database, which has the same pages and hashes keys so
-pub record IsCurrent (db : Database) (a : Asked) : Type 0 where
-  pub place : IsPlaceOf db (key_of a.command) a.place
-  pub kind : a.kind ≡ db.kind
-  pub size : a.page.size ≡ db.size
-  pub pairs : a.page.pairs ≡ pairs_at db a.place.page
-
--- a command is asked of a database, and not worked yet
-pub record IsAskedOf (db : Database) (command : Command Global) (a : Asked) : Type 0 where
-  pub command_is : a.command ≡ command
-  pub current : IsCurrent db a
-  pub waits : a.is_worked ≡ false
-
--- the same, worked
-abbrev pub worked_out : Asked → Asked
-worked_out a = record { command = a.command; place = a.place; kind = a.kind; page = a.page; is_worked = true }
-
--- why what was asked is not finished on a database: it was not worked; or its page is another; or else `.pag` would be too long, or memory
--- ran out
-abbrev pub DeniesFinish : ℕ → Database → Asked → Status → Type 0
-DeniesFinish limit db a status =
-    ((status ≡ NoTicket) × (a.is_worked ≡ false))
-    ⊎ (((status ≡ Changed) × ((a.is_worked ≡ true) × (¬ IsCurrent db a)))
-    ⊎ (((status ≡ TooLong) × ((a.is_worked ≡ true) × (IsCurrent db a × Outgrows limit db a.command))) ⊎ ((status ≡ NoMemory) × ((a.is_worked ≡ true) × IsCurrent db a))))
-
--- ---- calls
+use Rattle.boddurci_handles.specs.Asked.{Asked, IsAskedOf, DeniesFinish, worked_out}
 
 -- the run of the program with a number is asked of a database
 pub record IsRunAsked (number : ℕ) (key arg : List ℕ) (blank : Option ℕ) (now : ℕ) (d : Db) (a : Asked) : Type 0 where

@@ -4,10 +4,10 @@ use Rattle.sdbm_addr.specs.Pairs.{key_at, value_at}
 use Rattle.sdbm_addr.specs.Database.{Database, pairs_at}
 use Rattle.sdbm_addr.specs.Files.{IsPageCount}
 use Rattle.boddurci_c.specs.declared.turns.Cursor.{Cursor}
-use Rattle.boddurci_c.specs.declared.status.Status.{Status}
-use Rattle.boddurci_c.specs.declared.status.Status.TheVariants.{Done, Missing, ShortRoom}
-use Rattle.boddurci_c.specs.declared.opened.Db.{Db}
-use Rattle.boddurci_c.specs.Statuses.{code_of}
+use Rattle.boddurci_handles.specs.declared.status.Status.{Status}
+use Rattle.boddurci_handles.specs.declared.status.Status.TheVariants.{Done, Missing, ShortRoom}
+use Rattle.boddurci_handles.specs.declared.opened.Db.{Db}
+use Rattle.boddurci_handles.specs.Statuses.{code_of}
 use Rattle.boddurci_c.specs.Calls.{AreCopied, Shows}
 
 -- before the first pair, on the way to the number above all pages that have pairs

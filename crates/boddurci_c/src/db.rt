@@ -1,35 +1,26 @@
 //! What is done with an open database.
-ghost use Rattle.std.specs.Prelude.{◌≡◌, ◌↔◌, ◌/◌, IsTrue, ◌≢◌, ◌⊎◌, IfOk, IfErr, OnErr};
+ghost use Rattle.std.specs.Prelude.{◌≡◌, ◌⊎◌, IfOk, IfErr, OnErr};
 ghost use Rattle.std.specs.Arc.{arc_value};
 ghost use Rattle.std.specs.declared.alloc.Global.{Global};
 ghost use Rattle.std.specs.FinMap as map;
-ghost use Rattle.sdbm_addr.specs.Pairs.{page_bytes};
-ghost use Rattle.sdbm_files.specs.Opened.{IsOpenFault, SpellsNoDatabase};
 ghost use Rattle.store_cmd.specs.Command.{IsSmall};
 ghost use Rattle.store_cmd.specs.declared.Command.TheVariants.{Store, Delete, Run};
 ghost use Rattle.store_moves.specs.Works.{HasKey};
 ghost use Rattle.boddurci_marks.specs.Growth.{Outgrows};
-ghost use Rattle.boddurci_marks.specs.Marks.{AreForeign};
-ghost use Rattle.boddurci_c.specs.Calls.{Does, DeniesBy, RunsBy, DeniesRun, DeniesAsk, IsEnd, FetchesIn, HasFiles, IsOpened, empty_registry};
+ghost use Rattle.boddurci_c.specs.Calls.{Does, DeniesBy, RunsBy, DeniesRun, DeniesAsk, IsEnd, FetchesIn, HasFiles};
 ghost use Rattle.boddurci_c.specs.Tickets.{IsRunAsked};
 
-use crate::base::Base;
-use crate::job::Job;
-use crate::opened::Db;
 use crate::rooms::copy_out;
-use crate::status::Status;
-use boddurci_marks::{Marks, has_pairs, may_grow, most_pages, put_marked, run_there, store_there};
+use boddurci_handles::{Db, Job, Status};
+use boddurci_marks::{has_pairs, may_grow, most_pages, put_marked, run_there, store_there};
 use bpf_verify::Verified;
-use prog_registry::{ProgId, RegFault, Registry};
-use sdbm_addr::{Bytes, KeyBytes, Mode, PageSize};
-use sdbm_files::{Image, MemSink, OpenFault};
+use prog_registry::ProgId;
+use sdbm_addr::{Bytes, Mode};
+use sdbm_files::MemSink;
 use std::alloc::{AllocError, Global};
 use std::sync::Arc;
 use store_cmd::{Command, Program, Reply, check_pair, check_run};
 use store_moves::{key_in, work_at};
-
-// The most bytes of a `.pag` until the caller sets a limit, and the highest limit that counts.
-const LONGEST: usize = 1_073_741_824;
 
 // Does a command about a key whose size is taken, if `.pag` has room within its limit for the pages that it puts in.
 fn perform(alloc: Global, db: &mut Db, command: Command<Global>) -> Result<Reply<Global>, Status>
@@ -203,70 +194,6 @@ pub fn files(alloc: Global, db: &Db) -> Result<(MemSink<Global>, MemSink<Global>
         Ok(()) => Ok((dir, pag)),
         Err(_) => Err(AllocError),
     }
-}
-
-/// The number of whole pages of a size in a file of some bytes.
-pub fn pages_in(bytes: usize, size: PageSize) -> usize
-    ensures { result ≡ bytes / page_bytes size }
-{
-    bytes / size.bytes()
-}
-
-/// The database that the bytes of both files spell, with no programs. Its `.pag` may grow to 1 GiB.
-pub fn open(
-    alloc: Global,
-    registry: Registry<Global>,
-    dir: &[u8],
-    pag: &[u8],
-    kind: KeyBytes,
-    size: PageSize,
-) -> Result<Db, OpenFault>
-    requires { registry ≡ empty_registry }
-    ensures ok { IfOk result (IsOpened kind size dir.now pag.now) }
-    ensures err { IfErr result (IsOpenFault kind size dir.now pag.now) }
-    ensures none { IfErr result (λ fault. fault ≢ OpenFault.NoMemory → SpellsNoDatabase kind size dir.now pag.now) }
-{
-    let image = match Image::open(alloc, dir, pag, kind, size) {
-        Ok(image) => image,
-        Err(fault) => return Err(fault),
-    };
-    let Ok(marks) = foreign_pages(alloc, &image, pag) else {
-        return Err(OpenFault::NoMemory);
-    };
-    let base = Base::of(&image);
-    let limit = pages_in(LONGEST, size);
-    Ok(Db {
-        image,
-        registry,
-        marks,
-        limit,
-        base,
-    })
-}
-
-// Whether bytes are the same.
-fn is_same(one: &[u8], other: &[u8]) -> bool
-    ensures { IsTrue result ↔ (one.now ≡ other.now) }
-{
-    one == other
-}
-
-// The pages of a file that do not stand there as they are written for its database.
-fn foreign_pages(alloc: Global, image: &Image<Global>, pag: &[u8]) -> Result<Marks, AllocError>
-    ensures { IfOk result (AreForeign image.now pag.now) }
-{
-    let size = image.page_size().bytes();
-    let Ok(count) = u32::try_from(pag.len() / size) else {
-        return Err(AllocError);
-    };
-    let mut marks = Marks::new(alloc);
-    for number in 0..count {
-        let at = number as usize * size;
-        if !is_same(&pag[at..at + size], image.page_bytes(number)) {
-            marks.add(number)?;
-        }
-    }
-    Ok(marks)
 }
 
 /// The number with which a run ended, and its word, or zeros where it did not run.

@@ -5,45 +5,41 @@
 ghost use Rattle.std.specs.Prelude.{◌≡◌, ◌≢◌, ◌⊎◌, Option, Some, None, IfOk, IfErr, OnOk, OnErr};
 ghost use Rattle.store_cmd.specs.declared.Command.TheVariants.{Store, Delete};
 ghost use Rattle.boddurci_c.specs.Calls.{Denies, Never, Says, Fetches, Counts, Runs, DeniesRun, Limits, Numbers, Rejects, Writes, LacksMemory, Lists, Remarks, IsOpened, OpensOr, open_word, mode_for, blank_for, kind_for, size_for, empty_registry, status_of_fault, status_of_open};
+ghost use Rattle.boddurci_handles.specs.Pieces.{bytes_read};
+ghost use Rattle.boddurci_c.specs.Readings.{IsSpent, ReadsOr};
 ghost use Rattle.boddurci_c.specs.Sizes.{LooksOr};
+ghost use Rattle.boddurci_c.specs.Stocks.{Stocks};
 ghost use Rattle.boddurci_c.specs.Texts.{Assembles, Garbles};
 ghost use Rattle.boddurci_c.specs.Turns.{Begins, GoesOn};
-ghost use Rattle.boddurci_c.specs.declared.opened.Db.{Db};
+ghost use Rattle.boddurci_handles.specs.declared.opened.Db.{Db};
 ghost use Rattle.boddurci_c.specs.Plans.{Plans, DeniesPlan};
 ghost use Rattle.boddurci_c.specs.Tickets.{Asks, AsksNot, Works, WorksNot, FinishesOn, WhyNot, Finishes, FinishesNot};
 ghost use Rattle.sdbm_files.specs.Opened.{IsOpenFault, SpellsNoDatabase};
 
-mod base;
 mod db;
-mod handle;
-mod job;
-mod loose;
-mod opened;
+mod opening;
 mod plans;
 mod rooms;
 mod sizes;
-mod status;
+mod stocks;
 mod texts;
-mod ticket;
 mod turns;
 mod units;
 
-use db::{ask, delete, end_of, fetch, files, open, pages_in, run, store};
-use handle::Handle;
-use job::Job;
-use opened::Db;
+use boddurci_handles::{Db, Handle, Job, Reading, Status, Ticket, read_piece};
+use db::{ask, delete, end_of, fetch, files, run, store};
+use opening::{open, open_reading, pages_in};
 use plans::plan;
 use prog_registry::{ProgId, RegFault, Registry};
 use rooms::{copy_both, copy_out, tell};
 use sdbm_addr::{KeyBytes, Mode, PageSize};
 use sdbm_files::{MemSink, OpenFault};
 use sdbm_saves::Marked;
-use sizes::look;
-use status::Status;
+use sizes::{look, look_at_reading};
 use std::alloc::Global;
+use stocks::stock_image;
 use store_cmd::Reply;
 use texts::image_of;
-use ticket::Ticket;
 use turns::{Cursor, turn};
 use units::unit_of;
 
@@ -186,6 +182,38 @@ pub extern "C" fn boddurci_submit(
             *unit = unit_of(fault);
             tell(alloc, &fault, fault_status(fault), room, len).code()
         }
+    }
+}
+
+/// Submits the stock program with a name, and sets its number. Returns `NoStock` if no stock program has the name.
+#[unsafe(no_mangle)]
+pub extern "C" fn boddurci_submit_stock(
+    alloc: Global,
+    slot: &mut Handle,
+    name: &[u8],
+    id: &mut u32,
+) -> u32
+    ensures { Stocks name.now slot.old.held result slot.new.held id.old id.new }
+{
+    let Some(mut db) = slot.take(alloc) else {
+        return Status::Closed.code();
+    };
+    let image = match stock_image(alloc, name) {
+        Ok(image) => image,
+        Err(status) => {
+            slot.put(db);
+            return status.code();
+        }
+    };
+    let open = &mut *db;
+    let given = open.registry.submit(image.as_slice());
+    slot.put(db);
+    match given {
+        Ok(number) => {
+            *id = number.0;
+            Status::Done.code()
+        }
+        Err(fault) => fault_status(fault).code(),
     }
 }
 
@@ -521,6 +549,46 @@ pub extern "C" fn boddurci_looks_small(
     look(alloc, dir, pag, kind, looks).code()
 }
 
+/// Reads the next piece of a `.pag`. The first piece begins a file with pages of this size, which later ones do not change. Returns
+/// `BadFiles` if the pieces before end inside a page, and `TooLong` if there would be 2^63 bytes or more; the reading is then as it was.
+/// Returns `NoMemory` if memory runs out; the reading is then free.
+#[unsafe(no_mangle)]
+pub extern "C" fn boddurci_read(
+    alloc: Global,
+    reading: &mut Reading,
+    wide: u32,
+    piece: &[u8],
+) -> u32
+    ensures { ReadsOr (size_for wide) piece.now reading.old.read result reading.new.read }
+{
+    let (_, size) = form_of(0, wide);
+    read_piece(alloc, reading, size, piece).code()
+}
+
+/// Drops what was read of a `.pag`. The reading is free then.
+#[unsafe(no_mangle)]
+pub extern "C" fn boddurci_end_reading(alloc: Global, reading: &mut Reading)
+    ensures { reading.new.read ≡ None }
+{
+    let _ = reading.take(alloc);
+}
+
+/// Returns what `boddurci_looks_small` does, for a `.pag` that was read piece by piece.
+#[unsafe(no_mangle)]
+pub extern "C" fn boddurci_reading_looks_small(
+    alloc: Global,
+    reading: &mut Reading,
+    dir: &[u8],
+    unsigned_keys: u32,
+    looks: &mut u32,
+) -> u32
+    ensures look { LooksOr (kind_for unsigned_keys) dir.now (bytes_read reading.old.read) result looks.old looks.new }
+    ensures same { reading.new.read ≡ reading.old.read }
+{
+    let (kind, _) = form_of(unsigned_keys, 0);
+    look_at_reading(alloc, dir, reading, kind, looks).code()
+}
+
 /// Whether a handle is open, as 1 or 0.
 #[unsafe(no_mangle)]
 pub extern "C" fn boddurci_is_open(alloc: Global, slot: &mut Handle) -> u32
@@ -597,6 +665,65 @@ pub extern "C" fn boddurci_open(
     };
     let (kind, size) = form_of(unsigned_keys, wide);
     match open_at(alloc, slot, registry, dir, pag, kind, size) {
+        Ok(()) => Status::Done.code(),
+        Err(fault) => tell(alloc, &fault, open_status(fault), room, len).code(),
+    }
+}
+
+// Opens a handle that is closed on the pages of a reading, which is free then.
+fn open_reading_at(
+    alloc: Global,
+    slot: &mut Handle,
+    reading: &mut Reading,
+    registry: Registry<Global>,
+    dir: &[u8],
+    kind: KeyBytes,
+    size: PageSize,
+) -> Result<(), OpenFault>
+    requires closed { slot.old.held ≡ None }
+    requires empty { registry ≡ empty_registry }
+    ensures ok { OnOk result ((d : Db) × ((slot.new.held ≡ Some d) × IsOpened kind size dir.now (bytes_read reading.old.read) d)) }
+    ensures err { OnErr result (slot.new.held ≡ None) }
+    ensures fault { IfErr result (IsOpenFault kind size dir.now (bytes_read reading.old.read)) }
+    ensures none { IfErr result (λ fault. fault ≢ OpenFault.NoMemory → SpellsNoDatabase kind size dir.now (bytes_read reading.old.read)) }
+    ensures free { OnOk result (reading.new.read ≡ None) }
+    ensures same { OnErr result (reading.new.read ≡ reading.old.read) }
+{
+    let db = open_reading(alloc, registry, dir, reading, kind, size)?;
+    match Box::new(alloc, db) {
+        Ok(owned) => {
+            slot.put(owned);
+            let _ = reading.take(alloc);
+            Ok(())
+        }
+        Err(_) => Err(OpenFault::NoMemory),
+    }
+}
+
+/// Opens a closed handle as `boddurci_open` does on the bytes of a `.pag` that was read piece by piece. The reading is free then; after any
+/// refusal it is as it was. A free one is a file without bytes.
+#[unsafe(no_mangle)]
+pub extern "C" fn boddurci_open_reading(
+    alloc: Global,
+    slot: &mut Handle,
+    reading: &mut Reading,
+    dir: &[u8],
+    wide: u32,
+    unsigned_keys: u32,
+    room: &mut [u8],
+    len: &mut usize,
+) -> u32
+    ensures opens { OpensOr (kind_for unsigned_keys) (size_for wide) dir.now (bytes_read reading.old.read) slot.old.held result slot.new.held room.old room.new len.old len.new }
+    ensures reading { IsSpent slot.old.held slot.new.held reading.old.read reading.new.read }
+{
+    if boddurci_is_open(alloc, slot) == 1 {
+        return Status::Open.code();
+    }
+    let Ok(registry) = Registry::new(alloc) else {
+        return Status::NoMemory.code();
+    };
+    let (kind, size) = form_of(unsigned_keys, wide);
+    match open_reading_at(alloc, slot, reading, registry, dir, kind, size) {
         Ok(()) => Status::Done.code(),
         Err(fault) => tell(alloc, &fault, open_status(fault), room, len).code(),
     }

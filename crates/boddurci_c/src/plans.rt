@@ -3,10 +3,8 @@ ghost use Rattle.std.specs.Prelude.{◌≡◌, ◌↔◌, ◌⊎◌, ◌*◌, Is
 ghost use Rattle.boddurci_marks.specs.Marks.{AreAmong};
 ghost use Rattle.boddurci_c.specs.Plans.{HasRead, PlansFor, PlansOn, DeniesPlan};
 
-use crate::base::Base;
-use crate::opened::Db;
 use crate::rooms::copy_out;
-use crate::status::Status;
+use boddurci_handles::{Base, Db, Status};
 use boddurci_marks::Marks;
 use sdbm_saves::{Marked, SavePlanFault, plan_marked};
 use std::alloc::{AllocError, Global};

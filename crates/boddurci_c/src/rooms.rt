@@ -2,7 +2,7 @@
 ghost use Rattle.std.specs.Prelude.{◌≡◌, ℕ, List, Some};
 ghost use Rattle.boddurci_c.specs.Calls.{IsCopied, IsToldAs, AreCopied};
 
-use crate::status::Status;
+use boddurci_handles::Status;
 use std::alloc::Global;
 use std::fmt::Display;
 

@@ -1,17 +1,47 @@
 //! Whether files that are to be opened with wide pages have small ones.
+ghost use Rattle.std.specs.Prelude.{◌≡◌, cond, IfErr, IfOk};
+ghost use Rattle.boddurci_handles.specs.Pieces.{bytes_read};
 ghost use Rattle.boddurci_c.specs.Sizes.{IsLook};
 
-use crate::status::Status;
+use boddurci_handles::{Reading, Status};
 use sdbm_addr::KeyBytes;
-use sdbm_sizes::bytes_look_small;
-use std::alloc::Global;
+use sdbm_sizes::{bytes_look_small, pages_look_small};
+use std::alloc::{AllocError, Global};
 
 /// Sets a number to 1 if files that are to be opened with wide pages look like those of a database with small ones, and else to 0. Returns
 /// `NoMemory` and leaves it if memory runs out.
 pub fn look(alloc: Global, dir: &[u8], pag: &[u8], kind: KeyBytes, looks: &mut u32) -> Status
     ensures { IsLook kind dir.now pag.now looks.old looks.new result }
 {
-    match bytes_look_small(alloc, dir, kind, pag) {
+    let found = bytes_look_small(alloc, dir, kind, pag);
+    set_looks(found, looks)
+}
+
+/// The same for the pages of a reading, which stays as it is. A free one has read no bytes.
+pub fn look_at_reading(
+    alloc: Global,
+    dir: &[u8],
+    reading: &mut Reading,
+    kind: KeyBytes,
+    looks: &mut u32,
+) -> Status
+    ensures look { IsLook kind dir.now (bytes_read reading.old.read) looks.old looks.new result }
+    ensures same { reading.new.read ≡ reading.old.read }
+{
+    let Some(pieces) = reading.take(alloc) else {
+        return look(alloc, dir, &[], kind, looks);
+    };
+    let found = pages_look_small(alloc, dir, kind, &pieces.pages);
+    reading.put(pieces);
+    set_looks(found, looks)
+}
+
+// Sets the number to what was found, if memory was enough.
+fn set_looks(found: Result<bool, AllocError>, looks: &mut u32) -> Status
+    ensures ok { IfOk found (λ small. (result ≡ Status.Done) × (looks.new ≡ cond small 1 0)) }
+    ensures err { IfErr found (λ _. (result ≡ Status.NoMemory) × (looks.new ≡ looks.old)) }
+{
+    match found {
         Ok(true) => {
             *looks = 1;
             Status::Done

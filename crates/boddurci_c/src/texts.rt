@@ -2,7 +2,7 @@
 ghost use Rattle.std.specs.Prelude.{◌≡◌, IfOk, IfErr};
 ghost use Rattle.boddurci_c.specs.Texts.{IsTextImage, IsTextFault, status_of_text, line_of};
 
-use crate::status::Status;
+use boddurci_handles::Status;
 use bpf_asm::{AsmFault, FaultKind, assemble};
 use bpf_insn::encode;
 use std::alloc::Global;

@@ -5,7 +5,7 @@ ghost use Rattle.sdbm_addr.specs.Pairs.{key_at, value_at};
 ghost use Rattle.boddurci_c.specs.Turns.{IsFirstFrom, AreBare, IsNext, IsOver, Turns};
 
 use crate::rooms::copy_both;
-use crate::status::Status;
+use boddurci_handles::Status;
 use sdbm_files::Image;
 use std::alloc::Global;
 

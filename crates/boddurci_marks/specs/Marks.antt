@@ -1,9 +1,8 @@
 -- Which pages may differ from those of the database that was opened, or of which the last plan was made (own).
-use Rattle.std.specs.Prelude.{◌≡◌, ◌⊎◌, ◌<◌, ◌++◌, ℕ, Bool, true, false, List, [], length, get_or, Contains, Option, Some, None, ◌+◌, ◌*◌, ◌/◌, slice_range}
+use Rattle.std.specs.Prelude.{◌≡◌, ◌⊎◌, ◌<◌, ◌++◌, ℕ, Bool, true, false, List, [], length, get_or, Contains, Option, Some, None}
 use Rattle.std.specs.List.{All}
 use Rattle.std.specs.Coded.{Coded-set}
-use Rattle.sdbm_addr.specs.Pairs.{Content, page_bytes}
-use Rattle.sdbm_addr.specs.Layout.{bytes_of_page}
+use Rattle.sdbm_addr.specs.Pairs.{Content}
 use Rattle.sdbm_split.specs.Planned.{PageChange}
 use Rattle.sdbm_addr.specs.Database.{Database, pairs_at, coded_kind, coded_size, coded_pairs, coded_database}
 
@@ -36,10 +35,6 @@ CoversTwins db twins marks = All (λ (e : ℕ × Content). Contains marks e.0 �
 abbrev pub Covers : Database → ℕ → Option PageChange → List ℕ → Type 0
 Covers db number None marks = Unit {0}
 Covers db number (Some change) marks = Contains marks number × CoversTwins db change.twins marks
-
--- each whole page of a file that is not marked stands there as it is written for a database
-abbrev pub AreForeign : Database → List ℕ → List ℕ → Type 0
-AreForeign db pag marks = (n : ℕ) → n < length pag / page_bytes db.size → (Contains marks n → ⊥) → slice_range pag (n * page_bytes db.size) (n * page_bytes db.size + page_bytes db.size) ≡ bytes_of_page db.size (pairs_at db n)
 
 -- each mark is one of these numbers
 abbrev pub AreAmong : List ℕ → List ℕ → Type 0

@@ -1,6 +1,6 @@
 use Rattle.std.proofs.Common.{◌∙◌, Some, ap, sym, inl, inr}
 use Rattle.store_cmd.specs.declared.Command.TheVariants.{Delete}
-use Rattle.boddurci_c.specs.Statuses.{code_of}
+use Rattle.boddurci_handles.specs.Statuses.{code_of}
 use Rattle.boddurci_c.specs.Calls.{DeniesBy}
 use Rattle.boddurci_c.proofs.CallLemmas.{closed_denies, denies}
 use Rattle.boddurci_c.proofs.boddurci_delete.Goals as goal

@@ -1,5 +1,5 @@
 use Rattle.std.proofs.Common.{◌∙◌, ℕ, List, Some, length, ap, sym, subst, inl, inr, refl}
-use Rattle.boddurci_c.specs.declared.status.Status.TheVariants.{NoMemory}
+use Rattle.boddurci_handles.specs.declared.status.Status.TheVariants.{NoMemory}
 use Rattle.boddurci_c.specs.Calls.{HasFiles, LacksMemory, AreCopied}
 use Rattle.boddurci_c.proofs.CallLemmas.{shows, closed_denies, denies}
 use Rattle.boddurci_c.proofs.boddurci_files.Goals as goal

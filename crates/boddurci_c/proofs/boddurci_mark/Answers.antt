@@ -1,5 +1,5 @@
 use Rattle.std.proofs.Common.{◌∙◌, Some, ap, sym, inl, inr, refl}
-use Rattle.boddurci_c.specs.declared.status.Status.TheVariants.{NoMemory}
+use Rattle.boddurci_handles.specs.declared.status.Status.TheVariants.{NoMemory}
 use Rattle.boddurci_c.specs.Calls.{LacksMemory}
 use Rattle.boddurci_marks.proofs.Marked.{differ_more}
 use Rattle.boddurci_c.proofs.Bases.{same_db}

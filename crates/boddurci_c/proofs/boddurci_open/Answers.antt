@@ -1,7 +1,7 @@
 use Rattle.std.proofs.Common.{◌∙◌, refl, subst, inl, inr}
 use Rattle.sdbm_files.specs.Opened.{IsOpenFault, SpellsNoDatabase}
 use Rattle.sdbm_files.specs.FaultText.{fault_text as open_text}
-use Rattle.boddurci_c.specs.declared.status.Status.{Status}
+use Rattle.boddurci_handles.specs.declared.status.Status.{Status}
 use Rattle.boddurci_c.specs.Calls.{IsOpened, IsToldAs, kind_for}
 use Rattle.boddurci_c.proofs.CallLemmas.{shut}
 use Rattle.boddurci_c.proofs.boddurci_open.Goals as goal

@@ -1,5 +1,5 @@
 use Rattle.std.proofs.Common.{◌∙◌, Some, ap, sym, subst, inl, inr, refl}
-use Rattle.boddurci_c.specs.Statuses.{code_of}
+use Rattle.boddurci_handles.specs.Statuses.{code_of}
 use Rattle.boddurci_c.specs.Calls.{RunsBy, DeniesRun, blank_for}
 use Rattle.boddurci_c.proofs.CallLemmas.{closed_denies, denies}
 use Rattle.boddurci_c.proofs.boddurci_run.Goals as goal

@@ -1,6 +1,6 @@
 use Rattle.std.proofs.Common.{◌∙◌, Some, ap, sym, subst, refl, inl, inr}
 use Rattle.prog_registry.specs.FaultText.{fault_text}
-use Rattle.boddurci_c.specs.declared.status.Status.{Status}
+use Rattle.boddurci_handles.specs.declared.status.Status.{Status}
 use Rattle.boddurci_c.specs.Calls.{Never, IsToldAs}
 use Rattle.boddurci_c.proofs.CallLemmas.{closed_denies}
 use Rattle.boddurci_c.proofs.boddurci_submit.Goals as goal

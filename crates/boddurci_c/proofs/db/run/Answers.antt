@@ -1,7 +1,7 @@
 use Rattle.std.proofs.Common.{rules, refl}
 use Rattle.std.specs.Arc.{arc_value}
 use Rattle.store_cmd.specs.declared.Command.TheVariants.{Run}
-use Rattle.boddurci_c.proofs.Fitting.{fits_filled, within_filled}
+use Rattle.boddurci_handles.proofs.Fitting.{fits_filled, within_filled}
 use Rattle.boddurci_c.proofs.Bases.{same_db, does_again, runs_again}
 use Rattle.boddurci_c.proofs.db.run.Goals as goal
 

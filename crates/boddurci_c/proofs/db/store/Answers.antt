@@ -1,7 +1,7 @@
 use Rattle.std.proofs.Common.{refl}
 use Rattle.store_cmd.specs.declared.Command.TheVariants.{Store}
 use Rattle.store_cmd.specs.declared.Reply.TheVariants.{Stored}
-use Rattle.boddurci_c.proofs.Fitting.{fits_filled, within_filled}
+use Rattle.boddurci_handles.proofs.Fitting.{fits_filled, within_filled}
 use Rattle.boddurci_c.proofs.Bases.{differ_unless, same_db, does_again}
 use Rattle.boddurci_c.proofs.db.store.Goals as goal
 

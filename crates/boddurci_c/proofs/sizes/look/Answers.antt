@@ -1,8 +1,7 @@
-use Rattle.std.proofs.Common.{inl, inr, refl, sym, ◌∙◌}
-use Rattle.std.proofs.lemmas.Bool.{false≢true}
+use Rattle.boddurci_c.proofs.Looks.{look_is}
 use Rattle.boddurci_c.proofs.sizes.look.Goals as goal
 
-pub returns-in-Ok-false : goal.returns-in-Ok-false
-returns-in-Ok-false c =
-    let test = c.in-Ok-false.field-0-test in
-    inl (refl, inr (refl, (λ file. false≢true (sym test ∙ c.in-Ok-false.ensures.is.1 file), c.in-Ok-false.ensures.none test)))
+pub returns : goal.returns
+returns c =
+    look_is c.args.kind c.args.dir.now c.args.pag.now c.args.looks.now c.set_looks.new.looks c.set_looks.result c.bytes_look_small-found.result
+    c.bytes_look_small-found.ensures.is c.bytes_look_small-found.ensures.none c.set_looks.ensures.ok c.set_looks.ensures.err

@@ -1,0 +1,62 @@
+-- A run that was asked, and the page of its key as it was (own).
+use Rattle.std.specs.Prelude.{◌≡◌, ◌⊎◌, ℕ, Bool, true, false, Option, IfSome}
+use Rattle.std.specs.declared.alloc.Global.{Global}
+use Rattle.sdbm_addr.specs.declared.KeyBytes.{KeyBytes}
+use Rattle.sdbm_addr.specs.Pairs.{Content}
+use Rattle.sdbm_addr.specs.Database.{Database, pairs_at}
+use Rattle.sdbm_dir.specs.declared.Place.{Place}
+use Rattle.store_cmd.specs.declared.Command.{Command}
+use Rattle.store_moves.specs.declared.worked.Worked.{Worked}
+use Rattle.store_moves.specs.Leads.{IsPlaceOf}
+use Rattle.store_moves.specs.Works.{PageResult, works, key_of, HasEnd, IsWorkable}
+use Rattle.store_moves.specs.Worked.{IsWorked}
+use Rattle.boddurci_marks.specs.Growth.{Outgrows}
+use Rattle.boddurci_handles.specs.declared.status.Status.{Status}
+use Rattle.boddurci_handles.specs.declared.status.Status.TheVariants.{Changed, NoMemory, NoTicket, TooLong}
+
+-- A command, the place of its key in a database whose keys hash so, the page there as it was, and whether it was worked on that page.
+pub record Asked : Type 0 where
+  pub command : Command Global
+  pub place : Place
+  pub kind : KeyBytes
+  pub page : Content
+  pub is_worked : Bool
+
+-- what it comes to on that page
+abbrev pub result_of : Asked → PageResult Global
+result_of a = works a.place a.kind a.page.size a.page.pairs 0 a.command
+
+-- it came to that, and its program ended
+pub record IsWorkedOut (a : Asked) (w : Worked Global) : Type 0 where
+  pub is : IsWorked (result_of a) w
+  pub ends : HasEnd a.page.pairs 0 a.command
+
+-- it may be worked, and what it came to is that
+pub record IsJob (a : Asked) (worked : Option (Worked Global)) : Type 0 where
+  pub workable : IsWorkable a.place a.kind a.page.size a.page.pairs a.command
+  pub done : IfSome worked (IsWorkedOut a)
+
+-- a page as it was asked is the page of its key in a database, which has the same pages and hashes keys so
+pub record IsCurrent (db : Database) (a : Asked) : Type 0 where
+  pub place : IsPlaceOf db (key_of a.command) a.place
+  pub kind : a.kind ≡ db.kind
+  pub size : a.page.size ≡ db.size
+  pub pairs : a.page.pairs ≡ pairs_at db a.place.page
+
+-- a command is asked of a database, and not worked yet
+pub record IsAskedOf (db : Database) (command : Command Global) (a : Asked) : Type 0 where
+  pub command_is : a.command ≡ command
+  pub current : IsCurrent db a
+  pub waits : a.is_worked ≡ false
+
+-- the same, worked
+abbrev pub worked_out : Asked → Asked
+worked_out a = record { command = a.command; place = a.place; kind = a.kind; page = a.page; is_worked = true }
+
+-- why what was asked is not finished on a database: it was not worked; or its page is another; or else `.pag` would be too long, or memory
+-- ran out
+abbrev pub DeniesFinish : ℕ → Database → Asked → Status → Type 0
+DeniesFinish limit db a status =
+    ((status ≡ NoTicket) × (a.is_worked ≡ false))
+    ⊎ (((status ≡ Changed) × ((a.is_worked ≡ true) × (¬ IsCurrent db a)))
+    ⊎ (((status ≡ TooLong) × ((a.is_worked ≡ true) × (IsCurrent db a × Outgrows limit db a.command))) ⊎ ((status ≡ NoMemory) × ((a.is_worked ≡ true) × IsCurrent db a))))

@@ -1,0 +1,75 @@
+//! A `.pag` that is read piece by piece.
+ghost use Rattle.std.specs.Prelude.{◌≡◌, None, IfErr, OnOk};
+ghost use Rattle.boddurci_handles.specs.Pieces.{DeniesPiece, MayFollow, ReadsPiece};
+
+use crate::reading::Reading;
+use crate::status::Status;
+use sdbm_addr::PageSize;
+use sdbm_files::ReadPages;
+use std::alloc::Global;
+
+// The most bytes of all pieces together.
+const LONGEST: u64 = i64::MAX as u64;
+
+/// The pieces of a `.pag` that were read.
+#[derive(Drop)]
+pub struct Pieces {
+    pub pages: ReadPages<Global>,
+}
+
+/// Reads the next piece of a `.pag`. The first piece begins a file with pages of this size, which later ones do not change.
+///
+/// Returns `BadFiles` if the pieces before end inside a page, and `TooLong` if there would be 2^63 bytes or more; the reading is then as it
+/// was. Returns `NoMemory` if memory runs out; the reading is then free.
+pub fn read_piece(alloc: Global, reading: &mut Reading, size: PageSize, piece: &[u8]) -> Status
+    ensures { ReadsPiece size piece.now reading.old.read reading.new.read result }
+{
+    let Some(mut pieces) = reading.take(alloc) else {
+        return read_first(alloc, reading, size, piece);
+    };
+    let read = &mut *pieces;
+    if let Err(status) = may_follow(&read.pages, piece) {
+        reading.put(pieces);
+        return status;
+    }
+    match read.pages.push(piece) {
+        Ok(()) => {
+            reading.put(pieces);
+            Status::Done
+        }
+        Err(_) => Status::NoMemory,
+    }
+}
+
+// Reads the first piece.
+fn read_first(alloc: Global, reading: &mut Reading, size: PageSize, piece: &[u8]) -> Status
+    requires { reading.old.read ≡ None }
+    ensures { ReadsPiece size piece.now reading.old.read reading.new.read result }
+{
+    let mut pages = ReadPages::new(alloc, size);
+    let Ok(()) = pages.push(piece) else {
+        return Status::NoMemory;
+    };
+    match Box::new(alloc, Pieces { pages }) {
+        Ok(pieces) => {
+            reading.put(pieces);
+            Status::Done
+        }
+        Err(_) => Status::NoMemory,
+    }
+}
+
+// Whether a piece may follow those that were read.
+fn may_follow(pages: &ReadPages<Global>, piece: &[u8]) -> Result<(), Status>
+    ensures ok { OnOk result (MayFollow pages.now piece.now) }
+    ensures err { IfErr result (DeniesPiece pages.now piece.now) }
+{
+    if !pages.is_whole() {
+        return Err(Status::BadFiles);
+    }
+    let total = (pages.len() as u64).saturating_add(piece.len() as u64);
+    if total > LONGEST {
+        return Err(Status::TooLong);
+    }
+    Ok(())
+}

@@ -64,6 +64,11 @@ typedef struct boddurci_ticket {
     void *at;
 } boddurci_ticket;
 
+/* A .pag that is read piece by piece. It is used like a handle, but stays in the thread that began it. */
+typedef struct boddurci_reading {
+    void *at;
+} boddurci_reading;
+
 /* Where a walk over all pairs stands. */
 typedef struct boddurci_cursor {
     uint32_t page;
@@ -77,6 +82,7 @@ const char *boddurci_version(void);
 
 #define BODDURCI_CLOSED { NULL }
 #define BODDURCI_FREE { NULL }
+#define BODDURCI_UNREAD { NULL }
 #define BODDURCI_START { 0, 0, 0 }
 #define BODDURCI_NO_BYTES ((const uint8_t *)""), 0
 
@@ -99,7 +105,8 @@ enum boddurci_status {
     BODDURCI_NO_MEMORY = 21,     /* memory ran out */
     BODDURCI_FILE_TOO_LONG = 22, /* .pag would have more than 1 GiB, or than boddurci_limit allows, so nothing changed; of a plan: a file has
                                     4 GiB or more */
-    BODDURCI_NO_TICKET = 23      /* under the ticket nothing is asked, or what is asked is not worked */
+    BODDURCI_NO_TICKET = 23,     /* under the ticket nothing is asked, or what is asked is not worked */
+    BODDURCI_NO_STOCK = 24       /* no stock program has the name */
 };
 
 #define BODDURCI_PAIR_MOST(wide) ((wide) ? 8008 : 1008)
@@ -107,6 +114,10 @@ enum boddurci_status {
 #define BODDURCI_ARG_MOST 1024
 #define BODDURCI_IMAGE_MOST 32768
 #define BODDURCI_NOWHERE SIZE_MAX
+
+/* The names of the stock programs. */
+#define BODDURCI_STOCKS \
+    "counter, bounded_add, bounded_counter, compare_and_set, sequence, lease, fenced_lease, rate_limit, semaphore, token_bucket"
 
 /* The name of a status, in words; boddurci_files_text of boddurci_files.h has those of files too. */
 static inline const char *boddurci_text(uint32_t status)
@@ -130,6 +141,7 @@ static inline const char *boddurci_text(uint32_t status)
     case BODDURCI_NO_MEMORY: return "no memory";
     case BODDURCI_FILE_TOO_LONG: return "file too long";
     case BODDURCI_NO_TICKET: return "nothing worked under the ticket";
+    case BODDURCI_NO_STOCK: return "no such stock program: the names are " BODDURCI_STOCKS;
     default: return "no status";
     }
 }
@@ -145,6 +157,34 @@ uint32_t boddurci_open(boddurci *db, const uint8_t *dir, size_t dir_length, cons
  * It wants no handle. boddurci_open does not call it; boddurci_open_files does. NO_MEMORY. */
 uint32_t boddurci_looks_small(const uint8_t *dir, size_t dir_length, const uint8_t *pag, size_t pag_length, uint32_t unsigned_keys,
                               uint32_t *looks_small);
+
+/* The same without all bytes of .pag in memory: hand them over in pieces, and then open what was read. The library keeps pages alone, so it
+ * takes what the open database takes, and a piece of zeros takes nothing.
+ *
+ *     boddurci_reading reading = BODDURCI_UNREAD;
+ *     uint32_t status = BODDURCI_DONE;
+ *     while (status == BODDURCI_DONE && (length = fread(piece, 1, sizeof piece, pag)) != 0)
+ *         status = boddurci_read(&reading, 0, piece, length);
+ *     if (status == BODDURCI_DONE)
+ *         status = boddurci_open_reading(&db, &reading, dir, dir_length, 0, 0, text, sizeof text, &text_length);
+ *     boddurci_end_reading(&reading);
+ *
+ * boddurci_read reads the next piece. Each piece but the last has whole pages: 262,144 bytes are a good length. The first piece says how large
+ * pages are; `wide` of the others does not count. BAD_FILES if the pieces before end inside a page, and FILE_TOO_LONG for 2^63 bytes or more: the
+ * reading is then as it was. NO_MEMORY: the reading is then unread.
+ *
+ * boddurci_reading_looks_small returns what boddurci_looks_small does for the bytes that were read. NO_MEMORY.
+ *
+ * boddurci_open_reading does what boddurci_open does with the bytes that were read, and returns the same; an unread reading is an empty .pag.
+ * The reading is unread afterwards; after any refusal it is as it was. If the pieces had the other page size, it copies all bytes.
+ *
+ * boddurci_end_reading frees what was read. The reading may be unread. */
+uint32_t boddurci_read(boddurci_reading *reading, uint32_t wide, const uint8_t *piece, size_t piece_length);
+uint32_t boddurci_reading_looks_small(boddurci_reading *reading, const uint8_t *dir, size_t dir_length, uint32_t unsigned_keys,
+                                      uint32_t *looks_small);
+uint32_t boddurci_open_reading(boddurci *db, boddurci_reading *reading, const uint8_t *dir, size_t dir_length, uint32_t wide,
+                               uint32_t unsigned_keys, uint8_t *text, size_t text_room, size_t *text_length);
+void boddurci_end_reading(boddurci_reading *reading);
 
 /* 1 where the handle is open, and else 0. */
 uint32_t boddurci_is_open(boddurci *db);
@@ -182,6 +222,12 @@ uint32_t boddurci_assemble(const uint8_t *source, size_t source_length, uint8_t 
  * refused, here 3, or BODDURCI_NOWHERE. After NO_MEMORY the unit is BODDURCI_NOWHERE, and a text may be told. */
 uint32_t boddurci_submit(boddurci *db, const uint8_t *image, size_t image_length, uint32_t *number, size_t *unit, uint8_t *text,
                          size_t text_room, size_t *text_length);
+
+/* Submits the stock program with a name, as "counter": one of BODDURCI_STOCKS. It sets *number as boddurci_submit does for its image, so a program
+ * that was submitted keeps its number. docs/PROGRAMS.md says what each does, and that is proved. NO_STOCK, IS_CLOSED, NO_MEMORY: *number stays
+ * as it was. REFUSED if there are 4,096 programs. boddurci_submit_stock takes a name without a zero at its end. */
+uint32_t boddurci_stock(boddurci *db, const char *name, uint32_t *number);
+uint32_t boddurci_submit_stock(boddurci *db, const uint8_t *name, size_t name_length, uint32_t *number);
 
 /* Runs the program with a number on the record of a key, as one step; where the key is not there, on `blank` zeros if has_blank is
  * not 0. The program is told the time `now`, and is lent the argument. *end is the number with which it ended: 1 saves the record, 2

@@ -90,8 +90,10 @@ const char *boddurci_files_text(uint32_t status);
 /* Opens the database in BASE.dir and BASE.pag, each of which may be missing, or returns NULL and says why. A save that was cut off is ended
  * first, no matter who made it; a base that is read only writes nothing, and reads what the save would have left, once that is kept on the
  * disk. It waits for the lock without an end, also after a signal. Where it returns NULL nothing was changed but that such a save was ended,
- * and that a lock may have been made. Memory: twice the data that the files have on the disk. Holes cost nothing. Who may not write a .pag that is there makes no lock. FILE_FAILED, LOCKED (by NO_WAIT alone), BAD_REDO,
- * TOO_LONG, UNSAFE, MOVED, BAD_NAME, OPEN_HERE, OTHER_SIZE, and BAD_FILES and NO_MEMORY of boddurci.h. */
+ * and that a lock may have been made. Memory: what the open database takes, and
+ * the data of .dir and one piece of .pag; of a page with other free bytes than the library writes, also its bytes. A reader of a save that was
+ * cut off also has the data of .pag. Holes take none. Who may not write a .pag that is there makes no lock. FILE_FAILED, LOCKED (by NO_WAIT
+ * alone), BAD_REDO, TOO_LONG, UNSAFE, MOVED, BAD_NAME, OPEN_HERE, OTHER_SIZE, and BAD_FILES and NO_MEMORY of boddurci.h. */
 boddurci_base *boddurci_open_files(const char *base, uint32_t flags, boddurci_fault *fault);
 
 /* The same, which waits for the lock so long: LOCKED where another has it then. 0 tries once, and -1 waits without an end. INTERRUPTED where

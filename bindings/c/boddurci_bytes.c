@@ -1,11 +1,12 @@
-/* The bytes of a file in memory. Only its data is read, and the rest of the memory is never written, so a hole costs nothing: a sparse file
- * takes what it has on the disk. */
+/* The bytes of a file in memory, or its pages, which are read piece by piece. Only its data is read, and the rest of the memory is never
+ * written, so a hole takes no memory: a sparse file takes what it has on the disk. */
 #define _GNU_SOURCE
 #include "boddurci_saves.h"
 #include <errno.h>
 #include <stdlib.h>
 #include <string.h>
 #include <sys/mman.h>
+#include <sys/stat.h>
 #include <unistd.h>
 
 void boddurci_let_go(struct boddurci_bytes *bytes)
@@ -42,11 +43,11 @@ int boddurci_set_length(struct boddurci_bytes *bytes, size_t length)
     return 0;
 }
 
-/* Reads a range of a file, as far as there is one, and returns where it has ended, or -1. */
+/* Reads a range of a file, as far as there is one, into a room, and returns where it has ended, or -1. */
 static off_t read_range(int file, uint8_t *room, off_t from, off_t to)
 {
-    while (from < to) {
-        ssize_t got = pread(file, room + from, (size_t)(to - from), from);
+    for (off_t start = from; from < to;) {
+        ssize_t got = pread(file, room + (from - start), (size_t)(to - from), from);
         if (got == 0)
             break;
         if (got < 0 && errno != EINTR)
@@ -54,6 +55,15 @@ static off_t read_range(int file, uint8_t *room, off_t from, off_t to)
         from += got < 0 ? 0 : got;
     }
     return from;
+}
+
+/* Where a file ends that ended at `end` before, and had no data from a place on: it may have become shorter meanwhile. */
+static off_t end_after(int file, off_t at, off_t end)
+{
+    struct stat now;
+    if (fstat(file, &now) != 0 || now.st_size >= end)
+        return end;
+    return now.st_size > at ? now.st_size : at;
 }
 
 /* Finds the next data from a place on, which ends at `*to`. Where the system cannot tell, all is data. */
@@ -74,7 +84,7 @@ static off_t find_data(int file, off_t at, off_t end, off_t *to)
     return at;
 }
 
-int boddurci_read(int file, size_t length, struct boddurci_bytes *bytes)
+int boddurci_read_bytes(int file, size_t length, struct boddurci_bytes *bytes)
 {
     if (length == 0)
         return 0;
@@ -83,14 +93,93 @@ int boddurci_read(int file, size_t length, struct boddurci_bytes *bytes)
     off_t end = (off_t)length, to;
     for (off_t at = 0; at < end; at = to) {
         off_t from = find_data(file, at, end, &to);
-        off_t found = from < end ? read_range(file, bytes->at, from, to) : end;
+        off_t found = from < end ? read_range(file, bytes->at + from, from, to) : end_after(file, at, end);
         if (found < 0)
             return -1;
-        if (from < end && found < to) {
+        if (found < to) {
             /* It became shorter meanwhile. */
             bytes->length = (size_t)found;
             return 0;
         }
     }
+    return 0;
+}
+
+/* ---- pages, piece by piece */
+
+/* Whole pages of either size. */
+enum { PIECE = 262144 };
+
+/* Hands the next piece over. Each piece but the last has whole pages, and all of them have 1 GiB at most, so only memory can be lacking. */
+static int push(boddurci_reading *pages, uint32_t is_wide, const uint8_t *piece, size_t length)
+{
+    if (boddurci_read(pages, is_wide, piece, length) == BODDURCI_DONE)
+        return 0;
+    errno = ENOMEM;
+    return -1;
+}
+
+/* Hands zeros over. They lie in the cache. */
+static int push_zeros(boddurci_reading *pages, uint32_t is_wide, size_t length)
+{
+    static const uint8_t zeros[32768];
+    for (size_t done = 0, next; done < length; done += next) {
+        next = length - done < sizeof zeros ? length - done : sizeof zeros;
+        if (push(pages, is_wide, zeros, next) != 0)
+            return -1;
+    }
+    return 0;
+}
+
+/* Reads a file to its end, which may have come nearer meanwhile: then what there is of it is read. */
+static int read_pieces(int file, off_t end, uint32_t is_wide, boddurci_reading *pages, uint8_t *room)
+{
+    off_t next, found, to;
+    for (off_t at = 0; at < end; at += next) {
+        off_t from = find_data(file, at, end, &to);
+        if (from == end)
+            end = end_after(file, at, end);
+        next = from < end ? (from - at) / PIECE * PIECE : end - at;
+        if (next != 0 || at == end) {
+            if (push_zeros(pages, is_wide, (size_t)next) != 0)
+                return -1;
+            continue;
+        }
+        next = end - at < PIECE ? end - at : PIECE;
+        found = read_range(file, room, at, at + next);
+        if (found < 0 || push(pages, is_wide, room, (size_t)(found - at)) != 0)
+            return -1;
+        if (found < at + next)
+            return 0;
+    }
+    return 0;
+}
+
+int boddurci_has_data(int file, size_t length)
+{
+    off_t to;
+    return find_data(file, 0, (off_t)length, &to) < (off_t)length;
+}
+
+int boddurci_read_pages(int file, size_t length, uint32_t is_wide, boddurci_reading *pages)
+{
+    uint8_t *room = malloc(PIECE);
+    if (room == NULL)
+        return -1;
+    int is_read = read_pieces(file, (off_t)length, is_wide, pages, room);
+    free(room);
+    return is_read;
+}
+
+int boddurci_move_pages(struct boddurci_bytes *bytes, uint32_t is_wide, boddurci_reading *pages)
+{
+    for (size_t at = 0, next; at < bytes->length; at += next) {
+        next = bytes->length - at < PIECE ? bytes->length - at : PIECE;
+        if (push(pages, is_wide, bytes->at + at, next) != 0)
+            return -1;
+        if (bytes->room != 0)
+            (void)!madvise(bytes->at + at, next, MADV_DONTNEED);
+    }
+    boddurci_let_go(bytes);
     return 0;
 }

@@ -110,24 +110,45 @@ static uint32_t too_long(boddurci_fault *fault)
     return boddurci_fail(fault, BODDURCI_TOO_LONG, 0, boddurci_files_text(BODDURCI_TOO_LONG));
 }
 
-static uint32_t read_all(int file, size_t limit, struct boddurci_bytes *bytes, boddurci_fault *fault)
+/* How long an opened file is, which may not be longer than a limit. */
+static uint32_t length_of(int file, size_t limit, size_t *length, boddurci_fault *fault)
 {
     struct stat found;
     if (fstat(file, &found) != 0)
         return boddurci_fail_by_system(fault, "a file cannot be read");
     if (found.st_size > (off_t)limit)
         return too_long(fault);
-    return boddurci_read(file, (size_t)found.st_size, bytes) == 0 ? BODDURCI_DONE : boddurci_fail_by_system(fault, "a file cannot be read");
+    *length = (size_t)found.st_size;
+    return BODDURCI_DONE;
+}
+
+static uint32_t read_all(int file, size_t limit, struct boddurci_bytes *bytes, boddurci_fault *fault)
+{
+    size_t length;
+    uint32_t status = length_of(file, limit, &length, fault);
+    if (status != BODDURCI_DONE)
+        return status;
+    return boddurci_read_bytes(file, length, bytes) == 0 ? status : boddurci_fail_by_system(fault, "a file cannot be read");
+}
+
+/* Opens a data file; one that is not there is -1, unless it has to be there. */
+static uint32_t open_file(struct boddurci_place *place, enum boddurci_file which, int must_exist, int *file, boddurci_fault *fault)
+{
+    *file = boddurci_open_data(place, which, O_RDONLY);
+    if (*file >= 0 || (errno == ENOENT && !must_exist))
+        return BODDURCI_DONE;
+    return boddurci_fail_by_system(fault, "a file cannot be opened");
 }
 
 /* Reads a data file; one that is not there has no bytes, unless it has to be there. */
 static uint32_t read_file(struct boddurci_place *place, enum boddurci_file which, int must_exist, struct boddurci_bytes *bytes,
                           boddurci_fault *fault)
 {
-    int file = boddurci_open_data(place, which, O_RDONLY);
-    if (file < 0)
-        return errno == ENOENT && !must_exist ? BODDURCI_DONE : boddurci_fail_by_system(fault, "a file cannot be opened");
-    uint32_t status = read_all(file, limits[which], bytes, fault);
+    int file;
+    uint32_t status = open_file(place, which, must_exist, &file, fault);
+    if (status != BODDURCI_DONE || file < 0)
+        return status;
+    status = read_all(file, limits[which], bytes, fault);
     close(file);
     return status;
 }
@@ -142,6 +163,46 @@ static void let_both_go(struct boddurci_bytes *files)
 {
     boddurci_let_go(&files[BODDURCI_PAGES]);
     boddurci_let_go(&files[BODDURCI_DIRECTORY]);
+}
+
+/* What an opening has read: all of .dir, and the pages of .pag, of which it never has the bytes as well. */
+struct parts {
+    struct boddurci_bytes directory;
+    boddurci_reading pages;
+    uint32_t is_wide;
+    int has_data; /* .pag is not one hole */
+};
+
+static void let_parts_go(struct parts *parts)
+{
+    boddurci_let_go(&parts->directory);
+    boddurci_end_reading(&parts->pages);
+}
+
+static uint32_t read_pieces(int file, struct parts *parts, boddurci_fault *fault)
+{
+    size_t length;
+    uint32_t status = length_of(file, limits[BODDURCI_PAGES], &length, fault);
+    if (status != BODDURCI_DONE)
+        return status;
+    parts->has_data = boddurci_has_data(file, length);
+    if (boddurci_read_pages(file, length, parts->is_wide, &parts->pages) != 0)
+        return boddurci_fail_by_system(fault, "a file cannot be read");
+    return status;
+}
+
+/* Reads both data files; those that are not there have no bytes, unless .pag has to be there. */
+static uint32_t read_parts(struct boddurci_place *place, int must_exist, struct parts *parts, boddurci_fault *fault)
+{
+    int file;
+    uint32_t status = read_file(place, BODDURCI_DIRECTORY, 0, &parts->directory, fault);
+    if (status == BODDURCI_DONE)
+        status = open_file(place, BODDURCI_PAGES, must_exist, &file, fault);
+    if (status != BODDURCI_DONE || file < 0)
+        return status;
+    status = read_pieces(file, parts, fault);
+    close(file);
+    return status;
 }
 
 /* ---- a save that was cut off */
@@ -236,8 +297,26 @@ static uint32_t keep_marked(struct boddurci_place *place, int redo, boddurci_fau
     return boddurci_fail_by_system(fault, "BASE.redo cannot be kept");
 }
 
+/* Reads both data files with a save done in them that was cut off. */
+static uint32_t read_done(struct boddurci_place *place, struct boddurci_bytes redo, struct parts *parts, boddurci_fault *fault)
+{
+    struct boddurci_bytes files[2] = {{NULL, 0, 0}, {NULL, 0, 0}};
+    uint32_t status = read_both(place, 0, files, fault);
+    if (status == BODDURCI_DONE)
+        status = know(redo, files, fault);
+    for (enum boddurci_file file = BODDURCI_PAGES; status == BODDURCI_DONE && file <= BODDURCI_DIRECTORY; file++)
+        if (boddurci_lay_over(redo, file, &files[file]) != 0)
+            status = boddurci_no_memory(fault);
+    if (status == BODDURCI_DONE && boddurci_move_pages(&files[BODDURCI_PAGES], parts->is_wide, &parts->pages) != 0)
+        status = boddurci_no_memory(fault);
+    boddurci_let_go(&files[BODDURCI_PAGES]);
+    parts->has_data = 1;
+    parts->directory = files[BODDURCI_DIRECTORY];
+    return status;
+}
+
 /* Reads both data files as they stand for a database that may not be written: where a save was cut off, with the save done in them. */
-static uint32_t read_over(struct boddurci_place *place, int must_exist, struct boddurci_bytes *files, boddurci_fault *fault)
+static uint32_t read_over(struct boddurci_place *place, int must_exist, struct parts *parts, boddurci_fault *fault)
 {
     struct boddurci_bytes redo = {NULL, 0, 0};
     int opened = -1;
@@ -246,12 +325,7 @@ static uint32_t read_over(struct boddurci_place *place, int must_exist, struct b
     if (is_cut_off)
         status = keep_marked(place, opened, fault);
     if (status == BODDURCI_DONE)
-        status = read_both(place, must_exist && !is_cut_off, files, fault);
-    if (is_cut_off && status == BODDURCI_DONE)
-        status = know(redo, files, fault);
-    for (enum boddurci_file file = BODDURCI_PAGES; is_cut_off && status == BODDURCI_DONE && file <= BODDURCI_DIRECTORY; file++)
-        if (boddurci_lay_over(redo, file, &files[file]) != 0)
-            status = boddurci_no_memory(fault);
+        status = is_cut_off ? read_done(place, redo, parts, fault) : read_parts(place, must_exist, parts, fault);
     if (opened >= 0)
         close(opened);
     boddurci_let_go(&redo);
@@ -271,14 +345,14 @@ static void see_files(struct boddurci_place *place)
 }
 
 /* Reads both data files, after a save that was cut off. */
-static uint32_t read_files(boddurci_base *base, struct boddurci_bytes *files, boddurci_fault *fault)
+static uint32_t read_files(boddurci_base *base, struct parts *parts, boddurci_fault *fault)
 {
     struct boddurci_disk disk;
     int must_exist = (base->flags & BODDURCI_MUST_EXIST) != 0, is_ended;
     boddurci_no_fault(fault);
     boddurci_see_none(&base->place);
     if (base->flags & BODDURCI_READ_ONLY)
-        return base->flags & BODDURCI_EMPTY ? BODDURCI_DONE : read_over(&base->place, must_exist, files, fault);
+        return base->flags & BODDURCI_EMPTY ? BODDURCI_DONE : read_over(&base->place, must_exist, parts, fault);
     boddurci_disk_of(&disk, &base->place);
     uint32_t status = end_marked(&disk, &is_ended, fault);
     boddurci_disk_close(&disk);
@@ -286,7 +360,7 @@ static uint32_t read_files(boddurci_base *base, struct boddurci_bytes *files, bo
         see_files(&base->place);
     note_files(&base->place, base->notes);
     if (status == BODDURCI_DONE && !(base->flags & BODDURCI_EMPTY)) {
-        status = read_both(&base->place, must_exist, files, fault);
+        status = read_parts(&base->place, must_exist, parts, fault);
         base->is_noted = status == BODDURCI_DONE;
     }
     return status;
@@ -299,25 +373,24 @@ static const uint8_t *or_none(struct boddurci_bytes bytes)
 }
 
 /* Looks whether a base that is to be opened with wide pages has small ones, which may read as wide ones by chance. */
-static uint32_t look_at_size(const boddurci_base *base, struct boddurci_bytes dir, struct boddurci_bytes pag, boddurci_fault *fault)
+static uint32_t look_at_size(const boddurci_base *base, struct parts *parts, boddurci_fault *fault)
 {
     uint32_t looks_small = 0, status = BODDURCI_DONE;
-    int is_tested = (base->flags & (BODDURCI_WIDE | BODDURCI_ANY_SIZE)) == BODDURCI_WIDE;
+    int is_tested = parts->is_wide && parts->has_data && !(base->flags & BODDURCI_ANY_SIZE);
     /* The keys may hash in the other way than the caller says. */
     for (uint32_t is_unsigned = 0; is_tested && status == BODDURCI_DONE && !looks_small && is_unsigned < 2; is_unsigned++)
-        status = boddurci_looks_small(or_none(dir), dir.length, or_none(pag), pag.length, is_unsigned, &looks_small);
+        status = boddurci_reading_looks_small(&parts->pages, or_none(parts->directory), parts->directory.length, is_unsigned, &looks_small);
     if (status == BODDURCI_DONE && looks_small)
         status = BODDURCI_OTHER_SIZE;
     return status == BODDURCI_DONE ? status : boddurci_fail(fault, status, 0, boddurci_files_text(status));
 }
 
-static uint32_t open_bytes(boddurci_base *base, const struct boddurci_bytes *files, boddurci_fault *fault)
+static uint32_t open_parts(boddurci_base *base, struct parts *parts, boddurci_fault *fault)
 {
     uint8_t text[sizeof fault->text - 1];
     size_t length = 0;
-    struct boddurci_bytes dir = files[BODDURCI_DIRECTORY], pag = files[BODDURCI_PAGES];
-    uint32_t status = boddurci_open(&base->db, or_none(dir), dir.length, or_none(pag), pag.length, (base->flags & BODDURCI_WIDE) != 0,
-                                    (base->flags & BODDURCI_UNSIGNED_KEYS) != 0, text, sizeof text, &length);
+    uint32_t status = boddurci_open_reading(&base->db, &parts->pages, or_none(parts->directory), parts->directory.length, parts->is_wide,
+                                            (base->flags & BODDURCI_UNSIGNED_KEYS) != 0, text, sizeof text, &length);
     if (status == BODDURCI_DONE)
         return status;
     boddurci_fail(fault, status, 0, boddurci_text(status));
@@ -327,36 +400,36 @@ static uint32_t open_bytes(boddurci_base *base, const struct boddurci_bytes *fil
 }
 
 /* For a reader without a lock, whose reading has come to a status: the first who writes may have come in between, and made the lock. */
-static uint32_t read_again(boddurci_base *base, struct boddurci_bytes *files, uint32_t status, int64_t milliseconds, boddurci_fault *fault)
+static uint32_t read_again(boddurci_base *base, struct parts *parts, uint32_t status, int64_t milliseconds, boddurci_fault *fault)
 {
     boddurci_fault second;
     uint32_t locked = boddurci_take_lock(&base->place, 1, milliseconds, &second);
     if (locked == BODDURCI_DONE && base->place.lock < 0)
         return status;
-    let_both_go(files);
+    let_parts_go(parts);
     if (locked == BODDURCI_DONE)
-        return read_files(base, files, fault);
+        return read_files(base, parts, fault);
     *fault = second;
     return locked;
 }
 
 static uint32_t read_base(boddurci_base *base, const char *name, int64_t milliseconds, boddurci_fault *fault)
 {
-    struct boddurci_bytes files[2] = {{NULL, 0, 0}, {NULL, 0, 0}};
+    struct parts parts = {{NULL, 0, 0}, BODDURCI_UNREAD, (base->flags & BODDURCI_WIDE) != 0, 0};
     int reads = (base->flags & BODDURCI_READ_ONLY) != 0;
     uint32_t status = boddurci_enter(&base->place, name, reads, milliseconds, fault);
     int may_read = status == BODDURCI_DONE;
     if (may_read)
-        status = read_files(base, files, fault);
+        status = read_files(base, &parts, fault);
     if (may_read && base->place.lock < 0)
-        status = read_again(base, files, status, milliseconds, fault);
+        status = read_again(base, &parts, status, milliseconds, fault);
     if (status != BODDURCI_DONE || reads)
         boddurci_give_lock(&base->place, 1);
     if (status == BODDURCI_DONE)
-        status = look_at_size(base, files[BODDURCI_DIRECTORY], files[BODDURCI_PAGES], fault);
+        status = look_at_size(base, &parts, fault);
     if (status == BODDURCI_DONE)
-        status = open_bytes(base, files, fault);
-    let_both_go(files);
+        status = open_parts(base, &parts, fault);
+    let_parts_go(&parts);
     return status;
 }
 

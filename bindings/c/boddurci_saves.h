@@ -42,7 +42,17 @@ void boddurci_let_go(struct boddurci_bytes *bytes);
 int boddurci_set_length(struct boddurci_bytes *bytes, size_t length);
 
 /* Reads the first bytes of an opened file, of which there were none before. Its holes take no memory. */
-int boddurci_read(int file, size_t length, struct boddurci_bytes *bytes);
+int boddurci_read_bytes(int file, size_t length, struct boddurci_bytes *bytes);
+
+/* Whether the first bytes of an opened file have data, or are one hole. */
+int boddurci_has_data(int file, size_t length);
+
+/* Reads the first bytes of an opened .pag piece by piece, in pages of 8,192 bytes if `is_wide` is not 0, and else of 1,024. It has one piece
+ * in memory besides what was read. */
+int boddurci_read_pages(int file, size_t length, uint32_t is_wide, boddurci_reading *pages);
+
+/* Does the same with the bytes of a .pag in memory, which go as they are read. */
+int boddurci_move_pages(struct boddurci_bytes *bytes, uint32_t is_wide, boddurci_reading *pages);
 
 /* ---- boddurci_plan.c: the bytes of a redo file */
 

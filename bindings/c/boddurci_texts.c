@@ -1,4 +1,4 @@
-/* Statuses in words, the version, and how a fault is told. */
+/* Statuses in words, the version, stock programs by name, and how a fault is told. */
 #define _POSIX_C_SOURCE 200809L
 #include "boddurci_saves.h"
 #include <errno.h>
@@ -8,6 +8,11 @@
 const char *boddurci_version(void)
 {
     return BODDURCI_VERSION;
+}
+
+uint32_t boddurci_stock(boddurci *db, const char *name, uint32_t *number)
+{
+    return boddurci_submit_stock(db, (const uint8_t *)name, strlen(name), number);
 }
 
 const char *boddurci_files_text(uint32_t status)

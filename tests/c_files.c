@@ -663,7 +663,7 @@ static void test_names(void)
     EXPECT(boddurci_save(NULL, &fault) == BODDURCI_IS_CLOSED && boddurci_take(NULL) == NULL);
     boddurci_give(NULL);
     for (uint32_t status = 0; status < 50; status++) {
-        int is_one = status <= BODDURCI_STALE || (status >= BODDURCI_IS_CLOSED && status <= BODDURCI_NO_TICKET) ||
+        int is_one = status <= BODDURCI_STALE || (status >= BODDURCI_IS_CLOSED && status <= BODDURCI_NO_STOCK) ||
                      (status >= BODDURCI_FILE_FAILED && status <= BODDURCI_OTHER_SIZE);
         EXPECT((strcmp(boddurci_files_text(status), "no status") != 0) == is_one);
     }

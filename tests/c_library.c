@@ -136,6 +136,7 @@ static void test_closed(void)
     REFUSES(BODDURCI_IS_CLOSED, boddurci_delete(&db, BYTES("a")));
     REFUSES(BODDURCI_IS_CLOSED, boddurci_count(&db, &told.length));
     REFUSES(BODDURCI_IS_CLOSED, boddurci_submit(&db, counter, counter_length, &told.number, &told.unit, room, most, &told.length));
+    REFUSES(BODDURCI_IS_CLOSED, boddurci_stock(&db, "counter", &told.number));
     REFUSES(BODDURCI_IS_CLOSED, boddurci_run(&db, 0, BYTES("a"), BODDURCI_NO_BYTES, 0, 0, 0, &told.end, &told.word));
     REFUSES(BODDURCI_IS_CLOSED, boddurci_first(&db, &told.cursor));
     REFUSES(BODDURCI_IS_CLOSED, boddurci_next(&db, &told.cursor, room, most, &told.length, other, most, &told.more));
@@ -596,7 +597,7 @@ static void test_files(void)
 static void test_texts(void)
 {
     for (uint32_t status = 0; status < 30; status++) {
-        int is_one = status <= BODDURCI_STALE || (status >= BODDURCI_IS_CLOSED && status <= BODDURCI_NO_TICKET);
+        int is_one = status <= BODDURCI_STALE || (status >= BODDURCI_IS_CLOSED && status <= BODDURCI_NO_STOCK);
         EXPECT((strcmp(boddurci_text(status), "no status") != 0) == is_one);
     }
 }
@@ -809,20 +810,36 @@ static int refuse_in_opening(unsigned long nth, struct files files)
     return was_met;
 }
 
+/* The same in pieces, and submissions by name. */
+static int refuse_in_others(unsigned long nth, struct files files)
+{
+    int is_met = 0;
+    for (int others = 0; others < 2; others++) {
+        growths = 0;
+        refused = nth;
+        int ran_out = others == 0 ? reads_in_memory(files) : stocks_in_memory(), was_met = growths >= nth;
+        refused = 0;
+        EXPECT(was_met || !ran_out);
+        is_met = is_met || was_met;
+    }
+    return is_met;
+}
+
 static void test_growths(void)
 {
     uint32_t expected[STEPS];
     struct files whole, made;
     unsigned long nth = 0;
-    int in_steps = 1, in_opening = 1;
+    int in_steps = 1, in_opening = 1, in_others = 1;
     refuse_in_steps(0, expected, &whole);
     for (int step = 0; step < STEPS; step++)
         EXPECT(expected[step] != BODDURCI_NO_MEMORY);
-    while (in_steps || in_opening) {
+    while (in_steps || in_opening || in_others) {
         nth++;
         in_steps = refuse_in_steps(nth, expected, &made);
         EXPECT(are_same(made, whole));
         in_opening = refuse_in_opening(nth, made);
+        in_others = refuse_in_others(nth, made);
         free_files(made);
     }
     free_files(whole);
@@ -851,6 +868,7 @@ static void test_calls(void)
     test_marks();
     test_turns();
     test_files();
+    test_readings();
     test_texts();
 }
 
@@ -862,6 +880,8 @@ int main(int argc, char **argv)
         test_threads(argc > 2 ? atoi(argv[2]) : 2);
     else if (strcmp(what, "growths") == 0)
         test_growths();
+    else if (strcmp(what, "stocks") == 0 && argc > 2)
+        test_stocks(argv[2]);
     else
         test_calls();
     printf("%lu answers as expected\n", looked);

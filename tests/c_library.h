@@ -1,4 +1,4 @@
-/* What tests/c_library.c and tests/c_plans.c share. */
+/* What tests/c_library.c, tests/c_plans.c, tests/c_readings.c and tests/c_stocks.c share. */
 #include "boddurci.h"
 #include <stdio.h>
 #include <stdlib.h>
@@ -32,3 +32,11 @@ void free_files(struct files files);
 /* Plans of saves, and which pages count as changed. */
 void test_plans(uint32_t wide);
 void test_marks(void);
+
+/* Files that are handed over in pieces; and whether memory ran out for these, or for their opening. */
+void test_readings(void);
+int reads_in_memory(struct files files);
+
+/* Stock programs by name, whose texts are in a folder; and whether memory ran out for one. */
+void test_stocks(const char *examples);
+int stocks_in_memory(void);

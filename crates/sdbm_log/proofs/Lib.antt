@@ -1,0 +1,7 @@
+pub mod Header
+pub mod Joins
+pub mod LogRuns
+pub mod Logs
+pub mod Noting
+pub mod Weights
+pub mod Results

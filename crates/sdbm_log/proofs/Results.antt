@@ -1,0 +1,10 @@
+-- Facts of a result.
+use Rattle.std.specs.Prelude.{Result, Ok, Err, OnOk, IfOk}
+
+pub both_ok : {T E : Type 0} (r : Result T E) (P Q R : Type 0) → (P → Q → R) → OnOk r P → OnOk r Q → OnOk r R
+both_ok (Ok x) P Q R f p q = f p q
+both_ok (Err x) P Q R f p q = tt
+
+pub both_if : {T E : Type 0} (r : Result T E) (P Q R : T → Type 0) → ((x : T) → P x → Q x → R x) → IfOk r P → IfOk r Q → IfOk r R
+both_if (Ok x) P Q R f p q = f x p q
+both_if (Err x) P Q R f p q = tt

@@ -1,0 +1,234 @@
+-- A log of saves in the redo file: a header of 4,096 bytes, and after it records, one after another, over zeros. Each record holds the plan
+-- of a save. A record that is whole is committed. The plans are done in the data files without a sync, so a crash may leave a mix of old and
+-- new bytes there; all plans of the log done again make them whole (a redo log: Gray and Reuter, Transaction Processing 1993, chapter 9).
+-- Byte 0 is the mark: 1 while there are records. The eight bytes after it are "sdbmlog1". A file with the mark and other bytes after it is
+-- the marked plan of one save (specs/Redo.antt of sdbm_saves).
+use Rattle.std.specs.Prelude.{Bool, true, false, if◌then◌else◌, ◌==◌, ◌⊎◌, ◌-◌, ◌*◌, ◌/◌, ◌%◌, Option, MatchOption, ◌<◌, ◌≤◌, ◌≡◌, ◌^◌, ℕ, zero, suc, ◌+◌, List, [], ◌∷◌, ◌++◌, length, take, drop, replicate, get_or}
+use Rattle.std.specs.Borrow.{Bor}
+use Rattle.sdbm_saves.specs.declared.disk.File.TheVariants.{Pages, Directory}
+use Rattle.sdbm_saves.specs.Disk.{Image, written}
+use Rattle.sdbm_saves.specs.Drafts.{spelled}
+use Rattle.sdbm_saves.specs.Redo.{number_at, data_file, count_of, changes_of, new_length, old_length, files, renewed_files, stands_for, CanEnd, IsPlan, Knows, EndsWith}
+
+-- how many bytes are not zero
+abbrev pub nonzero : List ℕ → ℕ
+nonzero [] = 0
+nonzero (zero ∷ bytes) = nonzero bytes
+nonzero (suc b ∷ bytes) = suc (nonzero bytes)
+
+-- a number below 255^4 as four bytes that are not zero, and back
+abbrev pub digits : ℕ → List ℕ
+digits n = suc (n % 255) ∷ suc (n / 255 % 255) ∷ suc (n / 65025 % 255) ∷ suc (n / 16581375 % 255) ∷ []
+
+unfoldable pub weight_at : List ℕ → ℕ
+weight_at log = (get_or log 0 0 - 1) + 255 * (get_or log 1 0 - 1) + 65025 * (get_or log 2 0 - 1) + 16581375 * (get_or log 3 0 - 1)
+
+-- A record of a plan: its weight, the length of the plan, and the plan. The weight is the number of bytes after it that are not zero, in four
+-- bytes that are not zero. A record is written over zeros, so it is whole exactly if it has that weight.
+abbrev pub body_of : List ℕ → List ℕ
+body_of plan = spelled (length plan) ++ plan
+
+abbrev pub record_of : List ℕ → List ℕ
+record_of plan = digits (nonzero (body_of plan)) ++ body_of plan
+
+unfoldable pub is_whole : List ℕ → Bool
+is_whole log = if nonzero (take 4 log) == 4 then nonzero (take (4 + number_at log 4) (drop 4 log)) == weight_at log else false
+
+-- the plan of the first record, and the records after it
+abbrev pub first_plan : List ℕ → List ℕ
+first_plan log = take (number_at log 4) (drop 8 log)
+
+abbrev pub later_records : List ℕ → List ℕ
+later_records log = drop (8 + number_at log 4) log
+
+-- how many whole records these bytes begin with
+abbrev pub wholes : ℕ → List ℕ → ℕ
+wholes zero log = 0
+wholes (suc fuel) log = if is_whole log then suc (wholes fuel (later_records log)) else 0
+
+abbrev pub number_in : List ℕ → ℕ
+number_in log = wholes (length log) log
+
+-- the bytes after the first n records
+abbrev pub after_records : ℕ → List ℕ → List ℕ
+after_records zero log = log
+after_records (suc n) log = after_records n (later_records log)
+
+-- These bytes may be a record that a crash has cut short, with zeros after it: if its weight is there, no more bytes that are not zero follow
+-- than the weight says.
+abbrev pub MayBeTorn : List ℕ → Type 0
+MayBeTorn rest = nonzero (take 4 rest) ≡ 4 → nonzero (drop 4 rest) ≤ weight_at rest
+
+-- the bytes are n whole records and nothing else
+abbrev pub AreRecords : ℕ → List ℕ → Type 0
+AreRecords zero log = log ≡ []
+AreRecords (suc n) log = (is_whole log ≡ true) × ((8 + number_at log 4 ≤ length log) × AreRecords n (later_records log))
+
+-- the first n records have plans
+abbrev pub ArePlans : ℕ → List ℕ → Type 0
+ArePlans zero log = Unit {0}
+ArePlans (suc n) log = (8 + number_at log 4 ≤ length log) × (IsPlan (first_plan log) × ArePlans n (later_records log))
+
+-- A plan and the next one as one plan: the old lengths of the first, the new ones of the next, and the changes of both.
+abbrev pub joined : List ℕ → List ℕ → List ℕ
+joined first next = written 8 (take 8 (drop 8 next)) (written 24 (spelled (count_of first + count_of next)) first) ++ changes_of next
+
+-- a plan and the n plans after it, as one
+abbrev pub joined_all : List ℕ → ℕ → List ℕ → List ℕ
+joined_all plan zero log = plan
+joined_all plan (suc n) log = joined_all (joined plan (first_plan log)) n (later_records log)
+
+-- the plans of the first n records as one
+abbrev pub log_plan : ℕ → List ℕ → List ℕ
+log_plan zero log = []
+log_plan (suc n) log = joined_all (first_plan log) n (later_records log)
+
+-- n plans, which are one as `first`, and the next one
+abbrev pub next_plan : ℕ → List ℕ → List ℕ → List ℕ
+next_plan zero first next = next
+next_plan (suc n) first next = joined first next
+
+-- the bytes of a redo file after the header
+abbrev pub records_of : List ℕ → List ℕ
+records_of redo = drop 4096 redo
+
+-- "sdbm" and "log1" as numbers
+abbrev pub is_signed : List ℕ → Bool
+is_signed redo = if number_at redo 1 == 1835164787 then number_at redo 5 == 828862316 else false
+
+-- a redo file is a log that has records
+abbrev pub is_log : List ℕ → Bool
+is_log redo = if get_or redo 0 0 == 1 then is_signed redo else false
+
+-- a redo file is a log that was closed: its records mean nothing
+pub record IsClosedLog (redo : List ℕ) : Type 0 where
+  pub unmarked : get_or redo 0 0 ≡ 0
+  pub signed : is_signed redo ≡ true
+  pub header : 4096 ≤ length redo
+
+-- an empty log of this length
+abbrev pub empty_log : ℕ → List ℕ
+empty_log len = 0 ∷ 115 ∷ 100 ∷ 98 ∷ 109 ∷ 108 ∷ 111 ∷ 103 ∷ 49 ∷ replicate (len - 9) 0
+
+-- how many saves are committed in a log, and all of them as one plan
+abbrev pub number_by : Bool → List ℕ → ℕ
+number_by true redo = number_in (records_of redo)
+number_by false redo = 0
+
+abbrev pub number_of : Image → ℕ
+number_of image = number_by (is_log image.redo) image.redo
+
+abbrev pub plan_of : Image → List ℕ
+plan_of image = log_plan (number_of image) (records_of image.redo)
+
+-- both data files with n plans done, which are one as `plan`
+abbrev pub with_plan : ℕ → List ℕ → Image → List ℕ × List ℕ
+with_plan zero plan image = files image
+with_plan (suc n) plan image = renewed_files plan image
+
+abbrev pub KnownBy : ℕ → List ℕ → Image → Type 0
+KnownBy zero plan image = Unit {0}
+KnownBy (suc n) plan image = IsPlan plan × Knows plan (files image)
+
+-- The plans of a log can be done again: each whole record has a plan, together they know the data files, and what follows them may be a
+-- record that was never committed.
+pub record CanReplay (image : Image) : Type 0 where
+  pub plans : ArePlans (number_of image) (records_of image.redo)
+  pub known : KnownBy (number_of image) (plan_of image) image
+  pub rest : MayBeTorn (after_records (number_of image) (records_of image.redo))
+
+-- the data files that an image means, whatever a crash made of it
+abbrev pub files_by : Bool → Image → List ℕ × List ℕ
+files_by true image = with_plan (number_of image) (plan_of image) image
+files_by false image = stands_for image
+
+abbrev pub files_of : Image → List ℕ × List ℕ
+files_of image = files_by (is_log image.redo) image
+
+-- an image can be recovered
+abbrev pub CanRecoverBy : Bool → Image → Type 0
+CanRecoverBy true image = CanReplay image
+CanRecoverBy false image = CanEnd image
+
+abbrev pub CanRecover : Image → Type 0
+CanRecover image = CanRecoverBy (is_log image.redo) image
+
+-- an image means these files, and can be recovered
+abbrev pub Holds : List ℕ × List ℕ → Image → Type 0
+Holds both image = (files_of image ≡ both) × CanRecover image
+
+-- What a crash may leave of a log that is read: the same records, the same nine bytes before the header's notes, but the mark may be missing
+-- while there are no records. The notes, from byte 16 on, may be any.
+pub record IsKeptLog (read left : List ℕ) : Type 0 where
+  pub records : records_of left ≡ records_of read
+  pub signed : (i : ℕ) → 1 ≤ i → i < 9 → get_or left i 0 ≡ get_or read i 0
+  pub mark : (get_or left 0 0 ≡ get_or read 0 0) ⊎ ((get_or left 0 0 ≡ 0) × (number_in (records_of read) ≡ 0))
+
+abbrev pub KeepsLog : {D : Type 0} → (D → Image) → (D → Image → Type 0) → D → Type 0
+KeepsLog seen may_leave disk = (c : Image) → may_leave disk c → IsKeptLog (seen disk).redo c.redo
+
+-- Between two saves: the log is on the disk, what is read means itself, and what a crash leaves means the same.
+pub record IsDurable {D : Type 0} (seen : D → Image) (may_leave : D → Image → Type 0) (disk : D) : Type 0 where
+  pub kept : KeepsLog seen may_leave disk
+  pub now : Holds (files (seen disk)) (seen disk)
+  pub holds : (c : Image) → may_leave disk c → Holds (files (seen disk)) c
+
+-- the records end at this offset, and zeros follow
+pub record HasRecords (end : ℕ) (log : List ℕ) : Type 0 where
+  pub number : ℕ
+  pub records : List ℕ
+  pub slack : List ℕ
+  pub is : log ≡ records ++ slack
+  pub are : AreRecords number records
+  pub ends : end ≡ length records
+  pub zeros : nonzero slack ≡ 0
+
+-- No length falls from one plan to the next, and their changes are few enough to be counted as one plan's.
+pub record Grows (first next : List ℕ) : Type 0 where
+  pub so_far : (g : ℕ) → old_length (data_file g) first ≤ new_length (data_file g) first
+  pub on : (g : ℕ) → new_length (data_file g) first ≤ new_length (data_file g) next
+  pub few : count_of first + count_of next < 2 ^ 32
+
+-- a plan may follow n plans, which are one as `first`
+abbrev pub CanFollow : ℕ → List ℕ → List ℕ → Type 0
+CanFollow zero first next = Unit {0}
+CanFollow (suc n) first next = Grows first next
+
+-- no file is shorter after a plan
+pub record IsGrowing (plan : List ℕ) : Type 0 where
+  pub pages : old_length Pages plan ≤ new_length Pages plan
+  pub directory : old_length Directory plan ≤ new_length Directory plan
+
+-- a growing plan may follow n plans, which are one as `first` and have this number of changes
+abbrev pub MayGrow : ℕ → List ℕ → ℕ → Type 0
+MayGrow zero first count = Unit {0}
+MayGrow (suc n) first count = ((g : ℕ) → old_length (data_file g) first ≤ new_length (data_file g) first) × (count_of first ≡ count)
+
+-- A save is committed and its plan not yet done: the plan is the last of the log, which is on the disk, and what is read and what a crash
+-- leaves means the files with the plan done.
+pub record IsCommitted {D : Type 0} (plan : List ℕ) (seen : D → Image) (may_leave : D → Image → Type 0) (disk : D) : Type 0 where
+  pub kept : KeepsLog seen may_leave disk
+  pub some : 1 ≤ number_of (seen disk)
+  pub last : EndsWith (plan_of (seen disk)) plan
+  pub now : Holds (renewed_files plan (seen disk)) (seen disk)
+  pub holds : (c : Image) → may_leave disk c → Holds (renewed_files plan (seen disk)) c
+
+-- the plan of a log as code has it: `None` if there are no records
+abbrev pub IsPlanOf : Image → Option (Bor (List ℕ)) → Type 0
+IsPlanOf image plan = MatchOption plan (number_of image ≡ 0) (λ p. (1 ≤ number_of image) × (p.now ≡ plan_of image))
+
+-- a redo file is a log whose records end at this offset: the mark is set exactly if there are some
+pub record IsLogFile (end : ℕ) (redo : List ℕ) : Type 0 where
+  pub signed : is_signed redo ≡ true
+  pub mark : ((end ≡ 0) × (get_or redo 0 0 ≡ 0)) ⊎ (get_or redo 0 0 ≡ 1)
+  pub place : HasRecords end (records_of redo)
+
+-- A disk whose log can take the next record: its records end at this offset of this room after the header, and have this number of changes.
+pub record IsReady {D : Type 0} (end room count : ℕ) (seen : D → Image) (may_leave : D → Image → Type 0) (disk : D) : Type 0 where
+  pub durable : IsDurable seen may_leave disk
+  pub file : IsLogFile end (seen disk).redo
+  pub long : length (seen disk).redo ≡ 4096 + room
+  pub near : room ≤ 2 ^ 31
+  pub few : count < 2 ^ 32
+  pub none : number_of (seen disk) ≡ 0 → count ≡ 0
+  pub grow : MayGrow (number_of (seen disk)) (plan_of (seen disk)) count

@@ -1,0 +1,23 @@
+//! A log of saves: a save appends one record to the redo file and flushes it once, and then writes the data files in place without a
+//! flush. A checkpoint flushes those and empties the log. Nothing here opens, locks or names files.
+#![tactic(auto)]
+
+mod emptying;
+mod log;
+mod notes;
+mod reading;
+mod records;
+mod recovery;
+mod runs;
+mod saving;
+#[cfg(test)]
+mod tests;
+
+pub use emptying::{checkpoint, close_log};
+pub use log::{append, apply};
+pub use notes::write_notes;
+pub use reading::read_through;
+pub use records::{LogFault, is_closed_log, is_log, plan_of, record_of, used_room};
+pub use recovery::{empty_log, recover, restart_log, start_log};
+pub use runs::all_runs;
+pub use saving::{Log, Saved, save};

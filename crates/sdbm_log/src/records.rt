@@ -1,0 +1,380 @@
+// The records of a log, and their plans as one plan.
+ghost use Rattle.std.specs.Prelude.{◌≡◌, ◌-◌, ◌≤◌, ◌+◌, ◌↔◌, ℕ, ◌∷◌, [], ◌<◌, ◌^◌, length, take, drop, get_or, true, false, IsTrue, OnOk, IfOk, IfSome, IsNone, IfErr};
+ghost use Rattle.sdbm_saves.specs.Redo.{number_at, count_of, IsPlan, Knows};
+ghost use Rattle.sdbm_saves.specs.Disk.{written};
+ghost use Rattle.sdbm_saves.specs.Drafts.{spelled};
+ghost use Rattle.sdbm_saves.specs.Recording.{image_of};
+ghost use Rattle.sdbm_log.specs.Log.{nonzero, digits, record_of, records_of, weight_at, is_whole, is_signed, is_log, number_in, first_plan, later_records, after_records, MayBeTorn, ArePlans, joined, log_plan, number_of, plan_of, CanRecover, IsClosedLog};
+ghost use Rattle.sdbm_log.specs.declared.records.LogFault.TheVariants.{Foreign, Damaged};
+
+use crate::log::HEADER;
+use sdbm_saves::{Contents, Found, byte_at, can_end, is_plan, knows, number, spelled, write_in};
+use std::alloc::{AllocError, Allocator, Global};
+
+// "sdbm" and "log1" as numbers.
+const SDBM: usize = 1835164787;
+
+const LOG1: usize = 828862316;
+
+/// Why an interrupted run cannot be recovered.
+#[derive(Clone, Copy, Debug, PartialEq, Eq)]
+pub enum LogFault {
+    /// Out of memory.
+    NoMemory,
+    /// The plans in the redo file are not whole, or are not those of these data files.
+    Foreign,
+    /// A record in the log is damaged, and no crash does that.
+    Damaged,
+}
+
+impl From<AllocError> for LogFault {
+    ghost use Rattle.sdbm_log.specs.declared.records.LogFault.TheVariants.{NoMemory};
+
+    ghost from_gives = { λ _ e. e ≡ NoMemory };
+
+    fn from(_: AllocError) -> Self {
+        LogFault::NoMemory
+    }
+}
+
+/// Whether a redo file is a log that has records: byte 0 is 1, and "sdbmlog1" follows.
+pub fn is_log(redo: &[u8]) -> bool
+    ensures { result ≡ is_log redo.now }
+{
+    if byte_at(redo, 0) != 1 {
+        return false;
+    }
+    is_signed(redo)
+}
+
+/// Whether a redo file is a log that was closed: byte 0 is 0, "sdbmlog1" follows, and the header is whole. `restart_log` may use it again.
+pub fn is_closed_log(redo: &[u8]) -> bool
+    ensures { IsTrue result ↔ IsClosedLog redo.now }
+{
+    if redo.len() < HEADER || byte_at(redo, 0) != 0 {
+        return false;
+    }
+    is_signed(redo)
+}
+
+/// How many bytes of a redo file after the header are used: only zeros follow them.
+pub fn used_room(redo: &[u8]) -> usize
+    ensures inside { result ≤ length (records_of redo.now) }
+    ensures rest { nonzero (drop result (records_of redo.now)) ≡ 0 }
+{
+    let log = records_of(redo);
+    for index in 0..log.len() {
+        let end = log.len() - index;
+        if log[end - 1] != 0 {
+            return end;
+        }
+    }
+    0
+}
+
+// Whether the signature of a log follows byte 0.
+fn is_signed(redo: &[u8]) -> bool
+    ensures { result ≡ is_signed redo.now }
+{
+    if number_in(redo, 1) != SDBM {
+        return false;
+    }
+    number_in(redo, 5) == LOG1
+}
+
+// Four bytes as a number, the low one first. A byte past the end counts as zero.
+#[tactic(auto, unfolding(sdbm_saves::specs::Redo::number_at))]
+fn number_in(bytes: &[u8], at: usize) -> usize
+    requires { at < 2 ^ 32 }
+    ensures value { result ≡ number_at bytes.now at }
+    ensures small { result < 2 ^ 32 }
+{
+    usize::from(byte_at(bytes, at))
+        + 256 * usize::from(byte_at(bytes, at + 1))
+        + 65536 * usize::from(byte_at(bytes, at + 2))
+        + 16777216 * usize::from(byte_at(bytes, at + 3))
+}
+
+/// The plans of a log as one plan, which `recover` needs. `None` if the redo file is not a log or has no records.
+///
+/// # Errors
+///
+/// If the files cannot be recovered: `Foreign` if a record has no plan or the plans do not know the data files, and `Damaged` if a record is
+/// damaged. `NoMemory` if memory runs out.
+pub fn plan_of(alloc: Global, found: &Found) -> Result<Option<Vec<u8>>, LogFault>
+    ensures some { IfOk result (λ found_plan. IfSome found_plan (λ plan. (1 ≤ number_of (image_of found.now)) × ((plan.items ≡ plan_of (image_of found.now)) × CanRecover (image_of found.now)))) }
+    ensures none { IfOk result (λ found_plan. IsNone found_plan → (number_of (image_of found.now) ≡ 0) × CanRecover (image_of found.now)) }
+    ensures foreign { IfErr result (λ fault. fault ≡ Foreign → CanRecover (image_of found.now) → ⊥) }
+    ensures damaged { IfErr result (λ fault. fault ≡ Damaged → CanRecover (image_of found.now) → ⊥) }
+{
+    if !is_log(found.redo.as_slice()) {
+        return old_plan(found);
+    }
+    plan_of_log(alloc, found)
+}
+
+// The same if the redo file is no log.
+fn old_plan(found: &Found) -> Result<Option<Vec<u8>>, LogFault>
+    requires { is_log found.now.redo.items ≡ false }
+    ensures some { IfOk result (λ found_plan. IfSome found_plan (λ plan. ⊥)) }
+    ensures none { IfOk result (λ found_plan. IsNone found_plan → (number_of (image_of found.now) ≡ 0) × CanRecover (image_of found.now)) }
+    ensures foreign { IfErr result (λ fault. fault ≡ Foreign → CanRecover (image_of found.now) → ⊥) }
+    ensures damaged { IfErr result (λ fault. fault ≡ Damaged → CanRecover (image_of found.now) → ⊥) }
+{
+    if can_end(found) {
+        Ok(None)
+    } else {
+        Err(LogFault::Foreign)
+    }
+}
+
+// The same if it is a log.
+fn plan_of_log(alloc: Global, found: &Found) -> Result<Option<Vec<u8>>, LogFault>
+    requires { is_log found.now.redo.items ≡ true }
+    ensures some { IfOk result (λ found_plan. IfSome found_plan (λ plan. (1 ≤ number_of (image_of found.now)) × ((plan.items ≡ plan_of (image_of found.now)) × CanRecover (image_of found.now)))) }
+    ensures none { IfOk result (λ found_plan. IsNone found_plan → (number_of (image_of found.now) ≡ 0) × CanRecover (image_of found.now)) }
+    ensures foreign { IfErr result (λ fault. fault ≡ Foreign → CanRecover (image_of found.now) → ⊥) }
+    ensures damaged { IfErr result (λ fault. fault ≡ Damaged → CanRecover (image_of found.now) → ⊥) }
+{
+    let redo = found.redo.as_slice();
+    let log = records_of(redo);
+    let count = wholes(log);
+    let rest = after_records(count, log);
+    if !may_be_torn(rest) {
+        return Err(LogFault::Damaged);
+    }
+    if count == 0 {
+        return Ok(None);
+    }
+    if !are_plans(count, log) {
+        return Err(LogFault::Foreign);
+    }
+    let plan = joined_plan(alloc, count, log)?;
+    let both = Contents {
+        pages: found.pages.as_slice(),
+        directory: found.directory.as_slice(),
+    };
+    if !is_plan(plan.as_slice()) {
+        return Err(LogFault::Foreign);
+    }
+    if !knows(plan.as_slice(), both) {
+        return Err(LogFault::Foreign);
+    }
+    Ok(Some(plan))
+}
+
+// The bytes of a redo file after the header.
+fn records_of(redo: &[u8]) -> &[u8]
+    ensures { result.now ≡ records_of redo.now }
+{
+    &redo[redo.len().min(HEADER)..]
+}
+
+// How many whole records a log begins with.
+fn wholes(log: &[u8]) -> usize
+    ensures { result ≡ number_in log.now }
+{
+    let mut rest = log;
+    for index in 0..log.len() {
+        if !is_whole(rest) {
+            return index;
+        }
+        rest = after_first(rest);
+    }
+    log.len()
+}
+
+// The bytes after the first records of a log.
+fn after_records(count: usize, log: &[u8]) -> &[u8]
+    ensures { result.now ≡ after_records count log.now }
+{
+    let mut rest = log;
+    for index in 0..count {
+        rest = after_first(rest);
+    }
+    rest
+}
+
+// Whether these bytes may be a record that a crash has cut short.
+fn may_be_torn(rest: &[u8]) -> bool
+    ensures { IsTrue result ↔ MayBeTorn rest.now }
+{
+    if rest.len() < 4 {
+        return true;
+    }
+    if nonzero(&rest[..4]) != 4 {
+        return true;
+    }
+    nonzero(&rest[4..]) <= weight(rest)
+}
+
+// Whether a log begins with a whole record.
+fn is_whole(log: &[u8]) -> bool
+    ensures { result ≡ is_whole log.now }
+{
+    if log.len() < 4 {
+        return false;
+    }
+    if nonzero(&log[..4]) != 4 {
+        return false;
+    }
+    let end = log.len().min(8 + number_in(log, 4));
+    nonzero(&log[4..end]) == weight(log)
+}
+
+// The weight of the first record of a log.
+#[tactic(auto, unfolding(crate::specs::Log::weight_at))]
+fn weight(log: &[u8]) -> usize
+    ensures { result ≡ weight_at log.now }
+{
+    usize::from(byte_at(log, 0)).saturating_sub(1)
+        + 255 * usize::from(byte_at(log, 1)).saturating_sub(1)
+        + 65025 * usize::from(byte_at(log, 2)).saturating_sub(1)
+        + 16581375 * usize::from(byte_at(log, 3)).saturating_sub(1)
+}
+
+// How many bytes are not zero.
+fn nonzero(bytes: &[u8]) -> usize
+    ensures is { result ≡ nonzero bytes.now }
+    ensures few { result ≤ length bytes.now }
+{
+    let mut count = 0;
+    for index in 0..bytes.len() {
+        count += nonzero_byte(bytes[index]);
+    }
+    count
+}
+
+// 1 for a byte that is not zero.
+fn nonzero_byte(byte: u8) -> usize
+    ensures is { result ≡ nonzero (byte ∷ []) }
+    ensures small { result ≤ 1 }
+{
+    if byte == 0 { 0 } else { 1 }
+}
+
+// The bytes after the first record of a log, of which a part may be missing.
+fn after_first(log: &[u8]) -> &[u8]
+    ensures { result.now ≡ later_records log.now }
+{
+    let start = log.len().min(8 + number_in(log, 4));
+    &log[start..]
+}
+
+// Whether the first records of a log have plans.
+fn are_plans(count: usize, log: &[u8]) -> bool
+    ensures { IsTrue result ↔ ArePlans count log.now }
+{
+    let mut rest = log;
+    for index in 0..count {
+        if !has_plan(rest) {
+            return false;
+        }
+        rest = later_records(rest);
+    }
+    true
+}
+
+// Whether the first record of a log has a plan.
+fn has_plan(log: &[u8]) -> bool
+    ensures { IsTrue result ↔ (8 + number_at log.now 4 ≤ length log.now) × IsPlan (first_plan log.now) }
+{
+    if log.len() < 8 || number(log, 4) > log.len() - 8 {
+        return false;
+    }
+    is_plan(first_plan(log))
+}
+
+// The first plan of a log.
+fn first_plan(log: &[u8]) -> &[u8]
+    requires { 8 + number_at log.now 4 ≤ length log.now }
+    ensures { result.now ≡ first_plan log.now }
+{
+    let size = number(log, 4);
+    &log[8..8 + size]
+}
+
+// The bytes after the first record of a log.
+fn later_records(log: &[u8]) -> &[u8]
+    requires { 8 + number_at log.now 4 ≤ length log.now }
+    ensures { result.now ≡ later_records log.now }
+{
+    let size = number(log, 4);
+    &log[8 + size..]
+}
+
+// The plans of the first records of a log as one.
+fn joined_plan<A: Allocator>(alloc: A, count: usize, log: &[u8]) -> Result<Vec<u8, A>, AllocError>
+    requires some { 1 ≤ count }
+    requires whole { ArePlans count log.now }
+    ensures { IfOk result (λ plan. plan.items ≡ log_plan count log.now) }
+{
+    let mut plan = Vec::from_slice(alloc, first_plan(log))?;
+    let mut rest = later_records(log);
+    for index in 1..count {
+        join(&mut plan, first_plan(rest))?;
+        rest = later_records(rest);
+    }
+    Ok(plan)
+}
+
+// Appends a plan to others, as one with them.
+fn join<A: Allocator>(plan: &mut Vec<u8, A>, next: &[u8]) -> Result<(), AllocError>
+    requires plan { 28 ≤ length plan.old.items }
+    requires next { 28 ≤ length next.now }
+    ensures { OnOk result (plan.new.items ≡ joined plan.old.items next.now) }
+{
+    write_head(plan, next);
+    plan.extend_from_slice(&next[28..])?;
+    Ok(())
+}
+
+// Makes the head of a plan that of both.
+fn write_head<A: Allocator>(plan: &mut Vec<u8, A>, next: &[u8])
+    requires plan { 28 ≤ length plan.old.items }
+    requires next { 28 ≤ length next.now }
+    ensures { plan.new.items ≡ written 8 (take 8 (drop 8 next.now)) (written 24 (spelled (count_of plan.old.items + count_of next.now)) plan.old.items) }
+{
+    join_heads(plan.as_mut_slice(), next);
+}
+
+// Writes the new lengths and the number of changes of both plans into the first one.
+fn join_heads(plan: &mut [u8], next: &[u8])
+    requires plan { 28 ≤ length plan.old }
+    requires next { 28 ≤ length next.now }
+    ensures { plan.new ≡ written 8 (take 8 (drop 8 next.now)) (written 24 (spelled (count_of plan.old + count_of next.now)) plan.old) }
+{
+    let count = number(plan, 24) + number(next, 24);
+    write_in(plan, 24, &spelled(count));
+    write_in(plan, 8, &next[8..16]);
+}
+
+/// The record of a plan, as `append` writes it: its weight, its length, and the plan.
+///
+/// # Errors
+///
+/// `AllocError` if memory runs out.
+pub fn record_of<A: Allocator>(alloc: A, plan: &[u8]) -> Result<Vec<u8, A>, AllocError>
+    requires { length plan.now < 2 ^ 31 }
+    ensures { IfOk result (λ bytes. bytes.items ≡ record_of plan.now) }
+{
+    let size = spelled(plan.len());
+    let count = nonzero(&size) + nonzero(plan);
+    let mut bytes = Vec::new(alloc);
+    bytes.extend_from_slice(&digits(count))?;
+    bytes.extend_from_slice(&size)?;
+    bytes.extend_from_slice(plan)?;
+    Ok(bytes)
+}
+
+// A number as four bytes that are not zero.
+fn digits(number: usize) -> [u8; 4]
+    ensures { result ≡ digits number }
+{
+    [
+        (number % 255 + 1) as u8,
+        (number / 255 % 255 + 1) as u8,
+        (number / 65025 % 255 + 1) as u8,
+        (number / 16581375 % 255 + 1) as u8,
+    ]
+}

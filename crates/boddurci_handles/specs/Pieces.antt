@@ -27,14 +27,15 @@ abbrev pub DeniesPiece : PagRead → List ℕ → Status → Type 0
 DeniesPiece read piece status =
     ((status ≡ BadFiles) × (length read.bytes % page_bytes read.size ≢ 0)) ⊎ ((status ≡ TooLong) × (2 ^ 63 ≤ length read.bytes + length piece))
 
--- a piece is read after the others
+-- a piece that may follow is read after the others
 pub record HasPiece (size : PageSize) (piece : List ℕ) (old new : Option Pieces) : Type 0 where
+  pub may_follow : MayFollow (read_so_far size old) piece
   pub pieces : Pieces
   pub new_is : new ≡ Some pieces
   pub is : pieces.pages ≡ with_piece (read_so_far size old) piece
 
--- A piece is read; or it may not follow, and all is as it was; or memory ran out, and nothing is read.
+-- A piece is read; or it may not follow, and all is as it was; or memory ran out for one that may, and nothing is read.
 abbrev pub ReadsPiece : PageSize → List ℕ → Option Pieces → Option Pieces → Status → Type 0
 ReadsPiece size piece old new status =
     ((status ≡ Done) × HasPiece size piece old new)
-    ⊎ (((new ≡ old) × DeniesPiece (read_so_far size old) piece status) ⊎ ((status ≡ NoMemory) × (new ≡ None)))
+    ⊎ (((new ≡ old) × DeniesPiece (read_so_far size old) piece status) ⊎ ((status ≡ NoMemory) × ((new ≡ None) × MayFollow (read_so_far size old) piece)))

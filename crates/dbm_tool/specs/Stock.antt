@@ -1,22 +1,21 @@
 -- Stock programs, where the words of a command line name them.
-use Rattle.std.specs.Prelude.{◌≡◌, ⊥, ℕ, Bool, List, Option, Some, None, IsSomeAnd}
-use Rattle.clap.specs.Words.{Text}
+use Rattle.std.specs.Prelude.{◌≡◌, ℕ, Bool, List, Option, Some, None, IsSomeAnd}
 use Rattle.stock_names.specs.Names.{IsFileOf, code_of, word_named}
 use Rattle.stock_names.specs.declared.ProgramWord.{ProgramWord}
 use Rattle.stock_names.specs.declared.ProgramWord.TheVariants as words
 
 -- What the word for a program names. Without a word nothing is read, as for a file that is not there.
-abbrev pub word_in : Option Text → ProgramWord
+abbrev pub word_in : Option (List ℕ) → ProgramWord
 word_in None = words.File
 word_in (Some word) = word_named word
 
-abbrev only_file : Text → ProgramWord → Option Text
+abbrev only_file : List ℕ → ProgramWord → Option (List ℕ)
 only_file word words.File = Some word
 only_file word (words.Stock _) = None
 only_file word words.Unknown = None
 
 -- The file that the word for a program names.
-abbrev pub file_in : Option Text → Option Text
+abbrev pub file_in : Option (List ℕ) → Option (List ℕ)
 file_in None = None
 file_in (Some word) = only_file word (word_named word)
 

@@ -40,7 +40,7 @@ pub fn file_or_unknown<'a>(word: Option<&'a str>) -> Option<&'a str> {
 /// # Errors
 /// `NoStock` if no stock program has the name, and `NoMemory`.
 pub fn stock_file(alloc: Global, wish: &Wish<'_>) -> Result<Option<Vec<u8>>, ServeFault>
-    ensures ok { IfOk result (IsStockFile (takes_image wish.now) (word_in (file_of wish.now))) }
+    ensures ok { IfOk result (λ file. IsStockFile (takes_image wish.now) (word_in (file_of wish.now)) (option_map (λ bytes. bytes.items) file)) }
     ensures fault { IfErr result (λ fault. (fault ≡ NoMemory) ⊎ ((fault ≡ NoStock) × (word_in (file_of wish.now) ≡ Unknown))) }
 {
     let Some(word) = wish.file() else {

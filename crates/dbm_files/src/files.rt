@@ -126,6 +126,8 @@ fn take_to_write<R: Files<File = File> + Clock + AllocGlobal>(
     }
     let bytes = read_database(rt, place, &files, None)?;
     let seen = bytes.seen;
+    // A save that was cut off may have been ended, and may have made a file.
+    files.hold_data(rt);
     files.must_be_open(&seen)?;
     let held = LockedFiles {
         place: files,

@@ -181,7 +181,8 @@ impl Place {
         })
     }
 
-    /// Holds the data files open that the names refer to now. Files that are read afterwards have to be these (`must_be_open`).
+    /// Holds the data files open that the names refer to now, beside those that it holds already. Files that are read afterwards have to be
+    /// these (`must_be_open`).
     pub fn hold_data<R: Files<File = File>>(&mut self, rt: &R) {
         self.data.open_more(rt, &self.names);
     }

@@ -12,7 +12,7 @@ static uint32_t read_in(boddurci_reading *reading, uint32_t wide, const uint8_t 
     return status;
 }
 
-/* A base of some pairs, with a page of zeros behind which there are others. */
+/* A base of some pairs, with a page of zeros between others. */
 static struct files made(uint32_t wide)
 {
     boddurci db = BODDURCI_CLOSED;

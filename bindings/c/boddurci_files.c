@@ -165,7 +165,7 @@ static void let_both_go(struct boddurci_bytes *files)
     boddurci_let_go(&files[BODDURCI_DIRECTORY]);
 }
 
-/* What an opening has read: all of .dir, and the pages of .pag, of which it never has the bytes as well. */
+/* The data that an opening reads: all bytes of .dir, and the pages of .pag without its bytes. */
 struct parts {
     struct boddurci_bytes directory;
     boddurci_reading pages;

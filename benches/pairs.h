@@ -1,4 +1,5 @@
-/* The pairs of benches/one.c and benches/saves.c: a key for each number, and a value of one byte over and over. */
+/* The pairs of benches/one.c and benches/saves.c, and the keys of benches/durable.c: a key for each number, and a value of one byte over and
+ * over. */
 #include <stdint.h>
 #include <string.h>
 
@@ -15,12 +16,17 @@ static uint64_t mixed(uint64_t number)
     return number ^ number >> 31;
 }
 
-static void make(unsigned i, char with)
+static void make_key(char *bytes, unsigned i)
 {
     for (unsigned half = 0; half < 2; half++) {
         uint64_t number = mixed(2 * (uint64_t)i + half);
         for (unsigned byte = 0; byte < 8; byte++)
-            key[8 * half + byte] = (char)(number >> 8 * byte);
+            bytes[8 * half + byte] = (char)(number >> 8 * byte);
     }
+}
+
+static void make(unsigned i, char with)
+{
+    make_key(key, i);
     memset(value, with, sizeof value);
 }

@@ -3,5 +3,6 @@ pub mod Joins
 pub mod LogRuns
 pub mod Logs
 pub mod Noting
+pub mod Places
 pub mod Weights
 pub mod Results

@@ -8,3 +8,7 @@ both_ok (Err x) P Q R f p q = tt
 pub both_if : {T E : Type 0} (r : Result T E) (P Q R : T → Type 0) → ((x : T) → P x → Q x → R x) → IfOk r P → IfOk r Q → IfOk r R
 both_if (Ok x) P Q R f p q = f x p q
 both_if (Err x) P Q R f p q = tt
+
+pub on_if : {T E : Type 0} (r : Result T E) (P Q : T → Type 0) → ((x : T) → P x → Q x) → IfOk r P → IfOk r Q
+on_if (Ok x) P Q f p = f x p
+on_if (Err x) P Q f p = tt

@@ -3,6 +3,7 @@
 #![tactic(auto)]
 
 mod emptying;
+mod knowing;
 mod log;
 mod notes;
 mod reading;

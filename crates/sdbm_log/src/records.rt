@@ -7,8 +7,9 @@ ghost use Rattle.sdbm_saves.specs.Recording.{image_of};
 ghost use Rattle.sdbm_log.specs.Log.{nonzero, digits, record_of, records_of, weight_at, is_whole, is_signed, is_log, number_in, first_plan, later_records, after_records, MayBeTorn, ArePlans, joined, log_plan, number_of, plan_of, CanRecover, IsClosedLog};
 ghost use Rattle.sdbm_log.specs.declared.records.LogFault.TheVariants.{Foreign, Damaged};
 
+use crate::knowing::knows;
 use crate::log::HEADER;
-use sdbm_saves::{Contents, Found, byte_at, can_end, is_plan, knows, number, spelled, write_in};
+use sdbm_saves::{Contents, Found, byte_at, can_end, is_plan, number, spelled, write_in};
 use std::alloc::{AllocError, Allocator, Global};
 
 // "sdbm" and "log1" as numbers.
@@ -157,7 +158,7 @@ fn plan_of_log(alloc: Global, found: &Found) -> Result<Option<Vec<u8>>, LogFault
     if !is_plan(plan.as_slice()) {
         return Err(LogFault::Foreign);
     }
-    if !knows(plan.as_slice(), both) {
+    if !knows(alloc, plan.as_slice(), both)? {
         return Err(LogFault::Foreign);
     }
     Ok(Some(plan))

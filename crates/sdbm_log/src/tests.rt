@@ -134,3 +134,16 @@ fn other_files_are_foreign(rt: HostRuntime) -> Result<(), Fail> {
     assert_eq!(rt; fault, Some(LogFault::Foreign));
     Ok(())
 }
+
+// Both saves change the byte 1 of `.pag`.
+#[test]
+fn a_byte_that_two_saves_change_may_be_that_of_each(rt: HostRuntime) -> Result<(), Fail> {
+    let mut both = record(rt.alloc(), 1, 7)?;
+    both.extend_from_slice(record(rt.alloc(), 1, 9)?.as_slice())?;
+    assert!(rt; reads(rt.alloc(), &[0, 0, 0, 0], both.as_slice(), &[0, 9, 0, 0])?);
+    assert!(rt; reads(rt.alloc(), &[0, 7, 0, 0], both.as_slice(), &[0, 9, 0, 0])?);
+    assert!(rt; reads(rt.alloc(), &[0, 9, 0, 0], both.as_slice(), &[0, 9, 0, 0])?);
+    let fault = fault_of(rt.alloc(), &[0, 5, 0, 0], both.as_slice())?;
+    assert_eq!(rt; fault, Some(LogFault::Foreign));
+    Ok(())
+}

@@ -1,4 +1,4 @@
-use Rattle.std.proofs.Common.{◌≡◌, ℕ, suc, ◌+◌, ◌-◌, ◌<◌, List, sym, ◌∙◌, ap, arith}
+use Rattle.std.proofs.Common.{ℕ, ◌+◌, ◌-◌, List, sym, ◌∙◌, ap}
 use Rattle.sdbm_log.specs.Log.{after_records}
 use Rattle.sdbm_log.proofs.Weights.{one_less}
 use Rattle.sdbm_log.proofs.records.after_records.Goals as goal

@@ -1,4 +1,4 @@
-use Rattle.std.proofs.Common.{◌≡◌, ℕ, suc, ◌+◌, ◌-◌, ◌<◌, List, refl, sym, subst, arith}
+use Rattle.std.proofs.Common.{ℕ, ◌+◌, ◌-◌, List, refl, sym, subst}
 use Rattle.sdbm_log.specs.Log.{ArePlans}
 use Rattle.sdbm_saves.proofs.Knowing.{never}
 use Rattle.sdbm_log.proofs.Logs.{whole_first, whole_again}

@@ -1,4 +1,4 @@
-use Rattle.std.proofs.Common.{◌≡◌, ◌≤◌, ◌<◌, ℕ, suc, ◌+◌, ◌-◌, List, length, sym, ◌∙◌, ap, subst, arith}
+use Rattle.std.proofs.Common.{◌≡◌, ◌≤◌, ℕ, suc, ◌+◌, ◌-◌, List, length, sym, ◌∙◌, ap, subst, arith}
 use Rattle.sdbm_log.specs.Log.{first_plan, later_records, ArePlans, joined, joined_all, log_plan}
 use Rattle.sdbm_log.proofs.Joins.{joined_long}
 use Rattle.sdbm_log.proofs.Logs.{whole_first, joined_first, joined_start}

@@ -6,13 +6,13 @@ use Rattle.sdbm_log.specs.Log.{records_of, number_in, ArePlans, after_records, M
 use Rattle.sdbm_log.proofs.Logs.{known_some, found_some, found_none}
 use Rattle.sdbm_log.proofs.records.plan_of_log.Goals as goal
 
-pub returns-then-not-knows-clause-foreign : goal.returns-then-not-knows-clause-foreign
-returns-then-not-knows-clause-foreign c = λ is can.
+pub returns-then-not-branch-clause-foreign : goal.returns-then-not-branch-clause-foreign
+returns-then-not-branch-clause-foreign c = λ is can.
     let some : 1 ≤ number_of (image_of c.args.found.now) = search rules in
     let whole : c.in_ok-plan.plan.items ≡ plan_of (image_of c.args.found.now) = search rules in
     let both = known_some (image_of c.args.found.now) some can in
     let is_plan : c.as_slice-4.result.now ≡ plan_of (image_of c.args.found.now) = c.as_slice-4.ensures.value ∙ whole in
-    never (c.if-not-knows.ensures.1
+    never (sym c.if-not-branch.true ∙ c.in_ok-knows.ensures.1
     (subst (λ (l : List ℕ). Knows l (c.as_slice.result.now, c.as_slice-2.result.now)) (sym is_plan)
     (subst (λ (p : List ℕ × List ℕ). Knows (plan_of (image_of c.args.found.now)) p) (λ i. (sym c.as_slice.ensures.value i, sym c.as_slice-2.ensures.value i)) both.1)))
 
@@ -27,7 +27,7 @@ returns-clause-some c =
     (c.in_ok-plan.ensures ∙ ap (λ (l : List ℕ). log_plan c.wholes-count.result l) log)
     (subst (λ (l : List ℕ). IsPlan l) is_plan (c.if-not-is_plan.ensures.0 refl))
     (subst (λ (p : List ℕ × List ℕ). Knows c.in_ok-plan.plan.items p) (λ i. (c.as_slice.ensures.value i, c.as_slice-2.ensures.value i))
-    (subst (λ (l : List ℕ). Knows l (c.as_slice.result.now, c.as_slice-2.result.now)) known_plan (c.if-not-knows.ensures.0 refl)))
+    (subst (λ (l : List ℕ). Knows l (c.as_slice.result.now, c.as_slice-2.result.now)) known_plan (c.in_ok-knows.ensures.0 c.if-not-branch.false)))
     (subst (λ (l : List ℕ). MayBeTorn l) (c.after_records-rest.ensures ∙ ap (λ (l : List ℕ). after_records c.wholes-count.result l) log) (c.if-not-may_be_torn.ensures.0 refl))
 
 pub returns-then-count-eq0-clause-none : goal.returns-then-count-eq0-clause-none

@@ -1,4 +1,4 @@
-use Rattle.std.proofs.Common.{◌≡◌, ◌<◌, ℕ, suc, ◌+◌, ◌-◌, List, length, sym, ◌∙◌, ap, arith}
+use Rattle.std.proofs.Common.{ℕ, ◌+◌, ◌-◌, List, length, sym, ◌∙◌, ap, arith}
 use Rattle.sdbm_log.specs.Log.{wholes}
 use Rattle.sdbm_log.proofs.Weights.{wholes_stop, wholes_go, one_less}
 use Rattle.sdbm_log.proofs.records.wholes.Goals as goal

@@ -1,0 +1,25 @@
+-- The places of one data file in the changes of a plan, and what the plan has for them.
+use Rattle.std.specs.Prelude.{◌<◌, ◌≡◌, ◌⊎◌, ℕ, ◌+◌, List, get_or}
+use Rattle.sdbm_saves.specs.declared.disk.File.{File}
+use Rattle.sdbm_saves.specs.Redo.{file_of, offset_of, size_of, data_of, was_of, IsChangeOf, KnowsBlock}
+
+-- a byte is the one that a change has at an index of its block, or the one that was there
+abbrev pub HasOwn : List ℕ → ℕ → ℕ → Type 0
+HasOwn change i byte = (byte ≡ get_or (data_of change) i 0) ⊎ (byte ≡ get_or (was_of change) i 0)
+
+-- a place is one of the block of a change
+pub record IsIn (change : List ℕ) (at : ℕ) : Type 0 where
+  pub index : ℕ
+  pub covered : index < size_of change
+  pub place : offset_of change + index ≡ at
+
+-- some change of a plan covers a place of a file
+pub record Covers (plan : List ℕ) (file : File) (at : ℕ) : Type 0 where
+  pub change : List ℕ
+  pub one : IsChangeOf plan change
+  pub touches : file_of change ≡ file
+  pub inside : IsIn change at
+
+-- a plan knows one of the data files, but for its length
+abbrev pub KnowsFile : List ℕ → File → List ℕ → Type 0
+KnowsFile plan file bytes = (change : List ℕ) → IsChangeOf plan change → file_of change ≡ file → KnowsBlock plan change bytes

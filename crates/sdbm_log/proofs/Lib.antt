@@ -5,4 +5,5 @@ pub mod Logs
 pub mod Noting
 pub mod Places
 pub mod Weights
+pub mod Words
 pub mod Results

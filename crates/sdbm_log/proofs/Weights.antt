@@ -5,7 +5,7 @@ use Rattle.std.proofs.lemmas.Bool.Decides.{nat_tests}
 use Rattle.std.proofs.lemmas.Bool.{cases_lt}
 use Rattle.std.proofs.lemmas.List.{take_more, ext_get_or, get_or_append_left, get_or-append_right, get_or-take, get_or-drop, length-take, length-take-le, take-append-le, drop-append-le, take-append-drop, take_all, drop_all}
 use Rattle.sdbm_saves.specs.Redo.{number_at}
-use Rattle.sdbm_log.specs.Log.{nonzero, digits, weight_at, body_of, record_of, is_whole, first_plan, later_records, wholes, number_in, AreRecords, after_records, MayBeTorn}
+use Rattle.sdbm_log.specs.Log.{nonzero, digits, weight_at, body_of, record_of, is_whole, first_plan, later_records, wholes, number_in, AreRecords, after_records, MayBeTorn, end_in, HasRecords}
 use Rattle.sdbm_saves.specs.Disk.{Torn}
 use Rattle.sdbm_saves.proofs.Drafts.{number_append}
 use Rattle.sdbm_log.proofs.Header.{test_is, test_not, both_true}
@@ -183,6 +183,20 @@ plans_long (suc n) xs are = omega (arith, plans_long n (later_records xs) are.1.
 
 pub number_log : (n : ℕ) (xs rest : List ℕ) → AreRecords n xs → is_whole rest ≡ false → number_in (xs ++ rest) ≡ n
 number_log n xs rest are none = wholes_are n xs rest (length (xs ++ rest)) are none (omega (arith, plans_long n xs are, length-append xs rest))
+
+pub after_short : (n : ℕ) (log : List ℕ) → length (after_records n log) ≤ length log
+after_short zero log = omega arith
+after_short (suc n) log = omega (arith, after_short n (later_records log), length-drop (8 + number_at log 4) log)
+
+-- the end of the records is found
+pub end_of : (end : ℕ) (log : List ℕ) → HasRecords end log → end_in log ≡ end
+end_of end log place =
+    let number : number_in log ≡ place.number = ap (λ (l : List ℕ). number_in l) place.is ∙ number_log place.number place.records place.slack place.are (zeros_no place.slack place.zeros) in
+    let rest : after_records (number_in log) log ≡ place.slack =
+    ap (λ k. after_records k log) number ∙ ap (λ (l : List ℕ). after_records place.number l) place.is ∙ after_append place.number place.records place.slack place.are in
+    let long : length (after_records (number_in log) log) ≡ length place.slack = ap (λ (l : List ℕ). length l) rest in
+    let whole : length log ≡ length (place.records ++ place.slack) = ap (λ (l : List ℕ). length l) place.is in
+    omega (arith, long, whole, length-append place.records place.slack, place.ends)
 
 pub number_zero : (redo : List ℕ) → is_whole redo ≡ false → number_in redo ≡ 0
 number_zero redo none = number_log 0 [] redo refl none

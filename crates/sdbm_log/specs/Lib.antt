@@ -1,3 +1,4 @@
 pub mod Log
 pub mod LogRuns
+pub mod Notes
 pub mod Places

@@ -54,6 +54,10 @@ abbrev pub after_records : ℕ → List ℕ → List ℕ
 after_records zero log = log
 after_records (suc n) log = after_records n (later_records log)
 
+-- the end of the whole records that these bytes begin with
+abbrev pub end_in : List ℕ → ℕ
+end_in log = length log - length (after_records (number_in log) log)
+
 -- These bytes may be a record that a crash has cut short, with zeros after it: if its weight is there, no more bytes that are not zero follow
 -- than the weight says.
 abbrev pub MayBeTorn : List ℕ → Type 0

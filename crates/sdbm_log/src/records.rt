@@ -4,7 +4,7 @@ ghost use Rattle.sdbm_saves.specs.Redo.{number_at, count_of, IsPlan, Knows};
 ghost use Rattle.sdbm_saves.specs.Disk.{written};
 ghost use Rattle.sdbm_saves.specs.Drafts.{spelled};
 ghost use Rattle.sdbm_saves.specs.Recording.{image_of};
-ghost use Rattle.sdbm_log.specs.Log.{nonzero, digits, record_of, records_of, weight_at, is_whole, is_signed, is_log, number_in, first_plan, later_records, after_records, MayBeTorn, ArePlans, joined, log_plan, number_of, plan_of, CanRecover, IsClosedLog};
+ghost use Rattle.sdbm_log.specs.Log.{nonzero, digits, record_of, records_of, weight_at, is_whole, is_signed, is_log, number_in, first_plan, later_records, after_records, end_in, HasRecords, MayBeTorn, ArePlans, joined, log_plan, number_of, plan_of, CanRecover, IsClosedLog};
 ghost use Rattle.sdbm_log.specs.declared.records.LogFault.TheVariants.{Foreign, Damaged};
 
 use crate::knowing::knows;
@@ -71,6 +71,16 @@ pub fn used_room(redo: &[u8]) -> usize
         }
     }
     0
+}
+
+/// The end of the whole records of a log, counted from the end of the header. `Log` has the same.
+pub fn records_end(redo: &[u8]) -> usize
+    ensures is { result ≡ end_in (records_of redo.now) }
+    ensures log { (end : ℕ) → HasRecords end (records_of redo.now) → result ≡ end }
+{
+    let log = records_of(redo);
+    let rest = after_records(wholes(log), log);
+    log.len() - rest.len()
 }
 
 // Whether the signature of a log follows byte 0.

@@ -220,7 +220,7 @@ zeros_none : (n : ℕ) → nonzero (replicate n 0) ≡ 0
 zeros_none zero = refl
 zeros_none (suc n) = zeros_none n
 
-nonzero_drop : (k : ℕ) (xs : List ℕ) → nonzero xs ≡ 0 → nonzero (drop k xs) ≡ 0
+pub nonzero_drop : (k : ℕ) (xs : List ℕ) → nonzero xs ≡ 0 → nonzero (drop k xs) ≡ 0
 nonzero_drop zero xs none = none
 nonzero_drop (suc k) [] none = refl
 nonzero_drop (suc k) (zero ∷ xs) none = nonzero_drop k xs none

@@ -4,8 +4,8 @@ use Rattle.std.proofs.lemmas.Bool.{cases_eq}
 use Rattle.std.proofs.lemmas.List.{get_or-append_right, get_or-drop, take-append-le, take_all}
 use Rattle.sdbm_saves.specs.declared.disk.File.TheVariants.{Pages, Directory, Redo}
 use Rattle.sdbm_saves.specs.Disk.{Image, put, written, resized, Only, Follows, Torn, Within}
-use Rattle.sdbm_saves.specs.Redo.{number_at, data_file, new_length, old_length, count_of, changes_of, IsBetween, renewed, data_in, files, renewed_files, IsPlan, Knows, EndsWith, AlikeFor}
-use Rattle.sdbm_log.specs.Log.{first_plan, later_records, AreRecords, ArePlans, after_records, MayBeTorn, joined, joined_all, next_plan, log_plan, record_of, nonzero, is_whole, is_log, is_signed, empty_log, records_of, number_in, number_by, number_of, plan_of, with_plan, KnownBy, CanReplay, files_by, files_of, CanRecoverBy, CanRecover, Holds, HasRecords, CanFollow, IsGrowing, MayGrow, IsKeptLog, IsDurable, IsCommitted, IsLogFile, IsReady}
+use Rattle.sdbm_saves.specs.Redo.{data_file, new_length, old_length, count_of, changes_of, IsBetween, renewed, data_in, files, renewed_files, IsPlan, Knows, EndsWith, AlikeFor}
+use Rattle.sdbm_log.specs.Log.{first_plan, later_records, AreRecords, ArePlans, after_records, MayBeTorn, joined, joined_all, next_plan, log_plan, record_of, nonzero, is_whole, is_log, is_signed, empty_log, records_of, number_in, number_by, number_of, plan_of, with_plan, KnownBy, CanReplay, files_by, files_of, CanRecoverBy, CanRecover, Holds, HasRecords, CanFollow, IsGrowing, MayGrow, IsKeptLog, IsDurable, IsCommitted, IsLogFile, IsReady, size_at}
 use Rattle.sdbm_saves.proofs.Lists.{length-resized, written_before}
 use Rattle.sdbm_saves.proofs.Replays.{length-replayed, ends_itself}
 use Rattle.sdbm_log.proofs.Header.{log_same, log_marked, log_unmarked, log_mark, log_signed, signed_same, kept_self, unmarked_holds, holds_unmarked, kept_log, torn_records, written_records, head_torn, head_written, torn_byte, marked_records, marked_signed, long_kept, empty_signed, empty_records, written_first}
@@ -672,10 +672,10 @@ ready_empty seen may_leave disk end room count durable file unmarked long ends c
 pub whole_none : (n : ℕ) (rest : List ℕ) → n ≡ 0 → ArePlans n rest
 whole_none n rest is = subst (λ k. ArePlans k rest) (sym is) tt
 
-pub whole_first : (n k : ℕ) (rest : List ℕ) → n ≡ suc k → ArePlans n rest → (8 + number_at rest 4 ≤ length rest) × (IsPlan (first_plan rest) × ArePlans k (later_records rest))
+pub whole_first : (n k : ℕ) (rest : List ℕ) → n ≡ suc k → ArePlans n rest → (8 + size_at rest ≤ length rest) × (IsPlan (first_plan rest) × ArePlans k (later_records rest))
 whole_first n k rest is whole = subst (λ j. ArePlans j rest) is whole
 
-pub whole_again : (n k : ℕ) (rest : List ℕ) → n ≡ suc k → (8 + number_at rest 4 ≤ length rest) × IsPlan (first_plan rest) → ArePlans k (later_records rest) → ArePlans n rest
+pub whole_again : (n k : ℕ) (rest : List ℕ) → n ≡ suc k → (8 + size_at rest ≤ length rest) × IsPlan (first_plan rest) → ArePlans k (later_records rest) → ArePlans n rest
 whole_again n k rest is first later = subst (λ j. ArePlans j rest) (sym is) (first.0, (first.1, later))
 
 pub joined_first : (plan rest whole : List ℕ) (n k : ℕ) → n ≡ suc k → joined_all plan n rest ≡ whole → joined_all (joined plan (first_plan rest)) k (later_records rest) ≡ whole

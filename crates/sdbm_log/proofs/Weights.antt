@@ -3,12 +3,10 @@
 use Rattle.std.proofs.Common.{Bool, true, false, if◌then◌else◌, ◌==◌, ◌≡◌, ◌≢◌, ◌⊎◌, inl, inr, ⊎_elim, ℕ, zero, suc, ◌+◌, ◌-◌, ◌^◌, ◌<◌, ◌≤◌, min, List, [], ◌∷◌, ◌++◌, length, take, drop, get_or, refl, sym, ◌∙◌, ap, arith, length-append, length-drop}
 use Rattle.std.proofs.lemmas.Bool.Decides.{nat_tests}
 use Rattle.std.proofs.lemmas.Bool.{cases_lt}
-use Rattle.std.proofs.lemmas.List.{take_more, ext_get_or, get_or_append_left, get_or-append_right, get_or-take, get_or-drop, length-take, length-take-le, take-append-le, drop-append-le, take-append-drop, take_all, drop_all}
-use Rattle.sdbm_saves.specs.Redo.{number_at}
-use Rattle.sdbm_log.specs.Log.{nonzero, digits, weight_at, body_of, record_of, is_whole, first_plan, later_records, wholes, number_in, AreRecords, after_records, MayBeTorn, end_in, HasRecords}
+use Rattle.std.proofs.lemmas.List.{take_more, ext_get_or, get_or_append_left, get_or-append_right, get_or-take, get_or-drop, length-take, length-take-le, take-append-le, drop-append-le, take-append-drop, take_all, drop_all, drop-drop}
+use Rattle.sdbm_log.specs.Log.{nonzero, digits, weight_at, body_of, record_of, is_whole, first_plan, later_records, wholes, number_in, AreRecords, after_records, MayBeTorn, end_in, HasRecords, size_at}
 use Rattle.sdbm_saves.specs.Disk.{Torn}
-use Rattle.sdbm_saves.proofs.Drafts.{number_append}
-use Rattle.sdbm_log.proofs.Header.{test_is, test_not, both_true}
+use Rattle.sdbm_log.proofs.Header.{test_is, test_not, both_true, nonzero_drop}
 
 -- bytes that were written over zeros and cut short: each is a zero or the one that was written
 abbrev pub OverZeros : List ℕ → List ℕ → Type 0
@@ -93,7 +91,7 @@ whole_is body (a ∷ b ∷ c ∷ d ∷ t) slack small torn zeros whole =
     let tests = both_true (nonzero (a ∷ b ∷ c ∷ d ∷ [])) 4 _ whole in
     let head : a ∷ b ∷ c ∷ d ∷ [] ≡ digits w = all_there (digits w) (a ∷ b ∷ c ∷ d ∷ []) (torn.0, (torn.1.0, (torn.1.1.0, (torn.1.1.1.0, tt)))) tests.0 in
     let all : a ∷ b ∷ c ∷ d ∷ (t ++ slack) ≡ digits w ++ (t ++ slack) = ap (λ (l : List ℕ). l ++ (t ++ slack)) head in
-    let k = 4 + number_at (a ∷ b ∷ c ∷ d ∷ (t ++ slack)) 4 in
+    let k = 4 + size_at (a ∷ b ∷ c ∷ d ∷ (t ++ slack)) in
     let count : nonzero (take k (t ++ slack)) ≡ w = same_true _ _ tests.1 ∙ ap weight_at all ∙ weight_digits w (t ++ slack) small in
     let rest : t ≡ body = all_there body t torn.1.1.1.1 (omega (arith, count, nonzero_take k (t ++ slack), nonzero_append t slack, zeros, no_more body t torn.1.1.1.1)) in
     ap (λ (l : List ℕ). l ++ t) head ∙ ap (λ (l : List ℕ). digits w ++ l) rest
@@ -111,7 +109,7 @@ unfolding is_whole
 zero_no rest = four_no (nonzero (take 3 rest)) _ (omega (arith, nonzero_length (take 3 rest), length-take 3 rest))
 
 -- a record that a crash has cut short may be torn, and so may zeros
-torn_body : (body t z : List ℕ) → nonzero body < 4228250625 → OverZeros (digits (nonzero body) ++ body) t → nonzero z ≡ 0 → MayBeTorn (t ++ z)
+torn_body : (body t z : List ℕ) → nonzero body < 4228250625 → OverZeros (digits (nonzero body) ++ body) t → nonzero z ≡ 0 → nonzero (take 4 (t ++ z)) ≡ 4 → nonzero (drop 4 (t ++ z)) ≤ weight_at (t ++ z)
 torn_body body [] z small torn zeros four = absurd torn
 torn_body body (a ∷ []) z small torn zeros four = absurd torn.1
 torn_body body (a ∷ b ∷ []) z small torn zeros four = absurd torn.1.1
@@ -122,35 +120,69 @@ torn_body body (a ∷ b ∷ c ∷ d ∷ t) z small torn zeros four =
     let all : a ∷ b ∷ c ∷ d ∷ (t ++ z) ≡ digits w ++ (t ++ z) = ap (λ (l : List ℕ). l ++ (t ++ z)) head in
     omega (arith, ap weight_at all, weight_digits w (t ++ z) small, nonzero_append t z, zeros, no_more body t torn.1.1.1.1)
 
+same_length : (bytes left : List ℕ) → OverZeros bytes left → length left ≡ length bytes
+same_length [] [] torn = refl
+same_length [] (c ∷ cs) torn = absurd torn
+same_length (b ∷ bs) [] torn = absurd torn
+same_length (b ∷ bs) (c ∷ cs) torn = ap (λ n. suc n) (same_length bs cs torn.1)
+
+torn_size : (w : ℕ) (plan t z : List ℕ) → length plan < 2 ^ 31 → OverZeros (digits w ++ (digits (length plan) ++ plan)) t → nonzero z ≡ 0 → nonzero (take 4 (drop 4 (t ++ z))) ≡ 4
+    → nonzero (drop (8 + size_at (t ++ z)) (t ++ z)) ≡ 0
+torn_size w plan [] z short torn zeros four = absurd torn
+torn_size w plan (a ∷ []) z short torn zeros four = absurd torn.1
+torn_size w plan (a ∷ b ∷ []) z short torn zeros four = absurd torn.1.1
+torn_size w plan (a ∷ b ∷ c ∷ []) z short torn zeros four = absurd torn.1.1.1
+torn_size w plan (a ∷ b ∷ c ∷ d ∷ []) z short torn zeros four = absurd torn.1.1.1.1
+torn_size w plan (a ∷ b ∷ c ∷ d ∷ e ∷ []) z short torn zeros four = absurd torn.1.1.1.1.1
+torn_size w plan (a ∷ b ∷ c ∷ d ∷ e ∷ f ∷ []) z short torn zeros four = absurd torn.1.1.1.1.1.1
+torn_size w plan (a ∷ b ∷ c ∷ d ∷ e ∷ f ∷ g ∷ []) z short torn zeros four = absurd torn.1.1.1.1.1.1.1
+torn_size w plan (a ∷ b ∷ c ∷ d ∷ e ∷ f ∷ g ∷ h ∷ t) z short torn zeros four =
+    let n = length plan in
+    let behind = torn.1.1.1.1 in
+    let head : e ∷ f ∷ g ∷ h ∷ [] ≡ digits n = all_there (digits n) (e ∷ f ∷ g ∷ h ∷ []) (behind.0, (behind.1.0, (behind.1.1.0, (behind.1.1.1.0, tt)))) four in
+    let size : weight_at (e ∷ f ∷ g ∷ h ∷ (t ++ z)) ≡ n = ap (λ (l : List ℕ). weight_at (l ++ (t ++ z))) head ∙ weight_digits n (t ++ z) (omega (arith, short)) in
+    let long : length t ≡ n = same_length plan t behind.1.1.1.1 in
+    let all : List ℕ = a ∷ b ∷ c ∷ d ∷ e ∷ f ∷ g ∷ h ∷ (t ++ z) in
+    let none : drop n t ≡ [] = drop_all n t (omega (arith, long)) in
+    ap (λ k. nonzero (drop (8 + k) all)) size
+    ∙ ap (λ (l : List ℕ). nonzero l) (sym (drop-drop n 8 all) ∙ drop-append-le n t z (omega (arith, long)) ∙ ap (λ (l : List ℕ). l ++ z) none)
+    ∙ zeros
+
 pub zeros_may : (rest : List ℕ) → nonzero rest ≡ 0 → MayBeTorn rest
-zeros_may rest none four = absurd (omega (arith, four, none, nonzero_take 4 rest))
+zeros_may rest none = record {
+  weight = λ four. absurd (omega (arith, four, none, nonzero_take 4 rest));
+  size = λ four. absurd (omega (arith, four, nonzero_take 4 (drop 4 rest), nonzero_drop 4 rest none));
+}
+
+weight_front : (xs ys : List ℕ) → 4 ≤ length xs → weight_at (xs ++ ys) ≡ weight_at xs
+unfolding weight_at
+weight_front xs ys long =
+    let first = get_or_append_left xs ys 0 0 (omega (arith, long)) in
+    let second = get_or_append_left xs ys 0 1 (omega (arith, long)) in
+    let third = get_or_append_left xs ys 0 2 (omega (arith, long)) in
+    let fourth = get_or_append_left xs ys 0 3 (omega (arith, long)) in
+    omega (arith, first, second, third, fourth)
 
 -- what follows a record does not change it
-module _ (xs ys : List ℕ) (whole : 8 + number_at xs 4 ≤ length xs) where
-  pub number_more : number_at (xs ++ ys) 4 ≡ number_at xs 4
-  number_more = number_append xs ys 4 (omega (arith, whole))
+module _ (xs ys : List ℕ) (whole : 8 + size_at xs ≤ length xs) where
+  pub number_more : size_at (xs ++ ys) ≡ size_at xs
+  number_more = ap (λ (l : List ℕ). weight_at l) (drop-append-le 4 xs ys (omega (arith, whole))) ∙ weight_front (drop 4 xs) ys (omega (arith, whole, length-drop 4 xs))
 
   pub first_more : first_plan (xs ++ ys) ≡ first_plan xs
   first_more = ap (λ n. take n (drop 8 (xs ++ ys))) number_more
-      ∙ ap (λ (l : List ℕ). take (number_at xs 4) l) (drop-append-le 8 xs ys (omega (arith, whole)))
-      ∙ take-append-le (number_at xs 4) (drop 8 xs) ys (omega (arith, whole, length-drop 8 xs))
+      ∙ ap (λ (l : List ℕ). take (size_at xs) l) (drop-append-le 8 xs ys (omega (arith, whole)))
+      ∙ take-append-le (size_at xs) (drop 8 xs) ys (omega (arith, whole, length-drop 8 xs))
 
   pub later_more : later_records (xs ++ ys) ≡ later_records xs ++ ys
-  later_more = ap (λ n. drop (8 + n) (xs ++ ys)) number_more ∙ drop-append-le (8 + number_at xs 4) xs ys whole
+  later_more = ap (λ n. drop (8 + n) (xs ++ ys)) number_more ∙ drop-append-le (8 + size_at xs) xs ys whole
 
   weight_more : weight_at (xs ++ ys) ≡ weight_at xs
-  unfolding weight_at
-  weight_more =
-      let first = get_or_append_left xs ys 0 0 (omega (arith, whole)) in
-      let second = get_or_append_left xs ys 0 1 (omega (arith, whole)) in
-      let third = get_or_append_left xs ys 0 2 (omega (arith, whole)) in
-      let fourth = get_or_append_left xs ys 0 3 (omega (arith, whole)) in
-      omega (arith, first, second, third, fourth)
+  weight_more = weight_front xs ys (omega (arith, whole))
 
-  body_more : take (4 + number_at (xs ++ ys) 4) (drop 4 (xs ++ ys)) ≡ take (4 + number_at xs 4) (drop 4 xs)
+  body_more : take (4 + size_at (xs ++ ys)) (drop 4 (xs ++ ys)) ≡ take (4 + size_at xs) (drop 4 xs)
   body_more = ap (λ n. take (4 + n) (drop 4 (xs ++ ys))) number_more
-      ∙ ap (λ (l : List ℕ). take (4 + number_at xs 4) l) (drop-append-le 4 xs ys (omega (arith, whole)))
-      ∙ take-append-le (4 + number_at xs 4) (drop 4 xs) ys (omega (arith, whole, length-drop 4 xs))
+      ∙ ap (λ (l : List ℕ). take (4 + size_at xs) l) (drop-append-le 4 xs ys (omega (arith, whole)))
+      ∙ take-append-le (4 + size_at xs) (drop 4 xs) ys (omega (arith, whole, length-drop 4 xs))
 
   pub whole_more : is_whole (xs ++ ys) ≡ is_whole xs
   unfolding is_whole
@@ -179,14 +211,14 @@ after_append (suc n) xs ys are = ap (λ (l : List ℕ). after_records n l) (late
 
 pub plans_long : (n : ℕ) (xs : List ℕ) → AreRecords n xs → n ≤ length xs
 plans_long zero xs are = omega arith
-plans_long (suc n) xs are = omega (arith, plans_long n (later_records xs) are.1.1, are.1.0, length-drop (8 + number_at xs 4) xs)
+plans_long (suc n) xs are = omega (arith, plans_long n (later_records xs) are.1.1, are.1.0, length-drop (8 + size_at xs) xs)
 
 pub number_log : (n : ℕ) (xs rest : List ℕ) → AreRecords n xs → is_whole rest ≡ false → number_in (xs ++ rest) ≡ n
 number_log n xs rest are none = wholes_are n xs rest (length (xs ++ rest)) are none (omega (arith, plans_long n xs are, length-append xs rest))
 
 pub after_short : (n : ℕ) (log : List ℕ) → length (after_records n log) ≤ length log
 after_short zero log = omega arith
-after_short (suc n) log = omega (arith, after_short n (later_records log), length-drop (8 + number_at log 4) log)
+after_short (suc n) log = omega (arith, after_short n (later_records log), length-drop (8 + size_at log) log)
 
 -- the end of the records is found
 pub end_of : (end : ℕ) (log : List ℕ) → HasRecords end log → end_in log ≡ end
@@ -206,9 +238,8 @@ module _ (plan : List ℕ) (short : length plan < 2 ^ 31) where
   small : nonzero (body_of plan) < 4228250625
   small = omega (arith, nonzero_length (body_of plan), short)
 
-  size_record : number_at (record_of plan) 4 ≡ length plan
-  unfolding number_at
-  size_record = omega (arith, short)
+  size_record : size_at (record_of plan) ≡ length plan
+  size_record = weight_digits (length plan) plan (omega (arith, short))
 
   pub first_record : first_plan (record_of plan) ≡ plan
   first_record = ap (λ n. take n plan) size_record ∙ take_all (length plan) plan (omega arith)
@@ -216,7 +247,7 @@ module _ (plan : List ℕ) (short : length plan < 2 ^ 31) where
   pub later_record : later_records (record_of plan) ≡ []
   later_record = ap (λ n. drop (8 + n) (record_of plan)) size_record ∙ drop_all (8 + length plan) (record_of plan) (omega arith)
 
-  pub record_fits : 8 + number_at (record_of plan) 4 ≤ length (record_of plan)
+  pub record_fits : 8 + size_at (record_of plan) ≤ length (record_of plan)
   record_fits = omega (arith, size_record)
 
   pub record_whole : is_whole (record_of plan) ≡ true
@@ -227,7 +258,7 @@ module _ (plan : List ℕ) (short : length plan < 2 ^ 31) where
       ∙ sym (weight_digits (nonzero (body_of plan)) (body_of plan) small)))
 
   pub record_may : (t z : List ℕ) → OverZeros (record_of plan) t → nonzero z ≡ 0 → MayBeTorn (t ++ z)
-  record_may t z torn zeros = torn_body (body_of plan) t z small torn zeros
+  record_may t z torn zeros = record { weight = torn_body (body_of plan) t z small torn zeros; size = torn_size (nonzero (body_of plan)) plan t z short torn zeros }
 
   pub record_is : (t slack : List ℕ) → OverZeros (record_of plan) t → nonzero slack ≡ 0 → is_whole (t ++ slack) ≡ true → t ≡ record_of plan
   record_is t slack torn zeros whole = whole_is (body_of plan) t slack small torn zeros whole
@@ -286,7 +317,7 @@ pub head_no : (log : List ℕ) → nonzero (take 4 log) ≢ 4 → is_whole log �
 unfolding is_whole
 head_no log isnt = test_not (nonzero (take 4 log)) 4 _ isnt
 
-pub whole_by : (log : List ℕ) → nonzero (take 4 log) ≡ 4 → is_whole log ≡ (nonzero (take (4 + number_at log 4) (drop 4 log)) == weight_at log)
+pub whole_by : (log : List ℕ) → nonzero (take 4 log) ≡ 4 → is_whole log ≡ (nonzero (take (4 + size_at log) (drop 4 log)) == weight_at log)
 unfolding is_whole
 whole_by log is = test_is (nonzero (take 4 log)) 4 _ is
 

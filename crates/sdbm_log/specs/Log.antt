@@ -23,23 +23,27 @@ digits n = suc (n % 255) ∷ suc (n / 255 % 255) ∷ suc (n / 65025 % 255) ∷ s
 unfoldable pub weight_at : List ℕ → ℕ
 weight_at log = (get_or log 0 0 - 1) + 255 * (get_or log 1 0 - 1) + 65025 * (get_or log 2 0 - 1) + 16581375 * (get_or log 3 0 - 1)
 
--- A record of a plan: its weight, the length of the plan, and the plan. The weight is the number of bytes after it that are not zero, in four
--- bytes that are not zero. A record is written over zeros, so it is whole exactly if it has that weight.
+-- the length of the plan of the first record
+abbrev pub size_at : List ℕ → ℕ
+size_at log = weight_at (drop 4 log)
+
+-- A record of a plan: its weight, the length of the plan, and the plan. The weight is the number of bytes after it that are not zero. It and
+-- the length have four bytes each, which are not zero. A record is written over zeros, so it is whole exactly if it has that weight.
 abbrev pub body_of : List ℕ → List ℕ
-body_of plan = spelled (length plan) ++ plan
+body_of plan = digits (length plan) ++ plan
 
 abbrev pub record_of : List ℕ → List ℕ
 record_of plan = digits (nonzero (body_of plan)) ++ body_of plan
 
 unfoldable pub is_whole : List ℕ → Bool
-is_whole log = if nonzero (take 4 log) == 4 then nonzero (take (4 + number_at log 4) (drop 4 log)) == weight_at log else false
+is_whole log = if nonzero (take 4 log) == 4 then nonzero (take (4 + size_at log) (drop 4 log)) == weight_at log else false
 
 -- the plan of the first record, and the records after it
 abbrev pub first_plan : List ℕ → List ℕ
-first_plan log = take (number_at log 4) (drop 8 log)
+first_plan log = take (size_at log) (drop 8 log)
 
 abbrev pub later_records : List ℕ → List ℕ
-later_records log = drop (8 + number_at log 4) log
+later_records log = drop (8 + size_at log) log
 
 -- how many whole records these bytes begin with
 abbrev pub wholes : ℕ → List ℕ → ℕ
@@ -59,19 +63,20 @@ abbrev pub end_in : List ℕ → ℕ
 end_in log = length log - length (after_records (number_in log) log)
 
 -- These bytes may be a record that a crash has cut short, with zeros after it: if its weight is there, no more bytes that are not zero follow
--- than the weight says.
-abbrev pub MayBeTorn : List ℕ → Type 0
-MayBeTorn rest = nonzero (take 4 rest) ≡ 4 → nonzero (drop 4 rest) ≤ weight_at rest
+-- than the weight says, and if its length is there, zeros follow the plan.
+pub record MayBeTorn (rest : List ℕ) : Type 0 where
+  pub weight : nonzero (take 4 rest) ≡ 4 → nonzero (drop 4 rest) ≤ weight_at rest
+  pub size : nonzero (take 4 (drop 4 rest)) ≡ 4 → nonzero (drop (8 + size_at rest) rest) ≡ 0
 
 -- the bytes are n whole records and nothing else
 abbrev pub AreRecords : ℕ → List ℕ → Type 0
 AreRecords zero log = log ≡ []
-AreRecords (suc n) log = (is_whole log ≡ true) × ((8 + number_at log 4 ≤ length log) × AreRecords n (later_records log))
+AreRecords (suc n) log = (is_whole log ≡ true) × ((8 + size_at log ≤ length log) × AreRecords n (later_records log))
 
 -- the first n records have plans
 abbrev pub ArePlans : ℕ → List ℕ → Type 0
 ArePlans zero log = Unit {0}
-ArePlans (suc n) log = (8 + number_at log 4 ≤ length log) × (IsPlan (first_plan log) × ArePlans n (later_records log))
+ArePlans (suc n) log = (8 + size_at log ≤ length log) × (IsPlan (first_plan log) × ArePlans n (later_records log))
 
 -- A plan and the next one as one plan: the old lengths of the first, the new ones of the next, and the changes of both.
 abbrev pub joined : List ℕ → List ℕ → List ℕ

@@ -7,8 +7,8 @@ ghost use Rattle.sdbm_log.specs.Log.{Holds, IsReady};
 use crate::saving::Log;
 use sdbm_saves::{Disk, DiskError, File};
 
-/// Writes notes into the header of a log and does not sync them, such as a counter of saves, or a hint that all records are applied. A crash
-/// may leave each byte of them as it was or as it was written, so no promise rests on them.
+/// Writes notes into the header of a log and does not sync them: `Notes::bytes` at `NOTES_START`. A crash may leave each byte of them as it was
+/// or as it was written, so no promise rests on them.
 ///
 /// # Errors
 ///

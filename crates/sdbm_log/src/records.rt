@@ -4,7 +4,7 @@ ghost use Rattle.sdbm_saves.specs.Redo.{number_at, count_of, IsPlan, Knows};
 ghost use Rattle.sdbm_saves.specs.Disk.{written};
 ghost use Rattle.sdbm_saves.specs.Drafts.{spelled};
 ghost use Rattle.sdbm_saves.specs.Recording.{image_of};
-ghost use Rattle.sdbm_log.specs.Log.{nonzero, digits, record_of, records_of, weight_at, is_whole, is_signed, is_log, number_in, first_plan, later_records, after_records, end_in, HasRecords, MayBeTorn, ArePlans, joined, log_plan, number_of, plan_of, CanRecover, IsClosedLog};
+ghost use Rattle.sdbm_log.specs.Log.{nonzero, digits, record_of, records_of, weight_at, size_at, is_whole, is_signed, is_log, number_in, first_plan, later_records, after_records, end_in, HasRecords, MayBeTorn, ArePlans, joined, log_plan, number_of, plan_of, CanRecover, IsClosedLog};
 ghost use Rattle.sdbm_log.specs.declared.records.LogFault.TheVariants.{Foreign, Damaged};
 
 use crate::knowing::knows;
@@ -210,6 +210,13 @@ fn after_records(count: usize, log: &[u8]) -> &[u8]
 fn may_be_torn(rest: &[u8]) -> bool
     ensures { IsTrue result ↔ MayBeTorn rest.now }
 {
+    may_have_weight(rest) && may_have_size(rest)
+}
+
+// Whether no more bytes that are not zero follow the weight of a record than it says, if it is there.
+fn may_have_weight(rest: &[u8]) -> bool
+    ensures { IsTrue result ↔ (nonzero (take 4 rest.now) ≡ 4 → nonzero (drop 4 rest.now) ≤ weight_at rest.now) }
+{
     if rest.len() < 4 {
         return true;
     }
@@ -217,6 +224,19 @@ fn may_be_torn(rest: &[u8]) -> bool
         return true;
     }
     nonzero(&rest[4..]) <= weight(rest)
+}
+
+// Whether zeros follow the plan of a record, if its length is there.
+fn may_have_size(rest: &[u8]) -> bool
+    ensures { IsTrue result ↔ (nonzero (take 4 (drop 4 rest.now)) ≡ 4 → nonzero (drop (8 + size_at rest.now) rest.now) ≡ 0) }
+{
+    if rest.len() < 8 {
+        return true;
+    }
+    if nonzero(&rest[4..8]) != 4 {
+        return true;
+    }
+    nonzero(after_first(rest)) == 0
 }
 
 // Whether a log begins with a whole record.
@@ -229,19 +249,28 @@ fn is_whole(log: &[u8]) -> bool
     if nonzero(&log[..4]) != 4 {
         return false;
     }
-    let end = log.len().min(8 + number_in(log, 4));
+    let end = log.len().min(8 + size(log));
     nonzero(&log[4..end]) == weight(log)
 }
 
 // The weight of the first record of a log.
 #[tactic(auto, unfolding(crate::specs::Log::weight_at))]
 fn weight(log: &[u8]) -> usize
-    ensures { result ≡ weight_at log.now }
+    ensures is { result ≡ weight_at log.now }
+    ensures small { result < 2 ^ 32 }
 {
     usize::from(byte_at(log, 0)).saturating_sub(1)
         + 255 * usize::from(byte_at(log, 1)).saturating_sub(1)
         + 65025 * usize::from(byte_at(log, 2)).saturating_sub(1)
         + 16581375 * usize::from(byte_at(log, 3)).saturating_sub(1)
+}
+
+// The length of the plan of the first record of a log.
+fn size(log: &[u8]) -> usize
+    ensures is { result ≡ size_at log.now }
+    ensures small { result < 2 ^ 32 }
+{
+    weight(&log[log.len().min(4)..])
 }
 
 // How many bytes are not zero.
@@ -268,7 +297,7 @@ fn nonzero_byte(byte: u8) -> usize
 fn after_first(log: &[u8]) -> &[u8]
     ensures { result.now ≡ later_records log.now }
 {
-    let start = log.len().min(8 + number_in(log, 4));
+    let start = log.len().min(8 + size(log));
     &log[start..]
 }
 
@@ -288,9 +317,9 @@ fn are_plans(count: usize, log: &[u8]) -> bool
 
 // Whether the first record of a log has a plan.
 fn has_plan(log: &[u8]) -> bool
-    ensures { IsTrue result ↔ (8 + number_at log.now 4 ≤ length log.now) × IsPlan (first_plan log.now) }
+    ensures { IsTrue result ↔ (8 + size_at log.now ≤ length log.now) × IsPlan (first_plan log.now) }
 {
-    if log.len() < 8 || number(log, 4) > log.len() - 8 {
+    if log.len() < 8 || size(log) > log.len() - 8 {
         return false;
     }
     is_plan(first_plan(log))
@@ -298,19 +327,19 @@ fn has_plan(log: &[u8]) -> bool
 
 // The first plan of a log.
 fn first_plan(log: &[u8]) -> &[u8]
-    requires { 8 + number_at log.now 4 ≤ length log.now }
+    requires { 8 + size_at log.now ≤ length log.now }
     ensures { result.now ≡ first_plan log.now }
 {
-    let size = number(log, 4);
+    let size = size(log);
     &log[8..8 + size]
 }
 
 // The bytes after the first record of a log.
 fn later_records(log: &[u8]) -> &[u8]
-    requires { 8 + number_at log.now 4 ≤ length log.now }
+    requires { 8 + size_at log.now ≤ length log.now }
     ensures { result.now ≡ later_records log.now }
 {
-    let size = number(log, 4);
+    let size = size(log);
     &log[8 + size..]
 }
 
@@ -369,7 +398,7 @@ pub fn record_of<A: Allocator>(alloc: A, plan: &[u8]) -> Result<Vec<u8, A>, Allo
     requires { length plan.now < 2 ^ 31 }
     ensures { IfOk result (λ bytes. bytes.items ≡ record_of plan.now) }
 {
-    let size = spelled(plan.len());
+    let size = digits(plan.len());
     let count = nonzero(&size) + nonzero(plan);
     let mut bytes = Vec::new(alloc);
     bytes.extend_from_slice(&digits(count))?;

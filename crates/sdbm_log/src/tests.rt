@@ -112,21 +112,29 @@ fn fault_of(alloc: Global, pages: &[u8], log: &[u8]) -> Result<Option<LogFault>,
     Ok(plan_of(alloc, &found).err())
 }
 
-// The first byte of the plan of the first record is lost.
-#[test]
-fn a_record_that_is_damaged_before_another_is_refused(rt: HostRuntime) -> Result<(), Fail> {
-    let first = record(rt.alloc(), 1, 7)?;
-    let mut damaged = Vec::new(rt.alloc());
+// The records of two saves. This byte of the first is lost.
+fn damaged(alloc: Global, hole: usize) -> Result<Vec<u8>, AllocError> {
+    let first = record(alloc, 1, 7)?;
+    let mut damaged = Vec::new(alloc);
     for index in 0..first.len() {
-        if index == 8 {
+        if index == hole {
             damaged.push(0)?;
         } else {
             damaged.push(first[index])?;
         }
     }
-    damaged.extend_from_slice(record(rt.alloc(), 2, 9)?.as_slice())?;
-    let fault = fault_of(rt.alloc(), &[0, 0, 0, 0], damaged.as_slice())?;
-    assert_eq!(rt; fault, Some(LogFault::Damaged));
+    damaged.extend_from_slice(record(alloc, 2, 9)?.as_slice())?;
+    Ok(damaged)
+}
+
+// A byte of its weight, of its length, or the first one of its plan.
+#[test]
+fn a_record_that_is_damaged_before_another_is_refused(rt: HostRuntime) -> Result<(), Fail> {
+    for hole in 0..9 {
+        let damaged = damaged(rt.alloc(), hole)?;
+        let fault = fault_of(rt.alloc(), &[0, 0, 0, 0], damaged.as_slice())?;
+        assert_eq!(rt; fault, Some(LogFault::Damaged));
+    }
     Ok(())
 }
 

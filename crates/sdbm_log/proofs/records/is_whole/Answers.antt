@@ -1,6 +1,5 @@
 use Rattle.std.proofs.Common.{◌≡◌, ◌==◌, ◌+◌, ◌-◌, take, drop, length, min, sym, ◌∙◌, ap}
-use Rattle.sdbm_saves.specs.Redo.{number_at}
-use Rattle.sdbm_log.specs.Log.{nonzero}
+use Rattle.sdbm_log.specs.Log.{nonzero, size_at}
 use Rattle.sdbm_log.proofs.Weights.{short_no, head_no, whole_by, take_cut}
 use Rattle.sdbm_log.proofs.records.is_whole.Goals as goal
 
@@ -14,7 +13,7 @@ pub returns : goal.returns
 returns c =
     let log = c.args.log.now in
     let head : nonzero (take 4 log) ≡ 4 = sym c.nonzero.ensures.is ∙ c.if-nonzero-ne4.false in
-    let end : c.min-end.result ≡ min (length log) (8 + number_at log 4) = c.min-end.ensures ∙ ap (λ k. min (length log) (8 + k)) c.number_in.ensures.value in
-    let body : c.nonzero-2.result ≡ nonzero (take (4 + number_at log 4) (drop 4 log)) =
-    c.nonzero-2.ensures.is ∙ ap (λ k. nonzero (take (k - 4) (drop 4 log))) end ∙ ap nonzero (take_cut (number_at log 4) log c.if-log-lt4.false) in
-    (λ i. body i == c.weight.ensures i) ∙ sym (whole_by log head)
+    let end : c.min-end.result ≡ min (length log) (8 + size_at log) = c.min-end.ensures ∙ ap (λ k. min (length log) (8 + k)) c.size.ensures.is in
+    let body : c.nonzero-2.result ≡ nonzero (take (4 + size_at log) (drop 4 log)) =
+    c.nonzero-2.ensures.is ∙ ap (λ k. nonzero (take (k - 4) (drop 4 log))) end ∙ ap nonzero (take_cut (size_at log) log c.if-log-lt4.false) in
+    (λ i. body i == c.weight.ensures.is i) ∙ sym (whole_by log head)

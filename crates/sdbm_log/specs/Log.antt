@@ -166,8 +166,8 @@ CanRecover image = CanRecoverBy (is_log image.redo) image
 abbrev pub Holds : List ℕ × List ℕ → Image → Type 0
 Holds both image = (files_of image ≡ both) × CanRecover image
 
--- What a crash may leave of a log that is read: the same records, the same nine bytes before the header's notes, but the mark may be missing
--- while there are no records. The notes, from byte 16 on, may be any.
+-- What a crash may leave of a log that is read: the same records, mark and signature, but the mark may be missing while there are no records.
+-- The bytes of the header after the signature may be any.
 pub record IsKeptLog (read left : List ℕ) : Type 0 where
   pub records : records_of left ≡ records_of read
   pub signed : (i : ℕ) → 1 ≤ i → i < 9 → get_or left i 0 ≡ get_or read i 0
@@ -226,7 +226,7 @@ pub record IsCommitted {D : Type 0} (plan : List ℕ) (seen : D → Image) (may_
 abbrev pub IsPlanOf : Image → Option (Bor (List ℕ)) → Type 0
 IsPlanOf image plan = MatchOption plan (number_of image ≡ 0) (λ p. (1 ≤ number_of image) × (p.now ≡ plan_of image))
 
--- a redo file is a log whose records end at this offset: the mark is set exactly if there are some
+-- a redo file is a log whose records end at this offset: without the mark there are none
 pub record IsLogFile (end : ℕ) (redo : List ℕ) : Type 0 where
   pub signed : is_signed redo ≡ true
   pub mark : ((end ≡ 0) × (get_or redo 0 0 ≡ 0)) ⊎ (get_or redo 0 0 ≡ 1)

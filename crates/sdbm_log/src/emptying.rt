@@ -13,7 +13,7 @@ use sdbm_saves::{Disk, DiskError, File};
 ///
 /// # Errors
 ///
-/// As the disk says. Open the files again and `recover`.
+/// Returns the error of the disk. Open the files again and `recover`.
 pub fn checkpoint<D: Disk>(disk: &mut D, zeros: &[u8]) -> Result<(), DiskError>
     requires durable { IsDurable D.seen D.may_leave disk.old }
     requires signed { is_signed (D.seen disk.old).redo ≡ true }
@@ -30,7 +30,7 @@ pub fn checkpoint<D: Disk>(disk: &mut D, zeros: &[u8]) -> Result<(), DiskError>
     // A crash at any moment leaves the same files.
     ensures any_moment { LeavesOnly D.moment D.left_since disk.old disk.new (λ c. Holds (files (D.seen disk.old)) c) }
 
-    // It fails only if the disk does.
+    // `Failed` comes only if the disk has failed.
     ensures cause { HasCause (D.has_failed disk.old) (D.has_failed disk.new) result }
 {
     close_log(disk)?;
@@ -41,7 +41,7 @@ pub fn checkpoint<D: Disk>(disk: &mut D, zeros: &[u8]) -> Result<(), DiskError>
 ///
 /// # Errors
 ///
-/// As the disk says. Open the files again and `recover`.
+/// Returns the error of the disk. Open the files again and `recover`.
 pub fn close_log<D: Disk>(disk: &mut D) -> Result<(), DiskError>
     requires durable { IsDurable D.seen D.may_leave disk.old }
     requires signed { is_signed (D.seen disk.old).redo ≡ true }
@@ -53,7 +53,7 @@ pub fn close_log<D: Disk>(disk: &mut D) -> Result<(), DiskError>
     // A crash at any moment leaves the same files.
     ensures any_moment { LeavesOnly D.moment D.left_since disk.old disk.new (λ c. Holds (files (D.seen disk.old)) c) }
 
-    // It fails only if the disk does.
+    // `Failed` comes only if the disk has failed.
     ensures cause { HasCause (D.has_failed disk.old) (D.has_failed disk.new) result }
 {
     disk.sync(File::Pages)?;

@@ -27,12 +27,12 @@ pub struct Notes {
     pub applied: Option<Applied>,
 }
 
-/// A hint: all records of the log are done in both data files. It is good for one boot, since a loss of power can undo what was not synced.
+/// A hint: all records of the log are done in both data files. It holds for one boot, since a loss of power can undo what was not synced.
 #[derive(Clone, Copy, PartialEq, Eq)]
 pub struct Applied {
     /// The end of the records, counted from the end of the header.
     pub end: u64,
-    /// The boot that the hint is good for.
+    /// The boot for which the hint holds.
     pub boot: BootId,
     /// `.pag` after the last record was done.
     pub pages: FileState,

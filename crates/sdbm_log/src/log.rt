@@ -11,11 +11,11 @@ pub(crate) const HEADER: usize = 4096;
 
 /// Commits a save: writes the record of its plan over the zeros after the other records, which end at this offset after the header, and
 /// syncs the redo file. If a crash leaves the whole record, the save is committed; otherwise the log is as it was. The first record
-/// sets the mark too. Once it returns, every crash leaves the files with the plan done, and `apply` does it.
+/// sets the mark too. Once it returns `Ok`, every crash leaves the files with the plan done, and `apply` does it.
 ///
 /// # Errors
 ///
-/// As the disk says. The save may be committed or not: open the files again and `recover`.
+/// Returns the error of the disk. The save may be committed or not: open the files again and `recover`.
 pub fn append<D: Disk>(
     disk: &mut D,
     end: usize,
@@ -43,7 +43,7 @@ pub fn append<D: Disk>(
     ensures any_moment { LeavesOnly D.moment D.left_since disk.old disk.new
         (λ c. Holds (files (D.seen disk.old)) c ⊎ Holds (renewed_files plan.now (D.seen disk.old)) c) }
 
-    // It fails only if the disk does.
+    // `Failed` comes only if the disk has failed.
     ensures cause { HasCause (D.has_failed disk.old) (D.has_failed disk.new) result }
 {
     set_mark(disk, end)?;
@@ -107,7 +107,7 @@ fn write_record<D: Disk>(
 ///
 /// # Errors
 ///
-/// As the disk says. The save stays committed: `recover` does the plan when the files are opened again.
+/// Returns the error of the disk. The save stays committed: `recover` does the plan when the files are opened again.
 pub fn apply<D: Disk>(disk: &mut D, plan: &[u8]) -> Result<(), DiskError>
     requires plan { IsPlan plan.now }
     requires committed { IsCommitted plan.now D.seen D.may_leave disk.old }
@@ -119,7 +119,7 @@ pub fn apply<D: Disk>(disk: &mut D, plan: &[u8]) -> Result<(), DiskError>
     // A crash at any moment leaves the files with the plan done, whatever the call answers.
     ensures any_moment { LeavesOnly D.moment D.left_since disk.old disk.new (λ c. Holds (renewed_files plan.now (D.seen disk.old)) c) }
 
-    // It fails only if the disk does.
+    // `Failed` comes only if the disk has failed.
     ensures cause { HasCause (D.has_failed disk.old) (D.has_failed disk.new) result }
 {
     replay(disk, plan)

@@ -12,7 +12,7 @@ use sdbm_saves::{Disk, DiskError, File};
 ///
 /// # Errors
 ///
-/// As the disk says. The log and the data files are as they were.
+/// Returns the error of the disk. The log and the data files are as they were.
 pub fn write_notes<D: Disk>(
     disk: &mut D,
     log: &Log,
@@ -30,7 +30,7 @@ pub fn write_notes<D: Disk>(
     // A crash at any moment leaves the same files.
     ensures any_moment { LeavesOnly D.moment D.left_since disk.old disk.new (λ c. Holds (files (D.seen disk.old)) c) }
 
-    // It fails only if the disk does.
+    // `Failed` comes only if the disk has failed.
     ensures cause { HasCause (D.has_failed disk.old) (D.has_failed disk.new) result }
 {
     disk.write_at(File::Redo, at, bytes)

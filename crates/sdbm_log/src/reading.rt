@@ -9,7 +9,7 @@ use crate::records::{LogFault, is_log, plan_of};
 use sdbm_saves::{File, Found, lay_over};
 use std::alloc::{AllocError, Global};
 
-/// What three files mean, in memory, for a reader that may not write them: both data files with all plans of the log done, or with the
+/// The meaning of three files, in memory, for a reader that may not write them. They have to be read at one moment, under the lock: both data files with all plans of the log done, or with the
 /// marked plan of one save, else as they are. The result has no redo file. It takes memory for both data files.
 ///
 /// # Errors

@@ -124,7 +124,7 @@ pub fn plan_of(alloc: Global, found: &Found) -> Result<Option<Vec<u8>>, LogFault
     plan_of_log(alloc, found)
 }
 
-// The same if the redo file is no log.
+// Does so if the redo file is not a log.
 fn old_plan(found: &Found) -> Result<Option<Vec<u8>>, LogFault>
     requires { is_log found.now.redo.items ≡ false }
     ensures some { IfOk result (λ found_plan. IfSome found_plan (λ plan. ⊥)) }
@@ -139,7 +139,7 @@ fn old_plan(found: &Found) -> Result<Option<Vec<u8>>, LogFault>
     }
 }
 
-// The same if it is a log.
+// Does so if it is a log.
 fn plan_of_log(alloc: Global, found: &Found) -> Result<Option<Vec<u8>>, LogFault>
     requires { is_log found.now.redo.items ≡ true }
     ensures some { IfOk result (λ found_plan. IfSome found_plan (λ plan. (1 ≤ number_of (image_of found.now)) × ((plan.items ≡ plan_of (image_of found.now)) × CanRecover (image_of found.now)))) }

@@ -16,12 +16,12 @@ use std::alloc::{AllocError, Allocator};
 const SIGNATURE: [u8; 9] = *b"\0sdbmlog1";
 
 /// Recovers the files after a kill or the loss of power. If the redo file is a log, it does all its plans again, which are `plan` as one;
-/// if it is the marked plan of one save, it does that. Then it clears the mark. It may be interrupted too, as often as it likes. After a
+/// if it is the marked plan of one save, it does that plan. Then it clears the mark. It may be interrupted too, any number of times. After a
 /// kill what is read need not be on the disk, so it syncs all three files first.
 ///
 /// # Errors
 ///
-/// As the disk says. Open the files again and recover once more.
+/// Returns the error of the disk. Open the files again and recover once more.
 pub fn recover<D: Disk>(disk: &mut D, redo: &[u8], plan: Option<&[u8]>) -> Result<(), DiskError>
     requires read { redo.now ≡ (D.seen disk.old).redo }
     requires plan { IsPlanOf (D.seen disk.old) plan }
@@ -38,13 +38,13 @@ pub fn recover<D: Disk>(disk: &mut D, redo: &[u8], plan: Option<&[u8]>) -> Resul
     ensures run { OnOk result (IsRun D.seen D.may_leave D.moment D.left_since returned disk.old disk.new) }
     ensures interrupted { IsRun D.seen D.may_leave D.moment D.left_since interrupted disk.old disk.new }
 
-    // It fails only if the disk does.
+    // `Failed` comes only if the disk has failed.
     ensures cause { HasCause (D.has_failed disk.old) (D.has_failed disk.new) result }
 {
     recover_files(disk, redo, plan)
 }
 
-// The same, but for the promises of a run.
+// Does what its caller promises, without the clauses of a run.
 fn recover_files<D: Disk>(disk: &mut D, redo: &[u8], plan: Option<&[u8]>) -> Result<(), DiskError>
     requires read { redo.now ≡ (D.seen disk.old).redo }
     requires plan { IsPlanOf (D.seen disk.old) plan }
@@ -129,7 +129,7 @@ fn drop_log<D: Disk>(disk: &mut D) -> Result<(), DiskError>
 ///
 /// # Errors
 ///
-/// As the disk says. The data files are as they were.
+/// Returns the error of the disk. The data files are as they were.
 pub fn start_log<D: Disk>(disk: &mut D, empty: &[u8]) -> Result<Log, DiskError>
     requires settled { IsSettled D.seen D.may_leave disk.old }
     requires empty { empty.now ≡ empty_log (length empty.now) }
@@ -143,7 +143,7 @@ pub fn start_log<D: Disk>(disk: &mut D, empty: &[u8]) -> Result<Log, DiskError>
     // A crash at any moment leaves the same files.
     ensures any_moment { LeavesOnly D.moment D.left_since disk.old disk.new (λ c. Holds (files (D.seen disk.old)) c) }
 
-    // It fails only if the disk does.
+    // `Failed` comes only if the disk has failed.
     ensures cause { HasCause (D.has_failed disk.old) (D.has_failed disk.new) result }
 {
     write_log(disk, empty)?;
@@ -176,7 +176,7 @@ fn write_log<D: Disk>(disk: &mut D, empty: &[u8]) -> Result<(), DiskError>
 ///
 /// # Errors
 ///
-/// As the disk says. The data files are as they were.
+/// Returns the error of the disk. The data files are as they were.
 pub fn restart_log<D: Disk>(disk: &mut D, zeros: &[u8], room: usize) -> Result<Log, DiskError>
     requires settled { IsSettled D.seen D.may_leave disk.old }
     requires unmarked { get_or (D.seen disk.old).redo 0 0 ≡ 0 }
@@ -194,7 +194,7 @@ pub fn restart_log<D: Disk>(disk: &mut D, zeros: &[u8], room: usize) -> Result<L
     // A crash at any moment leaves the same files.
     ensures any_moment { LeavesOnly D.moment D.left_since disk.old disk.new (λ c. Holds (files (D.seen disk.old)) c) }
 
-    // It fails only if the disk does.
+    // `Failed` comes only if the disk has failed.
     ensures cause { HasCause (D.has_failed disk.old) (D.has_failed disk.new) result }
 {
     write_zeros(disk, zeros)?;

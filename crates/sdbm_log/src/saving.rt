@@ -14,7 +14,7 @@ use sdbm_saves::{Disk, DiskError, number};
 // The plans of a log have fewer changes than this.
 const CHANGE_LIMIT: usize = 1 << 32;
 
-/// The place of the next record in a log. `start_log` and `restart_log` return it, and `save` moves it on.
+/// The place of the next record in a log. `start_log` and `restart_log` return it, and `save` advances it.
 #[derive(Clone, Copy)]
 pub struct Log {
     /// The end of the records, counted from the end of the header.
@@ -39,7 +39,7 @@ pub enum Saved {
 ///
 /// # Errors
 ///
-/// As the disk says. The save may be committed or not: open the files again and `recover`.
+/// Returns the error of the disk. The save may be committed or not: open the files again and `recover`.
 pub fn save<D: Disk>(
     disk: &mut D,
     log: &mut Log,
@@ -59,7 +59,7 @@ pub fn save<D: Disk>(
     ensures ready { IfOk result (λ outcome. outcome ≡ Done → IsReady log.new.end log.new.room log.new.count D.seen D.may_leave disk.new) }
     ensures done { IfOk result (λ outcome. outcome ≡ Done → files (D.seen disk.new) ≡ renewed_files plan.now (D.seen disk.old)) }
 
-    // Once it returns, a crash leaves the files with the plan done.
+    // Once it returns `Ok`, a crash leaves the files with the plan done.
     ensures durable { IfOk result (λ outcome. (c : Image) → D.may_leave disk.new c → Holds (renewed_files plan.now (D.seen disk.old)) c) }
 
     // A crash at any moment of the call leaves the files as they were, or with the plan done.
@@ -70,14 +70,14 @@ pub fn save<D: Disk>(
     ensures run { IfOk result (λ outcome. outcome ≡ Done → IsRun D.seen D.may_leave D.moment D.left_since (saved (renewed_files plan.now (D.seen disk.old))) disk.old disk.new) }
     ensures interrupted { IsRun D.seen D.may_leave D.moment D.left_since (interrupted_save (renewed_files plan.now (D.seen disk.old))) disk.old disk.new }
 
-    // It fails, or leaves the data files to recovery, only if the disk does.
+    // `Failed`, alone or in `Pending`, comes only if the disk has failed.
     ensures cause { HasCause (D.has_failed disk.old) (D.has_failed disk.new) result }
     ensures pending { IfOk result (λ outcome. outcome ≡ Pending Failed → D.has_failed disk.new) }
 {
     save_plan(disk, log, record_bytes, plan, zeros)
 }
 
-// The same, but for the promises of a run.
+// Does what its caller promises, without the clauses of a run.
 fn save_plan<D: Disk>(
     disk: &mut D,
     log: &mut Log,
@@ -283,7 +283,7 @@ fn finish_alone<D: Disk>(disk: &mut D, plan: &[u8], zeros: &[u8]) -> Saved
     }
 }
 
-// The same, as the disk answers.
+// Does the same, and returns the answer of the disk.
 fn apply_alone<D: Disk>(disk: &mut D, plan: &[u8], zeros: &[u8]) -> Result<(), DiskError>
     requires plan { IsPlan plan.now }
     requires committed { IsCommitted plan.now D.seen D.may_leave disk.old }

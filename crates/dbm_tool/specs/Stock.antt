@@ -1,10 +1,10 @@
--- Stock programs, where the words of a command line name them.
+-- Stock programs that a command line names.
 use Rattle.std.specs.Prelude.{◌≡◌, ℕ, Bool, List, Option, Some, None, IsSomeAnd}
 use Rattle.stock_names.specs.Names.{IsFileOf, code_of, word_named}
 use Rattle.stock_names.specs.declared.ProgramWord.{ProgramWord}
 use Rattle.stock_names.specs.declared.ProgramWord.TheVariants as words
 
--- What the word for a program names. Without a word nothing is read, as for a file that is not there.
+-- The meaning of the word for a program. Without a word there is no stock program, as with a file.
 abbrev pub word_in : Option (List ℕ) → ProgramWord
 word_in None = words.File
 word_in (Some word) = word_named word
@@ -19,7 +19,7 @@ abbrev pub file_in : Option (List ℕ) → Option (List ℕ)
 file_in None = None
 file_in (Some word) = only_file word (word_named word)
 
--- The bytes are those of the stock program that is named, in the form that is wanted, and there are none where a file is named.
+-- The bytes are those of the named stock program, as an image or as a text. There are none if the word names a file.
 abbrev pub IsStockFile : Bool → ProgramWord → Option (List ℕ) → Type 0
 IsStockFile is_image words.File file = file ≡ None
 IsStockFile is_image (words.Stock s) file = IsSomeAnd file (IsFileOf is_image (code_of s))

@@ -209,11 +209,7 @@ fn serve_request<R: Runtime<File = File> + AllocGlobal + Threads + Wait + Sync, 
     let Request { ask, access } = request;
     let stock = match &ask {
         Ask::Wish(wish) => stock_file(rt.alloc(), wish)?,
-        Ask::Session(_) => None,
-        Ask::Programs(programs) => {
-            print_programs(rt, programs, reader)?;
-            return Ok(Ending::Served(0));
-        }
+        _ => None,
     };
     let place = place_asked(&ask);
     if let Some(base) = place.base
@@ -244,7 +240,10 @@ fn serve_request<R: Runtime<File = File> + AllocGlobal + Threads + Wait + Sync, 
             serve_session(rt, session, place, taken, reader)?;
             Ok(Ending::Served(0))
         }
-        Ask::Programs(_) => Ok(Ending::Served(0)),
+        Ask::Programs(programs) => {
+            print_programs(rt, &programs, reader)?;
+            Ok(Ending::Served(0))
+        }
     }
 }
 

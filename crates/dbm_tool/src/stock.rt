@@ -1,4 +1,4 @@
-//! Stock programs, where the words of a command line name them.
+//! Stock programs that a command line names.
 ghost use Rattle.std.specs.Prelude.{◌≡◌, ◌⊎◌, IfOk, IfErr, option_map};
 ghost use Rattle.dbm_command_line.specs.Wishes.{file_of, takes_image};
 ghost use Rattle.dbm_faults.specs.declared.fault.ServeFault.TheVariants.{NoMemory, NoStock};
@@ -34,8 +34,8 @@ pub fn file_or_unknown<'a>(word: Option<&'a str>) -> Option<&'a str> {
     }
 }
 
-/// What a file of the stock program that a wish names would have: its image where the wish takes one, or else its text. `None` if the wish
-/// names a file, or no program.
+/// The bytes of the stock program that a wish names: its image if the wish takes one, or else its text. `None` if the wish names a file, or
+/// no program.
 ///
 /// # Errors
 /// `NoStock` if no stock program has the name, and `NoMemory`.

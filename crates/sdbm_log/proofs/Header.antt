@@ -5,8 +5,8 @@ use Rattle.std.proofs.lemmas.Bool.{cases_eq}
 use Rattle.std.proofs.lemmas.List.{get_or-take, get_or-drop, drop-append-le, drop-take, drop-drop, drop_all, append-nil, length-take-le}
 use Rattle.sdbm_saves.specs.declared.disk.File.TheVariants.{Redo}
 use Rattle.sdbm_saves.specs.Disk.{Image, put, written, IsKept, Torn, TornLength, Within}
-use Rattle.sdbm_saves.specs.Redo.{number_at, files, mark_of, signature, stands_for, CanEnd, IsSettled, StaysUnmarked}
-use Rattle.sdbm_log.specs.Log.{nonzero, is_signed, is_log, empty_log, records_of, files_by, number_in, CanRecoverBy, Holds, IsKeptLog, IsDurable}
+use Rattle.sdbm_saves.specs.Redo.{number_at, files, mark_of, signature, stands_for, CanEnd, StaysUnmarked}
+use Rattle.sdbm_log.specs.Log.{nonzero, is_signed, is_log, empty_log, records_of, files_by, number_in, CanRecoverBy, Holds, IsKeptLog, IsAtRest, IsDurable}
 use Rattle.sdbm_saves.proofs.Lists.{written_before}
 use Rattle.sdbm_saves.proofs.Marks.{when_unmarked, nothing_to_end, behind_mark, image_by_files, stays_within}
 use Rattle.sdbm_log.proofs.Joins.{number_same}
@@ -178,9 +178,9 @@ not_one : (n : ℕ) → n ≡ 0 → n ≢ 1
 not_one n is = λ one. absurd (omega (arith, is, one))
 
 -- a redo file that has no mark and is synced
-pub settled_holds : {D : Type 0} (seen : D → Image) (may_leave : D → Image → Type 0) (disk : D) → IsSettled seen may_leave disk → (d c : Image) → may_leave disk d → StaysUnmarked d c → Holds (files (seen disk)) c
-settled_holds seen may_leave disk settled d c now stays =
-    unmarked_holds (files (seen disk)) c (stays.mark (settled.left_unmarked d now)) (stays.files ∙ settled.kept d now)
+pub settled_holds : (seen : Image) (may_leave : Image → Type 0) → IsAtRest seen may_leave → (d c : Image) → may_leave d → StaysUnmarked d c → Holds (files seen) c
+settled_holds seen may_leave settled d c now stays =
+    unmarked_holds (files seen) c (stays.mark (settled.left_unmarked d now)) (stays.files ∙ settled.kept d now)
 
 -- a write after the mark, and one that writes no mark
 pub stays_behind : (bytes : List ℕ) (d c : Image) → Within Redo (Torn 4096 bytes) d c → StaysUnmarked d c
@@ -194,19 +194,19 @@ pub stays_resized : (n : ℕ) → 1 ≤ n → (d c : Image) → Within Redo (Tor
 stays_resized n some d c within = stays_within (TornLength n) (λ x y torn. inl (torn.same 0 (omega (arith, some)))) d c within
 
 -- a log with no mark, on the disk
-pub durable_unmarked : {D : Type 0} (seen : D → Image) (may_leave : D → Image → Type 0) (disk : D) → get_or (seen disk).redo 0 0 ≡ 0 → IsKept Redo (seen disk) (may_leave disk)
-    → ((c : Image) → may_leave disk c → files c ≡ files (seen disk)) → IsDurable seen may_leave disk
-durable_unmarked seen may_leave disk unmarked kept same = record {
-  kept = λ c now. kept_self (seen disk).redo c.redo (kept c now);
-  now = unmarked_holds (files (seen disk)) (seen disk) (not_one (get_or (seen disk).redo 0 0) unmarked) refl;
-  holds = λ c now. unmarked_holds (files (seen disk)) c (not_one (get_or c.redo 0 0) (ap (λ (l : List ℕ). get_or l 0 0) (kept c now) ∙ unmarked)) (same c now);
+pub durable_unmarked : (seen : Image) (may_leave : Image → Type 0) → get_or seen.redo 0 0 ≡ 0 → IsKept Redo seen may_leave
+    → ((c : Image) → may_leave c → files c ≡ files seen) → IsDurable seen may_leave
+durable_unmarked seen may_leave unmarked kept same = record {
+  kept = λ c now. kept_self seen.redo c.redo (kept c now);
+  now = unmarked_holds (files seen) seen (not_one (get_or seen.redo 0 0) unmarked) refl;
+  holds = λ c now. unmarked_holds (files seen) c (not_one (get_or c.redo 0 0) (ap (λ (l : List ℕ). get_or l 0 0) (kept c now) ∙ unmarked)) (same c now);
 }
 
--- the same in the form of a settled disk
-pub settled_unmarked : {D : Type 0} (seen : D → Image) (may_leave : D → Image → Type 0) (disk : D) → get_or (seen disk).redo 0 0 ≡ 0 → IsKept Redo (seen disk) (may_leave disk)
-    → ((c : Image) → may_leave disk c → files c ≡ files (seen disk)) → IsSettled seen may_leave disk
-settled_unmarked seen may_leave disk unmarked kept same = record {
-  unmarked = not_one (get_or (seen disk).redo 0 0) unmarked;
+-- the same at rest
+pub settled_unmarked : (seen : Image) (may_leave : Image → Type 0) → get_or seen.redo 0 0 ≡ 0 → IsKept Redo seen may_leave
+    → ((c : Image) → may_leave c → files c ≡ files seen) → IsAtRest seen may_leave
+settled_unmarked seen may_leave unmarked kept same = record {
+  unmarked = not_one (get_or seen.redo 0 0) unmarked;
   left_unmarked = λ c now. not_one (get_or c.redo 0 0) (ap (λ (l : List ℕ). get_or l 0 0) (kept c now) ∙ unmarked);
   kept = same;
 }
@@ -216,7 +216,7 @@ pub empty_signed : (len : ℕ) → is_signed (empty_log len) ≡ true
 unfolding number_at
 empty_signed len = refl
 
-zeros_none : (n : ℕ) → nonzero (replicate n 0) ≡ 0
+pub zeros_none : (n : ℕ) → nonzero (replicate n 0) ≡ 0
 zeros_none zero = refl
 zeros_none (suc n) = zeros_none n
 

@@ -1,6 +1,8 @@
+pub mod Committing
+pub mod Doing
+pub mod Ending
 pub mod Header
 pub mod Joins
-pub mod LogRuns
 pub mod Logs
 pub mod Noting
 pub mod Places

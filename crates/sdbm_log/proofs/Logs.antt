@@ -333,10 +333,10 @@ log_holds both c log none may same =
     (files_none c log number ∙ same, recover_none c log number may)
 
 -- a log that is read and on the disk, with its plans as one
-pub committed_read : {D : Type 0} (seen : D → Image) (may_leave : D → Image → Type 0) (disk : D) (plan : List ℕ) → 1 ≤ number_of (seen disk) → plan ≡ plan_of (seen disk) → CanRecover (seen disk)
-    → Only (seen disk) (may_leave disk) → IsCommitted plan seen may_leave disk
-committed_read seen may_leave disk plan some read can only =
-    let image = seen disk in
+pub committed_read : (seen : Image) (may_leave : Image → Type 0) (plan : List ℕ) → 1 ≤ number_of seen → plan ≡ plan_of seen → CanRecover seen
+    → Only seen may_leave → IsCommitted plan seen may_leave
+committed_read seen may_leave plan some read can only =
+    let image = seen in
     let holds : Holds (renewed_files plan image) image = (files_some plan image some read, can) in
     record {
       kept = λ c now. kept_self image.redo c.redo (ap (λ (o : Image). o.redo) (only c now));
@@ -347,9 +347,9 @@ committed_read seen may_leave disk plan some read can only =
     }
 
 -- one that has no records
-pub durable_none : {D : Type 0} (seen : D → Image) (may_leave : D → Image → Type 0) (disk : D) → is_log (seen disk).redo ≡ true → number_of (seen disk) ≡ 0 → CanRecover (seen disk) → Only (seen disk) (may_leave disk) → IsDurable seen may_leave disk
-durable_none seen may_leave disk log none can only =
-    let image = seen disk in
+pub durable_none : (seen : Image) (may_leave : Image → Type 0) → is_log seen.redo ≡ true → number_of seen ≡ 0 → CanRecover seen → Only seen may_leave → IsDurable seen may_leave
+durable_none seen may_leave log none can only =
+    let image = seen in
     let holds : Holds (files image) image = (files_none image log none, can) in
     record {
       kept = λ c now. kept_self image.redo c.redo (ap (λ (o : Image). o.redo) (only c now));
@@ -628,11 +628,9 @@ module _ (first : Image) (file : IsLogFile 0 first.redo) where
       (torn_byte 1 d c (long_left d kept) within)
 
 -- the mark is set and not synced
-pub marked_durable : {D : Type 0} (seen : D → Image) (may_leave : D → Image → Type 0) (old new : D) → IsLogFile 0 (seen old).redo → IsDurable seen may_leave old → seen new ≡ put Redo (1 ∷ drop 1 (seen old).redo) (seen old)
-    → Follows (Within Redo (Torn 0 (1 ∷ []))) (may_leave old) (may_leave new) → IsDurable seen may_leave new
-marked_durable seen may_leave old new file durable is crash =
-    let first = seen old in
-    let third = seen new in
+pub marked_durable : (first third : Image) (before after : Image → Type 0) → IsLogFile 0 first.redo → IsDurable first before → third ≡ put Redo (1 ∷ drop 1 first.redo) first
+    → Follows (Within Redo (Torn 0 (1 ∷ []))) before after → IsDurable third after
+marked_durable first third before after file durable is crash =
     let same : files third ≡ files first = ap (λ (o : Image). files o) is in
     record {
       kept = λ c now. let from = crash c now in
@@ -650,19 +648,19 @@ pub marked_plan : (first third : Image) → IsLogFile 0 first.redo → third ≡
 marked_plan first third file is =
     ap (λ k. log_plan k (records_of third.redo)) (marked_number first third file is ∙ number_first first file) ∙ sym (ap (λ k. log_plan k (records_of first.redo)) (number_first first file))
 
--- a disk whose log is empty
-pub ready_empty : {D : Type 0} (seen : D → Image) (may_leave : D → Image → Type 0) (disk : D) (end room count : ℕ) → IsDurable seen may_leave disk → IsLogFile 0 (seen disk).redo → get_or (seen disk).redo 0 0 ≡ 0 → length (seen disk).redo ≡ 4096 + room
-    → end ≡ 0 → count ≡ 0 → room ≤ 2 ^ 31 → IsReady end room count seen may_leave disk
-ready_empty seen may_leave disk end room count durable file unmarked long ends counts near =
-    let number : number_of (seen disk) ≡ 0 = ap (λ b. number_by b (seen disk).redo) (no_log (seen disk).redo unmarked) in
+-- an empty log
+pub ready_empty : (seen : Image) (may_leave : Image → Type 0) (end room count : ℕ) → IsDurable seen may_leave → IsLogFile 0 seen.redo → get_or seen.redo 0 0 ≡ 0 → length seen.redo ≡ 4096 + room
+    → end ≡ 0 → count ≡ 0 → room ≤ 2 ^ 31 → IsReady end room count seen may_leave
+ready_empty seen may_leave end room count durable file unmarked long ends counts near =
+    let number : number_of seen ≡ 0 = ap (λ b. number_by b seen.redo) (no_log seen.redo unmarked) in
     record {
       durable = durable;
-      file = subst (λ k. IsLogFile k (seen disk).redo) (sym ends) file;
+      file = subst (λ k. IsLogFile k seen.redo) (sym ends) file;
       long = long;
       near = near;
       few = omega (arith, counts);
       none = λ is_none. counts;
-      grow = subst (λ k. MayGrow k (plan_of (seen disk)) count) (sym number) tt;
+      grow = subst (λ k. MayGrow k (plan_of seen) count) (sym number) tt;
     }
   where
     no_log : (redo : List ℕ) → get_or redo 0 0 ≡ 0 → is_log redo ≡ false

@@ -71,11 +71,9 @@ noting_kept read next left later at bytes from to torn torn_left kept = record {
       kept.mark;
 }
 
-pub noted_ready : {D : Type 0} (seen : D → Image) (may_leave : D → Image → Type 0) (old new : D) (end room count at : ℕ) (bytes : List ℕ) → IsReady end room count seen may_leave old → 16 ≤ at → at + length bytes ≤ 4096
-    → seen new ≡ put Redo (written at bytes (seen old).redo) (seen old) → Follows (Within Redo (Torn at bytes)) (may_leave old) (may_leave new) → IsReady end room count seen may_leave new
-noted_ready seen may_leave old new end room count at bytes ready from to is crash =
-    let first = seen old in
-    let third = seen new in
+pub noted_ready : (first third : Image) (before after : Image → Type 0) (end room count at : ℕ) (bytes : List ℕ) → IsReady end room count first before → 16 ≤ at → at + length bytes ≤ 4096
+    → third ≡ put Redo (written at bytes first.redo) first → Follows (Within Redo (Torn at bytes)) before after → IsReady end room count third after
+noted_ready first third before after end room count at bytes ready from to is crash =
     let redo : third.redo ≡ written at bytes first.redo = ap (λ (o : Image). o.redo) is in
     let inside : at + length bytes ≤ length first.redo = omega (arith, to, ready.long) in
     let torn : Torn at bytes first.redo third.redo = subst (λ (l : List ℕ). Torn at bytes first.redo l) (sym redo) (torn_written at bytes first.redo (omega (arith, inside))) in
@@ -86,11 +84,11 @@ noted_ready seen may_leave old new end room count at bytes ready from to is cras
     let plan : plan_of third ≡ plan_of first = plan_noted first third head records in
     record {
       durable = record {
-        kept = λ c now. let before = crash c now in noting_kept first.redo third.redo before.0.redo c.redo at bytes from to torn before.2.stepped (ready.durable.kept before.0 before.1);
+        kept = λ c now. let from_it = crash c now in noting_kept first.redo third.redo from_it.0.redo c.redo at bytes from to torn from_it.2.stepped (ready.durable.kept from_it.0 from_it.1);
         now = subst (λ (p : List ℕ × List ℕ). Holds p third) (sym same) (holds_noted first third head records (files first) ready.file.signed same ready.durable.now);
-        holds = λ c now. let before = crash c now in
+        holds = λ c now. let from_it = crash c now in
             subst (λ (p : List ℕ × List ℕ). Holds p c) (sym same)
-            (noting (files first) first before.0 c at bytes ready.file.signed (ready.durable.kept before.0 before.1) from to before.2 (ready.durable.holds before.0 before.1));
+            (noting (files first) first from_it.0 c at bytes ready.file.signed (ready.durable.kept from_it.0 from_it.1) from to from_it.2 (ready.durable.holds from_it.0 from_it.1));
       };
       file = record {
         signed = signed_same first.redo third.redo (λ i one nine. head i nine) ∙ ready.file.signed;

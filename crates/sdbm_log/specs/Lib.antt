@@ -1,4 +1,5 @@
+pub mod Doing
 pub mod Log
-pub mod LogRuns
 pub mod Notes
 pub mod Places
+pub mod Protocol

@@ -3,7 +3,7 @@
 -- new bytes there; all plans of the log done again make them whole (a redo log: Gray and Reuter, Transaction Processing 1993, chapter 9).
 -- Byte 0 is the mark: 1 while there are records. The eight bytes after it are "sdbmlog1". A file with the mark and other bytes after it is
 -- the marked plan of one save (specs/Redo.antt of sdbm_saves).
-use Rattle.std.specs.Prelude.{Bool, true, false, if◌then◌else◌, ◌==◌, ◌⊎◌, ◌-◌, ◌*◌, ◌/◌, ◌%◌, Option, MatchOption, ◌<◌, ◌≤◌, ◌≡◌, ◌^◌, ℕ, zero, suc, ◌+◌, List, [], ◌∷◌, ◌++◌, length, take, drop, replicate, get_or}
+use Rattle.std.specs.Prelude.{Bool, true, false, if◌then◌else◌, ◌==◌, ◌⊎◌, ◌-◌, ◌*◌, ◌/◌, ◌%◌, Option, MatchOption, ◌<◌, ◌≤◌, ◌≡◌, ◌≢◌, ◌^◌, ℕ, zero, suc, ◌+◌, List, [], ◌∷◌, ◌++◌, length, take, drop, replicate, get_or}
 use Rattle.std.specs.Borrow.{Bor}
 use Rattle.sdbm_saves.specs.declared.disk.File.TheVariants.{Pages, Directory}
 use Rattle.sdbm_saves.specs.Disk.{Image, written}
@@ -173,14 +173,20 @@ pub record IsKeptLog (read left : List ℕ) : Type 0 where
   pub signed : (i : ℕ) → 1 ≤ i → i < 9 → get_or left i 0 ≡ get_or read i 0
   pub mark : (get_or left 0 0 ≡ get_or read 0 0) ⊎ ((get_or left 0 0 ≡ 0) × (number_in (records_of read) ≡ 0))
 
-abbrev pub KeepsLog : {D : Type 0} → (D → Image) → (D → Image → Type 0) → D → Type 0
-KeepsLog seen may_leave disk = (c : Image) → may_leave disk c → IsKeptLog (seen disk).redo c.redo
+abbrev pub KeepsLog : Image → (Image → Type 0) → Type 0
+KeepsLog seen may_leave = (c : Image) → may_leave c → IsKeptLog seen.redo c.redo
+
+-- No save is under way: what is read has no mark, and a crash leaves no mark and the same data files.
+pub record IsAtRest (seen : Image) (may_leave : Image → Type 0) : Type 0 where
+  pub unmarked : get_or seen.redo 0 0 ≢ 1
+  pub left_unmarked : (c : Image) → may_leave c → get_or c.redo 0 0 ≢ 1
+  pub kept : (c : Image) → may_leave c → files c ≡ files seen
 
 -- Between two saves: the log is on the disk, what is read means itself, and what a crash leaves means the same.
-pub record IsDurable {D : Type 0} (seen : D → Image) (may_leave : D → Image → Type 0) (disk : D) : Type 0 where
-  pub kept : KeepsLog seen may_leave disk
-  pub now : Holds (files (seen disk)) (seen disk)
-  pub holds : (c : Image) → may_leave disk c → Holds (files (seen disk)) c
+pub record IsDurable (seen : Image) (may_leave : Image → Type 0) : Type 0 where
+  pub kept : KeepsLog seen may_leave
+  pub now : Holds (files seen) seen
+  pub holds : (c : Image) → may_leave c → Holds (files seen) c
 
 -- the records end at this offset, and zeros follow
 pub record HasRecords (end : ℕ) (log : List ℕ) : Type 0 where
@@ -215,12 +221,12 @@ MayGrow (suc n) first count = ((g : ℕ) → old_length (data_file g) first ≤ 
 
 -- A save is committed and its plan not yet done: the plan is the last of the log, which is on the disk, and what is read and what a crash
 -- leaves means the files with the plan done.
-pub record IsCommitted {D : Type 0} (plan : List ℕ) (seen : D → Image) (may_leave : D → Image → Type 0) (disk : D) : Type 0 where
-  pub kept : KeepsLog seen may_leave disk
-  pub some : 1 ≤ number_of (seen disk)
-  pub last : EndsWith (plan_of (seen disk)) plan
-  pub now : Holds (renewed_files plan (seen disk)) (seen disk)
-  pub holds : (c : Image) → may_leave disk c → Holds (renewed_files plan (seen disk)) c
+pub record IsCommitted (plan : List ℕ) (seen : Image) (may_leave : Image → Type 0) : Type 0 where
+  pub kept : KeepsLog seen may_leave
+  pub some : 1 ≤ number_of seen
+  pub last : EndsWith (plan_of seen) plan
+  pub now : Holds (renewed_files plan seen) seen
+  pub holds : (c : Image) → may_leave c → Holds (renewed_files plan seen) c
 
 -- the plan of a log as code has it: `None` if there are no records
 abbrev pub IsPlanOf : Image → Option (Bor (List ℕ)) → Type 0
@@ -232,12 +238,12 @@ pub record IsLogFile (end : ℕ) (redo : List ℕ) : Type 0 where
   pub mark : ((end ≡ 0) × (get_or redo 0 0 ≡ 0)) ⊎ (get_or redo 0 0 ≡ 1)
   pub place : HasRecords end (records_of redo)
 
--- A disk whose log can take the next record: its records end at this offset of this room after the header, and have this number of changes.
-pub record IsReady {D : Type 0} (end room count : ℕ) (seen : D → Image) (may_leave : D → Image → Type 0) (disk : D) : Type 0 where
-  pub durable : IsDurable seen may_leave disk
-  pub file : IsLogFile end (seen disk).redo
-  pub long : length (seen disk).redo ≡ 4096 + room
+-- A log can take the next record: its records end at this offset of this room after the header, and have this number of changes.
+pub record IsReady (end room count : ℕ) (seen : Image) (may_leave : Image → Type 0) : Type 0 where
+  pub durable : IsDurable seen may_leave
+  pub file : IsLogFile end seen.redo
+  pub long : length seen.redo ≡ 4096 + room
   pub near : room ≤ 2 ^ 31
   pub few : count < 2 ^ 32
-  pub none : number_of (seen disk) ≡ 0 → count ≡ 0
-  pub grow : MayGrow (number_of (seen disk)) (plan_of (seen disk)) count
+  pub none : number_of seen ≡ 0 → count ≡ 0
+  pub grow : MayGrow (number_of seen) (plan_of seen) count

@@ -61,7 +61,7 @@ pub record IsAppended (end : ℕ) (plan bytes : List ℕ) (first : Image) (seen 
   pub long : length seen.redo ≡ length first.redo
   pub same : files seen ≡ files first
 
-module _ (end : ℕ) (plan bytes : List ℕ) (bytes_are : bytes ≡ record_of plan) (is_plan : IsPlan plan) (short : length plan < 2 ^ 31) where
+module _ (end : ℕ) (plan bytes : List ℕ) (bytes_are : bytes ≡ record_of plan) (is_plan : IsPlan plan) (short : length plan < 4000000000) where
   pub record_does : (first : Image) (may_leave : Image → Type 0) → Knows plan (files first) → IsDurable first may_leave → is_log first.redo ≡ true → HasRecords end (records_of first.redo) → CanFollow (number_of first) (plan_of first) plan
       → 4096 + end + length bytes ≤ length first.redo → Does (record_acts end bytes) first may_leave (λ c. Holds (files first) c ⊎ Holds (renewed_files plan first) c) (IsAppended end plan bytes first)
   record_does first may_leave knows durable log place follows room =

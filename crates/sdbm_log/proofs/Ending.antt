@@ -20,24 +20,29 @@ settle_does first may_leave = record {
   after = (refl, λ c l. image_by_files c first (λ i. (l.0.1 i, l.1 i)) l.0.0.1);
 }
 
-pub close_does : (first : Image) (may_leave : Image → Type 0) → IsDurable first may_leave → is_signed first.redo ≡ true
-    → Does close_acts first may_leave (λ c. Holds (files first) c) (λ s m. (s ≡ put Redo (0 ∷ drop 1 first.redo) first) × (IsAtRest s m × IsKept Redo s m))
-close_does first may_leave durable signed =
+-- closes a log, or takes the mark of a save that is done
+pub close_any : (first : Image) (may_leave : Image → Type 0) (both : List ℕ × List ℕ) → both ≡ files first → ((c : Image) → may_leave c → Holds both c) → ((c : Image) → may_leave c → 1 ≤ length c.redo)
+    → Does close_acts first may_leave (λ c. Holds both c) (λ s m. (s ≡ put Redo (0 ∷ drop 1 first.redo) first) × (IsAtRest s m × IsKept Redo s m))
+close_any first may_leave both are all long =
     let Synced : Image → Type 0 = λ c. (may_leave c × (content Pages c ≡ content Pages first)) × (content Directory c ≡ content Directory first) in
     let last : Image = put Redo (0 ∷ drop 1 first.redo) first in
     let Left : Image → Type 0 = LeftAfter close_acts first may_leave in
     let same : (d : Image) → Synced d → files d ≡ files first = λ d is i. (is.0.1 i, is.1 i) in
-    let holds : (c : Image) → (d : Image) × Synced d × Within Redo (Torn 0 (0 ∷ [])) d c → Holds (files first) c = λ c from.
-        cleared (files first) from.0 c (same from.0 from.1) (durable.holds from.0 from.1.0.0) (long_kept first.redo from.0.redo signed (durable.kept from.0 from.1.0.0)) from.2 in
+    let holds : (c : Image) → (d : Image) × Synced d × Within Redo (Torn 0 (0 ∷ [])) d c → Holds both c = λ c from.
+        cleared both from.0 c (same from.0 from.1 ∙ sym are) (all from.0 from.1.0.0) (long from.0 from.1.0.0) from.2 in
     let kept : IsKept Redo last Left = λ c l. l.1 in
     record {
       can = (tt, (tt, (omega arith, (tt, tt))));
       any_moment = λ c left. ⊎_elim
-          (λ l. durable.holds c l)
-          (λ more. ⊎_elim (λ l. durable.holds c l.0) (λ rest. ⊎_elim (λ l. durable.holds c l.0.0) (λ two. ⊎_elim (λ l. holds c l) (λ l. holds c l.0) two) rest) more)
+          (λ l. all c l)
+          (λ more. ⊎_elim (λ l. all c l.0) (λ rest. ⊎_elim (λ l. all c l.0.0) (λ two. ⊎_elim (λ l. holds c l) (λ l. holds c l.0) two) rest) more)
           left;
       after = (refl, (settled_unmarked last Left refl kept (λ c l. ap (λ (o : Image). files o) l.0.2.others ∙ same l.0.0 l.0.1), kept));
     }
+
+pub close_does : (first : Image) (may_leave : Image → Type 0) → IsDurable first may_leave → is_signed first.redo ≡ true
+    → Does close_acts first may_leave (λ c. Holds (files first) c) (λ s m. (s ≡ put Redo (0 ∷ drop 1 first.redo) first) × (IsAtRest s m × IsKept Redo s m))
+close_does first may_leave durable signed = close_any first may_leave (files first) refl durable.holds (λ c l. long_kept first.redo c.redo signed (durable.kept c l))
 
 -- what was left before, but that no mark has come
 abbrev Stays : (Image → Type 0) → Image → Type 0
@@ -52,7 +57,7 @@ stays_next may_leave before step was is c from =
     let old = was from.0 from.1 in
     (old.0, old.1, stays_joins old.0 from.0 c old.2 (is from.0 c from.2))
 
-pub clear_does : (first : Image) (may_leave : Image → Type 0) (room n : ℕ) → IsAtRest first may_leave → get_or first.redo 0 0 ≡ 0 → is_signed first.redo ≡ true → length first.redo ≡ 4096 + room → room ≤ 2 ^ 31 → n ≤ room
+pub clear_does : (first : Image) (may_leave : Image → Type 0) (room n : ℕ) → IsAtRest first may_leave → get_or first.redo 0 0 ≡ 0 → is_signed first.redo ≡ true → length first.redo ≡ 4096 + room → room ≤ 4000000000 → n ≤ room
     → nonzero (drop n (records_of first.redo)) ≡ 0 → Does (clear_acts n) first may_leave (λ c. Holds (files first) c) (λ s m. IsReady 0 room 0 s m × (files s ≡ files first))
 clear_does first may_leave room n rest unmarked signed long near inside none =
     let zeros : List ℕ = replicate n 0 in
@@ -89,7 +94,7 @@ pieces_empty len redo long is =
         ∙ ap (λ (l : List ℕ). zeros ++ l) past ∙ append-nil zeros in
     ap (λ (l : List ℕ). 0 ∷ 115 ∷ 100 ∷ 98 ∷ 109 ∷ 108 ∷ 111 ∷ 103 ∷ 49 ∷ l) behind
 
-pub start_does : (first : Image) (may_leave : Image → Type 0) (len : ℕ) → IsAtRest first may_leave → 4096 ≤ len → len ≤ 2 ^ 31
+pub start_does : (first : Image) (may_leave : Image → Type 0) (len : ℕ) → IsAtRest first may_leave → 4096 ≤ len → len ≤ 4000000000
     → Does (start_acts len) first may_leave (λ c. Holds (files first) c) (λ s m. IsReady 0 (len - 4096) 0 s m × (files s ≡ files first))
 start_does first may_leave len rest long near =
     let head : List ℕ = 0 ∷ 115 ∷ 100 ∷ 98 ∷ 109 ∷ 108 ∷ 111 ∷ 103 ∷ 49 ∷ [] in

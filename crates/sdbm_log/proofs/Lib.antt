@@ -5,7 +5,10 @@ pub mod Header
 pub mod Joins
 pub mod Logs
 pub mod Noting
+pub mod Opening
+pub mod Saving
 pub mod Places
+pub mod Stepping
 pub mod Weights
 pub mod Words
 pub mod Results

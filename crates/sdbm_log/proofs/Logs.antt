@@ -28,7 +28,7 @@ log_slack (suc n) xs ys are =
     ∙ joined_slack (first_plan xs) n (later_records xs) ys are.1.1
 
 -- one more plan
-module _ (plan : List ℕ) (short : length plan < 2 ^ 31) where
+module _ (plan : List ℕ) (short : length plan < 4000000000) where
   pub plans_more : (n : ℕ) (xs : List ℕ) → AreRecords n xs → AreRecords (suc n) (xs ++ record_of plan)
   plans_more zero xs are = subst (λ (l : List ℕ). AreRecords 1 (l ++ record_of plan)) (sym are) (record_whole plan short, (record_fits plan short, later_record plan short))
   plans_more (suc n) xs are = (
@@ -67,7 +67,7 @@ whole_front (suc n) xs ys are whole = (
   ),
 )
 
-pub whole_next : (plan : List ℕ) → length plan < 2 ^ 31 → IsPlan plan → (n : ℕ) (xs : List ℕ) → AreRecords n xs → ArePlans n xs → ArePlans (suc n) (xs ++ record_of plan)
+pub whole_next : (plan : List ℕ) → length plan < 4000000000 → IsPlan plan → (n : ℕ) (xs : List ℕ) → AreRecords n xs → ArePlans n xs → ArePlans (suc n) (xs ++ record_of plan)
 whole_next plan short is_plan zero xs are whole =
     subst (λ (l : List ℕ). ArePlans 1 (l ++ record_of plan)) (sym are)
     (record_fits plan short, (subst (λ (l : List ℕ). IsPlan l) (sym (first_record plan short)) is_plan, tt))
@@ -79,7 +79,7 @@ whole_next plan short is_plan (suc n) xs are whole = (
   ),
 )
 
-pub log_more : (plan : List ℕ) → length plan < 2 ^ 31 → (n : ℕ) (xs : List ℕ) → AreRecords n xs → log_plan (suc n) (xs ++ record_of plan) ≡ next_plan n (log_plan n xs) plan
+pub log_more : (plan : List ℕ) → length plan < 4000000000 → (n : ℕ) (xs : List ℕ) → AreRecords n xs → log_plan (suc n) (xs ++ record_of plan) ≡ next_plan n (log_plan n xs) plan
 log_more plan short zero xs are = ap (λ (l : List ℕ). first_plan (l ++ record_of plan)) are ∙ first_record plan short
 log_more plan short (suc n) xs are =
     ap (λ (l : List ℕ). joined_all l (suc n) (later_records (xs ++ record_of plan))) (first_more xs (record_of plan) are.1.0)
@@ -168,7 +168,7 @@ stands_read n xs slack both d is are zeros log holds =
 stands_none : (n : ℕ) (xs : List ℕ) (both : List ℕ × List ℕ) (d : Image) → n ≡ 0 → files d ≡ both → Stands n xs both d
 stands_none n xs both d none same = subst (λ k. Stands k xs both d) (sym none) (record { plans = tt; known = tt; made = same })
 
-module _ (n : ℕ) (xs plan : List ℕ) (first : Image) (is_plan : IsPlan plan) (knows : Knows plan (files first)) (short : length plan < 2 ^ 31) (are : AreRecords n xs)
+module _ (n : ℕ) (xs plan : List ℕ) (first : Image) (is_plan : IsPlan plan) (knows : Knows plan (files first)) (short : length plan < 4000000000) (are : AreRecords n xs)
     (follows : CanFollow n (log_plan n xs) plan) (d c : Image) (stands : Stands n xs (files first) d) (same : files c ≡ files d) (log : is_log c.redo ≡ true) where
   -- a log with no other whole record means the same
   pub still_holds : (rest : List ℕ) → records_of c.redo ≡ xs ++ rest → is_whole rest ≡ false → MayBeTorn rest → Holds (files first) c
@@ -203,7 +203,7 @@ module _ (n : ℕ) (xs plan : List ℕ) (first : Image) (is_plan : IsPlan plan) 
       )
 
 -- A record that is written after the others is committed if all of it is there, and else nothing is.
-module _ (n end : ℕ) (xs slack plan : List ℕ) (first : Image) (is_plan : IsPlan plan) (knows : Knows plan (files first)) (short : length plan < 2 ^ 31) (are : AreRecords n xs) (ends : end ≡ length xs)
+module _ (n end : ℕ) (xs slack plan : List ℕ) (first : Image) (is_plan : IsPlan plan) (knows : Knows plan (files first)) (short : length plan < 4000000000) (are : AreRecords n xs) (ends : end ≡ length xs)
     (zeros : nonzero slack ≡ 0) (follows : CanFollow n (log_plan n xs) plan) where
   either : {P Q : Type 0} (b : Bool) → (b ≡ true → P) → (b ≡ false → Q) → P ⊎ Q
   either true p q = inl (p refl)
@@ -418,7 +418,7 @@ written_record end bytes xs slack redo is ends zeros =
     )
 
 -- a record that is written at the end of the records of a log
-module _ (end : ℕ) (bytes plan : List ℕ) (first : Image) (bytes_are : bytes ≡ record_of plan) (is_plan : IsPlan plan) (knows : Knows plan (files first)) (short : length plan < 2 ^ 31)
+module _ (end : ℕ) (bytes plan : List ℕ) (first : Image) (bytes_are : bytes ≡ record_of plan) (is_plan : IsPlan plan) (knows : Knows plan (files first)) (short : length plan < 4000000000)
     (log : is_log first.redo ≡ true) (place : HasRecords end (records_of first.redo)) (follows : CanFollow (number_of first) (plan_of first) plan) (inside : 4096 + end + length bytes ≤ length first.redo) where
   none : is_whole place.slack ≡ false
   none = zeros_no place.slack place.zeros
@@ -650,7 +650,7 @@ marked_plan first third file is =
 
 -- an empty log
 pub ready_empty : (seen : Image) (may_leave : Image → Type 0) (end room count : ℕ) → IsDurable seen may_leave → IsLogFile 0 seen.redo → get_or seen.redo 0 0 ≡ 0 → length seen.redo ≡ 4096 + room
-    → end ≡ 0 → count ≡ 0 → room ≤ 2 ^ 31 → IsReady end room count seen may_leave
+    → end ≡ 0 → count ≡ 0 → room ≤ 4000000000 → IsReady end room count seen may_leave
 ready_empty seen may_leave end room count durable file unmarked long ends counts near =
     let number : number_of seen ≡ 0 = ap (λ b. number_by b seen.redo) (no_log seen.redo unmarked) in
     record {

@@ -126,7 +126,7 @@ same_length [] (c ∷ cs) torn = absurd torn
 same_length (b ∷ bs) [] torn = absurd torn
 same_length (b ∷ bs) (c ∷ cs) torn = ap (λ n. suc n) (same_length bs cs torn.1)
 
-torn_size : (w : ℕ) (plan t z : List ℕ) → length plan < 2 ^ 31 → OverZeros (digits w ++ (digits (length plan) ++ plan)) t → nonzero z ≡ 0 → nonzero (take 4 (drop 4 (t ++ z))) ≡ 4
+torn_size : (w : ℕ) (plan t z : List ℕ) → length plan < 4000000000 → OverZeros (digits w ++ (digits (length plan) ++ plan)) t → nonzero z ≡ 0 → nonzero (take 4 (drop 4 (t ++ z))) ≡ 4
     → nonzero (drop (8 + size_at (t ++ z)) (t ++ z)) ≡ 0
 torn_size w plan [] z short torn zeros four = absurd torn
 torn_size w plan (a ∷ []) z short torn zeros four = absurd torn.1
@@ -234,7 +234,7 @@ pub number_zero : (redo : List ℕ) → is_whole redo ≡ false → number_in re
 number_zero redo none = number_log 0 [] redo refl none
 
 -- a record
-module _ (plan : List ℕ) (short : length plan < 2 ^ 31) where
+module _ (plan : List ℕ) (short : length plan < 4000000000) where
   small : nonzero (body_of plan) < 4228250625
   small = omega (arith, nonzero_length (body_of plan), short)
 

@@ -3,3 +3,5 @@ pub mod Log
 pub mod Notes
 pub mod Places
 pub mod Protocol
+pub mod Saving
+pub mod Steps

@@ -243,7 +243,7 @@ pub record IsReady (end room count : ℕ) (seen : Image) (may_leave : Image → 
   pub durable : IsDurable seen may_leave
   pub file : IsLogFile end seen.redo
   pub long : length seen.redo ≡ 4096 + room
-  pub near : room ≤ 2 ^ 31
+  pub near : room ≤ 4000000000
   pub few : count < 2 ^ 32
   pub none : number_of seen ≡ 0 → count ≡ 0
   pub grow : MayGrow (number_of seen) (plan_of seen) count

@@ -3,13 +3,13 @@ ghost use Rattle.std.specs.Prelude.{◌≡◌, ◌-◌, ◌≤◌, ◌+◌, ◌�
 ghost use Rattle.sdbm_saves.specs.Redo.{number_at, count_of, IsPlan, Knows};
 ghost use Rattle.sdbm_saves.specs.Disk.{written};
 ghost use Rattle.sdbm_saves.specs.Drafts.{spelled};
-ghost use Rattle.sdbm_saves.specs.Recording.{image_of};
+ghost use Rattle.sdbm_log.specs.Saving.{image_in, IsRedoPlan, HasNoPlan};
 ghost use Rattle.sdbm_log.specs.Log.{nonzero, digits, record_of, records_of, weight_at, size_at, is_whole, is_signed, is_log, number_in, first_plan, later_records, after_records, end_in, HasRecords, MayBeTorn, ArePlans, joined, log_plan, number_of, plan_of, CanRecover, IsClosedLog};
 ghost use Rattle.sdbm_log.specs.declared.records.LogFault.TheVariants.{Foreign, Damaged};
 
 use crate::knowing::knows;
 use crate::log::HEADER;
-use sdbm_saves::{Contents, Found, byte_at, can_end, is_plan, number, spelled, write_in};
+use sdbm_saves::{Contents, byte_at, is_plan, number, spelled, write_in};
 use std::alloc::{AllocError, Allocator, Global};
 
 // "sdbm" and "log1" as numbers.
@@ -59,7 +59,7 @@ pub fn is_closed_log(redo: &[u8]) -> bool
 }
 
 /// How many bytes of a redo file after the header are used: only zeros follow them.
-pub fn used_room(redo: &[u8]) -> usize
+pub(crate) fn used_room(redo: &[u8]) -> usize
     ensures inside { result ≤ length (records_of redo.now) }
     ensures rest { nonzero (drop result (records_of redo.now)) ≡ 0 }
 {
@@ -84,7 +84,7 @@ pub fn records_end(redo: &[u8]) -> usize
 }
 
 // Whether the signature of a log follows byte 0.
-fn is_signed(redo: &[u8]) -> bool
+pub(crate) fn is_signed(redo: &[u8]) -> bool
     ensures { result ≡ is_signed redo.now }
 {
     if number_in(redo, 1) != SDBM {
@@ -106,49 +106,77 @@ fn number_in(bytes: &[u8], at: usize) -> usize
         + 16777216 * usize::from(byte_at(bytes, at + 3))
 }
 
-/// The plans of a log as one plan, which `recover` needs. `None` if the redo file is not a log or has no records.
+/// The bytes of the three files, read at one moment under the lock.
+#[derive(Clone, Copy)]
+pub struct LogFiles<'a> {
+    /// The bytes of `.pag`.
+    pub pages: &'a [u8],
+    /// The bytes of `.dir`.
+    pub directory: &'a [u8],
+    /// The bytes of the redo file.
+    pub redo: &'a [u8],
+}
+
+/// The plan that makes the data files what the three files mean: all plans of a log as one, or the marked plan of one save. `None` if nothing
+/// is to be done.
 ///
 /// # Errors
 ///
-/// If the files cannot be recovered: `Foreign` if a record has no plan or the plans do not know the data files, and `Damaged` if a record is
-/// damaged. `NoMemory` if memory runs out.
-pub fn plan_of(alloc: Global, found: &Found) -> Result<Option<Vec<u8>>, LogFault>
-    ensures some { IfOk result (λ found_plan. IfSome found_plan (λ plan. (1 ≤ number_of (image_of found.now)) × ((plan.items ≡ plan_of (image_of found.now)) × CanRecover (image_of found.now)))) }
-    ensures none { IfOk result (λ found_plan. IsNone found_plan → (number_of (image_of found.now) ≡ 0) × CanRecover (image_of found.now)) }
-    ensures foreign { IfErr result (λ fault. fault ≡ Foreign → CanRecover (image_of found.now) → ⊥) }
-    ensures damaged { IfErr result (λ fault. fault ≡ Damaged → CanRecover (image_of found.now) → ⊥) }
+/// If the files cannot be recovered: `Foreign` if the redo file has no plan or its plan does not know the data files, and `Damaged` if a
+/// record is damaged. `NoMemory` if memory runs out.
+pub fn plan_of(alloc: Global, files: LogFiles<'_>) -> Result<Option<Vec<u8>>, LogFault>
+    ensures some { IfOk result (λ found_plan. IfSome found_plan (λ plan. IsRedoPlan (image_in files.entry) plan.items × CanRecover (image_in files.entry))) }
+    ensures none { IfOk result (λ found_plan. IsNone found_plan → HasNoPlan (image_in files.entry) × CanRecover (image_in files.entry)) }
+    ensures foreign { IfErr result (λ fault. fault ≡ Foreign → CanRecover (image_in files.entry) → ⊥) }
+    ensures damaged { IfErr result (λ fault. fault ≡ Damaged → CanRecover (image_in files.entry) → ⊥) }
 {
-    if !is_log(found.redo.as_slice()) {
-        return old_plan(found);
+    if !is_log(files.redo) {
+        return old_plan(alloc, files);
     }
-    plan_of_log(alloc, found)
+    plan_of_log(alloc, files)
 }
 
 // Does so if the redo file is not a log.
-fn old_plan(found: &Found) -> Result<Option<Vec<u8>>, LogFault>
-    requires { is_log found.now.redo.items ≡ false }
-    ensures some { IfOk result (λ found_plan. IfSome found_plan (λ plan. ⊥)) }
-    ensures none { IfOk result (λ found_plan. IsNone found_plan → (number_of (image_of found.now) ≡ 0) × CanRecover (image_of found.now)) }
-    ensures foreign { IfErr result (λ fault. fault ≡ Foreign → CanRecover (image_of found.now) → ⊥) }
-    ensures damaged { IfErr result (λ fault. fault ≡ Damaged → CanRecover (image_of found.now) → ⊥) }
+fn old_plan(alloc: Global, files: LogFiles<'_>) -> Result<Option<Vec<u8>>, LogFault>
+    requires { is_log files.entry.redo.now ≡ false }
+    ensures some { IfOk result (λ found_plan. IfSome found_plan (λ plan. IsRedoPlan (image_in files.entry) plan.items × CanRecover (image_in files.entry))) }
+    ensures none { IfOk result (λ found_plan. IsNone found_plan → HasNoPlan (image_in files.entry) × CanRecover (image_in files.entry)) }
+    ensures foreign { IfErr result (λ fault. fault ≡ Foreign → CanRecover (image_in files.entry) → ⊥) }
+    ensures damaged { IfErr result (λ fault. fault ≡ Damaged → CanRecover (image_in files.entry) → ⊥) }
 {
-    if can_end(found) {
-        Ok(None)
-    } else {
-        Err(LogFault::Foreign)
+    if byte_at(files.redo, 0) != 1 {
+        return Ok(None);
+    }
+    let plan = &files.redo[1..];
+    if !is_plan(plan) {
+        return Err(LogFault::Foreign);
+    }
+    if !knows(alloc, plan, contents(files))? {
+        return Err(LogFault::Foreign);
+    }
+    Ok(Some(plan.to_vec(alloc)?))
+}
+
+// Both data files.
+fn contents<'a>(files: LogFiles<'a>) -> Contents<'a>
+    ensures pages { result.pages.now ≡ files.entry.pages.now }
+    ensures directory { result.directory.now ≡ files.entry.directory.now }
+{
+    Contents {
+        pages: files.pages,
+        directory: files.directory,
     }
 }
 
 // Does so if it is a log.
-fn plan_of_log(alloc: Global, found: &Found) -> Result<Option<Vec<u8>>, LogFault>
-    requires { is_log found.now.redo.items ≡ true }
-    ensures some { IfOk result (λ found_plan. IfSome found_plan (λ plan. (1 ≤ number_of (image_of found.now)) × ((plan.items ≡ plan_of (image_of found.now)) × CanRecover (image_of found.now)))) }
-    ensures none { IfOk result (λ found_plan. IsNone found_plan → (number_of (image_of found.now) ≡ 0) × CanRecover (image_of found.now)) }
-    ensures foreign { IfErr result (λ fault. fault ≡ Foreign → CanRecover (image_of found.now) → ⊥) }
-    ensures damaged { IfErr result (λ fault. fault ≡ Damaged → CanRecover (image_of found.now) → ⊥) }
+fn plan_of_log(alloc: Global, files: LogFiles<'_>) -> Result<Option<Vec<u8>>, LogFault>
+    requires { is_log files.entry.redo.now ≡ true }
+    ensures some { IfOk result (λ found_plan. IfSome found_plan (λ plan. IsRedoPlan (image_in files.entry) plan.items × CanRecover (image_in files.entry))) }
+    ensures none { IfOk result (λ found_plan. IsNone found_plan → HasNoPlan (image_in files.entry) × CanRecover (image_in files.entry)) }
+    ensures foreign { IfErr result (λ fault. fault ≡ Foreign → CanRecover (image_in files.entry) → ⊥) }
+    ensures damaged { IfErr result (λ fault. fault ≡ Damaged → CanRecover (image_in files.entry) → ⊥) }
 {
-    let redo = found.redo.as_slice();
-    let log = records_of(redo);
+    let log = records_of(files.redo);
     let count = wholes(log);
     let rest = after_records(count, log);
     if !may_be_torn(rest) {
@@ -161,14 +189,10 @@ fn plan_of_log(alloc: Global, found: &Found) -> Result<Option<Vec<u8>>, LogFault
         return Err(LogFault::Foreign);
     }
     let plan = joined_plan(alloc, count, log)?;
-    let both = Contents {
-        pages: found.pages.as_slice(),
-        directory: found.directory.as_slice(),
-    };
     if !is_plan(plan.as_slice()) {
         return Err(LogFault::Foreign);
     }
-    if !knows(alloc, plan.as_slice(), both)? {
+    if !knows(alloc, plan.as_slice(), contents(files))? {
         return Err(LogFault::Foreign);
     }
     Ok(Some(plan))
@@ -389,22 +413,16 @@ fn join_heads(plan: &mut [u8], next: &[u8])
     write_in(plan, 8, &next[8..16]);
 }
 
-/// The record of a plan, as `append` writes it: its weight, its length, and the plan.
-///
-/// # Errors
-///
-/// `AllocError` if memory runs out.
-pub fn record_of<A: Allocator>(alloc: A, plan: &[u8]) -> Result<Vec<u8, A>, AllocError>
-    requires { length plan.now < 2 ^ 31 }
-    ensures { IfOk result (λ bytes. bytes.items ≡ record_of plan.now) }
+// Appends the record of a plan: its weight, its length, and the plan.
+pub(crate) fn push_record(bytes: &mut Vec<u8>, plan: &[u8]) -> Result<(), AllocError>
+    requires { length plan.now < 4000000000 }
+    ensures { OnOk result (bytes.new.items ≡ bytes.old.items ++ record_of plan.now) }
 {
     let size = digits(plan.len());
     let count = nonzero(&size) + nonzero(plan);
-    let mut bytes = Vec::new(alloc);
     bytes.extend_from_slice(&digits(count))?;
     bytes.extend_from_slice(&size)?;
-    bytes.extend_from_slice(plan)?;
-    Ok(bytes)
+    bytes.extend_from_slice(plan)
 }
 
 // A number as four bytes that are not zero.

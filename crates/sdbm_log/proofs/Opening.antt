@@ -1,0 +1,209 @@
+-- Opening a log: recovery, and an empty log after it.
+use Rattle.std.proofs.Common.{Bool, true, false, if◌then◌else◌, ◌==◌, ◌≡◌, ◌≢◌, ◌⊎◌, inl, inr, ⊎_elim, ℕ, zero, suc, ◌+◌, ◌-◌, ◌<◌, ◌≤◌, List, [], ◌∷◌, ◌++◌, length, drop, get_or, refl, sym, ◌∙◌, ap, subst, arith, length-drop}
+use Rattle.std.proofs.lemmas.Bool.{cases_eq}
+use Rattle.std.proofs.lemmas.Bool.Decides.{nat_tests}
+use Rattle.sdbm_saves.specs.declared.disk.File.TheVariants.{Redo}
+use Rattle.sdbm_saves.specs.Acts.{Act}
+use Rattle.sdbm_saves.specs.Disk.{Image, put, Only, IsKept}
+use Rattle.sdbm_saves.specs.Redo.{files, renewed_files, renewed_image, mark_of, stands_for, CanEnd, IsPlan, Knows, Alike}
+use Rattle.sdbm_log.specs.Log.{nonzero, is_log, is_signed, records_of, number_in, number_by, number_of, plan_of, files_by, files_of, CanRecover, CanRecoverBy, Holds, IsAtRest, IsDurable, IsCommitted, IsReady}
+use Rattle.sdbm_log.specs.Doing.{Does}
+use Rattle.sdbm_log.specs.Protocol.{apply_acts, close_acts, clear_acts, start_acts, settle_acts}
+use Rattle.sdbm_log.specs.Saving.{redo_acts, recover_by, recover_acts, IsReused, IsRestart}
+use Rattle.sdbm_log.specs.Steps.{IsOpening}
+use Rattle.sdbm_saves.proofs.Marks.{when_marked, half_done, half_ended}
+use Rattle.sdbm_saves.proofs.Replays.{ends_itself}
+use Rattle.sdbm_log.proofs.Committing.{Alikes, alike_does, apply_does}
+use Rattle.sdbm_log.proofs.Doing.{then_does, weaker_does, nothing_does}
+use Rattle.sdbm_log.proofs.Ending.{settle_does, close_any, close_does, clear_does, start_does}
+use Rattle.sdbm_log.proofs.Header.{unmarked_holds, log_marked, log_mark, log_signed, log_unmarked, plan_holds, mark_signed, marked_records, signed_long, durable_unmarked, test_is, test_not}
+use Rattle.sdbm_log.proofs.Logs.{files_some, known_some, committed_read, durable_none, place_zeros, ready_empty}
+
+-- The files are recovered: the redo file has no mark and is on the disk, and the data files are these.
+pub record IsClosed (redo : List ℕ) (both : List ℕ × List ℕ) (seen : Image) (may_leave : Image → Type 0) : Type 0 where
+  pub rest : IsAtRest seen may_leave
+  pub kept : IsKept Redo seen may_leave
+  pub redo_is : seen.redo ≡ redo
+  pub same : files seen ≡ both
+
+-- the redo file once its mark is cleared, if it had one
+abbrev pub closed_redo : List ℕ → List ℕ
+closed_redo redo = if get_or redo 0 0 == 1 then 0 ∷ drop 1 redo else redo
+
+closed_marked : (redo : List ℕ) → get_or redo 0 0 ≡ 1 → closed_redo redo ≡ 0 ∷ drop 1 redo
+closed_marked redo is = grind (arith, nat_tests)
+
+closed_unmarked : (redo : List ℕ) → get_or redo 0 0 ≢ 1 → closed_redo redo ≡ redo
+closed_unmarked redo isnt = grind (arith, nat_tests)
+
+acts_marked : (image : Image) → get_or image.redo 0 0 ≡ 1 → recover_acts image ≡ recover_by (is_log image.redo) image
+acts_marked image is = grind (arith, nat_tests)
+
+acts_unmarked : (image : Image) → get_or image.redo 0 0 ≢ 1 → recover_acts image ≡ []
+acts_unmarked image isnt = grind (arith, nat_tests)
+
+module _ (first : Image) (can : CanRecover first) (s : Image) (m : Image → Type 0) (read : s ≡ first) (only : Only first m) where
+  only_s : Only s m
+  only_s = subst (λ (o : Image). Only o m) (sym read) only
+
+  can_s : CanRecover s
+  can_s = subst (λ (o : Image). CanRecover o) (sym read) can
+
+  -- there is no mark
+  recover_none : get_or first.redo 0 0 ≢ 1 → Does [] s m (λ c. Holds (files_of first) c) (IsClosed (closed_redo first.redo) (files_of first))
+  recover_none unmarked =
+      let holds : Holds (files first) first = unmarked_holds (files first) first unmarked refl in
+      nothing_does s m _ _ (λ c l. subst (λ (o : Image). Holds (files_of first) o) (sym (only c l)) (subst (λ (p : List ℕ × List ℕ). Holds p first) (sym holds.0) holds)) (record {
+        rest = record {
+          unmarked = subst (λ (o : Image). get_or o.redo 0 0 ≢ 1) (sym read) unmarked;
+          left_unmarked = λ c l. subst (λ (o : Image). get_or o.redo 0 0 ≢ 1) (sym (only c l)) unmarked;
+          kept = λ c l. ap (λ (o : Image). files o) (only c l ∙ sym read);
+        };
+        kept = λ c l. ap (λ (o : Image). o.redo) (only c l ∙ sym read);
+        redo_is = ap (λ (o : Image). o.redo) read ∙ sym (closed_unmarked first.redo unmarked);
+        same = ap (λ (o : Image). files o) read ∙ sym holds.0;
+      })
+
+  -- what closing leaves
+  closed : (redo : List ℕ) (both : List ℕ × List ℕ) (t : Image) (n : Image → Type 0) → redo ≡ first.redo → get_or first.redo 0 0 ≡ 1 → (last : Image) → last.redo ≡ redo → files last ≡ both
+      → (t ≡ put Redo (0 ∷ drop 1 last.redo) last) × (IsAtRest t n × IsKept Redo t n) → IsClosed (closed_redo first.redo) both t n
+  closed redo both t n redo_is marked last is same done = record {
+    rest = done.1.0;
+    kept = done.1.1;
+    redo_is = ap (λ (o : Image). o.redo) done.0 ∙ ap (λ (l : List ℕ). 0 ∷ drop 1 l) (is ∙ redo_is) ∙ sym (closed_marked first.redo marked);
+    same = ap (λ (o : Image). files o) done.0 ∙ same;
+  }
+
+  -- a log that has records
+  recover_some : 1 ≤ number_of first → is_log first.redo ≡ true → Does (apply_acts (plan_of first) ++ close_acts) s m (λ c. Holds (files_of first) c) (IsClosed (closed_redo first.redo) (files_of first))
+  recover_some some log =
+      let plan : List ℕ = plan_of first in
+      let is_plan : IsPlan plan = (known_some first some can).0 in
+      let all : files_of first ≡ renewed_files plan first = files_some plan first some refl in
+      let new : renewed_files plan s ≡ files_of first = ap (λ (o : Image). renewed_files plan o) read ∙ sym all in
+      let committed = subst (λ (o : Image). IsCommitted plan o m) (sym read) (committed_read first m plan some refl can only) in
+      then_does (apply_acts plan) close_acts s m (λ c. Holds (files_of first) c) (λ t n. IsDurable t n × ((files t ≡ renewed_files plan s) × (t.redo ≡ s.redo))) _
+      (weaker_does (apply_acts plan) s m _ _ _ _ (λ c holds. subst (λ (p : List ℕ × List ℕ). Holds p c) new holds) (λ t n is. is) (apply_does plan is_plan s m committed))
+      (λ t n is.
+      let same : files t ≡ files_of first = is.1.0 ∙ new in
+      let redo : t.redo ≡ first.redo = is.1.1 ∙ ap (λ (o : Image). o.redo) read in
+      weaker_does close_acts t n _ _ _ _ (λ c holds. subst (λ (p : List ℕ × List ℕ). Holds p c) same holds)
+      (λ u k done. closed first.redo (files_of first) u k refl (log_mark first.redo log) t redo same done)
+      (close_does t n is.0 (ap is_signed redo ∙ log_signed first.redo log)))
+
+  -- a log that has none
+  recover_empty : number_of first ≡ 0 → is_log first.redo ≡ true → Does close_acts s m (λ c. Holds (files_of first) c) (IsClosed (closed_redo first.redo) (files_of first))
+  recover_empty none log =
+      let durable : IsDurable first m = durable_none first m log none can only in
+      let same : files first ≡ files_of first = sym durable.now.0 in
+      let both : files s ≡ files_of first = ap (λ (o : Image). files o) read ∙ same in
+      weaker_does close_acts s m _ _ _ _ (λ c holds. subst (λ (p : List ℕ × List ℕ). Holds p c) both holds)
+      (λ t n done. closed first.redo (files_of first) t n refl (log_mark first.redo log) s (ap (λ (o : Image). o.redo) read) both done)
+      (close_does s m (subst (λ (o : Image). IsDurable o m) (sym read) durable) (ap (λ (o : Image). is_signed o.redo) read ∙ log_signed first.redo log))
+
+  -- the marked plan of one save
+  recover_marked : get_or first.redo 0 0 ≡ 1 → is_log first.redo ≡ false → Does (apply_acts (drop 1 first.redo) ++ close_acts) s m (λ c. Holds (files_of first) c) (IsClosed (closed_redo first.redo) (files_of first))
+  recover_marked marked no_log =
+      let plan : List ℕ = drop 1 first.redo in
+      let ends : IsPlan plan × Knows plan (files first) = (subst (λ b. CanRecoverBy b first) no_log can) marked in
+      let redo_is : first.redo ≡ 1 ∷ plan = marked_list first.redo marked in
+      let all : files_of first ≡ renewed_files plan first = ap (λ b. files_by b first) no_log ∙ when_marked first marked in
+      let old : (d c : Image) → m d → Alike plan d c → Holds (files_of first) c = λ d c l alike.
+          plan_holds (files_of first) c (half_done plan first redo_is d c (only d l) alike ∙ sym all) (half_ended plan first ends.0 ends.1 redo_is d c (only d l) alike) in
+      then_does (apply_acts plan) close_acts s m (λ c. Holds (files_of first) c) (λ t n. (t ≡ renewed_image plan s) × ((c : Image) → n c → Alikes plan m c)) _
+      (weaker_does (apply_acts plan) s m _ _ _ _ (λ c is. old is.0 c is.1 (is.2 plan (ends_itself plan ends.0))) (λ t n is. is) (alike_does plan ends.0 s m))
+      (λ t n is.
+      let same : files t ≡ files_of first = ap (λ (o : Image). files o) is.0 ∙ ap (λ (o : Image). renewed_files plan o) read ∙ sym all in
+      let redo : t.redo ≡ first.redo = ap (λ (o : Image). o.redo) is.0 ∙ ap (λ (o : Image). o.redo) read in
+      let long : (c : Image) → n c → 1 ≤ length c.redo = λ c l.
+          let from = is.1 c l in
+          let kept : c.redo ≡ first.redo = (from.2 plan (ends_itself plan ends.0)).redo ∙ ap (λ (o : Image). o.redo) (only from.0 from.1) in
+          omega (arith, ap (λ (l : List ℕ). length l) kept, ap (λ (l : List ℕ). length l) redo_is) in
+      weaker_does close_acts t n _ _ _ _ (λ c holds. holds)
+      (λ u k done. closed first.redo (files_of first) u k refl marked t redo same done)
+      (close_any t n (files_of first) (sym same) (λ c l. let from = is.1 c l in old from.0 c from.1 (from.2 plan (ends_itself plan ends.0))) long))
+    where
+      marked_list : (redo : List ℕ) → get_or redo 0 0 ≡ 1 → redo ≡ 1 ∷ drop 1 redo
+      marked_list [] is = absurd (omega (arith, is))
+      marked_list (b ∷ redo) is = ap (λ k. k ∷ redo) is
+
+  recover_log : (number : ℕ) → number ≡ number_of first → is_log first.redo ≡ true → Does (redo_acts number (plan_of first) ++ close_acts) s m (λ c. Holds (files_of first) c) (IsClosed (closed_redo first.redo) (files_of first))
+  recover_log zero is log = recover_empty (sym is) log
+  recover_log (suc k) is log = recover_some (omega (arith, is)) log
+
+  recover_either : (b : Bool) → is_log first.redo ≡ b → get_or first.redo 0 0 ≡ 1 → Does (recover_by b first) s m (λ c. Holds (files_of first) c) (IsClosed (closed_redo first.redo) (files_of first))
+  recover_either true log marked = recover_log (number_of first) refl log
+  recover_either false log marked = recover_marked marked log
+
+  pub recover_does : Does (recover_acts first) s m (λ c. Holds (files_of first) c) (IsClosed (closed_redo first.redo) (files_of first))
+  recover_does = ⊎_elim
+      (λ marked. subst (λ (l : List Act). Does l s m (λ c. Holds (files_of first) c) (IsClosed (closed_redo first.redo) (files_of first))) (sym (acts_marked first marked)) (recover_either (is_log first.redo) refl marked))
+      (λ unmarked. subst (λ (l : List Act). Does l s m (λ c. Holds (files_of first) c) (IsClosed (closed_redo first.redo) (files_of first))) (sym (acts_unmarked first unmarked)) (recover_none unmarked))
+      (cases_eq (get_or first.redo 0 0) 1)
+
+-- a closed log that can be used again
+module _ (redo : List ℕ) (both : List ℕ × List ℕ) (s : Image) (m : Image → Type 0) (is_closed : IsClosed (closed_redo redo) both s m) where
+  zero_mark : get_or redo 0 0 ≤ 1 → get_or (closed_redo redo) 0 0 ≡ 0
+  zero_mark low = ⊎_elim
+      (λ marked. ap (λ (l : List ℕ). get_or l 0 0) (closed_marked redo marked))
+      (λ unmarked. ap (λ (l : List ℕ). get_or l 0 0) (closed_unmarked redo unmarked) ∙ none (get_or redo 0 0) low unmarked)
+      (cases_eq (get_or redo 0 0) 1)
+    where
+      none : (b : ℕ) → b ≤ 1 → b ≢ 1 → b ≡ 0
+      none zero low isnt = refl
+      none (suc zero) low isnt = absurd (isnt refl)
+      none (suc (suc b)) low isnt = absurd (omega (arith, low))
+
+  signed_closed : is_signed (closed_redo redo) ≡ is_signed redo
+  signed_closed = ⊎_elim (λ marked. ap is_signed (closed_marked redo marked) ∙ mark_signed 0 redo) (λ unmarked. ap is_signed (closed_unmarked redo unmarked)) (cases_eq (get_or redo 0 0) 1)
+
+  records_closed : records_of (closed_redo redo) ≡ records_of redo
+  records_closed = ⊎_elim (λ marked. ap records_of (closed_marked redo marked) ∙ marked_records 0 redo) (λ unmarked. ap records_of (closed_unmarked redo unmarked)) (cases_eq (get_or redo 0 0) 1)
+
+  long_closed : is_signed redo ≡ true → length (closed_redo redo) ≡ length redo
+  long_closed signed = ⊎_elim
+      (λ marked. ap (λ (l : List ℕ). length l) (closed_marked redo marked) ∙ omega (arith, signed_long redo signed, length-drop 1 redo))
+      (λ unmarked. ap (λ (l : List ℕ). length l) (closed_unmarked redo unmarked))
+      (cases_eq (get_or redo 0 0) 1)
+
+  holds_now : (c : Image) → m c → Holds both c
+  holds_now c l = unmarked_holds both c (is_closed.rest.left_unmarked c l) (is_closed.rest.kept c l ∙ is_closed.same)
+
+  reuse_does : (room : ℕ) (acts : List Act) → IsReused redo room acts → Does acts s m (λ c. Holds both c) (λ t n. IsReady 0 room 0 t n × (files t ≡ both))
+  reuse_does room acts reused =
+      let zero_is : get_or s.redo 0 0 ≡ 0 = ap (λ (l : List ℕ). get_or l 0 0) is_closed.redo_is ∙ zero_mark reused.mark in
+      let signed : is_signed s.redo ≡ true = ap is_signed is_closed.redo_is ∙ signed_closed ∙ reused.signed in
+      let long : length s.redo ≡ 4096 + room = ap (λ (l : List ℕ). length l) is_closed.redo_is ∙ long_closed reused.signed ∙ reused.long in
+      let records : records_of s.redo ≡ records_of redo = ap records_of is_closed.redo_is ∙ records_closed in
+      ⊎_elim
+      (λ none. subst (λ (l : List Act). Does l s m (λ c. Holds both c) (λ t n. IsReady 0 room 0 t n × (files t ≡ both))) (sym none.0)
+      (nothing_does s m _ _ holds_now (
+        ready_empty s m 0 room 0 (durable_unmarked s m zero_is is_closed.kept is_closed.rest.kept)
+            (record { signed = signed; mark = inl (refl, zero_is); place = place_zeros (records_of s.redo) (ap (λ (l : List ℕ). nonzero l) records ∙ none.1) }) zero_is long refl refl reused.near,
+        is_closed.same,
+      )))
+      (λ some. subst (λ (l : List Act). Does l s m (λ c. Holds both c) (λ t n. IsReady 0 room 0 t n × (files t ≡ both))) (sym some.1)
+      (weaker_does (clear_acts some.0) s m _ _ _ _ (λ c holds. subst (λ (p : List ℕ × List ℕ). Holds p c) is_closed.same holds) (λ t n is. (is.0, is.1 ∙ is_closed.same))
+      (clear_does s m room some.0 is_closed.rest zero_is signed long reused.near some.2.0 (ap (λ (l : List ℕ). nonzero (drop some.0 l)) records ∙ some.2.1))))
+      reused.how
+
+  pub restart_does : (room : ℕ) (acts : List Act) → IsRestart redo room acts → Does acts s m (λ c. Holds both c) (λ t n. IsReady 0 room 0 t n × (files t ≡ both))
+  restart_does room acts which = ⊎_elim
+      (λ reused. reuse_does room acts reused)
+      (λ started. let sum : 4096 + room - 4096 ≡ room = omega arith in
+      subst (λ (l : List Act). Does l s m (λ c. Holds both c) (λ t n. IsReady 0 room 0 t n × (files t ≡ both))) (sym started.0)
+      (weaker_does (start_acts (4096 + room)) s m _ _ _ _ (λ c holds. subst (λ (p : List ℕ × List ℕ). Holds p c) is_closed.same holds)
+      (λ t n is. (subst (λ k. IsReady 0 k 0 t n) sum is.0, is.1 ∙ is_closed.same))
+      (start_does s m (4096 + room) is_closed.rest (omega arith) started.1)))
+      which
+
+pub open_does : (first : Image) (may_leave : Image → Type 0) → CanRecover first → (room : ℕ) (last : List Act) → IsRestart first.redo room last
+    → IsOpening (settle_acts ++ (recover_acts first ++ last)) 0 room 0 first may_leave
+open_does first may_leave can room last restart =
+    then_does settle_acts (recover_acts first ++ last) first may_leave _ (λ s m. (s ≡ first) × Only first m) _
+    (weaker_does settle_acts first may_leave _ _ _ _ (λ c l. inl l) (λ s m is. is) (settle_does first may_leave))
+    (λ s m settled.
+    weaker_does (recover_acts first ++ last) s m _ _ _ _ (λ c holds. inr holds) (λ t n is. is)
+    (then_does (recover_acts first) last s m _ (IsClosed (closed_redo first.redo) (files_of first)) _
+    (recover_does first can s m settled.0 settled.1)
+    (λ t n closed. restart_does first.redo (files_of first) t n closed room last restart)))

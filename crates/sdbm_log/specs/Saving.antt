@@ -1,0 +1,93 @@
+-- Which calls a save makes, and which make a log ready when it is opened.
+use Rattle.std.specs.Prelude.{Bool, true, false, if◌then◌else◌, ◌==◌, ◌≡◌, ◌≢◌, ◌⊎◌, ◌≤◌, ◌<◌, ℕ, zero, suc, ◌+◌, ◌^◌, List, [], ◌∷◌, ◌++◌, length, drop, get_or}
+use Rattle.sdbm_saves.specs.Disk.{Image}
+use Rattle.sdbm_saves.specs.Acts.{Act}
+use Rattle.sdbm_saves.specs.Redo.{count_of}
+use Rattle.sdbm_log.specs.Log.{nonzero, record_of, records_of, is_log, is_signed, number_of, plan_of, IsGrowing}
+use Rattle.sdbm_log.specs.Protocol.{commit_acts, apply_acts, close_acts, clear_acts, start_acts, settle_acts}
+use Rattle.sdbm_log.specs.declared.log.Log.{Log}
+use Rattle.sdbm_log.specs.declared.records.LogFiles.{LogFiles}
+
+-- The log is as it was.
+pub record IsAsBefore (log next : Log) (plan : List ℕ) (acts : List Act) : Type 0 where
+  pub nothing : acts ≡ []
+  pub same : next ≡ log
+  pub growing : IsGrowing plan
+
+-- The log is closed, and its records are overwritten with zeros.
+pub record IsCleared (log next : Log) (acts : List Act) : Type 0 where
+  pub cleared : acts ≡ close_acts ++ clear_acts log.end
+  pub room : next.room ≡ log.room
+  pub end : next.end ≡ 0
+  pub count : next.count ≡ 0
+
+-- The log is closed, and made a longer one.
+pub record IsStarted (next : Log) (acts : List Act) : Type 0 where
+  pub started : acts ≡ close_acts ++ start_acts (4096 + next.room)
+  pub near : 4096 + next.room ≤ 4000000000
+  pub end : next.end ≡ 0
+  pub count : next.count ≡ 0
+
+-- Calls that make room for the record of a plan, and the log after them.
+pub record MakesRoom (log next : Log) (plan : List ℕ) (acts : List Act) : Type 0 where
+  pub how : IsAsBefore log next plan acts ⊎ (IsCleared log next acts ⊎ IsStarted next acts)
+  pub fits : next.end + (8 + length plan) ≤ next.room
+  pub few : next.count + count_of plan < 2 ^ 32
+
+-- The calls of a save that come after its commit, and the log after them: if a file gets shorter, the log is emptied.
+abbrev pub IsApplied : Log → Log → List ℕ → List Act → Type 0
+IsApplied old next plan acts =
+    (IsGrowing plan × ((acts ≡ apply_acts plan) × (next ≡ record { end = old.end + (8 + length plan); room = old.room; count = old.count + count_of plan })))
+    ⊎ ((acts ≡ apply_acts plan ++ (close_acts ++ clear_acts (old.end + (8 + length plan)))) × ((next ≡ record { end = 0; room = old.room; count = 0 })))
+
+-- the calls of a save: those that commit it, and those that do it
+pub record AreSaveCalls (log next : Log) (plan : List ℕ) (commit apply : List Act) : Type 0 where
+  pub making : List Act
+  pub mid : Log
+  pub room : MakesRoom log mid plan making
+  pub commits : commit ≡ making ++ commit_acts mid.end (record_of plan)
+  pub applies : IsApplied mid next plan apply
+
+-- three files that were read
+abbrev pub image_in : LogFiles → Image
+image_in found = record { pages = found.pages.now; directory = found.directory.now; redo = found.redo.now }
+
+-- A plan makes the data files what the three files mean: it is all plans of a log, or the marked plan of one save.
+abbrev pub IsRedoPlan : Image → List ℕ → Type 0
+IsRedoPlan image plan =
+    ((is_log image.redo ≡ true) × ((1 ≤ number_of image) × (plan ≡ plan_of image)))
+    ⊎ ((is_log image.redo ≡ false) × ((get_or image.redo 0 0 ≡ 1) × (plan ≡ drop 1 image.redo)))
+
+-- The redo file has no plan that is to be done.
+abbrev pub HasNoPlan : Image → Type 0
+HasNoPlan image = ((is_log image.redo ≡ true) × (number_of image ≡ 0)) ⊎ (get_or image.redo 0 0 ≢ 1)
+
+-- The calls that recover the files: they do the plans of the log, or of the save that is marked, and clear the mark.
+abbrev pub redo_acts : ℕ → List ℕ → List Act
+redo_acts zero plan = []
+redo_acts (suc n) plan = apply_acts plan
+
+abbrev pub recover_by : Bool → Image → List Act
+recover_by true image = redo_acts (number_of image) (plan_of image) ++ close_acts
+recover_by false image = apply_acts (drop 1 image.redo) ++ close_acts
+
+abbrev pub recover_acts : Image → List Act
+recover_acts image = if get_or image.redo 0 0 == 1 then recover_by (is_log image.redo) image else []
+
+-- the redo file is a log that can be used again, and these calls empty it
+pub record IsReused (redo : List ℕ) (room : ℕ) (acts : List Act) : Type 0 where
+  pub signed : is_signed redo ≡ true
+  pub mark : get_or redo 0 0 ≤ 1
+  pub long : length redo ≡ 4096 + room
+  pub near : room ≤ 4000000000
+  pub how : ((acts ≡ []) × (nonzero (records_of redo) ≡ 0)) ⊎ ((n : ℕ) × (acts ≡ clear_acts n) × ((n ≤ room) × (nonzero (drop n (records_of redo)) ≡ 0)))
+
+-- calls that make the redo file an empty log with this room
+abbrev pub IsRestart : List ℕ → ℕ → List Act → Type 0
+IsRestart redo room acts = IsReused redo room acts ⊎ ((acts ≡ start_acts (4096 + room)) × (4096 + room ≤ 4000000000))
+
+-- the calls that open a log, and the room that it has then
+pub record AreOpenCalls (image : Image) (room : ℕ) (acts : List Act) : Type 0 where
+  pub last : List Act
+  pub restart : IsRestart image.redo room last
+  pub are : acts ≡ settle_acts ++ (recover_acts image ++ last)

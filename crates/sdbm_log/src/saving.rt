@@ -1,0 +1,145 @@
+// The steps of a save.
+ghost use Rattle.std.specs.Prelude.{Bool, true, ◌≡◌, ◌<◌, ◌≤◌, ◌+◌, ◌^◌, ◌++◌, ℕ, List, length, IsTrue, IfOk, ◌↔◌};
+ghost use Rattle.sdbm_saves.specs.Disk.{Image};
+ghost use Rattle.sdbm_saves.specs.Acts.{Act};
+ghost use Rattle.sdbm_saves.specs.Redo.{count_of, files, IsPlan, Knows};
+ghost use Rattle.sdbm_log.specs.Log.{record_of, IsGrowing, IsReady};
+ghost use Rattle.sdbm_log.specs.Saving.{MakesRoom, IsApplied, AreSaveCalls};
+ghost use Rattle.sdbm_log.specs.Steps.{acts_of, with_head, IsSave};
+
+use crate::log::{HEADER, Log};
+use crate::records::push_record;
+use crate::steps::{
+    HEAD, RECORD_AT, RECORD_HEAD, Step, push_apply, push_clear, push_close, push_commit, push_start,
+};
+use sdbm_saves::number;
+use std::alloc::{AllocError, Global};
+
+// The plans of a log have fewer changes than this.
+const CHANGE_LIMIT: usize = 1 << 32;
+
+// A log that is made longer for a record gets whole pieces of this many bytes.
+const PIECE: usize = 1 << 20;
+
+/// The steps of a save.
+#[derive(Drop)]
+pub struct SaveSteps {
+    /// The bytes that both lists write.
+    pub bytes: Vec<u8>,
+    /// Commits the save. If one of these steps fails, the save may be committed or not.
+    pub commit: Vec<Step>,
+    /// Does the save in both data files. If one of these steps fails, the save stands.
+    pub apply: Vec<Step>,
+    /// The log after all of them.
+    pub log: Log,
+}
+
+/// The steps of a save by a plan. A record after the others and one sync commit it; then it is done in both data files without a sync. If
+/// the log has no room for the record, or a file gets shorter, the log is emptied first; if a file gets shorter, afterwards too. If a step
+/// fails, make no more of them, and open the files again.
+///
+/// # Errors
+///
+/// `AllocError` if memory runs out.
+pub fn save_steps(alloc: Global, log: Log, plan: &[u8]) -> Result<SaveSteps, AllocError>
+    requires plan { IsPlan plan.now }
+    requires short { length plan.now < 3000000000 }
+    requires near { log.end ≤ 4000000000 }
+
+    ensures calls { IfOk result (λ save. AreSaveCalls log save.log plan.now (acts_of save.bytes.items save.commit.items) (acts_of save.bytes.items save.apply.items)) }
+
+    // The promise of these calls, whatever a crash might have left before them.
+    ensures saves { IfOk result (λ save. (seen : Image) (may_leave : Image → Bool) → IsReady log.end log.room log.count seen (λ c. may_leave c ≡ true) → Knows plan.now (files seen)
+        → IsSave plan.now (acts_of save.bytes.items save.commit.items) (acts_of save.bytes.items save.apply.items) save.log.end save.log.room save.log.count seen (λ c. may_leave c ≡ true)) }
+{
+    let mut bytes = Vec::from_slice(alloc, &HEAD)?;
+    push_record(&mut bytes, plan)?;
+    let mut commit = Vec::new(alloc);
+    let mid = push_room(&mut commit, log, plan)?;
+    push_commit(&mut commit, mid.end, RECORD_HEAD + plan.len())?;
+    let mut apply = Vec::new(alloc);
+    let log = push_rest(&mut apply, mid, plan)?;
+    Ok(SaveSteps {
+        bytes,
+        commit,
+        apply,
+        log,
+    })
+}
+
+// Adds the steps that make room in a log for the record of a plan, and returns the log after them.
+fn push_room(commit: &mut Vec<Step>, log: Log, plan: &[u8]) -> Result<Log, AllocError>
+    requires plan { IsPlan plan.now }
+    requires short { length plan.now < 3000000000 }
+
+    ensures { IfOk result (λ next. (making : List Act) × (((rest : List ℕ) → acts_of (with_head rest) commit.new.items ≡ acts_of (with_head rest) commit.old.items ++ making) × MakesRoom log next plan.now making)) }
+{
+    if has_room(log, plan) {
+        return Ok(log);
+    }
+    push_close(commit)?;
+    let len = RECORD_HEAD + plan.len();
+    if len <= log.room {
+        push_clear(commit, log.end)?;
+        return Ok(Log {
+            end: 0,
+            room: log.room,
+            count: 0,
+        });
+    }
+    let room = len / PIECE * PIECE + PIECE;
+    push_start(commit, HEADER + room)?;
+    Ok(Log {
+        end: 0,
+        room,
+        count: 0,
+    })
+}
+
+// Whether a log can take the record of a plan as it is.
+fn has_room(log: Log, plan: &[u8]) -> bool
+    requires plan { 28 ≤ length plan.now }
+    requires short { length plan.now < 3000000000 }
+    ensures { IsTrue result → IsGrowing plan.now × ((log.end + (8 + length plan.now) ≤ log.room) × (log.count + count_of plan.now < 2 ^ 32)) }
+{
+    let len = RECORD_HEAD + plan.len();
+    if !is_growing(plan) || len > log.room || log.end > log.room - len {
+        return false;
+    }
+    log.count < CHANGE_LIMIT && log.count + number(plan, 24) < CHANGE_LIMIT
+}
+
+// Whether no file is shorter after a plan.
+fn is_growing(plan: &[u8]) -> bool
+    requires { 28 ≤ length plan.now }
+    ensures { IsTrue result ↔ IsGrowing plan.now }
+{
+    number(plan, 16) <= number(plan, 8) && number(plan, 20) <= number(plan, 12)
+}
+
+// Adds the steps of a save after its commit, and returns the log after them. The plan stands in the buffer in its record.
+fn push_rest(apply: &mut Vec<Step>, log: Log, plan: &[u8]) -> Result<Log, AllocError>
+    requires plan { IsPlan plan.now }
+    requires short { length plan.now < 3000000000 }
+    requires near { log.end ≤ 4000000000 }
+    requires few { log.count < 2 ^ 32 }
+
+    ensures { IfOk result (λ next. (acts : List Act) × (((bytes : List ℕ) → drop 18 bytes ≡ plan.now → acts_of bytes apply.new.items ≡ acts_of bytes apply.old.items ++ acts) × IsApplied log next plan.now acts)) }
+{
+    push_apply(apply, plan, RECORD_AT + RECORD_HEAD)?;
+    let end = log.end + RECORD_HEAD + plan.len();
+    if is_growing(plan) {
+        return Ok(Log {
+            end,
+            room: log.room,
+            count: log.count + number(plan, 24),
+        });
+    }
+    push_close(apply)?;
+    push_clear(apply, end)?;
+    Ok(Log {
+        end: 0,
+        room: log.room,
+        count: 0,
+    })
+}

@@ -3,6 +3,7 @@ pub mod Doing
 pub mod Ending
 pub mod Header
 pub mod Joins
+pub mod LogRuns
 pub mod Logs
 pub mod Noting
 pub mod Opening

@@ -1,0 +1,31 @@
+// The law over lists of runs.
+ghost use Rattle.std.specs.Prelude.{◌≡◌, ℕ, List};
+ghost use Rattle.sdbm_saves.specs.Disk.{Image};
+ghost use Rattle.sdbm_log.specs.LogRuns.{LogRun, Found, Mean, AreMade, LeaveFiles};
+
+use std::marker::Brand;
+
+/// The images that a crash may leave after n of a list of runs; 0 is before the first. No code can know them, so the law is proved for all
+/// sets of images.
+pub trait Crashes {
+    ghost may_leave: { ℕ → Image → Type 0 };
+}
+
+/// Lets the proof of a call of `all_runs` choose the sets.
+impl Crashes for Brand {
+    ghost may_leave = { λ n c. c ≡ c };
+}
+
+/// The law of a log. It is the contract of this function, which does nothing.
+///
+/// Runs are made on the files of one database, one after another. Each may be made on another disk and by another process. A run may be
+/// interrupted at any moment, by a kill, by a call that fails or by the loss of power, also while it recovers the files. The power may also be
+/// lost between two runs. The law holds if the files before the first run can be recovered, and each run is as the functions of this crate
+/// promise (`IsRun`).
+///
+/// All that is read after a run, and all that a crash may leave then, can be recovered. It means the files that the run saved, if it was a save
+/// that returned. If the save was interrupted, it means those or the files that the run read. After a run that saves nothing, it means the
+/// files that the run read, or if that run was interrupted, the same as before it. Several saves of one process are several runs.
+pub fn all_runs<C: Crashes>()
+    ensures { (runs : List LogRun) (seen : Image) (was : List (List ℕ × List ℕ)) → Mean was (Found seen (C.may_leave 0)) → AreMade runs seen C.may_leave → LeaveFiles runs seen C.may_leave was }
+{}

@@ -17,6 +17,19 @@ then_does (act ∷ acts) more seen may_leave P Q R first next =
       after = rest.after;
     }
 
+-- one list and the next, from what the first leaves
+pub then_at : (acts more : List Act) (seen : Image) (may_leave P : Image → Type 0) (Q R : Image → (Image → Type 0) → Type 0) → Does acts seen may_leave P Q
+    → Does more (seen_after acts seen) (LeftAfter acts seen may_leave) P R → Does (acts ++ more) seen may_leave P R
+then_at [] more seen may_leave P Q R first next = next
+then_at (act ∷ acts) more seen may_leave P Q R first next =
+    let rest : Does (acts ++ more) (acted act seen) (LeftBy act seen may_leave) P R = then_at acts more (acted act seen) (LeftBy act seen may_leave) P Q R
+        (record { can = first.can.1; any_moment = λ c left. first.any_moment c (inr left); after = first.after }) next in
+    record {
+      can = (first.can.0, rest.can);
+      any_moment = λ c left. ⊎_elim (λ here. first.any_moment c (inl here)) (λ later. rest.any_moment c later) left;
+      after = rest.after;
+    }
+
 pub weaker_does : (acts : List Act) (seen : Image) (may_leave P S : Image → Type 0) (Q R : Image → (Image → Type 0) → Type 0) → ((c : Image) → P c → S c)
     → ((s : Image) (m : Image → Type 0) → Q s m → R s m) → Does acts seen may_leave P Q → Does acts seen may_leave S R
 weaker_does acts seen may_leave P S Q R more then is = record {

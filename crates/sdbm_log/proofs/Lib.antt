@@ -6,8 +6,8 @@ pub mod Joins
 pub mod LogRuns
 pub mod Logs
 pub mod Noting
-pub mod Opening
-pub mod Saving
+pub mod Opens
+pub mod Saves
 pub mod Places
 pub mod Stepping
 pub mod Weights

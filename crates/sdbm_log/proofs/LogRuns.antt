@@ -204,12 +204,12 @@ settle_run seen may_leave can = weaker_does settle_acts seen (Found seen may_lea
     ))
     (settle_does seen (Found seen may_leave))
 
-pub start_run : (seen : Image) (may_leave : Image → Type 0) (len : ℕ) → IsAtRest seen may_leave → 4096 ≤ len → len ≤ 2 ^ 31 → IsRun keeps (start_acts len) seen may_leave
+pub start_run : (seen : Image) (may_leave : Image → Type 0) (len : ℕ) → IsAtRest seen may_leave → 4096 ≤ len → len ≤ 4000000000 → IsRun keeps (start_acts len) seen may_leave
 start_run seen may_leave len rest long near = keeping_run (files seen) (start_acts len) seen may_leave _ (rest_holds (files seen) seen may_leave rest refl).0.0
     (λ s m is. durable_holds (files seen) s m is.0.durable is.1)
     (start_does seen (Found seen may_leave) len (found_rest seen may_leave rest) long near)
 
-pub clear_run : (seen : Image) (may_leave : Image → Type 0) (room n : ℕ) → IsAtRest seen may_leave → get_or seen.redo 0 0 ≡ 0 → is_signed seen.redo ≡ true → length seen.redo ≡ 4096 + room → room ≤ 2 ^ 31 → n ≤ room
+pub clear_run : (seen : Image) (may_leave : Image → Type 0) (room n : ℕ) → IsAtRest seen may_leave → get_or seen.redo 0 0 ≡ 0 → is_signed seen.redo ≡ true → length seen.redo ≡ 4096 + room → room ≤ 4000000000 → n ≤ room
     → nonzero (drop n (records_of seen.redo)) ≡ 0 → IsRun keeps (clear_acts n) seen may_leave
 clear_run seen may_leave room n rest unmarked signed long near inside none = keeping_run (files seen) (clear_acts n) seen may_leave _ (rest_holds (files seen) seen may_leave rest refl).0.0
     (λ s m is. durable_holds (files seen) s m is.0.durable is.1)
@@ -225,7 +225,7 @@ apply_run plan is_plan seen may_leave committed = keeping_run (renewed_files pla
     (λ s m is. durable_holds (renewed_files plan seen) s m is.0 is.1.0)
     (apply_does plan is_plan seen (Found seen may_leave) (found_committed plan seen may_leave committed))
 
-module _ (end : ℕ) (plan bytes : List ℕ) (bytes_are : bytes ≡ record_of plan) (is_plan : IsPlan plan) (short : length plan < 2 ^ 31) (seen : Image) (may_leave : Image → Type 0)
+module _ (end : ℕ) (plan bytes : List ℕ) (bytes_are : bytes ≡ record_of plan) (is_plan : IsPlan plan) (short : length plan < 4000000000) (seen : Image) (may_leave : Image → Type 0)
     (knows : Knows plan (files seen)) (durable : IsDurable seen may_leave) (file : IsLogFile end seen.redo) (follows : CanFollow (number_of seen) (plan_of seen) plan) (room : 4096 + end + length bytes ≤ length seen.redo) where
   commits : Does (commit_acts end bytes) seen (Found seen may_leave) (λ c. Holds (files seen) c ⊎ Holds (renewed_files plan seen) c) (IsAppended end plan bytes seen)
   commits = commit_does end plan bytes bytes_are is_plan short seen (Found seen may_leave) knows (found_durable seen may_leave durable) file follows room

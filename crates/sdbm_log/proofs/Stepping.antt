@@ -1,8 +1,8 @@
 -- Steps as calls.
-use Rattle.std.proofs.Common.{◌≡◌, ℕ, suc, ◌+◌, ◌-◌, ◌≤◌, ◌<◌, List, [], ◌∷◌, ◌++◌, length, take, drop, refl, sym, ◌∙◌, ap, append_assoc}
+use Rattle.std.proofs.Common.{◌≡◌, ℕ, suc, ◌+◌, ◌-◌, ◌<◌, ◌^◌, List, [], ◌∷◌, ◌++◌, length, take, drop, get_or, refl, sym, ◌∙◌, ap, arith, append_assoc}
 use Rattle.std.proofs.lemmas.List.{drop-drop}
 use Rattle.sdbm_saves.specs.Acts.{Act, write}
-use Rattle.sdbm_saves.specs.Redo.{file_of, offset_of, size_of, data_of, rest_of}
+use Rattle.sdbm_saves.specs.Redo.{number_at, file_of, offset_of, size_of, data_of, rest_of, count_of}
 use Rattle.sdbm_log.specs.declared.steps.Step.{Step}
 use Rattle.sdbm_log.specs.declared.steps.Step.TheVariants.{Write}
 use Rattle.sdbm_log.specs.Protocol.{change_acts}
@@ -24,3 +24,11 @@ next_change done all next n k rest one so_far is =
     ∙ append_assoc done (first ∷ []) (change_acts k (rest_of rest))
     ∙ ap (λ m. done ++ change_acts m rest) (sym one)
     ∙ so_far
+
+-- two lists, one after another
+pub then_acts : (old first second last more : List Act) → second ≡ old ++ first → last ≡ second ++ more → last ≡ old ++ (first ++ more)
+then_acts old first second last more one two = two ∙ ap (λ (l : List Act). l ++ more) one ∙ append_assoc old first more
+
+pub small_count : (plan : List ℕ) → ((i : ℕ) → get_or plan i 0 < 256) → count_of plan < 2 ^ 32
+unfolding number_at
+small_count plan small = omega (arith, small 24, small (24 + 1), small (24 + 2), small (24 + 3))

@@ -1,16 +1,19 @@
 // The steps that open a log and close it.
-ghost use Rattle.std.specs.Prelude.{Bool, true, false, ◌≡◌, ◌≢◌, ◌⊎◌, ◌≤◌, ◌<◌, ◌+◌, ◌++◌, ℕ, List, length, get_or, IsTrue, OnOk, IfOk, IfErr, IfSome, IsNone, MatchOption, Option};
-ghost use Rattle.std.specs.Borrow.{Bor};
+ghost use Rattle.std.specs.Prelude.{true, ◌≡◌, ◌≤◌, ◌<◌, ◌^◌, ◌++◌, ◌==◌, if◌then◌else◌, ℕ, List, [], length, get_or, IsTrue, OnOk, IfOk, IfErr, IfSome, IsNone};
 ghost use Rattle.sdbm_saves.specs.Disk.{Image};
 ghost use Rattle.sdbm_saves.specs.Acts.{Act};
 ghost use Rattle.sdbm_log.specs.Log.{is_signed, IsReady, CanRecover};
-ghost use Rattle.sdbm_log.specs.Protocol.{close_acts};
+ghost use Rattle.sdbm_saves.specs.Redo.{IsPlan};
+ghost use Rattle.sdbm_log.specs.Protocol.{apply_acts, close_acts};
 ghost use Rattle.sdbm_log.specs.Saving.{image_in, IsRedoPlan, HasNoPlan, recover_acts, IsRestart, AreOpenCalls};
 ghost use Rattle.sdbm_log.specs.Steps.{acts_of, with_head, IsOpening, IsClosing};
+ghost use Rattle.sdbm_log.specs.LogRuns.{keeps, IsRun};
+ghost use Rattle.sdbm_log.specs.declared.log.Log.{Log};
 ghost use Rattle.sdbm_log.specs.declared.records.LogFault.TheVariants.{Foreign, Damaged};
 
 use crate::log::{HEADER, Log};
 use crate::records::{LogFault, LogFiles, is_signed, plan_of, used_room};
+use crate::runs::Crashes;
 use crate::steps::{HEAD, RECORD_AT, Step, push_apply, push_clear, push_close, push_settle, push_start};
 use sdbm_saves::byte_at;
 use std::alloc::{AllocError, Global};
@@ -35,15 +38,20 @@ pub struct OpenSteps {
 /// # Errors
 ///
 /// Those of `plan_of`.
-pub fn open_steps(alloc: Global, files: LogFiles<'_>, room: usize) -> Result<OpenSteps, LogFault>
+pub fn open_steps<C: Crashes>(
+    alloc: Global,
+    files: LogFiles<'_>,
+    room: usize,
+) -> Result<OpenSteps, LogFault>
     requires small { room ≤ 1073741824 }
 
-    ensures calls { IfOk result (λ open. AreOpenCalls (image_in files.entry) open.log.room (acts_of open.bytes.items open.steps.items)) }
-    ensures log { IfOk result (λ open. (open.log.end ≡ 0) × (open.log.count ≡ 0)) }
-    ensures can_recover { IfOk result (λ open. CanRecover (image_in files.entry)) }
+    ensures calls { IfOk result (λ opened. AreOpenCalls (image_in files.entry) opened.log.room (acts_of opened.bytes.items opened.steps.items)) }
+    ensures log { IfOk result (λ opened. (opened.log.end ≡ 0) × (opened.log.count ≡ 0)) }
+    ensures can_recover { IfOk result (λ opened. CanRecover (image_in files.entry)) }
 
-    // The promise of these calls, whatever a crash might have left before them.
-    ensures opens { IfOk result (λ open. (may_leave : Image → Bool) → IsOpening (acts_of open.bytes.items open.steps.items) open.log.end open.log.room open.log.count (image_in files.entry) (λ c. may_leave c ≡ true)) }
+    // The promises of these calls, whatever a crash might have left before them.
+    ensures opens { IfOk result (λ opened. (n : ℕ) → IsOpening (acts_of opened.bytes.items opened.steps.items) opened.log.end opened.log.room opened.log.count (image_in files.entry) (C.may_leave n)) }
+    ensures run { IfOk result (λ opened. (n : ℕ) → IsRun keeps (acts_of opened.bytes.items opened.steps.items) (image_in files.entry) (C.may_leave n)) }
 
     ensures foreign { IfErr result (λ fault. fault ≡ Foreign → CanRecover (image_in files.entry) → ⊥) }
     ensures damaged { IfErr result (λ fault. fault ≡ Damaged → CanRecover (image_in files.entry) → ⊥) }
@@ -60,23 +68,17 @@ fn steps_for(
     room: usize,
 ) -> Result<OpenSteps, AllocError>
     requires small { room ≤ 1073741824 }
-    requires some { IfSome plan (λ plan. IsRedoPlan (image_in files.entry) plan.items) }
-    requires none { IsNone plan → HasNoPlan (image_in files.entry) }
-    requires can_recover { CanRecover (image_in files.entry) }
+    requires some { IfSome plan (λ plan. IsRedoPlan (image_in files) plan.items) }
+    requires none { IsNone plan → HasNoPlan (image_in files) }
+    requires can_recover { CanRecover (image_in files) }
 
-    ensures calls { IfOk result (λ open. AreOpenCalls (image_in files.entry) open.log.room (acts_of open.bytes.items open.steps.items)) }
-    ensures log { IfOk result (λ open. (open.log.end ≡ 0) × (open.log.count ≡ 0)) }
+    ensures calls { IfOk result (λ opened. AreOpenCalls (image_in files.entry) opened.log.room (acts_of opened.bytes.items opened.steps.items)) }
+    ensures log { IfOk result (λ opened. (opened.log.end ≡ 0) × (opened.log.count ≡ 0)) }
 {
     let mut bytes = Vec::from_slice(alloc, &HEAD)?;
     let mut steps = Vec::new(alloc);
     push_settle(&mut steps)?;
-    match plan {
-        Some(plan) => {
-            push_redo(&mut steps, plan.as_slice())?;
-            bytes.extend_from_slice(plan.as_slice())?;
-        }
-        None => push_mark(&mut steps, files.redo)?,
-    }
+    push_recover(&mut steps, &mut bytes, files, plan)?;
     let room = push_restart(&mut steps, files.redo, room)?;
     Ok(OpenSteps {
         bytes,
@@ -87,4 +89,90 @@ fn steps_for(
             count: 0,
         },
     })
+}
+
+// Adds the steps that recover the files, and to the buffer the plan that they do.
+fn push_recover(
+    steps: &mut Vec<Step>,
+    bytes: &mut Vec<u8>,
+    files: LogFiles<'_>,
+    plan: Option<Vec<u8>>,
+) -> Result<(), AllocError>
+    requires head { bytes.old.items ≡ with_head [] }
+    requires some { IfSome plan (λ plan. IsRedoPlan (image_in files) plan.items) }
+    requires none { IsNone plan → HasNoPlan (image_in files) }
+    requires can_recover { CanRecover (image_in files) }
+    ensures { OnOk result ((rest : List ℕ) × ((bytes.new.items ≡ with_head rest) × (acts_of (with_head rest) steps.new.items ≡ acts_of (with_head rest) steps.old.items ++ recover_acts (image_in files.entry)))) }
+{
+    let Some(plan) = plan else {
+        return push_mark(steps, files.redo);
+    };
+    push_redo(steps, plan.as_slice())?;
+    bytes.extend_from_slice(plan.as_slice())?;
+    Ok(())
+}
+
+// Adds the steps that do a plan which the redo file has, and clear its mark.
+fn push_redo(steps: &mut Vec<Step>, plan: &[u8]) -> Result<(), AllocError>
+    requires plan { IsPlan plan.now }
+    requires short { length plan.now < 2 ^ 63 }
+    ensures { OnOk result (acts_of (with_head plan.now) steps.new.items ≡ acts_of (with_head plan.now) steps.old.items ++ (apply_acts plan.now ++ close_acts)) }
+{
+    push_apply(steps, plan, RECORD_AT)?;
+    push_close(steps)
+}
+
+// Adds the steps that clear the mark of a log without records, if it is set.
+fn push_mark(steps: &mut Vec<Step>, redo: &[u8]) -> Result<(), AllocError>
+    ensures { OnOk result ((bytes : List ℕ) → acts_of bytes steps.new.items ≡ acts_of bytes steps.old.items ++ (if get_or redo.now 0 0 == 1 then close_acts else [])) }
+{
+    if byte_at(redo, 0) != 1 {
+        return Ok(());
+    }
+    push_close(steps)
+}
+
+// Adds the steps that make the redo file an empty log, and returns its room.
+fn push_restart(steps: &mut Vec<Step>, redo: &[u8], room: usize) -> Result<usize, AllocError>
+    requires small { room ≤ 1073741824 }
+    ensures { IfOk result (λ is. (last : List Act) × (((rest : List ℕ) → acts_of (with_head rest) steps.new.items ≡ acts_of (with_head rest) steps.old.items ++ last) × IsRestart redo.now is last)) }
+{
+    if !is_reusable(redo, room) {
+        push_start(steps, HEADER + room)?;
+        return Ok(room);
+    }
+    let used = used_room(redo);
+    if used == 0 {
+        return Ok(redo.len() - HEADER);
+    }
+    push_clear(steps, used)?;
+    Ok(redo.len() - HEADER)
+}
+
+// Whether a redo file is a log that can be used again: its header is whole, and it has at least this much room and not far too much.
+fn is_reusable(redo: &[u8], room: usize) -> bool
+    requires small { room ≤ 1073741824 }
+    ensures { IsTrue result → (is_signed redo.now ≡ true) × ((get_or redo.now 0 0 ≤ 1) × ((4096 ≤ length redo.now) × (length redo.now ≤ 4000000000))) }
+{
+    if redo.len() < HEADER + room || redo.len() > MOST_BYTES {
+        return false;
+    }
+    byte_at(redo, 0) <= 1 && is_signed(redo)
+}
+
+/// The steps that close a log: they sync both data files, and then clear the mark. They write no bytes of a buffer.
+///
+/// # Errors
+///
+/// `AllocError` if memory runs out.
+pub fn close_steps<C: Crashes>(alloc: Global) -> Result<Vec<Step>, AllocError>
+    ensures calls { IfOk result (λ steps. (bytes : List ℕ) → acts_of bytes steps.items ≡ close_acts) }
+
+    // The promises of these calls, whatever a crash might have left before them.
+    ensures closes { IfOk result (λ steps. (log : Log) (seen : Image) (n : ℕ) → IsReady log.end log.room log.count seen (C.may_leave n) → IsClosing (acts_of [] steps.items) seen (C.may_leave n)) }
+    ensures run { IfOk result (λ steps. (log : Log) (seen : Image) (n : ℕ) → IsReady log.end log.room log.count seen (C.may_leave n) → IsRun keeps (acts_of [] steps.items) seen (C.may_leave n)) }
+{
+    let mut steps = Vec::new(alloc);
+    push_close(&mut steps)?;
+    Ok(steps)
 }

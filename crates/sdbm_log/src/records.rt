@@ -1,5 +1,5 @@
 // The records of a log, and their plans as one plan.
-ghost use Rattle.std.specs.Prelude.{◌≡◌, ◌-◌, ◌≤◌, ◌+◌, ◌↔◌, ℕ, ◌∷◌, [], ◌<◌, ◌^◌, length, take, drop, get_or, true, false, IsTrue, OnOk, IfOk, IfSome, IsNone, IfErr};
+ghost use Rattle.std.specs.Prelude.{◌≡◌, ◌-◌, ◌≤◌, ◌+◌, ◌++◌, ◌↔◌, ℕ, ◌∷◌, [], ◌<◌, ◌^◌, length, take, drop, get_or, true, false, IsTrue, OnOk, IfOk, IfSome, IsNone, IfErr};
 ghost use Rattle.sdbm_saves.specs.Redo.{number_at, count_of, IsPlan, Knows};
 ghost use Rattle.sdbm_saves.specs.Disk.{written};
 ghost use Rattle.sdbm_saves.specs.Drafts.{spelled};
@@ -138,7 +138,7 @@ pub fn plan_of(alloc: Global, files: LogFiles<'_>) -> Result<Option<Vec<u8>>, Lo
 
 // Does so if the redo file is not a log.
 fn old_plan(alloc: Global, files: LogFiles<'_>) -> Result<Option<Vec<u8>>, LogFault>
-    requires { is_log files.entry.redo.now ≡ false }
+    requires { is_log files.redo.now ≡ false }
     ensures some { IfOk result (λ found_plan. IfSome found_plan (λ plan. IsRedoPlan (image_in files.entry) plan.items × CanRecover (image_in files.entry))) }
     ensures none { IfOk result (λ found_plan. IsNone found_plan → HasNoPlan (image_in files.entry) × CanRecover (image_in files.entry)) }
     ensures foreign { IfErr result (λ fault. fault ≡ Foreign → CanRecover (image_in files.entry) → ⊥) }
@@ -170,7 +170,7 @@ fn contents<'a>(files: LogFiles<'a>) -> Contents<'a>
 
 // Does so if it is a log.
 fn plan_of_log(alloc: Global, files: LogFiles<'_>) -> Result<Option<Vec<u8>>, LogFault>
-    requires { is_log files.entry.redo.now ≡ true }
+    requires { is_log files.redo.now ≡ true }
     ensures some { IfOk result (λ found_plan. IfSome found_plan (λ plan. IsRedoPlan (image_in files.entry) plan.items × CanRecover (image_in files.entry))) }
     ensures none { IfOk result (λ found_plan. IsNone found_plan → HasNoPlan (image_in files.entry) × CanRecover (image_in files.entry)) }
     ensures foreign { IfErr result (λ fault. fault ≡ Foreign → CanRecover (image_in files.entry) → ⊥) }

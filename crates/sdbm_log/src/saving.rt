@@ -1,14 +1,16 @@
 // The steps of a save.
-ghost use Rattle.std.specs.Prelude.{Bool, true, ◌≡◌, ◌<◌, ◌≤◌, ◌+◌, ◌^◌, ◌++◌, ℕ, List, length, IsTrue, IfOk, ◌↔◌};
+ghost use Rattle.std.specs.Prelude.{◌≡◌, ◌<◌, ◌≤◌, ◌+◌, ◌^◌, ◌++◌, ℕ, List, length, drop, IsTrue, IfOk, ◌↔◌};
 ghost use Rattle.sdbm_saves.specs.Disk.{Image};
 ghost use Rattle.sdbm_saves.specs.Acts.{Act};
-ghost use Rattle.sdbm_saves.specs.Redo.{count_of, files, IsPlan, Knows};
+ghost use Rattle.sdbm_saves.specs.Redo.{count_of, files, renewed_files, IsPlan, Knows};
 ghost use Rattle.sdbm_log.specs.Log.{record_of, IsGrowing, IsReady};
 ghost use Rattle.sdbm_log.specs.Saving.{MakesRoom, IsApplied, AreSaveCalls};
 ghost use Rattle.sdbm_log.specs.Steps.{acts_of, with_head, IsSave};
+ghost use Rattle.sdbm_log.specs.LogRuns.{saves, IsRun};
 
 use crate::log::{HEADER, Log};
 use crate::records::push_record;
+use crate::runs::Crashes;
 use crate::steps::{
     HEAD, RECORD_AT, RECORD_HEAD, Step, push_apply, push_clear, push_close, push_commit, push_start,
 };
@@ -41,16 +43,22 @@ pub struct SaveSteps {
 /// # Errors
 ///
 /// `AllocError` if memory runs out.
-pub fn save_steps(alloc: Global, log: Log, plan: &[u8]) -> Result<SaveSteps, AllocError>
+pub fn save_steps<C: Crashes>(
+    alloc: Global,
+    log: Log,
+    plan: &[u8],
+) -> Result<SaveSteps, AllocError>
     requires plan { IsPlan plan.now }
     requires short { length plan.now < 3000000000 }
     requires near { log.end ≤ 4000000000 }
 
     ensures calls { IfOk result (λ save. AreSaveCalls log save.log plan.now (acts_of save.bytes.items save.commit.items) (acts_of save.bytes.items save.apply.items)) }
 
-    // The promise of these calls, whatever a crash might have left before them.
-    ensures saves { IfOk result (λ save. (seen : Image) (may_leave : Image → Bool) → IsReady log.end log.room log.count seen (λ c. may_leave c ≡ true) → Knows plan.now (files seen)
-        → IsSave plan.now (acts_of save.bytes.items save.commit.items) (acts_of save.bytes.items save.apply.items) save.log.end save.log.room save.log.count seen (λ c. may_leave c ≡ true)) }
+    // The promises of these calls, whatever a crash might have left before them.
+    ensures saves { IfOk result (λ save. (seen : Image) (n : ℕ) → IsReady log.end log.room log.count seen (C.may_leave n) → Knows plan.now (files seen)
+        → IsSave plan.now (acts_of save.bytes.items save.commit.items) (acts_of save.bytes.items save.apply.items) save.log.end save.log.room save.log.count seen (C.may_leave n)) }
+    ensures run { IfOk result (λ save. (seen : Image) (n : ℕ) → IsReady log.end log.room log.count seen (C.may_leave n) → Knows plan.now (files seen)
+        → IsRun (saves (renewed_files plan.now seen)) (acts_of save.bytes.items save.commit.items ++ acts_of save.bytes.items save.apply.items) seen (C.may_leave n)) }
 {
     let mut bytes = Vec::from_slice(alloc, &HEAD)?;
     push_record(&mut bytes, plan)?;

@@ -1,5 +1,5 @@
 // Steps: calls on the three files that somebody else makes.
-ghost use Rattle.std.specs.Prelude.{◌≡◌, ◌<◌, ◌≤◌, ◌++◌, ◌∷◌, ℕ, List, [], length, drop, OnOk};
+ghost use Rattle.std.specs.Prelude.{◌≡◌, ◌<◌, ◌≤◌, ◌+◌, ◌^◌, ◌++◌, ◌∷◌, ℕ, List, [], length, drop, OnOk};
 ghost use Rattle.sdbm_saves.specs.Redo.{file_of, offset_of, data_of, span_of, rest_of, count_of, changes_of, IsPlan};
 ghost use Rattle.sdbm_saves.specs.Acts.{write};
 ghost use Rattle.sdbm_log.specs.Steps.{acts_of, with_head};
@@ -76,7 +76,7 @@ pub(crate) fn push_commit(steps: &mut Vec<Step>, end: usize, len: usize) -> Resu
 // Adds the steps that do a plan, which stands in the buffer from `from` on.
 pub(crate) fn push_apply(steps: &mut Vec<Step>, plan: &[u8], from: usize) -> Result<(), AllocError>
     requires plan { IsPlan plan.now }
-    requires short { length plan.now < 4000000000 }
+    requires short { length plan.now < 2 ^ 63 }
     requires near { from ≤ 4096 }
     ensures { OnOk result ((bytes : List ℕ) → drop from bytes ≡ plan.now
         → acts_of bytes steps.new.items ≡ acts_of bytes steps.old.items ++ apply_acts plan.now) }
@@ -97,7 +97,7 @@ pub(crate) fn push_apply(steps: &mut Vec<Step>, plan: &[u8], from: usize) -> Res
 // Adds the steps that write the changes of a plan.
 fn push_changes(steps: &mut Vec<Step>, plan: &[u8], from: usize) -> Result<(), AllocError>
     requires plan { IsPlan plan.now }
-    requires short { length plan.now < 4000000000 }
+    requires short { length plan.now < 2 ^ 63 }
     requires near { from ≤ 4096 }
     ensures { OnOk result ((bytes : List ℕ) → drop from bytes ≡ plan.now
         → acts_of bytes steps.new.items ≡ acts_of bytes steps.old.items ++ change_acts (count_of plan.now) (changes_of plan.now)) }
@@ -133,7 +133,7 @@ fn rest_of(change: &[u8]) -> &[u8]
 // Adds the step that writes the change that these bytes begin with, which stand in the buffer from `from` on.
 fn push_change(steps: &mut Vec<Step>, change: &[u8], from: usize) -> Result<(), AllocError>
     requires whole { span_of change.now ≤ length change.now }
-    requires near { from ≤ 4000004096 }
+    requires near { from ≤ 2 ^ 63 + 4096 }
     ensures { OnOk result ((bytes : List ℕ) → drop from bytes ≡ change.now
         → acts_of bytes steps.new.items ≡ acts_of bytes steps.old.items ++ write (file_of change.now) (offset_of change.now) (data_of change.now) ∷ []) }
 {

@@ -9,14 +9,16 @@ use Rattle.sdbm_saves.specs.Redo.{files, renewed_files, renewed_image, mark_of, 
 use Rattle.sdbm_log.specs.Log.{nonzero, is_log, is_signed, records_of, number_in, number_by, number_of, plan_of, files_by, files_of, CanRecover, CanRecoverBy, Holds, IsAtRest, IsDurable, IsCommitted, IsReady}
 use Rattle.sdbm_log.specs.Doing.{Does}
 use Rattle.sdbm_log.specs.Protocol.{apply_acts, close_acts, clear_acts, start_acts, settle_acts}
-use Rattle.sdbm_log.specs.Saving.{redo_acts, recover_by, recover_acts, IsReused, IsRestart}
-use Rattle.sdbm_log.specs.Steps.{IsOpening}
+use Rattle.sdbm_log.specs.Saving.{redo_acts, recover_by, recover_acts, IsRedoPlan, HasNoPlan, IsReused, IsRestart, AreOpenCalls}
+use Rattle.sdbm_log.specs.Steps.{IsOpening, IsClosing}
+use Rattle.sdbm_log.specs.LogRuns.{keeps, Found, IsRun}
 use Rattle.sdbm_saves.proofs.Marks.{when_marked, half_done, half_ended}
 use Rattle.sdbm_saves.proofs.Replays.{ends_itself}
 use Rattle.sdbm_log.proofs.Committing.{Alikes, alike_does, apply_does}
 use Rattle.sdbm_log.proofs.Doing.{then_does, weaker_does, nothing_does}
 use Rattle.sdbm_log.proofs.Ending.{settle_does, close_any, close_does, clear_does, start_does}
 use Rattle.sdbm_log.proofs.Header.{unmarked_holds, log_marked, log_mark, log_signed, log_unmarked, plan_holds, mark_signed, marked_records, signed_long, durable_unmarked, test_is, test_not}
+use Rattle.sdbm_log.proofs.LogRuns.{found_ready, durable_holds, rest_holds, keeping_run}
 use Rattle.sdbm_log.proofs.Logs.{files_some, known_some, committed_read, durable_none, place_zeros, ready_empty}
 
 -- The files are recovered: the redo file has no mark and is on the disk, and the data files are these.
@@ -207,3 +209,59 @@ open_does first may_leave can room last restart =
     (then_does (recover_acts first) last s m _ (IsClosed (closed_redo first.redo) (files_of first)) _
     (recover_does first can s m settled.0 settled.1)
     (λ t n closed. restart_does first.redo (files_of first) t n closed room last restart)))
+
+-- the calls by the plan that was found
+one_number : (image : Image) (number : ℕ) → number ≡ number_of image → 1 ≤ number → redo_acts (number_of image) (plan_of image) ≡ apply_acts (plan_of image)
+one_number image zero is some = absurd (omega (arith, some))
+one_number image (suc k) is some = ap (λ n. redo_acts n (plan_of image)) (sym is)
+
+no_number : (image : Image) → number_of image ≡ 0 → redo_acts (number_of image) (plan_of image) ≡ []
+no_number image none = ap (λ n. redo_acts n (plan_of image)) none
+
+pub redo_calls : (image : Image) (plan : List ℕ) → IsRedoPlan image plan → recover_acts image ≡ apply_acts plan ++ close_acts
+redo_calls image plan which = ⊎_elim
+    (λ log. acts_marked image (log_mark image.redo log.0) ∙ ap (λ b. recover_by b image) log.0
+    ∙ ap (λ (l : List Act). l ++ close_acts) (one_number image (number_of image) refl log.1.0 ∙ ap apply_acts (sym log.1.1)))
+    (λ old. acts_marked image old.1.0 ∙ ap (λ b. recover_by b image) old.0 ∙ ap (λ (l : List ℕ). apply_acts l ++ close_acts) (sym old.1.1))
+    which
+
+mark_test : (p : ℕ) (xs : List Act) → p ≡ 1 → (if p == 1 then xs else []) ≡ xs
+mark_test p xs is = grind (arith, nat_tests)
+
+no_mark_test : (p : ℕ) (xs : List Act) → p ≢ 1 → (if p == 1 then xs else []) ≡ []
+no_mark_test p xs isnt = grind (arith, nat_tests)
+
+pub mark_calls : (image : Image) → HasNoPlan image → recover_acts image ≡ (if get_or image.redo 0 0 == 1 then close_acts else [])
+mark_calls image which = ⊎_elim
+    (λ log. let marked : get_or image.redo 0 0 ≡ 1 = log_mark image.redo log.0 in
+    acts_marked image marked ∙ ap (λ b. recover_by b image) log.0 ∙ ap (λ (l : List Act). l ++ close_acts) (no_number image log.1) ∙ sym (mark_test (get_or image.redo 0 0) close_acts marked))
+    (λ unmarked. acts_unmarked image unmarked ∙ sym (no_mark_test (get_or image.redo 0 0) close_acts unmarked))
+    which
+
+pub marked_close : (redo : List ℕ) → get_or redo 0 0 ≡ 1 → (if get_or redo 0 0 == 1 then close_acts else []) ≡ close_acts
+marked_close redo is = mark_test (get_or redo 0 0) close_acts is
+
+pub redo_is_plan : (image : Image) (plan : List ℕ) → CanRecover image → IsRedoPlan image plan → IsPlan plan
+redo_is_plan image plan can which = ⊎_elim
+    (λ log. subst (λ (l : List ℕ). IsPlan l) (sym log.1.1) (known_some image log.1.0 can).0)
+    (λ old. let ends : CanEnd image = subst (λ b. CanRecoverBy b image) old.0 can in subst (λ (l : List ℕ). IsPlan l) (sym old.1.1) (ends old.1.0).0)
+    which
+
+-- what is promised of opening and of closing
+pub opened_does : (image : Image) (room : ℕ) (acts : List Act) → CanRecover image → AreOpenCalls image room acts → (may_leave : Image → Type 0) → IsOpening acts 0 room 0 image may_leave
+opened_does image room acts can are may_leave = subst (λ (l : List Act). IsOpening l 0 room 0 image may_leave) (sym are.are) (open_does image may_leave can room are.last are.restart)
+
+pub opened_run : (image : Image) (room : ℕ) (acts : List Act) → CanRecover image → AreOpenCalls image room acts → (may_leave : Image → Type 0) → IsRun keeps acts image may_leave
+opened_run image room acts can are may_leave = weaker_does acts image (Found image may_leave) _ _ _ _ (λ c is. is)
+    (λ s m is. durable_holds (files_of image) s m is.0.durable is.1)
+    (opened_does image room acts can are (Found image may_leave))
+
+pub closed_does : (end room count : ℕ) (seen : Image) (may_leave : Image → Type 0) → IsReady end room count seen may_leave → IsClosing close_acts seen may_leave
+closed_does end room count seen may_leave ready = weaker_does close_acts seen may_leave _ _ _ _ (λ c holds. holds)
+    (λ s m is. (is.1.0, ap (λ (o : Image). files o) is.0))
+    (close_does seen may_leave ready.durable ready.file.signed)
+
+pub closed_run : (end room count : ℕ) (seen : Image) (may_leave : Image → Type 0) → IsReady end room count seen may_leave → IsRun keeps close_acts seen may_leave
+closed_run end room count seen may_leave ready = keeping_run (files seen) close_acts seen may_leave _ ready.durable.now.0
+    (λ s m is. rest_holds (files seen) s m is.0 is.1)
+    (closed_does end room count seen (Found seen may_leave) (found_ready end room count seen may_leave ready))

@@ -5,12 +5,16 @@ use Rattle.sdbm_saves.specs.Acts.{Act, seen_after, LeftAfter}
 use Rattle.sdbm_saves.specs.Disk.{Image, put, IsKept}
 use Rattle.sdbm_saves.specs.declared.disk.File.TheVariants.{Redo}
 use Rattle.sdbm_saves.specs.Redo.{count_of, files, renewed_files, IsPlan, Knows}
-use Rattle.sdbm_log.specs.Log.{nonzero, is_log, is_signed, records_of, record_of, number_by, number_of, plan_of, log_plan, next_plan, Holds, HasRecords, IsLogFile, IsAtRest, IsDurable, IsCommitted, CanFollow, IsGrowing, MayGrow, IsReady}
+use Rattle.sdbm_log.specs.Log.{nonzero, is_log, is_signed, records_of, record_of, number_by, number_of, plan_of, log_plan, next_plan, files_of, Holds, HasRecords, IsLogFile, IsAtRest, IsDurable, IsCommitted, CanFollow, IsGrowing, MayGrow, IsReady}
 use Rattle.sdbm_log.specs.Doing.{Does}
 use Rattle.sdbm_log.specs.Protocol.{commit_acts, apply_acts, close_acts, clear_acts, start_acts}
+use Rattle.sdbm_log.specs.Saving.{MakesRoom, AreSaveCalls}
 use Rattle.sdbm_log.specs.Steps.{IsSave}
+use Rattle.sdbm_log.specs.LogRuns.{saves, Found, IsRun}
+use Rattle.sdbm_log.specs.declared.log.Log.{Log}
 use Rattle.sdbm_log.proofs.Committing.{IsAppended, commit_does, apply_does}
-use Rattle.sdbm_log.proofs.Doing.{then_does, weaker_does}
+use Rattle.sdbm_log.proofs.Doing.{then_does, then_at, weaker_does, nothing_does}
+use Rattle.sdbm_log.proofs.LogRuns.{found_ready, durable_holds}
 use Rattle.sdbm_log.proofs.Ending.{close_does, clear_does, start_does}
 use Rattle.sdbm_log.proofs.Header.{mark_signed, marked_records, signed_long}
 use Rattle.sdbm_log.proofs.Logs.{both_renewed, can_follow, goes_on, each_growing, known_some, number_first}
@@ -182,3 +186,55 @@ module _ (plan bytes : List ℕ) (bytes_are : bytes ≡ record_of plan) (is_plan
           (λ none. subst (λ k. CanFollow k (plan_of s) plan) (sym (number_first s (subst (λ k. IsLogFile k s.redo) none ready.file))) tt)
           (λ growing. can_follow (number_of s) count s plan refl ready.durable.now ready.grow known (each_growing plan growing) few)
           which
+
+-- calls that make room leave a log that can take the record
+made_room : (log next : Log) (plan : List ℕ) (making : List Act) → MakesRoom log next plan making → (seen : Image) (may_leave : Image → Type 0) → IsReady log.end log.room log.count seen may_leave
+    → Does making seen may_leave (λ c. Holds (files seen) c) (λ s m. IsReady next.end next.room next.count s m × (files s ≡ files seen))
+made_room log next plan making makes seen may_leave ready = ⊎_elim
+    (λ before. subst (λ (l : List Act). Does l seen may_leave (λ c. Holds (files seen) c) (λ s m. IsReady next.end next.room next.count s m × (files s ≡ files seen))) (sym before.nothing)
+    (nothing_does seen may_leave _ _ ready.durable.holds (subst (λ (l : Log). IsReady l.end l.room l.count seen may_leave) (sym before.same) ready, refl)))
+    (λ emptied. ⊎_elim
+    (λ cleared. subst (λ (l : List Act). Does l seen may_leave (λ c. Holds (files seen) c) (λ s m. IsReady next.end next.room next.count s m × (files s ≡ files seen))) (sym cleared.cleared)
+    (weaker_does (close_acts ++ clear_acts log.end) seen may_leave _ _ _ _ (λ c holds. holds)
+    (λ s m is. (subst (λ k. IsReady k next.room next.count s m) (sym cleared.end) (subst (λ k. IsReady 0 k next.count s m) (sym cleared.room) (subst (λ k. IsReady 0 log.room k s m) (sym cleared.count) is.0)), is.1))
+    (clear_all log.end log.room seen may_leave ready.durable ready.file ready.long ready.near)))
+    (λ started. let sum : 4096 + next.room - 4096 ≡ next.room = omega arith in
+    subst (λ (l : List Act). Does l seen may_leave (λ c. Holds (files seen) c) (λ s m. IsReady next.end next.room next.count s m × (files s ≡ files seen))) (sym started.started)
+    (weaker_does (close_acts ++ start_acts (4096 + next.room)) seen may_leave _ _ _ _ (λ c holds. holds)
+    (λ s m is. (subst (λ k. IsReady k next.room next.count s m) (sym started.end) (subst (λ k. IsReady 0 k next.count s m) sum (subst (λ k. IsReady 0 (4096 + next.room - 4096) k s m) (sym started.count) is.0)), is.1))
+    (start_anew log.end log.room seen may_leave ready.durable ready.file ready.long (4096 + next.room) (omega arith) started.near)))
+    emptied)
+    makes.how
+
+-- the save after them follows a log of plans that shorten no file, or an empty one
+room_follows : (log next : Log) (plan : List ℕ) (making : List Act) → MakesRoom log next plan making → (next.end ≡ 0) ⊎ IsGrowing plan
+room_follows log next plan making makes = ⊎_elim (λ before. inr before.growing) (λ emptied. ⊎_elim (λ cleared. inl cleared.end) (λ started. inl started.end) emptied) makes.how
+
+pub save_does : (log next : Log) (plan : List ℕ) (commit apply : List Act) → IsPlan plan → length plan < 4000000000 → AreSaveCalls log next plan commit apply → (seen : Image) (may_leave : Image → Type 0)
+    → IsReady log.end log.room log.count seen may_leave → Knows plan (files seen) → IsSave plan commit apply next.end next.room next.count seen may_leave
+save_does log next plan commit apply is_plan short calls seen may_leave ready knows =
+    let mid = calls.mid in
+    let long : length (record_of plan) ≡ 8 + length plan = omega arith in
+    let end : mid.end + length (record_of plan) ≡ mid.end + (8 + length plan) = omega (arith, long) in
+    let commits = commit_after plan (record_of plan) refl is_plan short calls.making mid.end mid.room mid.count seen may_leave (made_room log mid plan calls.making calls.room seen may_leave ready) knows
+        (room_follows log mid plan calls.making calls.room) (omega (arith, calls.room.fits, long)) calls.room.few in
+    let here = subst (λ (l : List Act). Does l seen may_leave (λ c. Holds (files seen) c ⊎ Holds (renewed_files plan seen) c) (IsWaiting plan (mid.end + (8 + length plan)) mid.room (mid.count + count_of plan) (files seen))) (sym calls.commits)
+        (subst (λ k. Does (calls.making ++ commit_acts mid.end (record_of plan)) seen may_leave (λ c. Holds (files seen) c ⊎ Holds (renewed_files plan seen) c) (IsWaiting plan k mid.room (mid.count + count_of plan) (files seen))) end commits) in
+    ⊎_elim
+    (λ growing. subst (λ (l : List Act). IsSave plan commit l next.end next.room next.count seen may_leave) (sym growing.1.0)
+    (subst (λ (l : Log). IsSave plan commit (apply_acts plan) l.end l.room l.count seen may_leave) (sym growing.1.1)
+    (growing_save plan (record_of plan) refl is_plan short commit (mid.end + (8 + length plan)) mid.room (mid.count + count_of plan) seen may_leave here growing.0)))
+    (λ shrinking. subst (λ (l : List Act). IsSave plan commit l next.end next.room next.count seen may_leave) (sym shrinking.0)
+    (subst (λ (l : Log). IsSave plan commit (apply_acts plan ++ (close_acts ++ clear_acts (mid.end + (8 + length plan)))) l.end l.room l.count seen may_leave) (sym shrinking.1)
+    (shrinking_save plan (record_of plan) refl is_plan short commit (mid.end + (8 + length plan)) mid.room (mid.count + count_of plan) seen may_leave here)))
+    calls.applies
+
+pub save_is_run : (log next : Log) (plan : List ℕ) (commit apply : List Act) → IsPlan plan → length plan < 4000000000 → AreSaveCalls log next plan commit apply → (seen : Image) (may_leave : Image → Type 0)
+    → IsReady log.end log.room log.count seen may_leave → Knows plan (files seen) → IsRun (saves (renewed_files plan seen)) (commit ++ apply) seen may_leave
+save_is_run log next plan commit apply is_plan short calls seen may_leave ready knows =
+    let is = save_does log next plan commit apply is_plan short calls seen (Found seen may_leave) (found_ready log.end log.room log.count seen may_leave ready) knows in
+    let both = renewed_files plan seen in
+    let old : files_of seen ≡ files seen = ready.durable.now.0 in
+    then_at commit apply seen (Found seen may_leave) _ _ _
+    (weaker_does commit seen (Found seen may_leave) _ (λ c. Holds (files_of seen) c ⊎ Holds both c) _ _ (λ c which. ⊎_elim (λ before. inl (subst (λ (p : List ℕ × List ℕ). Holds p c) (sym old) before)) (λ new. inr new) which) (λ s m q. q) is.commits)
+    (weaker_does apply (seen_after commit seen) (LeftAfter commit seen (Found seen may_leave)) _ _ _ _ (λ c holds. inr holds) (λ s m q. durable_holds both s m q.0.durable q.1) is.applies)

@@ -3,23 +3,24 @@ use Rattle.std.proofs.Common.{Bool, true, false, if◌then◌else◌, ◌==◌, 
 use Rattle.std.proofs.lemmas.Bool.{cases_eq}
 use Rattle.std.proofs.lemmas.Bool.Decides.{nat_tests}
 use Rattle.sdbm_saves.specs.declared.disk.File.TheVariants.{Redo}
-use Rattle.sdbm_saves.specs.Acts.{Act}
+use Rattle.sdbm_saves.specs.Acts.{Act, seen_after}
 use Rattle.sdbm_saves.specs.Disk.{Image, put, Only, IsKept}
 use Rattle.sdbm_saves.specs.Redo.{files, renewed_files, renewed_image, mark_of, stands_for, CanEnd, IsPlan, Knows, Alike}
 use Rattle.sdbm_log.specs.Log.{nonzero, is_log, is_signed, records_of, number_in, number_by, number_of, plan_of, files_by, files_of, CanRecover, CanRecoverBy, Holds, IsAtRest, IsDurable, IsCommitted, IsReady}
-use Rattle.sdbm_log.specs.Doing.{Does}
+use Rattle.sdbm_log.specs.Doing.{CanDo, Does}
 use Rattle.sdbm_log.specs.Protocol.{apply_acts, close_acts, clear_acts, start_acts, settle_acts}
-use Rattle.sdbm_log.specs.Saving.{redo_acts, recover_by, recover_acts, IsRedoPlan, HasNoPlan, IsReused, IsRestart, AreOpenCalls}
+use Rattle.sdbm_log.specs.Saving.{redo_acts, recover_by, recover_acts, image_in, Reads, IsRedoPlan, HasNoPlan, IsReused, IsRestart, AreOpenCalls}
 use Rattle.sdbm_log.specs.Steps.{IsOpening, IsClosing}
 use Rattle.sdbm_log.specs.LogRuns.{keeps, Found, IsRun}
-use Rattle.sdbm_saves.proofs.Marks.{when_marked, half_done, half_ended}
+use Rattle.sdbm_log.specs.declared.records.LogFiles.{LogFiles}
+use Rattle.sdbm_saves.proofs.Marks.{when_marked, half_done, half_ended, image_by_files}
 use Rattle.sdbm_saves.proofs.Replays.{ends_itself}
 use Rattle.sdbm_log.proofs.Committing.{Alikes, alike_does, apply_does}
 use Rattle.sdbm_log.proofs.Doing.{then_does, weaker_does, nothing_does}
 use Rattle.sdbm_log.proofs.Ending.{settle_does, close_any, close_does, clear_does, start_does}
 use Rattle.sdbm_log.proofs.Header.{unmarked_holds, log_marked, log_mark, log_signed, log_unmarked, plan_holds, mark_signed, marked_records, signed_long, durable_unmarked, test_is, test_not}
 use Rattle.sdbm_log.proofs.LogRuns.{found_ready, durable_holds, rest_holds, keeping_run}
-use Rattle.sdbm_log.proofs.Logs.{files_some, known_some, committed_read, durable_none, place_zeros, ready_empty}
+use Rattle.sdbm_log.proofs.Logs.{files_none, files_some, known_some, committed_read, durable_none, place_zeros, ready_empty}
 
 -- The files are recovered: the redo file has no mark and is on the disk, and the data files are these.
 pub record IsClosed (redo : List ℕ) (both : List ℕ × List ℕ) (seen : Image) (may_leave : Image → Type 0) : Type 0 where
@@ -265,3 +266,49 @@ pub closed_run : (end room count : ℕ) (seen : Image) (may_leave : Image → Ty
 closed_run end room count seen may_leave ready = keeping_run (files seen) close_acts seen may_leave _ ready.durable.now.0
     (λ s m is. rest_holds (files seen) s m is.0 is.1)
     (closed_does end room count seen (Found seen may_leave) (found_ready end room count seen may_leave ready))
+
+-- all images that were read so are recovered by the same calls
+module _ (found : LogFiles) (image : Image) (reads : Reads found image) where
+  read_marked : get_or image.redo 0 0 ≡ 1 → image ≡ image_in found
+  read_marked marked = image_by_files image (image_in found) (reads.both (ap (λ (l : List ℕ). get_or l 0 0) (sym reads.redo) ∙ marked)) reads.redo
+
+  read_unmarked : get_or image.redo 0 0 ≢ 1 → get_or found.redo.now 0 0 ≢ 1
+  read_unmarked unmarked = λ marked. unmarked (ap (λ (l : List ℕ). get_or l 0 0) reads.redo ∙ marked)
+
+  pub reads_can : CanRecover (image_in found) → CanRecover image
+  reads_can can = ⊎_elim
+      (λ marked. subst (λ (o : Image). CanRecover o) (sym (read_marked marked)) can)
+      (λ unmarked. (unmarked_holds (files image) image unmarked refl).1)
+      (cases_eq (get_or image.redo 0 0) 1)
+
+  pub reads_calls : (room : ℕ) (acts : List Act) → AreOpenCalls (image_in found) room acts → AreOpenCalls image room acts
+  reads_calls room acts are = record {
+    last = are.last;
+    restart = subst (λ (l : List ℕ). IsRestart l room are.last) (sym reads.redo) are.restart;
+    are = are.are ∙ ap (λ (l : List Act). settle_acts ++ (l ++ are.last)) (sym same);
+  }
+    where
+      same : recover_acts image ≡ recover_acts (image_in found)
+      same = ⊎_elim
+          (λ marked. ap (λ (o : Image). recover_acts o) (read_marked marked))
+          (λ unmarked. acts_unmarked image unmarked ∙ sym (acts_unmarked (image_in found) (read_unmarked unmarked)))
+          (cases_eq (get_or image.redo 0 0) 1)
+
+  pub reads_none : HasNoPlan (image_in found) → files image ≡ files_of image
+  reads_none none = ⊎_elim
+      (λ log. let same : image ≡ image_in found = read_marked (ap (λ (l : List ℕ). get_or l 0 0) reads.redo ∙ log_mark found.redo.now log.0) in
+      ap (λ (o : Image). files o) same ∙ sym (files_none (image_in found) log.0 log.1) ∙ ap (λ (o : Image). files_of o) (sym same))
+      (λ unmarked. sym (unmarked_holds (files image) image (λ marked. unmarked (sym (ap (λ (l : List ℕ). get_or l 0 0) reads.redo) ∙ marked)) refl).0)
+      none
+
+  pub reads_plan : (plan : List ℕ) → CanRecover (image_in found) → IsRedoPlan (image_in found) plan → CanDo (apply_acts plan) image × (files (seen_after (apply_acts plan) image) ≡ files_of image)
+  reads_plan plan can is_redo =
+      let is_plan : IsPlan plan = redo_is_plan (image_in found) plan can is_redo in
+      let does = alike_does plan is_plan image (λ c. c ≡ image) in
+      let marked : get_or found.redo.now 0 0 ≡ 1 = ⊎_elim (λ log. log_mark found.redo.now log.0) (λ old. old.1.0) is_redo in
+      let same : image ≡ image_in found = read_marked (ap (λ (l : List ℕ). get_or l 0 0) reads.redo ∙ marked) in
+      let means : files_of (image_in found) ≡ renewed_files plan (image_in found) = ⊎_elim
+          (λ log. files_some plan (image_in found) log.1.0 log.1.1)
+          (λ old. ap (λ b. files_by b (image_in found)) old.0 ∙ when_marked (image_in found) old.1.0 ∙ ap (λ (l : List ℕ). renewed_files l (image_in found)) (sym old.1.1))
+          is_redo in
+      (does.can, ap (λ (o : Image). files o) does.after.0 ∙ ap (λ (o : Image). renewed_files plan o) same ∙ sym means ∙ ap (λ (o : Image). files_of o) (sym same))

@@ -2,7 +2,7 @@
 use Rattle.std.specs.Prelude.{Bool, true, false, if◌then◌else◌, ◌==◌, ◌≡◌, ◌≢◌, ◌⊎◌, ◌≤◌, ◌<◌, ℕ, zero, suc, ◌+◌, ◌^◌, List, [], ◌∷◌, ◌++◌, length, drop, get_or}
 use Rattle.sdbm_saves.specs.Disk.{Image}
 use Rattle.sdbm_saves.specs.Acts.{Act}
-use Rattle.sdbm_saves.specs.Redo.{count_of}
+use Rattle.sdbm_saves.specs.Redo.{count_of, files}
 use Rattle.sdbm_log.specs.Log.{nonzero, record_of, records_of, is_log, is_signed, number_of, plan_of, IsGrowing}
 use Rattle.sdbm_log.specs.Protocol.{commit_acts, apply_acts, close_acts, clear_acts, start_acts, settle_acts}
 use Rattle.sdbm_log.specs.declared.log.Log.{Log}
@@ -51,6 +51,11 @@ pub record AreSaveCalls (log next : Log) (plan : List ℕ) (commit apply : List 
 -- three files that were read
 abbrev pub image_in : LogFiles → Image
 image_in found = record { pages = found.pages.now; directory = found.directory.now; redo = found.redo.now }
+
+-- What was read of an image: the redo file, and if that has its mark, both data files.
+pub record Reads (found : LogFiles) (image : Image) : Type 0 where
+  pub redo : image.redo ≡ found.redo.now
+  pub both : get_or found.redo.now 0 0 ≡ 1 → files image ≡ (found.pages.now, found.directory.now)
 
 -- A plan makes the data files what the three files mean: it is all plans of a log, or the marked plan of one save.
 abbrev pub IsRedoPlan : Image → List ℕ → Type 0

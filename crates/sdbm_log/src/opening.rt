@@ -5,7 +5,7 @@ ghost use Rattle.sdbm_saves.specs.Acts.{Act};
 ghost use Rattle.sdbm_log.specs.Log.{is_signed, IsReady, CanRecover};
 ghost use Rattle.sdbm_saves.specs.Redo.{IsPlan};
 ghost use Rattle.sdbm_log.specs.Protocol.{apply_acts, close_acts};
-ghost use Rattle.sdbm_log.specs.Saving.{image_in, IsRedoPlan, HasNoPlan, recover_acts, IsRestart, AreOpenCalls};
+ghost use Rattle.sdbm_log.specs.Saving.{image_in, Reads, IsRedoPlan, HasNoPlan, recover_acts, IsRestart, AreOpenCalls};
 ghost use Rattle.sdbm_log.specs.Steps.{acts_of, with_head, IsOpening, IsClosing};
 ghost use Rattle.sdbm_log.specs.LogRuns.{keeps, IsRun};
 ghost use Rattle.sdbm_log.specs.declared.log.Log.{Log};
@@ -33,7 +33,7 @@ pub struct OpenSteps {
 
 /// The steps that open a log of at least this much room: they sync what was read, recover the files if the redo file has its mark, and make
 /// the redo file an empty log. A log that was closed is used again; otherwise the redo file becomes one, and its bytes are written so that
-/// the disk has room for it. If a step fails, make no more of them, and open the files again.
+/// the disk has room for it. The data files are needed only if the redo file has its mark. If a step fails, make no more of them, and open the files again.
 ///
 /// # Errors
 ///
@@ -45,13 +45,13 @@ pub fn open_steps<C: Crashes>(
 ) -> Result<OpenSteps, LogFault>
     requires small { room ≤ 1073741824 }
 
-    ensures calls { IfOk result (λ opened. AreOpenCalls (image_in files.entry) opened.log.room (acts_of opened.bytes.items opened.steps.items)) }
+    ensures calls { IfOk result (λ opened. (image : Image) → Reads files.entry image → AreOpenCalls image opened.log.room (acts_of opened.bytes.items opened.steps.items)) }
     ensures log { IfOk result (λ opened. (opened.log.end ≡ 0) × (opened.log.count ≡ 0)) }
-    ensures can_recover { IfOk result (λ opened. CanRecover (image_in files.entry)) }
+    ensures can_recover { IfOk result (λ opened. (image : Image) → Reads files.entry image → CanRecover image) }
 
     // The promises of these calls, whatever a crash might have left before them.
-    ensures opens { IfOk result (λ opened. (n : ℕ) → IsOpening (acts_of opened.bytes.items opened.steps.items) opened.log.end opened.log.room opened.log.count (image_in files.entry) (C.may_leave n)) }
-    ensures run { IfOk result (λ opened. (n : ℕ) → IsRun keeps (acts_of opened.bytes.items opened.steps.items) (image_in files.entry) (C.may_leave n)) }
+    ensures opens { IfOk result (λ opened. (image : Image) (n : ℕ) → Reads files.entry image → IsOpening (acts_of opened.bytes.items opened.steps.items) opened.log.end opened.log.room opened.log.count image (C.may_leave n)) }
+    ensures run { IfOk result (λ opened. (image : Image) (n : ℕ) → Reads files.entry image → IsRun keeps (acts_of opened.bytes.items opened.steps.items) image (C.may_leave n)) }
 
     ensures foreign { IfErr result (λ fault. fault ≡ Foreign → CanRecover (image_in files.entry) → ⊥) }
     ensures damaged { IfErr result (λ fault. fault ≡ Damaged → CanRecover (image_in files.entry) → ⊥) }

@@ -1,0 +1,39 @@
+//! The place of the next record, as C has it.
+
+use sdbm_log::Log;
+
+/// The place of the next record in a log: where the records end, how much room they have, both counted from the end of the header, and how
+/// many changes the plans of the records have.
+#[repr(C)]
+#[derive(Clone, Copy)]
+pub struct LogPlace {
+    pub end: usize,
+    pub room: usize,
+    pub count: usize,
+}
+
+impl LogPlace {
+    /// The place of a log.
+    pub fn of(log: Log) -> LogPlace
+        ensures end { result.end ≡ log.end }
+        ensures room { result.room ≡ log.room }
+        ensures count { result.count ≡ log.count }
+    {
+        LogPlace {
+            end: log.end,
+            room: log.room,
+            count: log.count,
+        }
+    }
+
+    /// The log of a place.
+    pub fn log(&self) -> Log
+        ensures { result ≡ record { end = self.now.end; room = self.now.room; count = self.now.count } }
+    {
+        Log {
+            end: self.end,
+            room: self.room,
+            count: self.count,
+        }
+    }
+}

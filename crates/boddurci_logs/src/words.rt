@@ -1,0 +1,48 @@
+//! Steps as words of 64 bits: five a step.
+
+use boddurci_handles::Status;
+use sdbm_log::{LogFault, Step};
+use sdbm_saves::File;
+use std::alloc::{AllocError, Global};
+
+/// The words of steps: for each its kind, its file, its offset, its place in the buffer, and a length.
+pub fn words_of(alloc: Global, steps: &[Step]) -> Result<Vec<u64>, AllocError> {
+    let mut words = Vec::new(alloc);
+    for index in 0..steps.len() {
+        words.extend_from_slice(&words_of_step(steps[index]))?;
+    }
+    Ok(words)
+}
+
+// The words of a step.
+fn words_of_step(step: Step) -> [u64; 5] {
+    match step {
+        Step::Write {
+            file,
+            at,
+            from,
+            len,
+        } => [0, code_of(file), at as u64, from as u64, len as u64],
+        Step::Zeros { file, at, len } => [1, code_of(file), at as u64, 0, len as u64],
+        Step::Resize { file, len } => [2, code_of(file), 0, 0, len as u64],
+        Step::Sync { file } => [3, code_of(file), 0, 0, 0],
+    }
+}
+
+// The number of a file.
+fn code_of(file: File) -> u64 {
+    match file {
+        File::Pages => 0,
+        File::Directory => 1,
+        File::Redo => 2,
+    }
+}
+
+/// The status of a fault.
+pub fn status_of(fault: LogFault) -> Status {
+    match fault {
+        LogFault::NoMemory => Status::NoMemory,
+        LogFault::Foreign => Status::BadFiles,
+        LogFault::Damaged => Status::Stale,
+    }
+}

@@ -12,7 +12,8 @@
  *     boddurci_close_files(base);
  *
  * What is opened is in memory. It is in the files once boddurci_save has returned, and not before: you choose when. Threads share a base:
- * boddurci_take waits for its mutex, boddurci_give lets it go, and boddurci_save takes it by itself.
+ * boddurci_take waits for its mutex, boddurci_give lets it go, and boddurci_save takes it by itself. Threads that save at the same time
+ * share saves.
  *
  * The lock is that of the program dbm: an exclusive flock on BASE.lock, from boddurci_open_files to boddurci_close_files. So dbm and
  * other services wait meanwhile; a program that knows nothing of the lock, as Perl, does not. To read only, open with
@@ -119,6 +120,11 @@ void boddurci_give(boddurci_base *base);
  * pages than it can follow, three times over, it reads once under the mutex): what other threads do meanwhile is in the next save.
  * IS_CLOSED of a base that is NULL; FORKED, NO_SAVE, MOVED, UNSAFE, BAD_REDO, TOO_LONG, FILE_FAILED, and FILE_TOO_LONG and NO_MEMORY of
  * boddurci.h.
+ *
+ * Threads may save at the same time, each after its own changes. A call returns the outcome of a save that began after the call, so its
+ * changes are in that save. Calls that come during a save wait until it has ended. Then one of them saves for all that wait, and all of them
+ * return the status and the fault of that save: after a fault each may save again. No thread is served twice while another one waits. A
+ * thread that is alone waits for nobody. A thread that is cancelled returns from its call first.
  *
  * Both files get the blocks that they want before the save counts, where the file system can give them, so that a full disk is FILE_FAILED
  * with nothing changed. So is a save that would make one of the three files longer than the process may (RLIMIT_FSIZE): no SIGXFSZ comes of it.

@@ -27,12 +27,12 @@ struct boddurci_base {
     boddurci db;
     struct boddurci_place place;
     uint32_t flags;
-    pid_t process;         /* which has opened it */
-    int is_noted;          /* the data files, while they stay so, are those of the base but on its changed pages */
-    int is_planned;        /* a save has compared their lengths and the directory */
+    pid_t process;               /* which has opened it */
+    int is_noted;                /* the data files, while they stay so, are those of the base but on its changed pages */
+    int is_planned;              /* a save has compared their lengths and the directory */
     struct note notes[2];
-    pthread_mutex_t mutex; /* of db */
-    pthread_mutex_t saves; /* of the files; a call that wants both takes it first */
+    pthread_mutex_t mutex;       /* of db */
+    struct boddurci_group saves; /* of the files; a call that wants both has its turn to save before it takes the mutex */
 };
 
 static int is_of_another(const boddurci_base *base)
@@ -444,7 +444,7 @@ static boddurci_base *new_base(uint32_t flags)
     base->process = getpid();
     base->place.folder = base->place.lock = -1;
     if (pthread_mutex_init(&base->mutex, NULL) == 0) {
-        if (pthread_mutex_init(&base->saves, NULL) == 0)
+        if (boddurci_group_init(&base->saves) == 0)
             return base;
         pthread_mutex_destroy(&base->mutex);
     }
@@ -491,7 +491,7 @@ void boddurci_close_files(boddurci_base *base)
     boddurci_place_close(&base->place);
     if (is_own) {
         pthread_mutex_destroy(&base->mutex);
-        pthread_mutex_destroy(&base->saves);
+        boddurci_group_destroy(&base->saves);
     }
     free(base);
 }
@@ -789,8 +789,5 @@ uint32_t boddurci_save(boddurci_base *base, boddurci_fault *fault)
         return boddurci_fail(fault, BODDURCI_FORKED, 0, boddurci_files_text(BODDURCI_FORKED));
     if (base->flags & BODDURCI_READ_ONLY)
         return boddurci_fail(fault, BODDURCI_NO_SAVE, 0, boddurci_files_text(BODDURCI_NO_SAVE));
-    pthread_mutex_lock(&base->saves);
-    uint32_t status = save(base, fault);
-    pthread_mutex_unlock(&base->saves);
-    return status;
+    return boddurci_group_save(&base->saves, save, base, fault);
 }

@@ -5,6 +5,7 @@
 #ifndef BODDURCI_SAVES_H
 #define BODDURCI_SAVES_H
 #include "boddurci_files.h"
+#include <pthread.h>
 #include <signal.h>
 #include <stddef.h>
 #include <stdint.h>
@@ -180,6 +181,26 @@ int boddurci_stage(struct boddurci_disk *disk, struct boddurci_bytes redo);
 /* Marks the redo file that was staged, which commits its save, and ends it. Where the mark cannot be kept it takes the redo file away.
  * What fails after the mark is no fault, and then it is 1 and errno says why: the next who opens or saves ends the save. */
 int boddurci_commit(struct boddurci_disk *disk, struct boddurci_bytes redo);
+
+/* ---- boddurci_group.c: threads that save a base at the same time */
+
+struct boddurci_call;
+
+/* The calls that wait for the next save, in the order in which they came. */
+struct boddurci_group {
+    pthread_mutex_t mutex;       /* of the group; not held during a save */
+    struct boddurci_call *first; /* or NULL */
+    struct boddurci_call **last; /* where the next one is added */
+    int is_saving;               /* a thread saves, or has been given the turn to */
+};
+
+int boddurci_group_init(struct boddurci_group *group);
+void boddurci_group_destroy(struct boddurci_group *group);
+
+typedef uint32_t boddurci_saving(boddurci_base *base, boddurci_fault *fault);
+
+/* Returns the outcome of a save that began after this call did. One thread at a time calls `save`, for all calls that wait then. */
+uint32_t boddurci_group_save(struct boddurci_group *group, boddurci_saving *save, boddurci_base *base, boddurci_fault *fault);
 
 #pragma GCC visibility pop
 #endif

@@ -1,0 +1,386 @@
+/* Threads that save one base at the same time, in the folder that is the argument: how many saves their calls take, what is on the disk
+ * when a call returns, faults, order, signals, cancelled threads and a fork. tests/c_library builds and runs it. A second argument is the
+ * number of changes that each of 64 threads makes; the number of their saves is printed.
+ *
+ * The flushes are this program's own. Each takes a millisecond, and copies its file: the copies are what a loss of power would leave. */
+#define _GNU_SOURCE
+#include "boddurci_files.h"
+#include <errno.h>
+#include <pthread.h>
+#include <semaphore.h>
+#include <signal.h>
+#include <stdatomic.h>
+#include <stdio.h>
+#include <stdlib.h>
+#include <string.h>
+#include <sys/stat.h>
+#include <sys/wait.h>
+#include <time.h>
+#include <unistd.h>
+
+enum { THREADS = 64, FEW = 8, KEPT = 65536, TEXT = 16 };
+
+static atomic_ulong looked;
+
+#define EXPECT(what)                                                                                                               \
+    do {                                                                                                                           \
+        looked++;                                                                                                                  \
+        if (!(what)) {                                                                                                             \
+            fprintf(stderr, "c_group.c:%d: not so: %s\n", __LINE__, #what);                                                        \
+            _exit(1);                                                                                                              \
+        }                                                                                                                          \
+    } while (0)
+
+static void rest(void)
+{
+    const struct timespec millisecond = {0, 1000000};
+    nanosleep(&millisecond, NULL);
+}
+
+/* Waits until something is so. If it never is, an alarm ends the program. */
+#define AWAIT(what)                                                                                                                \
+    do                                                                                                                             \
+        rest();                                                                                                                    \
+    while (!(what))
+
+/* ---- a disk */
+
+/* A file as it was when it was last flushed. */
+struct kept {
+    const char *ending;
+    size_t length;
+    int is_there;
+    uint8_t bytes[KEPT];
+};
+
+static struct kept disk[3] = {{".pag", 0, 0, {0}}, {".dir", 0, 0, {0}}, {".redo", 0, 0, {0}}};
+static pthread_mutex_t disk_mutex = PTHREAD_MUTEX_INITIALIZER, writing = PTHREAD_MUTEX_INITIALIZER;
+static atomic_ulong flushes;
+
+/* A save stops at its next flush until it may go on: that of the first thread, or those of the others. Of the flushes of the others this one
+ * fails. */
+static _Thread_local int is_first;
+static atomic_int stops_first, stops_others, is_stopped, fails_at;
+
+static void keep(int file, struct kept *kept)
+{
+    ssize_t length = pread(file, kept->bytes, KEPT, 0);
+    EXPECT(length >= 0 && length < KEPT);
+    kept->length = (size_t)length;
+    kept->is_there = 1;
+}
+
+/* The program's own, which the library calls in the place of the C library's. No two threads write the files at the same time. */
+int fdatasync(int file)
+{
+    char link[64], name[4096];
+    atomic_int *stops = is_first ? &stops_first : &stops_others;
+    snprintf(link, sizeof link, "/proc/self/fd/%d", file);
+    ssize_t length = readlink(link, name, sizeof name - 1);
+    EXPECT(length > 0);
+    name[length] = 0;
+    if (strstr(name, "/left") != NULL)
+        return 0;
+    EXPECT(pthread_mutex_trylock(&writing) == 0);
+    flushes++;
+    rest();
+    if (*stops) {
+        is_stopped = 1;
+        AWAIT(!*stops);
+        is_stopped = 0;
+    }
+    int fails = !is_first && fails_at != 0 && atomic_fetch_sub(&fails_at, 1) == 1;
+    pthread_mutex_lock(&disk_mutex);
+    for (struct kept *kept = disk; kept < disk + 3 && !fails; kept++)
+        if (strcmp(name + length - strlen(kept->ending), kept->ending) == 0)
+            keep(file, kept);
+    pthread_mutex_unlock(&disk_mutex);
+    pthread_mutex_unlock(&writing);
+    errno = fails ? EIO : errno;
+    return fails ? -1 : 0;
+}
+
+int fsync(int file)
+{
+    return fdatasync(file);
+}
+
+/* ---- threads that wait */
+
+/* The linker puts this in front of sem_wait: in the library a call that waits is in the list of those that the next save is for. */
+int __real_sem_wait(sem_t *turn);
+int __wrap_sem_wait(sem_t *turn);
+
+static atomic_int waiting;
+
+int __wrap_sem_wait(sem_t *turn)
+{
+    waiting++;
+    int status = __real_sem_wait(turn);
+    waiting--;
+    return status;
+}
+
+/* ---- savers */
+
+/* A thread that stores its changes one after another, with a save after each. */
+struct saver {
+    pthread_t thread;
+    boddurci_base *base;
+    int number, is_first, changes;
+    atomic_int done; /* how many saves have returned */
+    uint32_t status;
+    boddurci_fault fault;
+};
+
+static void store(boddurci_base *base, int number, int value)
+{
+    char key[TEXT], text[TEXT];
+    int key_length = snprintf(key, sizeof key, "key%d", number), length = snprintf(text, sizeof text, "%d", value);
+    EXPECT(boddurci_store(boddurci_take(base), (const uint8_t *)key, (size_t)key_length, (const uint8_t *)text, (size_t)length, 1) == BODDURCI_DONE);
+    boddurci_give(base);
+}
+
+static int value_of(boddurci_base *base, int number)
+{
+    char key[TEXT];
+    uint8_t text[TEXT] = {0};
+    size_t length;
+    int key_length = snprintf(key, sizeof key, "key%d", number);
+    uint32_t status = boddurci_fetch(boddurci_take(base), (const uint8_t *)key, (size_t)key_length, text, sizeof text - 1, &length);
+    boddurci_give(base);
+    return status == BODDURCI_DONE ? atoi((const char *)text) : -1;
+}
+
+/* What a loss of power would leave now, in files of the thread's own, opened. */
+static boddurci_base *left(int number)
+{
+    char name[64];
+    boddurci_fault fault;
+    pthread_mutex_lock(&disk_mutex);
+    for (const struct kept *kept = disk; kept < disk + 3; kept++) {
+        snprintf(name, sizeof name, "left/db%d%s", number, kept->ending);
+        EXPECT(unlink(name) == 0 || errno == ENOENT);
+        FILE *file = kept->is_there ? fopen(name, "wb") : NULL;
+        EXPECT(!kept->is_there || (file != NULL && fwrite(kept->bytes, 1, kept->length, file) == kept->length && fclose(file) == 0));
+    }
+    pthread_mutex_unlock(&disk_mutex);
+    snprintf(name, sizeof name, "left/db%d", number);
+    boddurci_base *base = boddurci_open_files(name, BODDURCI_READ_ONLY, &fault);
+    EXPECT(base != NULL);
+    return base;
+}
+
+static int left_value(int number)
+{
+    boddurci_base *base = left(number);
+    int value = value_of(base, number);
+    boddurci_close_files(base);
+    return value;
+}
+
+/* The first thread waits with its second call until the save of the others has begun. Threads are cancelled in a save alone, or after it. */
+static void *save_each(void *given)
+{
+    struct saver *saver = given;
+    int is_last = saver->number == THREADS - 1, was;
+    is_first = saver->is_first;
+    for (int value = 1; value <= saver->changes; value++) {
+        pthread_setcancelstate(PTHREAD_CANCEL_DISABLE, &was);
+        if (is_first && value > 1)
+            AWAIT(is_stopped);
+        store(saver->base, saver->number, value);
+        pthread_setcancelstate(PTHREAD_CANCEL_ENABLE, &was);
+        saver->status = boddurci_save(saver->base, is_last ? NULL : &saver->fault);
+        pthread_setcancelstate(PTHREAD_CANCEL_DISABLE, &was);
+        saver->done++;
+        if (saver->status == BODDURCI_DONE)
+            EXPECT(left_value(saver->number) == value);
+        pthread_setcancelstate(PTHREAD_CANCEL_ENABLE, &was);
+        pthread_testcancel();
+    }
+    return NULL;
+}
+
+static void start(struct saver *saver, boddurci_base *base, int number, int is_first, int changes)
+{
+    memset(saver, 0, sizeof *saver);
+    saver->base = base;
+    saver->number = number;
+    saver->is_first = is_first;
+    saver->changes = changes;
+    EXPECT(pthread_create(&saver->thread, NULL, save_each, saver) == 0);
+}
+
+static void join(struct saver *saver)
+{
+    EXPECT(pthread_join(saver->thread, NULL) == 0);
+}
+
+/* Starts the first saver, whose save stops at a flush, and then the others, which wait until it has ended. */
+static void start_behind(struct saver *savers, boddurci_base *base, int changes)
+{
+    stops_first = 1;
+    start(&savers[0], base, 0, 1, changes);
+    AWAIT(is_stopped);
+    for (int i = 1; i <= FEW; i++) {
+        start(&savers[i], base, i, 0, 1);
+        AWAIT(waiting == i);
+    }
+}
+
+static boddurci_base *opened(const char *name)
+{
+    boddurci_fault fault;
+    for (struct kept *kept = disk; kept < disk + 3; kept++)
+        kept->is_there = 0;
+    boddurci_base *base = boddurci_open_files(name, 0, &fault);
+    EXPECT(base != NULL);
+    return base;
+}
+
+/* How many flushes a save takes that one thread makes. It waits for nothing. */
+static unsigned long flushes_alone(boddurci_base *base)
+{
+    unsigned long before;
+    for (int value = 1; value <= 2; value++) {
+        before = flushes;
+        store(base, 0, value);
+        EXPECT(boddurci_save(base, NULL) == BODDURCI_DONE && waiting == 0 && left_value(0) == value);
+    }
+    return flushes - before;
+}
+
+/* 64 threads: their calls take far fewer saves, and the change of each is on the disk once its call has returned. */
+static void test_many(int changes)
+{
+    static struct saver savers[THREADS];
+    boddurci_base *base = opened("many");
+    for (int i = 0; i < THREADS; i++)
+        store(base, i, 0);
+    unsigned long alone = flushes_alone(base), before = flushes, calls = (unsigned long)(THREADS * changes);
+    EXPECT(alone != 0);
+    for (int i = 0; i < THREADS; i++)
+        start(&savers[i], base, i, 0, changes);
+    for (int i = 0; i < THREADS; i++) {
+        join(&savers[i]);
+        EXPECT(savers[i].done == changes && savers[i].status == BODDURCI_DONE && savers[i].fault.system == 0);
+    }
+    unsigned long saves = (flushes - before) / alone;
+    EXPECT(saves != 0 && saves <= calls / 4 && waiting == 0);
+    printf("%lu calls of %d threads took %lu saves; ", calls, THREADS, saves);
+    boddurci_close_files(base);
+}
+
+/* A flush of a save for some threads fails: all of them have its fault, and nobody else. The next save has their changes. */
+static void test_failing(void)
+{
+    struct saver savers[FEW + 1];
+    boddurci_base *base = opened("failing");
+    int seen[2] = {0, 0}, last = (int)flushes_alone(base);
+    for (int flush = 1; flush <= last; flush++) {
+        start_behind(savers, base, 1);
+        fails_at = flush;
+        stops_first = 0;
+        for (int i = 0; i <= FEW; i++)
+            join(&savers[i]);
+        const boddurci_fault fault = savers[1].fault;
+        int is_done = fault.status == BODDURCI_DONE;
+        EXPECT(savers[0].status == BODDURCI_DONE && savers[0].fault.status == BODDURCI_DONE && savers[0].fault.system == 0);
+        EXPECT((is_done || fault.status == BODDURCI_FILE_FAILED) && fault.system == EIO && fails_at == 0);
+        EXPECT(strstr(fault.text, is_done ? "BASE.redo" : "cannot be written") != NULL);
+        seen[is_done]++;
+        for (int i = 1; i <= FEW; i++) {
+            EXPECT(savers[i].status == fault.status && memcmp(&savers[i].fault, &fault, sizeof fault) == 0);
+            EXPECT(left_value(i) == (is_done ? 1 : flush == 1 ? -1 : 3));
+        }
+        for (int i = 1; i <= FEW; i++)
+            start(&savers[i], base, i, 0, 3);
+        for (int i = 1; i <= FEW; i++) {
+            join(&savers[i]);
+            EXPECT(savers[i].status == BODDURCI_DONE && savers[i].fault.system == 0);
+        }
+    }
+    EXPECT(seen[0] != 0 && seen[1] != 0);
+    boddurci_close_files(base);
+}
+
+/* Nobody is served twice while another waits: the first thread calls again, and its call is after those that waited. */
+static void test_order(void)
+{
+    struct saver savers[FEW + 1];
+    boddurci_base *base = opened("order");
+    start_behind(savers, base, 2);
+    stops_others = 1;
+    stops_first = 0;
+    AWAIT(is_stopped && waiting == FEW && savers[0].done == 1);
+    /* The second save is under way, and is for all but the first thread. */
+    for (int i = 1; i <= FEW; i++)
+        EXPECT(savers[i].done == 0);
+    stops_first = 1;
+    stops_others = 0;
+    for (int i = 1; i <= FEW; i++)
+        join(&savers[i]);
+    AWAIT(is_stopped);
+    EXPECT(savers[0].done == 1 && waiting == 0);
+    stops_first = 0;
+    join(&savers[0]);
+    EXPECT(savers[0].done == 2);
+    boddurci_close_files(base);
+}
+
+static atomic_int heard;
+
+static void hear(int number)
+{
+    (void)number;
+    heard++;
+}
+
+/* A signal ends no wait. A thread that is cancelled ends its call first, and a child has no part in the saves of its parent. */
+static void test_disturbed(void)
+{
+    struct saver savers[FEW + 1];
+    struct sigaction action;
+    int status;
+    void *result;
+    memset(&action, 0, sizeof action);
+    action.sa_handler = hear;
+    EXPECT(sigaction(SIGUSR1, &action, NULL) == 0);
+    boddurci_base *base = opened("disturbed");
+    start_behind(savers, base, 1);
+    for (int i = 1; i <= FEW; i++)
+        EXPECT(pthread_kill(savers[i].thread, SIGUSR1) == 0);
+    EXPECT(pthread_cancel(savers[0].thread) == 0 && pthread_cancel(savers[1].thread) == 0 && pthread_cancel(savers[FEW].thread) == 0);
+    pid_t child = fork();
+    if (child == 0) {
+        int is_refused = boddurci_save(base, &savers[0].fault) == BODDURCI_FORKED && boddurci_take(base) == NULL;
+        boddurci_close_files(base);
+        _exit(is_refused ? 0 : 1);
+    }
+    EXPECT(child > 0 && waitpid(child, &status, 0) == child && WIFEXITED(status) && WEXITSTATUS(status) == 0);
+    AWAIT(heard == FEW && waiting == FEW);
+    for (int i = 0; i <= FEW; i++)
+        EXPECT(savers[i].done == 0);
+    stops_first = 0;
+    for (int i = 0; i <= FEW; i++) {
+        EXPECT(pthread_join(savers[i].thread, &result) == 0 && (result == PTHREAD_CANCELED) == (i < 2 || i == FEW));
+        EXPECT(savers[i].done == 1 && savers[i].status == BODDURCI_DONE);
+    }
+    store(base, 1, 5);
+    EXPECT(boddurci_save(base, NULL) == BODDURCI_DONE && left_value(1) == 5);
+    boddurci_close_files(base);
+}
+
+int main(int argc, char **argv)
+{
+    if (argc != 3 || chdir(argv[1]) != 0 || mkdir("left", 0777) != 0)
+        return 2;
+    alarm(500);
+    test_many(atoi(argv[2]));
+    test_failing();
+    test_order();
+    test_disturbed();
+    printf("%lu answers as expected\n", looked);
+    return 0;
+}

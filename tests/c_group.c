@@ -179,14 +179,14 @@ static int left_value(int number)
     return value;
 }
 
-/* The first thread waits with its second call until the save of the others has begun. Threads are cancelled in a save alone, or after it. */
+/* The first thread waits with its second call until the save of the others has begun. A thread could be cancelled in a save alone. */
 static void *save_each(void *given)
 {
     struct saver *saver = given;
     int is_last = saver->number == THREADS - 1, was;
     is_first = saver->is_first;
+    pthread_setcancelstate(PTHREAD_CANCEL_DISABLE, &was);
     for (int value = 1; value <= saver->changes; value++) {
-        pthread_setcancelstate(PTHREAD_CANCEL_DISABLE, &was);
         if (is_first && value > 1)
             AWAIT(is_stopped);
         store(saver->base, saver->number, value);
@@ -194,10 +194,7 @@ static void *save_each(void *given)
         saver->status = boddurci_save(saver->base, is_last ? NULL : &saver->fault);
         pthread_setcancelstate(PTHREAD_CANCEL_DISABLE, &was);
         saver->done++;
-        if (saver->status == BODDURCI_DONE)
-            EXPECT(left_value(saver->number) == value);
-        pthread_setcancelstate(PTHREAD_CANCEL_ENABLE, &was);
-        pthread_testcancel();
+        EXPECT(was == PTHREAD_CANCEL_ENABLE && (saver->status != BODDURCI_DONE || left_value(saver->number) == value));
     }
     return NULL;
 }
@@ -214,7 +211,8 @@ static void start(struct saver *saver, boddurci_base *base, int number, int is_f
 
 static void join(struct saver *saver)
 {
-    EXPECT(pthread_join(saver->thread, NULL) == 0);
+    void *result;
+    EXPECT(pthread_join(saver->thread, &result) == 0 && result == NULL);
 }
 
 /* Starts the first saver, whose save stops at a flush, and then the others, which wait until it has ended. */
@@ -337,13 +335,12 @@ static void hear(int number)
     heard++;
 }
 
-/* A signal ends no wait. A thread that is cancelled ends its call first, and a child has no part in the saves of its parent. */
+/* A signal ends no wait, and a thread that is cancelled ends its call first. A child has no part in the saves of its parent. */
 static void test_disturbed(void)
 {
     struct saver savers[FEW + 1];
     struct sigaction action;
     int status;
-    void *result;
     memset(&action, 0, sizeof action);
     action.sa_handler = hear;
     EXPECT(sigaction(SIGUSR1, &action, NULL) == 0);
@@ -356,15 +353,15 @@ static void test_disturbed(void)
     if (child == 0) {
         int is_refused = boddurci_save(base, &savers[0].fault) == BODDURCI_FORKED && boddurci_take(base) == NULL;
         boddurci_close_files(base);
-        _exit(is_refused ? 0 : 1);
+        _exit(is_refused ? kill(getpid(), SIGKILL) : 1); /* no look for leaks: it lacks the stacks of its parent's threads */
     }
-    EXPECT(child > 0 && waitpid(child, &status, 0) == child && WIFEXITED(status) && WEXITSTATUS(status) == 0);
+    EXPECT(child > 0 && waitpid(child, &status, 0) == child && WIFSIGNALED(status));
     AWAIT(heard == FEW && waiting == FEW);
     for (int i = 0; i <= FEW; i++)
         EXPECT(savers[i].done == 0);
     stops_first = 0;
     for (int i = 0; i <= FEW; i++) {
-        EXPECT(pthread_join(savers[i].thread, &result) == 0 && (result == PTHREAD_CANCELED) == (i < 2 || i == FEW));
+        join(&savers[i]);
         EXPECT(savers[i].done == 1 && savers[i].status == BODDURCI_DONE);
     }
     store(base, 1, 5);
@@ -376,7 +373,7 @@ int main(int argc, char **argv)
 {
     if (argc != 3 || chdir(argv[1]) != 0 || mkdir("left", 0777) != 0)
         return 2;
-    alarm(500);
+    alarm(300);
     test_many(atoi(argv[2]));
     test_failing();
     test_order();

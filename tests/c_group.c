@@ -107,11 +107,15 @@ int fsync(int file)
 
 /* ---- threads that wait */
 
-/* The linker puts this in front of sem_wait: in the library a call that waits is in the list of those that the next save is for. */
+/* The linker puts these in front of sem_wait and sem_post. A call that waits is in the list of those that the next save is for. A thread that
+ * is not the first stops before its second post, if it is to: the first one is for the next save, and the others for the calls of its own. */
 int __real_sem_wait(sem_t *turn);
 int __wrap_sem_wait(sem_t *turn);
+int __real_sem_post(sem_t *turn);
+int __wrap_sem_post(sem_t *turn);
 
-static atomic_int waiting;
+static atomic_int waiting, stops_posts, is_post_stopped;
+static _Thread_local int posts;
 
 int __wrap_sem_wait(sem_t *turn)
 {
@@ -119,6 +123,15 @@ int __wrap_sem_wait(sem_t *turn)
     int status = __real_sem_wait(turn);
     waiting--;
     return status;
+}
+
+int __wrap_sem_post(sem_t *turn)
+{
+    if (stops_posts && !is_first && ++posts == 2) {
+        is_post_stopped = 1;
+        AWAIT(!stops_posts);
+    }
+    return __real_sem_post(turn);
 }
 
 /* ---- savers */
@@ -258,8 +271,11 @@ static void test_many(int changes)
         store(base, i, 0);
     unsigned long alone = flushes_alone(base), before = flushes, calls = (unsigned long)(THREADS * changes);
     EXPECT(alone != 0);
+    stops_others = 1;
     for (int i = 0; i < THREADS; i++)
         start(&savers[i], base, i, 0, changes);
+    AWAIT(waiting == THREADS - 1);
+    stops_others = 0;
     for (int i = 0; i < THREADS; i++) {
         join(&savers[i]);
         EXPECT(savers[i].done == changes && savers[i].status == BODDURCI_DONE && savers[i].fault.system == 0);
@@ -303,18 +319,23 @@ static void test_failing(void)
     boddurci_close_files(base);
 }
 
-/* Nobody is served twice while another waits: the first thread calls again, and its call is after those that waited. */
-static void test_order(void)
+/* The first thread, once served, calls again: the save that is under way then is for all that waited, and not for it. */
+static void call_again(struct saver *savers, boddurci_base *base)
 {
-    struct saver savers[FEW + 1];
-    boddurci_base *base = opened("order");
     start_behind(savers, base, 2);
     stops_others = 1;
     stops_first = 0;
     AWAIT(is_stopped && waiting == FEW && savers[0].done == 1);
-    /* The second save is under way, and is for all but the first thread. */
     for (int i = 1; i <= FEW; i++)
         EXPECT(savers[i].done == 0);
+}
+
+/* Nobody is served twice while another waits: the next save of the first thread comes after the others are served. */
+static void test_order(void)
+{
+    struct saver savers[FEW + 1];
+    boddurci_base *base = opened("order");
+    call_again(savers, base);
     stops_first = 1;
     stops_others = 0;
     for (int i = 1; i <= FEW; i++)
@@ -324,6 +345,29 @@ static void test_order(void)
     stops_first = 0;
     join(&savers[0]);
     EXPECT(savers[0].done == 2);
+    boddurci_close_files(base);
+}
+
+/* The same where the thread that saved for the others is slow to serve them: the first thread saves meanwhile, and returns after them. */
+static void test_slow(void)
+{
+    struct saver savers[FEW + 1];
+    boddurci_base *base = opened("slow");
+    unsigned long alone = flushes_alone(base);
+    call_again(savers, base);
+    unsigned long before = flushes;
+    stops_posts = 1;
+    stops_others = 0;
+    AWAIT(is_post_stopped && flushes - before == 2 * alone - 1);
+    for (int i = 0; i < 100; i++)
+        rest();
+    for (int i = 0; i <= FEW; i++)
+        EXPECT(savers[i].done == (i == 0));
+    stops_posts = 0;
+    for (int i = 0; i <= FEW; i++) {
+        join(&savers[i]);
+        EXPECT(savers[i].done == (i == 0 ? 2 : 1));
+    }
     boddurci_close_files(base);
 }
 
@@ -377,6 +421,7 @@ int main(int argc, char **argv)
     test_many(atoi(argv[2]));
     test_failing();
     test_order();
+    test_slow();
     test_disturbed();
     printf("%lu answers as expected\n", looked);
     return 0;

@@ -18,12 +18,18 @@ int boddurci_group_init(struct boddurci_group *group)
     group->first = NULL;
     group->last = &group->first;
     group->is_saving = 0;
-    return pthread_mutex_init(&group->mutex, NULL) == 0 ? 0 : -1;
+    if (pthread_mutex_init(&group->mutex, NULL) != 0)
+        return -1;
+    if (pthread_mutex_init(&group->serving, NULL) == 0)
+        return 0;
+    pthread_mutex_destroy(&group->mutex);
+    return -1;
 }
 
 void boddurci_group_destroy(struct boddurci_group *group)
 {
     pthread_mutex_destroy(&group->mutex);
+    pthread_mutex_destroy(&group->serving);
 }
 
 /* Adds a call to those that wait. Returns whether it has to wait for its turn; if not, it saves. */
@@ -85,8 +91,10 @@ uint32_t boddurci_group_save(struct boddurci_group *group, boddurci_saving *save
     if (!call.is_served) {
         take_all(group);
         call.status = save(base, fault);
+        pthread_mutex_lock(&group->serving);
         pass_on(group);
         serve(call.next, call.status, fault);
+        pthread_mutex_unlock(&group->serving);
     }
     pthread_setcancelstate(could_be_cancelled, NULL);
     sem_destroy(&call.turn);

@@ -188,7 +188,8 @@ struct boddurci_call;
 
 /* The calls that wait for the next save, in the order in which they came. */
 struct boddurci_group {
-    pthread_mutex_t mutex;       /* of the group; not held during a save */
+    pthread_mutex_t mutex;       /* of the list; not held during a save */
+    pthread_mutex_t serving;     /* held while the calls of a save get its outcome; the next save may have begun, and serves after it */
     struct boddurci_call *first; /* or NULL */
     struct boddurci_call **last; /* where the next one is added */
     int is_saving;               /* a thread saves, or has been given the turn to */

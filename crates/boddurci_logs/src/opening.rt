@@ -35,12 +35,13 @@ pub fn open(
         Err(fault) => return status_of(fault),
     };
     let made = (opened.bytes.as_slice(), opened.steps.as_slice());
-    let status = hand_out(alloc, made, bytes, bytes_len, words, words_len);
-    if status == Status::Done {
-        *log = LogPlace::of(opened.log);
-        return Status::Done;
+    match hand_out(alloc, made, bytes, bytes_len, words, words_len) {
+        Status::Done => {
+            *log = LogPlace::of(opened.log);
+            Status::Done
+        }
+        status => status,
     }
-    status
 }
 
 /// Hands out the steps for a reader.

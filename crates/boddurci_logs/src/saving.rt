@@ -46,14 +46,16 @@ pub fn save(
     let Ok(apply) = words_of(alloc, save.apply.as_slice()) else {
         return Status::NoMemory;
     };
-    *committed = commit.len();
-    let status = copy_joined(commit.as_slice(), apply.as_slice(), words, words_len);
-    if status == Status::Done {
-        bytes.copy_from_slice(save.bytes.as_slice());
-        *log = LogPlace::of(save.log);
-        return Status::Done;
+    let first = commit.as_slice();
+    *committed = first.len();
+    match copy_joined(first, apply.as_slice(), words, words_len) {
+        Status::Done => {
+            bytes.copy_from_slice(save.bytes.as_slice());
+            *log = LogPlace::of(save.log);
+            Status::Done
+        }
+        status => status,
     }
-    status
 }
 
 /// Hands out the steps that close a log.

@@ -8,11 +8,11 @@ use Rattle.sdbm_log.specs.declared.steps.Step.{Step}
 use Rattle.boddurci_logs.specs.Answers.{AreHandedOut}
 use Rattle.boddurci_logs.proofs.opening.open.Goals as goal
 
-pub returns-then-eq : goal.returns-then-eq
-returns-then-eq c =
+pub returns-in-Done : goal.returns-in-Done
+returns-in-Done c =
     let made = c.in-Ok.opened in
     let log = c.of.ensures in
-    let handed = c.hand_out-status.ensures.done (c.if-eq.ensures.0 refl) in
+    let handed = c.hand_out.ensures.done c.in-Done.is in
     record {
       done = λ is. (
         made.bytes.items,
@@ -23,8 +23,8 @@ returns-then-eq c =
             end = ap (λ (l : Log). l.end) log ∙ c.in-Ok.ensures.log.0;
             count = ap (λ (l : Log). l.count) log ∙ c.in-Ok.ensures.log.1;
           },
-          subst (λ (l : List ℕ). AreHandedOut l made.steps.items c.args.bytes.now c.hand_out-status.new.bytes c.args.words.now c.hand_out-status.new.words) c.as_slice.ensures.value
-              (subst (λ (l : List Step). AreHandedOut c.as_slice.result.now l c.args.bytes.now c.hand_out-status.new.bytes c.args.words.now c.hand_out-status.new.words) c.as_slice-2.ensures.value handed),
+          subst (λ (l : List ℕ). AreHandedOut l made.steps.items c.args.bytes.now c.hand_out.new.bytes c.args.words.now c.hand_out.new.words) c.as_slice.ensures.value
+              (subst (λ (l : List Step). AreHandedOut c.as_slice.result.now l c.args.bytes.now c.hand_out.new.bytes c.args.words.now c.hand_out.new.words) c.as_slice-2.ensures.value handed),
         ),
       );
       untouched = λ isnt. absurd (isnt refl);

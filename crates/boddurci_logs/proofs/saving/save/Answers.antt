@@ -10,13 +10,13 @@ use Rattle.boddurci_logs.specs.Answers.{IsFilled, log_at}
 use Rattle.boddurci_logs.specs.Words.{words_of}
 use Rattle.boddurci_logs.proofs.saving.save.Goals as goal
 
-pub returns-then-eq : goal.returns-then-eq
-returns-then-eq c =
+pub returns-in-Done : goal.returns-in-Done
+returns-in-Done c =
     let made = c.in-Ok.save in
     let bytes : List ℕ = c.args.bytes.now in
     let plan : List ℕ = take (length bytes - 18) (drop 18 bytes) in
     let all : plan ≡ drop 18 bytes = take_all (length bytes - 18) (drop 18 bytes) (omega (arith, length-drop 18 bytes)) in
-    let buffer : c.copy_from_slice.new.self ≡ made.bytes.items = c.copy_from_slice.ensures.after ∙ c.as_slice-5.ensures.value in
+    let buffer : c.copy_from_slice.new.self ≡ made.bytes.items = c.copy_from_slice.ensures.after ∙ c.as_slice-in-Done.ensures.value in
     let commit : c.in-Ok-words_of.commit.items ≡ words_of made.commit.items = c.in-Ok-words_of.ensures ∙ ap words_of c.as_slice.ensures.value in
     let apply : c.in-Ok-words_of-2.apply.items ≡ words_of made.apply.items = c.in-Ok-words_of-2.ensures ∙ ap words_of c.as_slice-2.ensures.value in
     record {
@@ -31,8 +31,8 @@ returns-then-eq c =
                 (subst (λ (l : Log). AreSaveCalls l made.log plan (acts_of made.bytes.items made.commit.items) (acts_of made.bytes.items made.apply.items)) c.log.ensures c.in-Ok.ensures.calls)));
           },
           (
-            subst (λ (l : List ℕ). IsFilled l c.args.words.now c.copy_joined-status.new.room) (λ i. (c.as_slice-3.ensures.value ∙ commit) i ++ (c.as_slice-4.ensures.value ∙ apply) i) (c.copy_joined-status.ensures.done (c.if-eq.ensures.0 refl)),
-            c.len.ensures ∙ ap (λ (l : List ℕ). length l) commit,
+            subst (λ (l : List ℕ). IsFilled l c.args.words.now c.copy_joined.new.room) (λ i. (c.as_slice-first.ensures.value ∙ commit) i ++ (c.as_slice-3.ensures.value ∙ apply) i) (c.copy_joined.ensures.done c.in-Done.is),
+            ap (λ (l : List ℕ). length l) (c.as_slice-first.ensures.value ∙ commit),
           ),
         ),
       );

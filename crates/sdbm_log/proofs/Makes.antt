@@ -36,8 +36,8 @@ module _ {D : Type 0} (moment : D → ℕ) (left_since : D → ℕ → Image →
   one_more acts act old mid new seen left first next = then_on moment left_since may_leave old mid new _
       (weaker moment left_since may_leave old mid _ _ (λ c is. moment_front acts (act ∷ []) (seen_by old) (may_leave old) c is) first)
       (weaker moment left_since may_leave mid new _ _ (λ c is. ⊎_elim
-          (λ before. moment_front acts (act ∷ []) (seen_by old) (may_leave old) c (moment_last acts (seen_by old) (may_leave old) c (left c before)))
-          (λ by. moment_last (acts ++ act ∷ []) (seen_by old) (may_leave old) c (next_left acts act old mid seen left c by)) is) next)
+      (λ before. moment_front acts (act ∷ []) (seen_by old) (may_leave old) c (moment_last acts (seen_by old) (may_leave old) c (left c before)))
+      (λ by. moment_last (acts ++ act ∷ []) (seen_by old) (may_leave old) c (next_left acts act old mid seen left c by)) is) next)
     where
       next_left : (acts : List Act) (act : Act) (old mid : D) → seen_by mid ≡ seen_after acts (seen_by old) → ((c : Image) → may_leave mid c → LeftAfter acts (seen_by old) (may_leave old) c)
           → (c : Image) → LeftBy act (seen_by mid) (may_leave mid) c → LeftAfter (acts ++ act ∷ []) (seen_by old) (may_leave old) c

@@ -13,6 +13,8 @@ mod records;
 mod runs;
 mod saving;
 mod steps;
+#[cfg(test)]
+mod tests;
 
 pub use header_notes::{Applied, BootId, FileState, NOTES_LEN, NOTES_START, Notes, says_applied};
 pub use log::Log;

@@ -65,7 +65,7 @@ fn make_step<D: Disk>(
 }
 
 // Bytes of a buffer, as far as it has them.
-fn part(bytes: &[u8], from: usize, len: usize) -> &[u8]
+pub(crate) fn part(bytes: &[u8], from: usize, len: usize) -> &[u8]
     ensures { result.now ≡ take len (drop from bytes.now) }
 {
     let start = from.min(bytes.len());

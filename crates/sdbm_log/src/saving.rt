@@ -43,11 +43,7 @@ pub struct SaveSteps {
 /// # Errors
 ///
 /// `AllocError` if memory runs out.
-pub fn save_steps<C: Crashes>(
-    alloc: Global,
-    log: Log,
-    plan: &[u8],
-) -> Result<SaveSteps, AllocError>
+pub fn save_steps<C: Crashes>(alloc: Global, log: Log, plan: &[u8]) -> Result<SaveSteps, AllocError>
     requires plan { IsPlan plan.now }
     requires short { length plan.now < 3000000000 }
     requires near { log.end ≤ 4000000000 }

@@ -30,7 +30,7 @@ returns-in_err-make_step-clause-any_moment g c =
     let first : Image = g.D.Disk.seen c.args.disk.now in
     let may : Image → Type 0 = g.D.Disk.may_leave c.args.disk.now in
     let so_far = one_more g.D.Disk.moment g.D.Disk.left_since g.D.Disk.seen g.D.Disk.may_leave (acts_of bytes (take i steps)) act c.args.disk.now c.loop-index.disk c.make_step.new.disk
-        c.loop-index.invariant.seen c.loop-index.invariant.left c.loop-index.invariant.moments c.make_step.ensures.any_moment in
+    c.loop-index.invariant.seen c.loop-index.invariant.left c.loop-index.invariant.moments c.make_step.ensures.any_moment in
     subst (λ (l : List Act). LeavesOnly g.D.Disk.moment g.D.Disk.left_since c.args.disk.now c.make_step.new.disk (AnyMoment l first may)) (sym (acts_split bytes steps i (Write Pages 0 0 0) c.loop-index-test.true))
     (subst (λ (l : List Act). LeavesOnly g.D.Disk.moment g.D.Disk.left_since c.args.disk.now c.make_step.new.disk (AnyMoment l first may)) (append_assoc (acts_of bytes (take i steps)) (act ∷ []) (acts_of bytes (drop (i + 1) steps)))
     (weaker g.D.Disk.moment g.D.Disk.left_since g.D.Disk.may_leave c.args.disk.now c.make_step.new.disk _ _ (λ o is. moment_front (acts_of bytes (take i steps) ++ act ∷ []) (acts_of bytes (drop (i + 1) steps)) first may o is) so_far))

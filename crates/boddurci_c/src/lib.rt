@@ -28,9 +28,8 @@ mod turns;
 mod units;
 
 use boddurci_handles::{Db, Handle, Job, Reading, Status, Ticket, read_piece};
-pub use logs::{boddurci_log_close, boddurci_log_open, boddurci_log_read, boddurci_log_save};
-
 use db::{ask, delete, end_of, fetch, files, run, store};
+pub use logs::{boddurci_log_close, boddurci_log_open, boddurci_log_read, boddurci_log_save};
 use opening::{open, open_reading, pages_in};
 use plans::plan;
 use prog_registry::{ProgId, RegFault, Registry};

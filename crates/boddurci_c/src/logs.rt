@@ -83,11 +83,7 @@ pub extern "C" fn boddurci_log_save(
 ///
 /// Returns `ShortRoom` if the room is too short, or `NoMemory`.
 #[unsafe(no_mangle)]
-pub extern "C" fn boddurci_log_close(
-    alloc: Global,
-    words: &mut [u64],
-    words_len: &mut usize,
-) -> u32
+pub extern "C" fn boddurci_log_close(alloc: Global, words: &mut [u64], words_len: &mut usize) -> u32
     ensures { (status : Status) × ((result ≡ code_of status) × CloseAnswer words.old words.new status) }
 {
     close(alloc, words, words_len).code()

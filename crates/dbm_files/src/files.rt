@@ -419,7 +419,12 @@ fn lay_over(
         pages.push(old_pages.as_slice())?;
         return Ok(read_over(alloc, pages, old_directory));
     };
-    let new_pages = sdbm_saves::lay_over(alloc, plan.as_slice(), Part::Pages, old_pages.as_slice())?;
+    let new_pages = sdbm_saves::lay_over(
+        alloc,
+        plan.as_slice(),
+        Part::Pages,
+        old_pages.as_slice(),
+    )?;
     drop(old_pages);
     pages.push(new_pages.as_slice())?;
     drop(new_pages);

@@ -1,16 +1,16 @@
 -- The calls that commit a save, and those that do its plan.
-use Rattle.std.proofs.Common.{◌≡◌, ◌⊎◌, inl, inr, ⊎_elim, ℕ, zero, suc, ◌+◌, ◌<◌, ◌≤◌, ◌^◌, List, [], ◌∷◌, ◌++◌, length, drop, get_or, true, refl, sym, ◌∙◌, ap, subst, arith}
+use Rattle.std.proofs.Common.{◌≡◌, ◌⊎◌, inl, inr, ⊎_elim, ℕ, zero, suc, ◌+◌, ◌<◌, ◌≤◌, List, [], ◌∷◌, length, drop, get_or, true, refl, sym, ◌∙◌, ap, subst, arith}
 use Rattle.sdbm_saves.specs.declared.disk.File.TheVariants.{Pages, Directory, Redo}
-use Rattle.sdbm_saves.specs.Disk.{Image, content, put, written, resized, Torn, TornLength, Within}
-use Rattle.sdbm_saves.specs.Redo.{data_file, file_of, offset_of, data_of, rest_of, rest_after, new_length, count_of, changes_of, files, replayed_image, renewed_image, renewed_files, Fits, IsPlan, Knows, AlikeFor}
+use Rattle.sdbm_saves.specs.Disk.{Image, content, put, written, resized, Torn, Within}
+use Rattle.sdbm_saves.specs.Redo.{data_file, file_of, offset_of, data_of, rest_after, new_length, count_of, changes_of, files, replayed_image, renewed_image, renewed_files, Fits, IsPlan, Knows, AlikeFor}
 use Rattle.sdbm_saves.specs.Acts.{write, resize, acted, LeftBy}
-use Rattle.sdbm_log.specs.Log.{is_log, is_signed, records_of, record_of, number_of, plan_of, next_plan, Holds, HasRecords, IsLogFile, IsKeptLog, IsDurable, IsCommitted, CanFollow}
+use Rattle.sdbm_log.specs.Log.{is_log, records_of, record_of, number_of, plan_of, next_plan, Holds, HasRecords, IsLogFile, IsKeptLog, IsDurable, IsCommitted, CanFollow}
 use Rattle.sdbm_log.specs.Doing.{Does}
 use Rattle.sdbm_log.specs.Protocol.{mark_acts, record_acts, commit_acts, change_acts, apply_acts}
 use Rattle.sdbm_saves.proofs.Lists.{length-resized, length-written}
 use Rattle.sdbm_saves.proofs.Replays.{for_self, for_joins, for_change, for_length, image_next, image_sized, rest_next}
 use Rattle.sdbm_log.proofs.Doing.{then_does, weaker_does, nothing_does}
-use Rattle.sdbm_log.proofs.Header.{log_marked, log_mark, kept_self, marked_records, marked_signed, signed_long, signed_same}
+use Rattle.sdbm_log.proofs.Header.{log_marked, kept_self, marked_records, signed_long}
 use Rattle.sdbm_log.proofs.Joins.{for_done}
 use Rattle.sdbm_log.proofs.Logs.{appending, appended, file_after, number_after, plan_after, both_renewed, mark_set, marking, marked_durable, marked_number, marked_plan, half_left, log_left}
 

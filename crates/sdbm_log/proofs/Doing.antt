@@ -1,8 +1,8 @@
 -- Lists of calls, one after another.
-use Rattle.std.proofs.Common.{◌≡◌, ◌⊎◌, inl, inr, ⊎_elim, List, [], ◌∷◌, ◌++◌, refl, subst}
+use Rattle.std.proofs.Common.{inl, inr, ⊎_elim, List, [], ◌∷◌, ◌++◌}
 use Rattle.sdbm_saves.specs.Disk.{Image}
 use Rattle.sdbm_saves.specs.Acts.{Act, write, resize, sync, clear, acted, seen_after, LeftBy, LeftAfter}
-use Rattle.sdbm_log.specs.Doing.{AnyMoment, Does, Partly, Killed}
+use Rattle.sdbm_log.specs.Doing.{AnyMoment, Does}
 
 -- one list and the next
 pub then_does : (acts more : List Act) (seen : Image) (may_leave P : Image → Type 0) (Q R : Image → (Image → Type 0) → Type 0) → Does acts seen may_leave P Q

@@ -1,5 +1,5 @@
 -- The law over lists of runs, and lemmas for the functions that promise a run.
-use Rattle.std.proofs.Common.{◌≡◌, ◌⊎◌, inl, inr, ⊎_elim, ℕ, suc, ◌+◌, ◌<◌, ◌≤◌, ◌^◌, List, [], ◌∷◌, ◌++◌, length, drop, get_or, true, refl, sym, ◌∙◌, ap, subst, arith}
+use Rattle.std.proofs.Common.{◌≡◌, ◌⊎◌, inl, inr, ⊎_elim, ℕ, suc, ◌+◌, ◌<◌, ◌≤◌, List, [], ◌∷◌, ◌++◌, length, drop, get_or, true, refl, sym, ◌∙◌, ap, subst, arith}
 use Rattle.sdbm_saves.specs.declared.disk.File.TheVariants.{Pages, Directory, Redo}
 use Rattle.sdbm_saves.specs.Disk.{Image, resized, TornLength}
 use Rattle.sdbm_saves.specs.Redo.{files, renewed_files, IsPlan, Knows}

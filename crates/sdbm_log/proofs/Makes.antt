@@ -1,5 +1,5 @@
 -- Steps that are made on a disk, one after another.
-use Rattle.std.proofs.Common.{◌≡◌, ◌⊎◌, inl, inr, ⊎_elim, ℕ, zero, suc, ◌+◌, ◌<◌, List, [], ◌∷◌, ◌++◌, length, take, drop, slice_index_or, refl, sym, ◌∙◌, ap, subst, arith}
+use Rattle.std.proofs.Common.{◌≡◌, ◌⊎◌, inl, inr, ⊎_elim, ℕ, zero, suc, ◌+◌, ◌<◌, List, [], ◌∷◌, ◌++◌, length, take, drop, slice_index_or, refl, ◌∙◌, ap, subst, arith}
 use Rattle.sdbm_saves.specs.Acts.{Act, acted, seen_after, LeftBy, LeftAfter}
 use Rattle.sdbm_saves.specs.Disk.{Image, LeavesOnly}
 use Rattle.sdbm_log.specs.Doing.{CanCall, CanDo, AnyMoment}

@@ -1,12 +1,12 @@
 -- Opening a log: recovery, and an empty log after it.
-use Rattle.std.proofs.Common.{Bool, true, false, if◌then◌else◌, ◌==◌, ◌≡◌, ◌≢◌, ◌⊎◌, inl, inr, ⊎_elim, ℕ, zero, suc, ◌+◌, ◌-◌, ◌<◌, ◌≤◌, List, [], ◌∷◌, ◌++◌, length, drop, get_or, refl, sym, ◌∙◌, ap, subst, arith, length-drop}
+use Rattle.std.proofs.Common.{Bool, true, false, if◌then◌else◌, ◌==◌, ◌≡◌, ◌≢◌, inl, inr, ⊎_elim, ℕ, zero, suc, ◌+◌, ◌-◌, ◌≤◌, List, [], ◌∷◌, ◌++◌, length, drop, get_or, refl, sym, ◌∙◌, ap, subst, arith, length-drop}
 use Rattle.std.proofs.lemmas.Bool.{cases_eq}
 use Rattle.std.proofs.lemmas.Bool.Decides.{nat_tests}
 use Rattle.sdbm_saves.specs.declared.disk.File.TheVariants.{Redo}
 use Rattle.sdbm_saves.specs.Acts.{Act, seen_after}
 use Rattle.sdbm_saves.specs.Disk.{Image, put, Only, IsKept}
-use Rattle.sdbm_saves.specs.Redo.{files, renewed_files, renewed_image, mark_of, stands_for, CanEnd, IsPlan, Knows, Alike}
-use Rattle.sdbm_log.specs.Log.{nonzero, is_log, is_signed, records_of, number_in, number_by, number_of, plan_of, files_by, files_of, CanRecover, CanRecoverBy, Holds, IsAtRest, IsDurable, IsCommitted, IsReady}
+use Rattle.sdbm_saves.specs.Redo.{files, renewed_files, renewed_image, CanEnd, IsPlan, Knows, Alike}
+use Rattle.sdbm_log.specs.Log.{nonzero, is_log, is_signed, records_of, number_of, plan_of, files_by, files_of, CanRecover, CanRecoverBy, Holds, IsAtRest, IsDurable, IsCommitted, IsReady}
 use Rattle.sdbm_log.specs.Doing.{CanDo, Does}
 use Rattle.sdbm_log.specs.Protocol.{apply_acts, close_acts, clear_acts, start_acts, settle_acts}
 use Rattle.sdbm_log.specs.Saving.{redo_acts, recover_by, recover_acts, image_in, Reads, IsRedoPlan, HasNoPlan, IsReused, IsRestart, AreOpenCalls}
@@ -18,7 +18,7 @@ use Rattle.sdbm_saves.proofs.Replays.{ends_itself}
 use Rattle.sdbm_log.proofs.Committing.{Alikes, alike_does, apply_does}
 use Rattle.sdbm_log.proofs.Doing.{then_does, weaker_does, nothing_does}
 use Rattle.sdbm_log.proofs.Ending.{settle_does, close_any, close_does, clear_does, start_does}
-use Rattle.sdbm_log.proofs.Header.{unmarked_holds, log_marked, log_mark, log_signed, log_unmarked, plan_holds, mark_signed, marked_records, signed_long, durable_unmarked, test_is, test_not}
+use Rattle.sdbm_log.proofs.Header.{unmarked_holds, log_mark, log_signed, plan_holds, mark_signed, marked_records, signed_long, durable_unmarked}
 use Rattle.sdbm_log.proofs.LogRuns.{found_ready, durable_holds, rest_holds, keeping_run}
 use Rattle.sdbm_log.proofs.Logs.{files_none, files_some, known_some, committed_read, durable_none, place_zeros, ready_empty}
 

@@ -1,11 +1,11 @@
 -- Saves in a log, from one ready log to the next.
-use Rattle.std.proofs.Common.{◌≡◌, ◌⊎◌, inl, inr, ⊎_elim, ℕ, zero, suc, ◌+◌, ◌-◌, ◌<◌, ◌≤◌, ◌^◌, List, [], ◌∷◌, ◌++◌, length, drop, get_or, true, refl, sym, ◌∙◌, ap, subst, arith, length-append, length-drop}
+use Rattle.std.proofs.Common.{◌≡◌, ◌⊎◌, inl, inr, ⊎_elim, ℕ, suc, ◌+◌, ◌-◌, ◌<◌, ◌≤◌, ◌^◌, List, ◌∷◌, ◌++◌, length, drop, get_or, true, refl, sym, ◌∙◌, ap, subst, arith, length-append, length-drop}
 use Rattle.std.proofs.lemmas.List.{drop-append-le, drop_all}
 use Rattle.sdbm_saves.specs.Acts.{Act, seen_after, LeftAfter}
 use Rattle.sdbm_saves.specs.Disk.{Image, put, IsKept}
 use Rattle.sdbm_saves.specs.declared.disk.File.TheVariants.{Redo}
 use Rattle.sdbm_saves.specs.Redo.{count_of, files, renewed_files, IsPlan, Knows}
-use Rattle.sdbm_log.specs.Log.{nonzero, is_log, is_signed, records_of, record_of, number_by, number_of, plan_of, log_plan, next_plan, files_of, Holds, HasRecords, IsLogFile, IsAtRest, IsDurable, IsCommitted, CanFollow, IsGrowing, MayGrow, IsReady}
+use Rattle.sdbm_log.specs.Log.{nonzero, is_log, is_signed, records_of, record_of, number_by, number_of, plan_of, log_plan, files_of, Holds, HasRecords, IsLogFile, IsAtRest, IsDurable, IsCommitted, CanFollow, IsGrowing, MayGrow, IsReady}
 use Rattle.sdbm_log.specs.Doing.{Does}
 use Rattle.sdbm_log.specs.Protocol.{commit_acts, apply_acts, close_acts, clear_acts, start_acts}
 use Rattle.sdbm_log.specs.Saving.{MakesRoom, AreSaveCalls}

@@ -1,10 +1,9 @@
 -- Steps as calls.
-use Rattle.std.proofs.Common.{◌≡◌, ℕ, suc, ◌+◌, ◌-◌, ◌<◌, ◌^◌, List, [], ◌∷◌, ◌++◌, length, take, drop, get_or, refl, sym, ◌∙◌, ap, arith, append_assoc}
+use Rattle.std.proofs.Common.{◌≡◌, ℕ, suc, ◌+◌, ◌<◌, ◌^◌, List, [], ◌∷◌, ◌++◌, take, drop, get_or, refl, sym, ◌∙◌, ap, arith, append_assoc}
 use Rattle.std.proofs.lemmas.List.{drop-drop}
 use Rattle.sdbm_saves.specs.Acts.{Act, write}
 use Rattle.sdbm_saves.specs.Redo.{number_at, file_of, offset_of, size_of, data_of, rest_of, count_of}
 use Rattle.sdbm_log.specs.declared.steps.Step.{Step}
-use Rattle.sdbm_log.specs.declared.steps.Step.TheVariants.{Write}
 use Rattle.sdbm_log.specs.Protocol.{change_acts}
 use Rattle.sdbm_log.specs.Steps.{act_of, acts_of}
 

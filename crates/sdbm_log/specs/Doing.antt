@@ -1,6 +1,5 @@
 -- Lists of calls on the three files, made in order, and what a crash leaves before, between and within them.
-use Rattle.std.specs.Prelude.{◌≤◌, ◌≡◌, ◌⊎◌, ℕ, List, [], ◌∷◌, length}
-use Rattle.sdbm_saves.specs.declared.disk.File.{File}
+use Rattle.std.specs.Prelude.{◌≤◌, ◌≡◌, ◌⊎◌, List, [], ◌∷◌, length}
 use Rattle.sdbm_saves.specs.Disk.{Image, content}
 use Rattle.sdbm_saves.specs.Acts.{Act, write, resize, sync, clear, acted, seen_after, LeftBy, LeftAfter}
 

@@ -1,12 +1,9 @@
 -- The calls of a save in a log, of its checkpoint, and of opening it. Each list is done in order; if one of its calls fails, the files are
 -- recovered when they are opened again.
-use Rattle.std.specs.Prelude.{◌≡◌, ◌⊎◌, ◌≤◌, ◌<◌, ℕ, zero, suc, ◌+◌, ◌-◌, ◌^◌, List, [], ◌∷◌, ◌++◌, length, replicate}
+use Rattle.std.specs.Prelude.{ℕ, zero, suc, ◌+◌, ◌-◌, List, [], ◌∷◌, ◌++◌, replicate}
 use Rattle.sdbm_saves.specs.declared.disk.File.TheVariants.{Pages, Directory, Redo}
-use Rattle.sdbm_saves.specs.Disk.{Image, Only}
 use Rattle.sdbm_saves.specs.Acts.{Act, write, resize, sync}
-use Rattle.sdbm_saves.specs.Redo.{file_of, offset_of, data_of, rest_of, new_length, count_of, changes_of, files, renewed_files}
-use Rattle.sdbm_log.specs.Log.{Holds, files_of, IsReady, IsAtRest}
-use Rattle.sdbm_log.specs.Doing.{Does}
+use Rattle.sdbm_saves.specs.Redo.{file_of, offset_of, data_of, rest_of, new_length, count_of, changes_of}
 
 -- the first record sets the mark
 abbrev pub mark_acts : ℕ → List Act

@@ -1,5 +1,5 @@
 -- Steps as calls, and what the lists of this crate promise.
-use Rattle.std.specs.Prelude.{◌≡◌, ◌⊎◌, ◌≤◌, ◌<◌, ℕ, ◌^◌, List, [], ◌∷◌, ◌++◌, length, map, take, drop, replicate, Option}
+use Rattle.std.specs.Prelude.{◌≡◌, ◌⊎◌, ℕ, List, ◌∷◌, map, take, drop, replicate}
 use Rattle.sdbm_saves.specs.Disk.{Image}
 use Rattle.sdbm_saves.specs.Acts.{Act, write, resize, sync, seen_after, LeftAfter}
 use Rattle.sdbm_saves.specs.Redo.{files, renewed_files}

@@ -1,7 +1,6 @@
-use Rattle.std.proofs.Common.{◌≡◌, ◌⊎◌, ⊎_elim, ◌∙◌, ap, subst, sym, refl, ℕ, List}
-use Rattle.boddurci_handles.specs.declared.status.Status.{Status}
+use Rattle.std.proofs.Common.{◌≡◌, ⊎_elim, ◌∙◌, ap, subst, sym, refl, ℕ, List}
 use Rattle.boddurci_handles.specs.declared.status.Status.TheVariants.{Done, BadFiles, Stale, TooLong}
-use Rattle.sdbm_log.specs.Saving.{image_in, AreOpenCalls}
+use Rattle.sdbm_log.specs.Saving.{AreOpenCalls}
 use Rattle.sdbm_log.specs.Steps.{acts_of}
 use Rattle.sdbm_log.specs.declared.log.Log.{Log}
 use Rattle.sdbm_log.specs.declared.steps.Step.{Step}

@@ -1,4 +1,4 @@
-use Rattle.std.proofs.Common.{◌≡◌, ◌∙◌, ap, subst, sym, ℕ, List}
+use Rattle.std.proofs.Common.{◌≡◌, ◌∙◌, ap, subst, ℕ, List}
 use Rattle.boddurci_logs.specs.Answers.{IsFilled}
 use Rattle.boddurci_logs.specs.Words.{words_of}
 use Rattle.boddurci_logs.proofs.saving.close.Goals as goal

@@ -1,10 +1,8 @@
-use Rattle.std.proofs.Common.{◌≡◌, ◌++◌, ◌-◌, ◌≤◌, ◌∙◌, ap, subst, sym, refl, arith, ℕ, List, length, take, drop, length-drop}
+use Rattle.std.proofs.Common.{◌≡◌, ◌++◌, ◌-◌, ◌∙◌, ap, subst, sym, refl, arith, ℕ, List, length, take, drop, length-drop}
 use Rattle.std.proofs.lemmas.List.{take_all}
 use Rattle.boddurci_handles.specs.declared.status.Status.TheVariants.{Done, BadFiles}
-use Rattle.sdbm_saves.specs.Acts.{Act}
-use Rattle.sdbm_log.specs.Log.{record_of}
 use Rattle.sdbm_log.specs.Saving.{AreSaveCalls}
-use Rattle.sdbm_log.specs.Steps.{acts_of, with_head}
+use Rattle.sdbm_log.specs.Steps.{acts_of}
 use Rattle.sdbm_log.specs.declared.log.Log.{Log}
 use Rattle.boddurci_logs.specs.Answers.{IsFilled, log_at}
 use Rattle.boddurci_logs.specs.Words.{words_of}

@@ -1,5 +1,4 @@
-use Rattle.std.proofs.Common.{◌≡◌, ◌+◌, ◌<◌, ◌∷◌, [], ◌++◌, ◌∙◌, ℕ, List, length, take, drop, slice_index_or, ap, subst, sym, refl, arith, append_assoc}
-use Rattle.std.proofs.lemmas.List.{take_all}
+use Rattle.std.proofs.Common.{◌+◌, ◌∷◌, [], ◌++◌, ◌∙◌, ℕ, List, take, drop, slice_index_or, ap, subst, sym, append_assoc}
 use Rattle.sdbm_saves.specs.Acts.{Act, acted, seen_after, LeftAfter}
 use Rattle.sdbm_saves.specs.Disk.{Image, LeavesOnly}
 use Rattle.sdbm_log.specs.Doing.{CanCall, CanDo, AnyMoment}

@@ -1,4 +1,4 @@
-use Rattle.std.proofs.Common.{◌≡◌, ℕ, take}
+use Rattle.std.proofs.Common.{◌≡◌, take}
 use Rattle.sdbm_saves.specs.Acts.{seen_after, LeftAfter}
 use Rattle.sdbm_saves.specs.Disk.{Image, LeavesOnly}
 use Rattle.sdbm_log.specs.Doing.{AnyMoment}

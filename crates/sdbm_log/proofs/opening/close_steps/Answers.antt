@@ -1,4 +1,4 @@
-use Rattle.std.proofs.Common.{◌≡◌, ◌∙◌, ap, subst, sym, ℕ, List, [], ◌++◌}
+use Rattle.std.proofs.Common.{◌∙◌, ap, subst, sym, List, [], ◌++◌}
 use Rattle.sdbm_saves.specs.Acts.{Act}
 use Rattle.sdbm_log.specs.LogRuns.{keeps, IsRun}
 use Rattle.sdbm_log.specs.Protocol.{close_acts}

@@ -1,4 +1,4 @@
-use Rattle.std.proofs.Common.{rules, ◌≡◌, ℕ, List, sym, subst}
+use Rattle.std.proofs.Common.{rules, sym, subst}
 use Rattle.sdbm_log.specs.Log.{CanRecover}
 use Rattle.sdbm_log.specs.Saving.{image_in}
 use Rattle.sdbm_log.specs.Steps.{acts_of, IsOpening}

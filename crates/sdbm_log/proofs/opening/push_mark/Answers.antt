@@ -1,4 +1,4 @@
-use Rattle.std.proofs.Common.{◌≡◌, ◌++◌, ◌∙◌, ap, sym, List}
+use Rattle.std.proofs.Common.{◌++◌, ◌∙◌, ap, sym, List}
 use Rattle.sdbm_saves.specs.Acts.{Act}
 use Rattle.sdbm_log.specs.Steps.{acts_of}
 use Rattle.sdbm_log.proofs.Opens.{marked_close}

@@ -1,11 +1,11 @@
-use Rattle.std.proofs.Common.{rules, ◌≡◌, ◌++◌, ◌∙◌, ℕ, List, [], Option, IfSome, IsNone, ap, subst, sym, refl}
+use Rattle.std.proofs.Common.{rules, ◌≡◌, ◌++◌, ◌∙◌, ℕ, List, [], IfSome, IsNone, ap, subst, sym}
 use Rattle.sdbm_saves.specs.Acts.{Act}
 use Rattle.sdbm_saves.specs.Redo.{IsPlan}
 use Rattle.sdbm_log.specs.Protocol.{apply_acts, close_acts}
-use Rattle.sdbm_log.specs.Saving.{image_in, IsRedoPlan, recover_acts}
+use Rattle.sdbm_log.specs.Saving.{image_in, IsRedoPlan}
 use Rattle.sdbm_log.specs.Steps.{acts_of, with_head}
 use Rattle.sdbm_log.proofs.Opens.{mark_calls, redo_calls, redo_is_plan}
-use Rattle.sdbm_log.proofs.Results.{ok_by, both_ok}
+use Rattle.sdbm_log.proofs.Results.{ok_by}
 use Rattle.sdbm_log.proofs.opening.push_recover.Goals as goal
 
 pub returns-in_default : goal.returns-in_default

@@ -1,4 +1,4 @@
-use Rattle.std.proofs.Common.{◌≡◌, ◌++◌, ℕ, List, refl}
+use Rattle.std.proofs.Common.{ℕ, List, refl}
 use Rattle.sdbm_log.specs.Steps.{acts_of, with_head}
 use Rattle.sdbm_log.specs.Protocol.{apply_acts, close_acts}
 use Rattle.sdbm_log.proofs.Results.{ok_by}

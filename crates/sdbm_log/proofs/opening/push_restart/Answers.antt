@@ -1,6 +1,5 @@
-use Rattle.std.proofs.Common.{◌≡◌, ◌++◌, ◌∙◌, inl, inr, ◌+◌, ◌-◌, ◌≤◌, ℕ, List, [], length, drop, refl, sym, ap, subst, arith, length-drop}
+use Rattle.std.proofs.Common.{◌≡◌, inl, inr, ◌+◌, [], drop, refl, sym, subst, arith, length-drop}
 use Rattle.std.proofs.lemmas.List.{append-nil}
-use Rattle.sdbm_saves.specs.Acts.{Act}
 use Rattle.sdbm_log.specs.Log.{nonzero, records_of}
 use Rattle.sdbm_log.specs.Protocol.{clear_acts, start_acts}
 use Rattle.sdbm_log.specs.Steps.{acts_of, with_head}

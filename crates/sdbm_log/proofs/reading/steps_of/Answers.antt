@@ -1,6 +1,5 @@
-use Rattle.std.proofs.Common.{rules, ◌≡◌, ◌++◌, ◌∙◌, ℕ, List, [], Option, IfSome, IsNone, ap, subst, sym, refl}
+use Rattle.std.proofs.Common.{rules, ◌≡◌, ◌++◌, ◌∙◌, ℕ, List, [], IfSome, IsNone, ap, subst, sym}
 use Rattle.sdbm_saves.specs.Acts.{Act, seen_after}
-use Rattle.sdbm_saves.specs.Disk.{Image}
 use Rattle.sdbm_saves.specs.Redo.{files, IsPlan}
 use Rattle.sdbm_log.specs.Doing.{CanDo}
 use Rattle.sdbm_log.specs.Log.{files_of}

@@ -1,4 +1,4 @@
-use Rattle.std.proofs.Common.{◌≡◌, ◌∙◌, ◌++◌, inl, inr, ◌+◌, ℕ, refl, sym, ap, arith, length, List}
+use Rattle.std.proofs.Common.{◌≡◌, ◌∙◌, ◌++◌, inl, inr, ◌+◌, ℕ, refl, ap, arith, length, List}
 use Rattle.sdbm_saves.specs.Acts.{Act}
 use Rattle.sdbm_log.specs.Protocol.{apply_acts, close_acts, clear_acts}
 use Rattle.sdbm_log.specs.Steps.{acts_of}

@@ -1,5 +1,4 @@
-use Rattle.std.proofs.Common.{◌≡◌, ◌++◌, ◌∙◌, inl, inr, ◌+◌, ◌*◌, ◌/◌, ◌≤◌, ◌<◌, ◌^◌, ℕ, List, length, refl, sym, ap, arith}
-use Rattle.sdbm_saves.specs.Acts.{Act}
+use Rattle.std.proofs.Common.{◌++◌, inl, inr, ◌+◌, ◌*◌, ◌/◌, ◌≤◌, ℕ, length, refl, arith}
 use Rattle.sdbm_log.specs.Protocol.{close_acts, clear_acts, start_acts}
 use Rattle.sdbm_log.specs.Steps.{acts_of, with_head}
 use Rattle.sdbm_log.proofs.Stepping.{small_count, then_acts}

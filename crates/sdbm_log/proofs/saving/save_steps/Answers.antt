@@ -1,4 +1,4 @@
-use Rattle.std.proofs.Common.{◌≡◌, ◌++◌, ◌∙◌, ◌∷◌, ◌+◌, ◌<◌, ℕ, List, [], length, ap, subst, sym, refl, arith}
+use Rattle.std.proofs.Common.{◌≡◌, ◌++◌, ◌∙◌, ◌+◌, ℕ, List, length, ap, subst, sym, refl, arith}
 use Rattle.sdbm_saves.specs.Acts.{Act}
 use Rattle.sdbm_log.specs.Log.{record_of}
 use Rattle.sdbm_log.specs.Protocol.{commit_acts}

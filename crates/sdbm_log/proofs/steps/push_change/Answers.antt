@@ -1,7 +1,6 @@
-use Rattle.std.proofs.Common.{◌≡◌, ◌∷◌, [], ◌++◌, ℕ, List, sym, ◌∙◌, ap, take, drop, ◌+◌}
-use Rattle.sdbm_saves.specs.declared.disk.File.{File}
+use Rattle.std.proofs.Common.{◌∷◌, [], ◌++◌, ℕ, List, ◌∙◌, ap, take, drop, ◌+◌}
 use Rattle.sdbm_saves.specs.Acts.{Act, write}
-use Rattle.sdbm_saves.specs.Redo.{file_of, offset_of, size_of, data_of}
+use Rattle.sdbm_saves.specs.Redo.{file_of, offset_of}
 use Rattle.sdbm_log.specs.Steps.{acts_of}
 use Rattle.sdbm_log.proofs.Stepping.{acts_append, change_in}
 use Rattle.sdbm_log.proofs.steps.push_change.Goals as goal

@@ -1,7 +1,6 @@
-use Rattle.std.proofs.Common.{◌≡◌, ◌≤◌, ◌<◌, ◌+◌, ◌-◌, ◌++◌, ℕ, List, length, take, drop, refl, sym, ◌∙◌, ap, subst, arith, length-drop}
+use Rattle.std.proofs.Common.{◌≡◌, ◌≤◌, ◌<◌, ◌+◌, ◌-◌, ◌++◌, ℕ, List, length, take, drop, sym, ◌∙◌, ap, subst, arith, length-drop}
 use Rattle.std.proofs.lemmas.List.{take_all, drop-drop}
-use Rattle.sdbm_saves.specs.Acts.{Act}
-use Rattle.sdbm_saves.specs.Redo.{span_of, rest_of, rest_after, count_of, changes_of, Fits}
+use Rattle.sdbm_saves.specs.Redo.{span_of, rest_of, count_of, changes_of, Fits}
 use Rattle.sdbm_saves.proofs.Replays.{rest_next}
 use Rattle.sdbm_log.specs.Steps.{acts_of}
 use Rattle.sdbm_log.specs.Protocol.{change_acts}

@@ -26,7 +26,7 @@ pub extern "C" fn boddurci_log_open(
     words: &mut [u64],
     words_len: &mut usize,
 ) -> u32
-    ensures { (status : Status) × ((result ≡ code_of status) × OpenAnswer (files_in pages.now directory.now redo.now) room log.old log.new bytes.old bytes.new words.old words.new status) }
+    ensures { (status : Status) × ((result ≡ code_of status) × OpenAnswer (files_in pages.now directory.now redo.now) room log.old log.new bytes.old bytes.new bytes_len.new words.old words.new words_len.new status) }
 {
     let found = LogFiles {
         pages,
@@ -50,7 +50,7 @@ pub extern "C" fn boddurci_log_read(
     words: &mut [u64],
     words_len: &mut usize,
 ) -> u32
-    ensures { (status : Status) × ((result ≡ code_of status) × ReadAnswer (files_in pages.now directory.now redo.now) bytes.old bytes.new words.old words.new status) }
+    ensures { (status : Status) × ((result ≡ code_of status) × ReadAnswer (files_in pages.now directory.now redo.now) bytes.old bytes.new bytes_len.new words.old words.new words_len.new status) }
 {
     let found = LogFiles {
         pages,
@@ -64,7 +64,7 @@ pub extern "C" fn boddurci_log_read(
 /// and then the plan; the bytes before the plan are written.
 ///
 /// Returns `ShortRoom` and writes nothing but the lengths if the room for words is too short; `BadFiles` if the bytes are no plan; `TooLong` if
-/// the plan has 3,000,000,000 bytes or more; or `NoMemory`.
+/// the plan has 3,000,000,000 bytes or more, or the log ends after 3,000,000,000; or `NoMemory`.
 #[unsafe(no_mangle)]
 pub extern "C" fn boddurci_log_save(
     alloc: Global,
@@ -74,7 +74,7 @@ pub extern "C" fn boddurci_log_save(
     words_len: &mut usize,
     committed: &mut usize,
 ) -> u32
-    ensures { (status : Status) × ((result ≡ code_of status) × SaveAnswer log.old log.new bytes.old bytes.new words.old words.new committed.new status) }
+    ensures { (status : Status) × ((result ≡ code_of status) × SaveAnswer log.old log.new bytes.old bytes.new words.old words.new words_len.new committed.new status) }
 {
     save(alloc, log, bytes, words, words_len, committed).code()
 }
@@ -84,7 +84,7 @@ pub extern "C" fn boddurci_log_save(
 /// Returns `ShortRoom` if the room is too short, or `NoMemory`.
 #[unsafe(no_mangle)]
 pub extern "C" fn boddurci_log_close(alloc: Global, words: &mut [u64], words_len: &mut usize) -> u32
-    ensures { (status : Status) × ((result ≡ code_of status) × CloseAnswer words.old words.new status) }
+    ensures { (status : Status) × ((result ≡ code_of status) × CloseAnswer words.old words.new words_len.new status) }
 {
     close(alloc, words, words_len).code()
 }

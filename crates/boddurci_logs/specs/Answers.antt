@@ -39,15 +39,17 @@ pub record ReadsLike (found image : Image) : Type 0 where
   pub redo : image.redo ≡ found.redo
   pub both : get_or found.redo 0 0 ≡ 1 → files image ≡ files found
 
--- steps that open the log of what was read, with the log after them
-pub record AreOpenSteps (found : Image) (buffer : List ℕ) (steps : List Step) (log : LogPlace) : Type 0 where
+-- steps that open the log of what was read, with the log after them: it has at least this much room
+pub record AreOpenSteps (found : Image) (room : ℕ) (buffer : List ℕ) (steps : List Step) (log : LogPlace) : Type 0 where
+  pub can : (image : Image) → ReadsLike found image → CanRecover image
   pub calls : (image : Image) → ReadsLike found image → AreOpenCalls image log.room (acts_of buffer steps)
+  pub enough : room ≤ log.room
   pub end : log.end ≡ 0
   pub count : log.count ≡ 0
 
 -- steps that make copies of the data files what was read means
 abbrev pub AreReadSteps : Image → List ℕ → List Step → Type 0
-AreReadSteps found buffer steps = (image : Image) → ReadsLike found image → CanDo (acts_of buffer steps) image × (files (seen_after (acts_of buffer steps) image) ≡ files_of image)
+AreReadSteps found buffer steps = CanRecover found × ((image : Image) → ReadsLike found image → CanDo (acts_of buffer steps) image × (files (seen_after (acts_of buffer steps) image) ≡ files_of image))
 
 -- steps of a save in a log by a plan, with the log after them; the first words are those that commit it
 pub record AreSaveSteps (plan : List ℕ) (old new : LogPlace) (buffer : List ℕ) (commit apply : List Step) : Type 0 where
@@ -62,27 +64,34 @@ pub record HandsOut (buffer : List ℕ) (steps : List Step) (bytes_old bytes_new
   pub only : (status ≡ Done) ⊎ ((status ≡ ShortRoom) ⊎ (status ≡ NoMemory))
 
 -- The answer about steps that open a log.
-pub record OpenAnswer (found : Image) (room : ℕ) (log_old log_new : LogPlace) (bytes_old bytes_new words_old words_new : List ℕ) (status : Status) : Type 0 where
-  pub done : status ≡ Done → (buffer : List ℕ) × (steps : List Step) × (AreOpenSteps found buffer steps log_new × AreHandedOut buffer steps bytes_old bytes_new words_old words_new)
+pub record OpenAnswer (found : Image) (room : ℕ) (log_old log_new : LogPlace) (bytes_old bytes_new : List ℕ) (bytes_len : ℕ) (words_old words_new : List ℕ) (words_len : ℕ) (status : Status) : Type 0 where
+  pub done : status ≡ Done → (buffer : List ℕ) × (steps : List Step) × (AreOpenSteps found room buffer steps log_new
+      × (AreHandedOut buffer steps bytes_old bytes_new words_old words_new × ((bytes_len ≡ length buffer) × (words_len ≡ length (words_of steps)))))
   pub untouched : status ≢ Done → (log_new ≡ log_old) × ((bytes_new ≡ bytes_old) × (words_new ≡ words_old))
+  pub short : status ≡ ShortRoom → (length bytes_old < bytes_len) ⊎ (length words_old < words_len)
   pub refused : (status ≡ BadFiles) ⊎ (status ≡ Stale) → CanRecover found → ⊥
   pub too_long : status ≡ TooLong → 2 ^ 30 < room
 
 -- The answer about steps for a reader.
-pub record ReadAnswer (found : Image) (bytes_old bytes_new words_old words_new : List ℕ) (status : Status) : Type 0 where
-  pub done : status ≡ Done → (buffer : List ℕ) × (steps : List Step) × (AreReadSteps found buffer steps × AreHandedOut buffer steps bytes_old bytes_new words_old words_new)
+pub record ReadAnswer (found : Image) (bytes_old bytes_new : List ℕ) (bytes_len : ℕ) (words_old words_new : List ℕ) (words_len : ℕ) (status : Status) : Type 0 where
+  pub done : status ≡ Done → (buffer : List ℕ) × (steps : List Step) × (AreReadSteps found buffer steps
+      × (AreHandedOut buffer steps bytes_old bytes_new words_old words_new × ((bytes_len ≡ length buffer) × (words_len ≡ length (words_of steps)))))
   pub untouched : status ≢ Done → (bytes_new ≡ bytes_old) × (words_new ≡ words_old)
+  pub short : status ≡ ShortRoom → (length bytes_old < bytes_len) ⊎ (length words_old < words_len)
   pub refused : (status ≡ BadFiles) ⊎ (status ≡ Stale) → CanRecover found → ⊥
 
 -- The answer about steps of a save. The plan stands in the bytes after the first 18, and the steps write bytes of these.
-pub record SaveAnswer (log_old log_new : LogPlace) (bytes_old bytes_new words_old words_new : List ℕ) (committed : ℕ) (status : Status) : Type 0 where
+pub record SaveAnswer (log_old log_new : LogPlace) (bytes_old bytes_new words_old words_new : List ℕ) (words_len committed : ℕ) (status : Status) : Type 0 where
   pub done : status ≡ Done → (commit : List Step) × (apply : List Step) × (AreSaveSteps (drop 18 bytes_old) log_old log_new bytes_new commit apply
-      × (IsFilled (words_of commit ++ words_of apply) words_old words_new × (committed ≡ length (words_of commit))))
+      × (IsFilled (words_of commit ++ words_of apply) words_old words_new × ((committed ≡ length (words_of commit)) × (words_len ≡ length (words_of commit ++ words_of apply)))))
   pub plan : drop 18 bytes_new ≡ drop 18 bytes_old
   pub untouched : status ≢ Done → (log_new ≡ log_old) × ((bytes_new ≡ bytes_old) × (words_new ≡ words_old))
+  pub short : status ≡ ShortRoom → length words_old < words_len
   pub refused : status ≡ BadFiles → (length bytes_old < 18) ⊎ (IsPlan (drop 18 bytes_old) → ⊥)
+  pub too_long : status ≡ TooLong → (3000000018 ≤ length bytes_old) ⊎ (3000000000 < log_old.end)
 
 -- The answer about steps that close a log.
-pub record CloseAnswer (words_old words_new : List ℕ) (status : Status) : Type 0 where
-  pub done : status ≡ Done → (steps : List Step) × (IsFilled (words_of steps) words_old words_new × ((buffer : List ℕ) → acts_of buffer steps ≡ close_acts))
+pub record CloseAnswer (words_old words_new : List ℕ) (words_len : ℕ) (status : Status) : Type 0 where
+  pub done : status ≡ Done → (steps : List Step) × (IsFilled (words_of steps) words_old words_new × ((words_len ≡ length (words_of steps)) × ((buffer : List ℕ) → acts_of buffer steps ≡ close_acts)))
   pub untouched : status ≢ Done → words_new ≡ words_old
+  pub short : status ≡ ShortRoom → length words_old < words_len

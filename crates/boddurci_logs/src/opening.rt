@@ -25,7 +25,7 @@ pub fn open(
     words: &mut [u64],
     words_len: &mut usize,
 ) -> Status
-    ensures { OpenAnswer (image_in found.entry) room log.old log.new bytes.old bytes.new words.old words.new result }
+    ensures { OpenAnswer (image_in found.entry) room log.old log.new bytes.old bytes.new bytes_len.new words.old words.new words_len.new result }
 {
     if room > MOST_ROOM {
         return Status::TooLong;
@@ -53,7 +53,7 @@ pub fn read(
     words: &mut [u64],
     words_len: &mut usize,
 ) -> Status
-    ensures { ReadAnswer (image_in found.entry) bytes.old bytes.new words.old words.new result }
+    ensures { ReadAnswer (image_in found.entry) bytes.old bytes.new bytes_len.new words.old words.new words_len.new result }
 {
     let read = match read_steps(alloc, found) {
         Ok(read) => read,

@@ -56,6 +56,8 @@ pub fn hand_out(
 pub fn copy_joined(first: &[u64], rest: &[u64], room: &mut [u64], len: &mut usize) -> Status
     ensures done { result ≡ Done → IsFilled (first.now ++ rest.now) room.old room.new }
     ensures untouched { result ≢ Done → room.new ≡ room.old }
+    ensures len { result ≡ Done → len.new ≡ length (first.now ++ rest.now) }
+    ensures short { result ≡ ShortRoom → length room.old < len.new }
     ensures only { (result ≡ Done) ⊎ ((result ≡ ShortRoom) ⊎ (result ≡ NoMemory)) }
 {
     let Some(count) = first.len().checked_add(rest.len()) else {

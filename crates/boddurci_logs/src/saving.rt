@@ -26,7 +26,7 @@ pub fn save(
     words_len: &mut usize,
     committed: &mut usize,
 ) -> Status
-    ensures { SaveAnswer log.old log.new bytes.old bytes.new words.old words.new committed.new result }
+    ensures { SaveAnswer log.old log.new bytes.old bytes.new words.old words.new words_len.new committed.new result }
 {
     if bytes.len() < PLAN_AT {
         return Status::BadFiles;
@@ -60,7 +60,7 @@ pub fn save(
 
 /// Hands out the steps that close a log.
 pub fn close(alloc: Global, words: &mut [u64], words_len: &mut usize) -> Status
-    ensures { CloseAnswer words.old words.new result }
+    ensures { CloseAnswer words.old words.new words_len.new result }
 {
     let Ok(steps) = close_steps::<Brand>(alloc) else {
         return Status::NoMemory;

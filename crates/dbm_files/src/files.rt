@@ -15,9 +15,9 @@ use dbm_places::{
 };
 use sdbm_addr::PageSize;
 use sdbm_files::{Image, ReadPages};
-use sdbm_log::{LogFault, LogFiles, make_steps, open_steps, plan_of};
+use sdbm_log::{LogFault, LogFiles, make_steps, plan_of, recover_steps};
 use sdbm_saves::{
-    CallLog, File as Part, Found, FoundPart, FoundRead, Recorded, Unknown, number, plan_in,
+    CallLog, Disk, File as Part, Found, FoundPart, FoundRead, Recorded, Unknown, number, plan_in,
 };
 use std::alloc::Global;
 use std::fs;
@@ -27,12 +27,9 @@ use std::marker::Brand;
 use std::rt::Files;
 use std::time::{Clock, Duration};
 
-/// A redo file of the program has at most this many bytes: those of both files at their limits, new and old, in blocks of 1,024 with
-/// nine bytes before each, and twenty-nine at the start.
-const REDO_LIMIT: u64 = 2_696_151_069;
-
-// The room of a log that a recovery leaves, which is empty: with its header it has 65,536 bytes.
-const ROOM: usize = 61_440;
+/// A redo file has at most this many bytes: the plan of the largest save has those of both files at their limits, new and old, in blocks of
+/// 1,024 with nine bytes before each, and twenty-nine at the start; a log has a header before it and may have 1 MiB of zeros after it.
+const REDO_LIMIT: u64 = 2_697_203_749;
 
 /// How many bytes of BASE.pag are read at once: whole pages of either size.
 const PIECE: usize = 262_144;
@@ -447,21 +444,22 @@ fn read_over(alloc: Global, pages: ReadPages<Global>, directory: Vec<u8>) -> Fil
     }
 }
 
-// Recovers the files after a kill or the loss of power: does what the redo file holds in both data files, and clears its mark.
+// Recovers the files after a kill or the loss of power: does what the redo file holds in both data files, clears its mark, and removes it.
 fn recover_files<R: Files<File = File> + AllocGlobal>(
     rt: &R,
     names: &Names,
     seen: SeenFiles,
     found: &Found,
 ) -> Result<(), FilesFault> {
-    let opened = match open_steps::<Brand>(rt.alloc(), log_files(found), ROOM) {
-        Ok(opened) => opened,
+    let made = match recover_steps::<Brand>(rt.alloc(), log_files(found)) {
+        Ok(made) => made,
         Err(fault) => return Err(fault_of(fault)),
     };
     let files = RealFiles::new(rt, names, seen, CallLog::new(rt.alloc())?);
     let mut disk = Recorded::<RealFiles<'_, R>, Unknown, Found>::new(files, found);
-    let bytes = opened.bytes.as_slice();
-    Ok(make_steps(rt.alloc(), &mut disk, bytes, opened.steps.as_slice())?)
+    let bytes = made.bytes.as_slice();
+    make_steps(rt.alloc(), &mut disk, bytes, made.steps.as_slice())?;
+    Ok(disk.clear()?)
 }
 
 // The bytes of a redo file that is marked. One that is not marked is no file of a save that was committed, and the next save takes it

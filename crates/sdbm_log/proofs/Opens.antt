@@ -9,8 +9,8 @@ use Rattle.sdbm_saves.specs.Redo.{files, renewed_files, renewed_image, CanEnd, I
 use Rattle.sdbm_log.specs.Log.{nonzero, is_log, is_signed, records_of, number_of, plan_of, files_by, files_of, CanRecover, CanRecoverBy, Holds, IsAtRest, IsDurable, IsCommitted, IsReady}
 use Rattle.sdbm_log.specs.Doing.{CanDo, Does}
 use Rattle.sdbm_log.specs.Protocol.{apply_acts, close_acts, clear_acts, start_acts, settle_acts}
-use Rattle.sdbm_log.specs.Saving.{redo_acts, recover_by, recover_acts, image_in, Reads, IsRedoPlan, HasNoPlan, IsReused, IsRestart, AreOpenCalls}
-use Rattle.sdbm_log.specs.Steps.{IsOpening, IsClosing}
+use Rattle.sdbm_log.specs.Saving.{redo_acts, recover_by, recover_acts, image_in, Reads, IsRedoPlan, HasNoPlan, AreRecoverCalls, IsReused, IsRestart, AreOpenCalls}
+use Rattle.sdbm_log.specs.Steps.{IsOpening, IsRecovering, IsClosing}
 use Rattle.sdbm_log.specs.LogRuns.{keeps, Found, IsRun}
 use Rattle.sdbm_log.specs.declared.records.LogFiles.{LogFiles}
 use Rattle.sdbm_saves.proofs.Marks.{when_marked, half_done, half_ended, image_by_files}
@@ -252,6 +252,17 @@ redo_is_plan image plan can which = ⊎_elim
 pub opened_does : (image : Image) (room : ℕ) (acts : List Act) → CanRecover image → AreOpenCalls image room acts → (may_leave : Image → Type 0) → IsOpening acts 0 room 0 image may_leave
 opened_does image room acts can are may_leave = subst (λ (l : List Act). IsOpening l 0 room 0 image may_leave) (sym are.are) (open_does image may_leave can room are.last are.restart)
 
+pub recovered_does : (image : Image) (acts : List Act) → CanRecover image → AreRecoverCalls image acts → (may_leave : Image → Type 0) → IsRecovering acts image may_leave
+recovered_does image acts can are may_leave = subst (λ (l : List Act). IsRecovering l image may_leave) (sym are)
+    (then_does settle_acts (recover_acts image) image may_leave _ (λ s m. (s ≡ image) × Only image m) _
+    (weaker_does settle_acts image may_leave _ _ _ _ (λ c l. inl l) (λ s m is. is) (settle_does image may_leave))
+    (λ s m settled. weaker_does (recover_acts image) s m _ _ _ _ (λ c holds. inr holds) (λ t n closed. (closed.rest, closed.same)) (recover_does image can s m settled.0 settled.1)))
+
+pub recovered_run : (image : Image) (acts : List Act) → CanRecover image → AreRecoverCalls image acts → (may_leave : Image → Type 0) → IsRun keeps acts image may_leave
+recovered_run image acts can are may_leave = weaker_does acts image (Found image may_leave) _ _ _ _ (λ c is. is)
+    (λ s m is. rest_holds (files_of image) s m is.0 is.1)
+    (recovered_does image acts can are (Found image may_leave))
+
 pub opened_run : (image : Image) (room : ℕ) (acts : List Act) → CanRecover image → AreOpenCalls image room acts → (may_leave : Image → Type 0) → IsRun keeps acts image may_leave
 opened_run image room acts can are may_leave = weaker_does acts image (Found image may_leave) _ _ _ _ (λ c is. is)
     (λ s m is. durable_holds (files_of image) s m is.0.durable is.1)
@@ -281,18 +292,21 @@ module _ (found : LogFiles) (image : Image) (reads : Reads found image) where
       (λ unmarked. (unmarked_holds (files image) image unmarked refl).1)
       (cases_eq (get_or image.redo 0 0) 1)
 
+  same_recover : recover_acts image ≡ recover_acts (image_in found)
+  same_recover = ⊎_elim
+      (λ marked. ap (λ (o : Image). recover_acts o) (read_marked marked))
+      (λ unmarked. acts_unmarked image unmarked ∙ sym (acts_unmarked (image_in found) (read_unmarked unmarked)))
+      (cases_eq (get_or image.redo 0 0) 1)
+
   pub reads_calls : (room : ℕ) (acts : List Act) → AreOpenCalls (image_in found) room acts → AreOpenCalls image room acts
   reads_calls room acts are = record {
     last = are.last;
     restart = subst (λ (l : List ℕ). IsRestart l room are.last) (sym reads.redo) are.restart;
-    are = are.are ∙ ap (λ (l : List Act). settle_acts ++ (l ++ are.last)) (sym same);
+    are = are.are ∙ ap (λ (l : List Act). settle_acts ++ (l ++ are.last)) (sym same_recover);
   }
-    where
-      same : recover_acts image ≡ recover_acts (image_in found)
-      same = ⊎_elim
-          (λ marked. ap (λ (o : Image). recover_acts o) (read_marked marked))
-          (λ unmarked. acts_unmarked image unmarked ∙ sym (acts_unmarked (image_in found) (read_unmarked unmarked)))
-          (cases_eq (get_or image.redo 0 0) 1)
+
+  pub reads_recover : (acts : List Act) → AreRecoverCalls (image_in found) acts → AreRecoverCalls image acts
+  reads_recover acts are = are ∙ ap (λ (l : List Act). settle_acts ++ l) (sym (same_recover))
 
   pub reads_none : HasNoPlan (image_in found) → files image ≡ files_of image
   reads_none none = ⊎_elim

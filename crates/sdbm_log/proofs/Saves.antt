@@ -10,11 +10,11 @@ use Rattle.sdbm_log.specs.Doing.{Does}
 use Rattle.sdbm_log.specs.Protocol.{commit_acts, apply_acts, close_acts, clear_acts, start_acts}
 use Rattle.sdbm_log.specs.Saving.{MakesRoom, AreSaveCalls}
 use Rattle.sdbm_log.specs.Steps.{IsSave}
-use Rattle.sdbm_log.specs.LogRuns.{saves, Found, IsRun}
+use Rattle.sdbm_log.specs.LogRuns.{saves, keeps, Found, IsRun}
 use Rattle.sdbm_log.specs.declared.log.Log.{Log}
 use Rattle.sdbm_log.proofs.Committing.{IsAppended, commit_does, apply_does}
-use Rattle.sdbm_log.proofs.Doing.{then_does, then_at, weaker_does, nothing_does}
-use Rattle.sdbm_log.proofs.LogRuns.{found_ready, durable_holds}
+use Rattle.sdbm_log.proofs.Doing.{after_more, moment_more, then_does, then_at, weaker_does, nothing_does}
+use Rattle.sdbm_log.proofs.LogRuns.{after_left, found_ready, durable_holds, keeping_run}
 use Rattle.sdbm_log.proofs.Ending.{close_does, clear_does, start_does}
 use Rattle.sdbm_log.proofs.Header.{mark_signed, marked_records, signed_long}
 use Rattle.sdbm_log.proofs.Logs.{both_renewed, can_follow, goes_on, each_growing, known_some, number_first}
@@ -187,6 +187,18 @@ module _ (plan bytes : List ℕ) (bytes_are : bytes ≡ record_of plan) (is_plan
           (λ growing. can_follow (number_of s) count s plan refl ready.durable.now ready.grow known (each_growing plan growing) few)
           which
 
+-- what is ready whatever a crash may leave is so if it may leave less
+pub ready_less : (end room count : ℕ) (seen : Image) (few many : Image → Type 0) → ((c : Image) → few c → many c) → IsReady end room count seen many → IsReady end room count seen few
+ready_less end room count seen few many more ready = record {
+  durable = record { kept = λ c l. ready.durable.kept c (more c l); now = ready.durable.now; holds = λ c l. ready.durable.holds c (more c l) };
+  file = ready.file;
+  long = ready.long;
+  near = ready.near;
+  few = ready.few;
+  none = ready.none;
+  grow = ready.grow;
+}
+
 -- calls that make room leave a log that can take the record
 made_room : (log next : Log) (plan : List ℕ) (making : List Act) → MakesRoom log next plan making → (seen : Image) (may_leave : Image → Type 0) → IsReady log.end log.room log.count seen may_leave
     → Does making seen may_leave (λ c. Holds (files seen) c) (λ s m. IsReady next.end next.room next.count s m × (files s ≡ files seen))
@@ -224,8 +236,8 @@ save_does log next plan commit apply is_plan short calls seen may_leave ready kn
     (λ growing. subst (λ (l : List Act). IsSave plan commit l next.end next.room next.count seen may_leave) (sym growing.1.0)
     (subst (λ (l : Log). IsSave plan commit (apply_acts plan) l.end l.room l.count seen may_leave) (sym growing.1.1)
     (growing_save plan (record_of plan) refl is_plan short commit (mid.end + (8 + length plan)) mid.room (mid.count + count_of plan) seen may_leave here growing.0)))
-    (λ shrinking. subst (λ (l : List Act). IsSave plan commit l next.end next.room next.count seen may_leave) (sym shrinking.0)
-    (subst (λ (l : Log). IsSave plan commit (apply_acts plan ++ (close_acts ++ clear_acts (mid.end + (8 + length plan)))) l.end l.room l.count seen may_leave) (sym shrinking.1)
+    (λ shrinking. subst (λ (l : List Act). IsSave plan commit l next.end next.room next.count seen may_leave) (sym shrinking.1.0)
+    (subst (λ (l : Log). IsSave plan commit (apply_acts plan ++ (close_acts ++ clear_acts (mid.end + (8 + length plan)))) l.end l.room l.count seen may_leave) (sym shrinking.1.1)
     (shrinking_save plan (record_of plan) refl is_plan short commit (mid.end + (8 + length plan)) mid.room (mid.count + count_of plan) seen may_leave here)))
     calls.applies
 
@@ -238,3 +250,42 @@ save_is_run log next plan commit apply is_plan short calls seen may_leave ready 
     then_at commit apply seen (Found seen may_leave) _ _ _
     (weaker_does commit seen (Found seen may_leave) _ (λ c. Holds (files_of seen) c ⊎ Holds both c) _ _ (λ c which. ⊎_elim (λ before. inl (subst (λ (p : List ℕ × List ℕ). Holds p c) (sym old) before)) (λ new. inr new) which) (λ s m q. q) is.commits)
     (weaker_does apply (seen_after commit seen) (LeftAfter commit seen (Found seen may_leave)) _ _ _ _ (λ c holds. inr holds) (λ s m q. durable_holds both s m q.0.durable q.1) is.applies)
+
+-- the two parts of a save are runs of their own
+module _ (log next : Log) (plan : List ℕ) (commit apply : List Act) (is_plan : IsPlan plan) (short : length plan < 4000000000) (calls : AreSaveCalls log next plan commit apply) (seen : Image) (may_leave : Image → Type 0)
+    (ready : IsReady log.end log.room log.count seen may_leave) (knows : Knows plan (files seen)) where
+  abbrev both : List ℕ × List ℕ
+  both = renewed_files plan seen
+
+  pub save_found : IsSave plan commit apply next.end next.room next.count seen (Found seen may_leave)
+  save_found = save_does log next plan commit apply is_plan short calls seen (Found seen may_leave) (found_ready log.end log.room log.count seen may_leave ready) knows
+
+  pub commit_alone : IsRun (saves (renewed_files plan seen)) commit seen may_leave
+  commit_alone = weaker_does commit seen (Found seen may_leave) _ (λ c. Holds (files_of seen) c ⊎ Holds both c) _ _
+      (λ c which. ⊎_elim (λ before. inl (subst (λ (p : List ℕ × List ℕ). Holds p c) (sym ready.durable.now.0) before)) (λ new. inr new) which) (λ s m q. q) save_found.commits
+
+  abbrev after_seen : Image
+  after_seen = seen_after commit seen
+
+  abbrev after_left_by : Image → Type 0
+  after_left_by c = LeftAfter commit seen (Found seen may_leave) c
+
+  pub apply_alone : IsRun keeps apply (seen_after commit seen) (LeftAfter commit seen (Found seen may_leave))
+  apply_alone =
+      let there : after_left_by after_seen = after_left commit seen (Found seen may_leave) save_found.commits.can (inr refl) in
+      let after : Holds both after_seen × ((c : Image) → after_left_by c → Holds both c) = save_found.commits.after in
+      let held : files_of after_seen ≡ both = after.0.0 in
+      keeping_run both apply after_seen after_left_by (λ s m. IsReady next.end next.room next.count s m × (files s ≡ both)) held
+      (λ s m q. durable_holds both s m q.0.durable q.1)
+      (record {
+        can = save_found.applies.can;
+        any_moment = λ c left. save_found.applies.any_moment c (moment_more apply after_seen (Found after_seen after_left_by) after_left_by (λ d is. found_in d is there) c left);
+        after = (
+          ready_less next.end next.room next.count (seen_after apply after_seen) (LeftAfter apply after_seen (Found after_seen after_left_by)) (LeftAfter apply after_seen after_left_by)
+              (λ c left. after_more apply after_seen (Found after_seen after_left_by) after_left_by (λ d is. found_in d is there) c left) save_found.applies.after.0,
+          save_found.applies.after.1,
+        );
+      })
+    where
+      found_in : (d : Image) → Found after_seen after_left_by d → after_left_by after_seen → after_left_by d
+      found_in d is there = ⊎_elim (λ left. left) (λ same. subst (λ (o : Image). after_left_by o) (sym same) there) is

@@ -109,12 +109,6 @@ is_signed redo = if number_at redo 1 == 1835164787 then number_at redo 5 == 8288
 abbrev pub is_log : List ℕ → Bool
 is_log redo = if get_or redo 0 0 == 1 then is_signed redo else false
 
--- a redo file is a log that was closed: its records mean nothing
-pub record IsClosedLog (redo : List ℕ) : Type 0 where
-  pub unmarked : get_or redo 0 0 ≡ 0
-  pub signed : is_signed redo ≡ true
-  pub header : 4096 ≤ length redo
-
 -- an empty log of this length
 abbrev pub empty_log : ℕ → List ℕ
 empty_log len = 0 ∷ 115 ∷ 100 ∷ 98 ∷ 109 ∷ 108 ∷ 111 ∷ 103 ∷ 49 ∷ replicate (len - 9) 0

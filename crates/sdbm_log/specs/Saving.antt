@@ -8,6 +8,12 @@ use Rattle.sdbm_log.specs.Protocol.{commit_acts, apply_acts, close_acts, clear_a
 use Rattle.sdbm_log.specs.declared.log.Log.{Log}
 use Rattle.sdbm_log.specs.declared.records.LogFiles.{LogFiles}
 
+-- A log can take the record of a plan as it is: the plan shortens no file, and there is room for it.
+pub record CanTake (log : Log) (plan : List ℕ) : Type 0 where
+  pub growing : IsGrowing plan
+  pub room : log.end + (8 + length plan) ≤ log.room
+  pub few : log.count + count_of plan < 2 ^ 32
+
 -- The log is as it was.
 pub record IsAsBefore (log next : Log) (plan : List ℕ) (acts : List Act) : Type 0 where
   pub nothing : acts ≡ []
@@ -15,22 +21,25 @@ pub record IsAsBefore (log next : Log) (plan : List ℕ) (acts : List Act) : Typ
   pub growing : IsGrowing plan
 
 -- The log is closed, and its records are overwritten with zeros.
-pub record IsCleared (log next : Log) (acts : List Act) : Type 0 where
+pub record IsCleared (log next : Log) (plan : List ℕ) (acts : List Act) : Type 0 where
+  pub full : CanTake log plan → ⊥
   pub cleared : acts ≡ close_acts ++ clear_acts log.end
   pub room : next.room ≡ log.room
   pub end : next.end ≡ 0
   pub count : next.count ≡ 0
 
--- The log is closed, and made a longer one.
-pub record IsStarted (next : Log) (acts : List Act) : Type 0 where
+-- The log is closed, and made a longer one, since the record is longer than its room.
+pub record IsStarted (log next : Log) (plan : List ℕ) (acts : List Act) : Type 0 where
+  pub short : log.room < 8 + length plan
   pub started : acts ≡ close_acts ++ start_acts (4096 + next.room)
+  pub small : next.room ≤ 8 + length plan + 1048576
   pub near : 4096 + next.room ≤ 4000000000
   pub end : next.end ≡ 0
   pub count : next.count ≡ 0
 
 -- Calls that make room for the record of a plan, and the log after them.
 pub record MakesRoom (log next : Log) (plan : List ℕ) (acts : List Act) : Type 0 where
-  pub how : IsAsBefore log next plan acts ⊎ (IsCleared log next acts ⊎ IsStarted next acts)
+  pub how : IsAsBefore log next plan acts ⊎ (IsCleared log next plan acts ⊎ IsStarted log next plan acts)
   pub fits : next.end + (8 + length plan) ≤ next.room
   pub few : next.count + count_of plan < 2 ^ 32
 
@@ -38,7 +47,7 @@ pub record MakesRoom (log next : Log) (plan : List ℕ) (acts : List Act) : Type
 abbrev pub IsApplied : Log → Log → List ℕ → List Act → Type 0
 IsApplied old next plan acts =
     (IsGrowing plan × ((acts ≡ apply_acts plan) × (next ≡ record { end = old.end + (8 + length plan); room = old.room; count = old.count + count_of plan })))
-    ⊎ ((acts ≡ apply_acts plan ++ (close_acts ++ clear_acts (old.end + (8 + length plan)))) × ((next ≡ record { end = 0; room = old.room; count = 0 })))
+    ⊎ ((IsGrowing plan → ⊥) × ((acts ≡ apply_acts plan ++ (close_acts ++ clear_acts (old.end + (8 + length plan)))) × (next ≡ record { end = 0; room = old.room; count = 0 })))
 
 -- the calls of a save: those that commit it, and those that do it
 pub record AreSaveCalls (log next : Log) (plan : List ℕ) (commit apply : List Act) : Type 0 where
@@ -78,6 +87,10 @@ recover_by false image = apply_acts (drop 1 image.redo) ++ close_acts
 
 abbrev pub recover_acts : Image → List Act
 recover_acts image = if get_or image.redo 0 0 == 1 then recover_by (is_log image.redo) image else []
+
+-- the calls that recover the files and do nothing else
+abbrev pub AreRecoverCalls : Image → List Act → Type 0
+AreRecoverCalls image acts = acts ≡ settle_acts ++ recover_acts image
 
 -- the redo file is a log that can be used again, and these calls empty it
 pub record IsReused (redo : List ℕ) (room : ℕ) (acts : List Act) : Type 0 where

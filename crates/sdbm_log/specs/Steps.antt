@@ -36,6 +36,10 @@ abbrev pub IsOpening : List Act → ℕ → ℕ → ℕ → Image → (Image →
 IsOpening acts end room count seen may_leave =
     Does acts seen may_leave (λ c. may_leave c ⊎ Holds (files_of seen) c) (λ s m. IsReady end room count s m × (files s ≡ files_of seen))
 
+-- Recovering the files: the same, and after it no save is under way.
+abbrev pub IsRecovering : List Act → Image → (Image → Type 0) → Type 0
+IsRecovering acts seen may_leave = Does acts seen may_leave (λ c. may_leave c ⊎ Holds (files_of seen) c) (λ s m. IsAtRest s m × (files s ≡ files_of seen))
+
 -- Closing a log: a crash at any moment leaves the same files, and after it no save is under way.
 abbrev pub IsClosing : List Act → Image → (Image → Type 0) → Type 0
 IsClosing acts seen may_leave = Does acts seen may_leave (λ c. Holds (files seen) c) (λ s m. IsAtRest s m × (files s ≡ files seen))

@@ -1,6 +1,6 @@
 //! A log of saves. A save appends one record to the redo file and syncs it once, which commits it; then both data files are written in place
-//! without a sync. A checkpoint syncs those and empties the log. The functions here return lists of steps, and others make the calls.
-//! Nothing here opens, locks or names files.
+//! without a sync. A checkpoint syncs those and empties the log. The functions here return lists of steps; others make
+//! the calls, as `make_steps` does on a disk. Nothing here opens, locks or names files.
 #![tactic(auto)]
 
 mod header_notes;
@@ -19,9 +19,9 @@ mod tests;
 pub use header_notes::{Applied, BootId, FileState, NOTES_LEN, NOTES_START, Notes, says_applied};
 pub use log::Log;
 pub use making::make_steps;
-pub use opening::{OpenSteps, close_steps, open_steps};
+pub use opening::{OpenSteps, close_steps, open_steps, recover_steps};
 pub use reading::{ReadSteps, read_steps};
 pub use records::{LogFault, LogFiles, is_log, plan_of, records_end};
-pub use runs::{Crashes, all_runs};
+pub use runs::{Crashes, all_lists, all_runs};
 pub use saving::{SaveSteps, save_steps};
 pub use steps::Step;

@@ -1,17 +1,18 @@
 // The steps that open a log and close it.
-ghost use Rattle.std.specs.Prelude.{true, ◌≡◌, ◌≤◌, ◌<◌, ◌^◌, ◌++◌, ◌==◌, if◌then◌else◌, ℕ, List, [], length, get_or, IsTrue, OnOk, IfOk, IfErr, IfSome, IsNone};
+ghost use Rattle.std.specs.Prelude.{true, ◌≡◌, ◌≤◌, ◌<◌, ◌+◌, ◌^◌, ◌++◌, ◌==◌, if◌then◌else◌, ℕ, List, [], length, get_or, IsTrue, OnOk, IfOk, IfErr, IfSome, IsNone};
 ghost use Rattle.sdbm_saves.specs.Disk.{Image};
 ghost use Rattle.sdbm_saves.specs.Acts.{Act};
 ghost use Rattle.sdbm_log.specs.Log.{is_signed, IsReady, CanRecover};
 ghost use Rattle.sdbm_saves.specs.Redo.{IsPlan};
 ghost use Rattle.sdbm_log.specs.Protocol.{apply_acts, close_acts};
-ghost use Rattle.sdbm_log.specs.Saving.{image_in, Reads, IsRedoPlan, HasNoPlan, recover_acts, IsRestart, AreOpenCalls};
-ghost use Rattle.sdbm_log.specs.Steps.{acts_of, with_head, IsOpening, IsClosing};
-ghost use Rattle.sdbm_log.specs.LogRuns.{keeps, IsRun};
+ghost use Rattle.sdbm_log.specs.Saving.{image_in, Reads, IsRedoPlan, HasNoPlan, recover_acts, AreRecoverCalls, IsRestart, AreOpenCalls};
+ghost use Rattle.sdbm_log.specs.Steps.{acts_of, with_head, IsOpening, IsRecovering, IsClosing};
+ghost use Rattle.sdbm_log.specs.LogRuns.{keeps, Found, IsRun};
 ghost use Rattle.sdbm_log.specs.declared.log.Log.{Log};
 ghost use Rattle.sdbm_log.specs.declared.records.LogFault.TheVariants.{Foreign, Damaged};
 
 use crate::log::{HEADER, Log};
+use crate::reading::ReadSteps;
 use crate::records::{LogFault, LogFiles, is_signed, plan_of, used_room};
 use crate::runs::Crashes;
 use crate::steps::{
@@ -48,11 +49,11 @@ pub fn open_steps<C: Crashes>(
     requires small { room ≤ 1073741824 }
 
     ensures calls { IfOk result (λ opened. (image : Image) → Reads files.entry image → AreOpenCalls image opened.log.room (acts_of opened.bytes.items opened.steps.items)) }
-    ensures log { IfOk result (λ opened. (opened.log.end ≡ 0) × (opened.log.count ≡ 0)) }
+    ensures log { IfOk result (λ opened. (opened.log.end ≡ 0) × ((opened.log.count ≡ 0) × (room ≤ opened.log.room))) }
     ensures can_recover { IfOk result (λ opened. (image : Image) → Reads files.entry image → CanRecover image) }
 
     // The promises of these calls, whatever a crash might have left before them.
-    ensures opens { IfOk result (λ opened. (image : Image) (n : ℕ) → Reads files.entry image → IsOpening (acts_of opened.bytes.items opened.steps.items) opened.log.end opened.log.room opened.log.count image (C.may_leave n)) }
+    ensures opens { IfOk result (λ opened. (image : Image) (n : ℕ) → Reads files.entry image → IsOpening (acts_of opened.bytes.items opened.steps.items) opened.log.end opened.log.room opened.log.count image (Found image (C.may_leave n))) }
     ensures run { IfOk result (λ opened. (image : Image) (n : ℕ) → Reads files.entry image → IsRun keeps (acts_of opened.bytes.items opened.steps.items) image (C.may_leave n)) }
 
     ensures foreign { IfErr result (λ fault. fault ≡ Foreign → CanRecover (image_in files.entry) → ⊥) }
@@ -75,7 +76,7 @@ fn steps_for(
     requires can_recover { CanRecover (image_in files) }
 
     ensures calls { IfOk result (λ opened. AreOpenCalls (image_in files.entry) opened.log.room (acts_of opened.bytes.items opened.steps.items)) }
-    ensures log { IfOk result (λ opened. (opened.log.end ≡ 0) × (opened.log.count ≡ 0)) }
+    ensures log { IfOk result (λ opened. (opened.log.end ≡ 0) × ((opened.log.count ≡ 0) × (room ≤ opened.log.room))) }
 {
     let mut bytes = Vec::from_slice(alloc, &HEAD)?;
     let mut steps = Vec::new(alloc);
@@ -137,7 +138,8 @@ fn push_mark(steps: &mut Vec<Step>, redo: &[u8]) -> Result<(), AllocError>
 // Adds the steps that make the redo file an empty log, and returns its room.
 fn push_restart(steps: &mut Vec<Step>, redo: &[u8], room: usize) -> Result<usize, AllocError>
     requires small { room ≤ 1073741824 }
-    ensures { IfOk result (λ is. (last : List Act) × (((rest : List ℕ) → acts_of (with_head rest) steps.new.items ≡ acts_of (with_head rest) steps.old.items ++ last) × IsRestart redo.now is last)) }
+    ensures enough { IfOk result (λ is. room ≤ is) }
+    ensures restarts { IfOk result (λ is. (last : List Act) × (((rest : List ℕ) → acts_of (with_head rest) steps.new.items ≡ acts_of (with_head rest) steps.old.items ++ last) × IsRestart redo.now is last)) }
 {
     if !is_reusable(redo, room) {
         push_start(steps, HEADER + room)?;
@@ -154,12 +156,52 @@ fn push_restart(steps: &mut Vec<Step>, redo: &[u8], room: usize) -> Result<usize
 // Whether a redo file is a log that can be used again: its header is whole, and it has at least this much room and not far too much.
 fn is_reusable(redo: &[u8], room: usize) -> bool
     requires small { room ≤ 1073741824 }
-    ensures { IsTrue result → (is_signed redo.now ≡ true) × ((get_or redo.now 0 0 ≤ 1) × ((4096 ≤ length redo.now) × (length redo.now ≤ 4000000000))) }
+    ensures { IsTrue result → (is_signed redo.now ≡ true) × ((get_or redo.now 0 0 ≤ 1) × ((4096 + room ≤ length redo.now) × (length redo.now ≤ 4000000000))) }
 {
     if redo.len() < HEADER + room || redo.len() > MOST_BYTES {
         return false;
     }
     byte_at(redo, 0) <= 1 && is_signed(redo)
+}
+
+/// The steps that recover the files of an interrupted save: they sync what was read, do what the redo file holds in both data files, and clear
+/// its mark. The redo file means nothing after them.
+///
+/// # Errors
+///
+/// Those of `plan_of`.
+pub fn recover_steps<C: Crashes>(alloc: Global, files: LogFiles<'_>) -> Result<ReadSteps, LogFault>
+    ensures calls { IfOk result (λ made. (image : Image) → Reads files.entry image → AreRecoverCalls image (acts_of made.bytes.items made.steps.items)) }
+    ensures can_recover { IfOk result (λ made. (image : Image) → Reads files.entry image → CanRecover image) }
+
+    // The promises of these calls, whatever a crash might have left before them.
+    ensures recovers { IfOk result (λ made. (image : Image) (n : ℕ) → Reads files.entry image → IsRecovering (acts_of made.bytes.items made.steps.items) image (Found image (C.may_leave n))) }
+    ensures run { IfOk result (λ made. (image : Image) (n : ℕ) → Reads files.entry image → IsRun keeps (acts_of made.bytes.items made.steps.items) image (C.may_leave n)) }
+
+    ensures foreign { IfErr result (λ fault. fault ≡ Foreign → CanRecover (image_in files.entry) → ⊥) }
+    ensures damaged { IfErr result (λ fault. fault ≡ Damaged → CanRecover (image_in files.entry) → ⊥) }
+{
+    let plan = plan_of(alloc, files)?;
+    Ok(recover_for(alloc, files, plan)?)
+}
+
+// The steps that recover the files, with the plan that is to be done.
+fn recover_for(
+    alloc: Global,
+    files: LogFiles<'_>,
+    plan: Option<Vec<u8>>,
+) -> Result<ReadSteps, AllocError>
+    requires some { IfSome plan (λ plan. IsRedoPlan (image_in files) plan.items) }
+    requires none { IsNone plan → HasNoPlan (image_in files) }
+    requires can_recover { CanRecover (image_in files) }
+
+    ensures { IfOk result (λ made. AreRecoverCalls (image_in files.entry) (acts_of made.bytes.items made.steps.items)) }
+{
+    let mut bytes = Vec::from_slice(alloc, &HEAD)?;
+    let mut steps = Vec::new(alloc);
+    push_settle(&mut steps)?;
+    push_recover(&mut steps, &mut bytes, files, plan)?;
+    Ok(ReadSteps { bytes, steps })
 }
 
 /// The steps that close a log: they sync both data files, and then clear the mark. They write no bytes of a buffer.
@@ -171,7 +213,7 @@ pub fn close_steps<C: Crashes>(alloc: Global) -> Result<Vec<Step>, AllocError>
     ensures calls { IfOk result (λ steps. (bytes : List ℕ) → acts_of bytes steps.items ≡ close_acts) }
 
     // The promises of these calls, whatever a crash might have left before them.
-    ensures closes { IfOk result (λ steps. (log : Log) (seen : Image) (n : ℕ) → IsReady log.end log.room log.count seen (C.may_leave n) → IsClosing (acts_of [] steps.items) seen (C.may_leave n)) }
+    ensures closes { IfOk result (λ steps. (log : Log) (seen : Image) (n : ℕ) → IsReady log.end log.room log.count seen (C.may_leave n) → IsClosing (acts_of [] steps.items) seen (Found seen (C.may_leave n))) }
     ensures run { IfOk result (λ steps. (log : Log) (seen : Image) (n : ℕ) → IsReady log.end log.room log.count seen (C.may_leave n) → IsRun keeps (acts_of [] steps.items) seen (C.may_leave n)) }
 {
     let mut steps = Vec::new(alloc);

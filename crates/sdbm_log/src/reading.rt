@@ -30,6 +30,7 @@ pub struct ReadSteps {
 pub fn read_steps(alloc: Global, found: LogFiles<'_>) -> Result<ReadSteps, LogFault>
     ensures reads { IfOk result (λ read. (image : Image) → Reads found.entry image
         → CanDo (acts_of read.bytes.items read.steps.items) image × (files (seen_after (acts_of read.bytes.items read.steps.items) image) ≡ files_of image)) }
+    ensures can_recover { IfOk result (λ read. CanRecover (image_in found.entry)) }
     ensures foreign { IfErr result (λ fault. fault ≡ Foreign → CanRecover (image_in found.entry) → ⊥) }
     ensures damaged { IfErr result (λ fault. fault ≡ Damaged → CanRecover (image_in found.entry) → ⊥) }
 {

@@ -4,7 +4,7 @@ ghost use Rattle.sdbm_saves.specs.Redo.{number_at, count_of, IsPlan, Knows};
 ghost use Rattle.sdbm_saves.specs.Disk.{written};
 ghost use Rattle.sdbm_saves.specs.Drafts.{spelled};
 ghost use Rattle.sdbm_log.specs.Saving.{image_in, IsRedoPlan, HasNoPlan};
-ghost use Rattle.sdbm_log.specs.Log.{nonzero, digits, record_of, records_of, weight_at, size_at, is_whole, is_signed, is_log, number_in, first_plan, later_records, after_records, end_in, HasRecords, MayBeTorn, ArePlans, joined, log_plan, number_of, plan_of, CanRecover, IsClosedLog};
+ghost use Rattle.sdbm_log.specs.Log.{nonzero, digits, record_of, records_of, weight_at, size_at, is_whole, is_signed, is_log, number_in, first_plan, later_records, after_records, end_in, HasRecords, MayBeTorn, ArePlans, joined, log_plan, number_of, plan_of, CanRecover};
 ghost use Rattle.sdbm_log.specs.declared.records.LogFault.TheVariants.{Foreign, Damaged};
 
 use crate::knowing::knows;
@@ -43,16 +43,6 @@ pub fn is_log(redo: &[u8]) -> bool
     ensures { result ≡ is_log redo.now }
 {
     if byte_at(redo, 0) != 1 {
-        return false;
-    }
-    is_signed(redo)
-}
-
-/// Whether a redo file is a log that was closed: byte 0 is 0, "sdbmlog1" follows, and the header is whole. `restart_log` may use it again.
-pub fn is_closed_log(redo: &[u8]) -> bool
-    ensures { IsTrue result ↔ IsClosedLog redo.now }
-{
-    if redo.len() < HEADER || byte_at(redo, 0) != 0 {
         return false;
     }
     is_signed(redo)

@@ -1,5 +1,12 @@
 // The law over lists of runs.
-ghost use Rattle.std.specs.Prelude.{◌≡◌, ℕ, List};
+ghost use Rattle.std.specs.Prelude.{◌≡◌, ◌<◌, ℕ, List, length};
+ghost use Rattle.sdbm_saves.specs.Acts.{Act};
+ghost use Rattle.sdbm_saves.specs.Redo.{files, IsPlan, Knows};
+ghost use Rattle.sdbm_log.specs.Log.{CanRecover, IsReady};
+ghost use Rattle.sdbm_log.specs.Protocol.{close_acts};
+ghost use Rattle.sdbm_log.specs.Saving.{AreSaveCalls, AreOpenCalls, AreRecoverCalls};
+ghost use Rattle.sdbm_log.specs.Steps.{IsSave, IsOpening, IsRecovering, IsClosing};
+ghost use Rattle.sdbm_log.specs.declared.log.Log.{Log};
 ghost use Rattle.sdbm_saves.specs.Disk.{Image};
 ghost use Rattle.sdbm_log.specs.LogRuns.{LogRun, Found, Mean, AreMade, LeaveFiles};
 
@@ -28,4 +35,14 @@ impl Crashes for Brand {
 /// files that the run read, or if that run was interrupted, the same as before it. Several saves of one process are several runs.
 pub fn all_runs<C: Crashes>()
     ensures { (runs : List LogRun) (seen : Image) (was : List (List ℕ × List ℕ)) → Mean was (Found seen (C.may_leave 0)) → AreMade runs seen C.may_leave → LeaveFiles runs seen C.may_leave was }
+{}
+
+/// What the lists of this crate promise, as the contract of this function, which does nothing: whoever makes the calls of a save, of an
+/// opening, of a recovery or of closing on files that are as the list wants them, and whatever a crash might have left of these before.
+pub fn all_lists<C: Crashes>()
+    ensures saves { (log next : Log) (plan : List ℕ) (commit apply : List Act) (seen : Image) (n : ℕ) → IsPlan plan → length plan < 4000000000 → AreSaveCalls log next plan commit apply
+        → IsReady log.end log.room log.count seen (C.may_leave n) → Knows plan (files seen) → IsSave plan commit apply next.end next.room next.count seen (Found seen (C.may_leave n)) }
+    ensures opens { (image : Image) (room : ℕ) (acts : List Act) (n : ℕ) → CanRecover image → AreOpenCalls image room acts → IsOpening acts 0 room 0 image (Found image (C.may_leave n)) }
+    ensures recovers { (image : Image) (acts : List Act) (n : ℕ) → CanRecover image → AreRecoverCalls image acts → IsRecovering acts image (Found image (C.may_leave n)) }
+    ensures closes { (log : Log) (seen : Image) (n : ℕ) → IsReady log.end log.room log.count seen (C.may_leave n) → IsClosing close_acts seen (Found seen (C.may_leave n)) }
 {}

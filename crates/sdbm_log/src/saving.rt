@@ -1,12 +1,12 @@
 // The steps of a save.
 ghost use Rattle.std.specs.Prelude.{◌≡◌, ◌<◌, ◌≤◌, ◌+◌, ◌^◌, ◌++◌, ℕ, List, length, drop, IsTrue, IfOk, ◌↔◌};
 ghost use Rattle.sdbm_saves.specs.Disk.{Image};
-ghost use Rattle.sdbm_saves.specs.Acts.{Act};
+ghost use Rattle.sdbm_saves.specs.Acts.{Act, seen_after, LeftAfter};
 ghost use Rattle.sdbm_saves.specs.Redo.{count_of, files, renewed_files, IsPlan, Knows};
 ghost use Rattle.sdbm_log.specs.Log.{record_of, IsGrowing, IsReady};
-ghost use Rattle.sdbm_log.specs.Saving.{MakesRoom, IsApplied, AreSaveCalls};
+ghost use Rattle.sdbm_log.specs.Saving.{CanTake, MakesRoom, IsApplied, AreSaveCalls};
 ghost use Rattle.sdbm_log.specs.Steps.{acts_of, with_head, IsSave};
-ghost use Rattle.sdbm_log.specs.LogRuns.{saves, IsRun};
+ghost use Rattle.sdbm_log.specs.LogRuns.{saves, keeps, Found, IsRun};
 
 use crate::log::{HEADER, Log};
 use crate::records::push_record;
@@ -54,9 +54,15 @@ pub fn save_steps<C: Crashes>(alloc: Global, log: Log, plan: &[u8]) -> Result<Sa
 
     // The promises of these calls, whatever a crash might have left before them.
     ensures saves { IfOk result (λ save. (seen : Image) (n : ℕ) → IsReady log.end log.room log.count seen (C.may_leave n) → Knows plan.now (files seen)
-        → IsSave plan.now (acts_of save.bytes.items save.commit.items) (acts_of save.bytes.items save.apply.items) save.log.end save.log.room save.log.count seen (C.may_leave n)) }
+        → IsSave plan.now (acts_of save.bytes.items save.commit.items) (acts_of save.bytes.items save.apply.items) save.log.end save.log.room save.log.count seen (Found seen (C.may_leave n))) }
+
+    // They are a run of the law, and also two: one that saves, and one that keeps the files.
     ensures run { IfOk result (λ save. (seen : Image) (n : ℕ) → IsReady log.end log.room log.count seen (C.may_leave n) → Knows plan.now (files seen)
         → IsRun (saves (renewed_files plan.now seen)) (acts_of save.bytes.items save.commit.items ++ acts_of save.bytes.items save.apply.items) seen (C.may_leave n)) }
+    ensures commit_run { IfOk result (λ save. (seen : Image) (n : ℕ) → IsReady log.end log.room log.count seen (C.may_leave n) → Knows plan.now (files seen)
+        → IsRun (saves (renewed_files plan.now seen)) (acts_of save.bytes.items save.commit.items) seen (C.may_leave n)) }
+    ensures apply_run { IfOk result (λ save. (seen : Image) (n : ℕ) → IsReady log.end log.room log.count seen (C.may_leave n) → Knows plan.now (files seen)
+        → IsRun keeps (acts_of save.bytes.items save.apply.items) (seen_after (acts_of save.bytes.items save.commit.items) seen) (LeftAfter (acts_of save.bytes.items save.commit.items) seen (Found seen (C.may_leave n)))) }
 {
     let mut bytes = Vec::from_slice(alloc, &HEAD)?;
     push_record(&mut bytes, plan)?;
@@ -106,7 +112,7 @@ fn push_room(commit: &mut Vec<Step>, log: Log, plan: &[u8]) -> Result<Log, Alloc
 fn has_room(log: Log, plan: &[u8]) -> bool
     requires plan { 28 ≤ length plan.now }
     requires short { length plan.now < 3000000000 }
-    ensures { IsTrue result → IsGrowing plan.now × ((log.end + (8 + length plan.now) ≤ log.room) × (log.count + count_of plan.now < 2 ^ 32)) }
+    ensures { IsTrue result ↔ CanTake log plan.now }
 {
     let len = RECORD_HEAD + plan.len();
     if !is_growing(plan) || len > log.room || log.end > log.room - len {

@@ -1,6 +1,6 @@
 use Rattle.std.proofs.Common.{◌≡◌, ◌++◌, ◌-◌, ◌∙◌, ap, subst, sym, refl, arith, ℕ, List, length, take, drop, length-drop}
 use Rattle.std.proofs.lemmas.List.{take_all}
-use Rattle.boddurci_handles.specs.declared.status.Status.TheVariants.{Done, BadFiles}
+use Rattle.boddurci_handles.specs.declared.status.Status.TheVariants.{Done, BadFiles, ShortRoom, TooLong}
 use Rattle.sdbm_log.specs.Saving.{AreSaveCalls}
 use Rattle.sdbm_log.specs.Steps.{acts_of}
 use Rattle.sdbm_log.specs.declared.log.Log.{Log}
@@ -30,11 +30,16 @@ returns-in-Done c =
           },
           (
             subst (λ (l : List ℕ). IsFilled l c.args.words.now c.copy_joined.new.room) (λ i. (c.as_slice-first.ensures.value ∙ commit) i ++ (c.as_slice-3.ensures.value ∙ apply) i) (c.copy_joined.ensures.done c.in-Done.is),
-            ap (λ (l : List ℕ). length l) (c.as_slice-first.ensures.value ∙ commit),
+            (
+              ap (λ (l : List ℕ). length l) (c.as_slice-first.ensures.value ∙ commit),
+              c.copy_joined.ensures.len c.in-Done.is ∙ (λ i. length ((c.as_slice-first.ensures.value ∙ commit) i ++ (c.as_slice-3.ensures.value ∙ apply) i)),
+            ),
           ),
         ),
       );
       plan = ap (λ (l : List ℕ). drop 18 l) (buffer ∙ c.in-Ok.ensures.buffer) ∙ all;
       untouched = λ isnt. absurd (isnt refl);
+      short = λ is. absurd (let wrong : Done ≡ ShortRoom = is in cc);
       refused = λ is. absurd (let wrong : Done ≡ BadFiles = is in cc);
+      too_long = λ is. absurd (let wrong : Done ≡ TooLong = is in cc);
     }

@@ -1,5 +1,6 @@
 use Rattle.std.proofs.Common.{rules, sym, subst}
 use Rattle.sdbm_log.specs.Log.{CanRecover}
+use Rattle.sdbm_log.specs.LogRuns.{Found}
 use Rattle.sdbm_log.specs.Saving.{image_in}
 use Rattle.sdbm_log.specs.Steps.{acts_of, IsOpening}
 use Rattle.sdbm_log.proofs.Opens.{opened_does, opened_run, reads_calls, reads_can}
@@ -18,9 +19,9 @@ returns-clause-opens g c = λ image n reads.
     let can : CanRecover (image_in c.args.files) = search rules in
     let is = c.in_ok-steps_for.ensures in
     let made = c.in_ok-steps_for.field-0 in
-    subst (λ k. IsOpening (acts_of made.bytes.items made.steps.items) k made.log.room made.log.count image (g.C.Crashes.may_leave n)) (sym is.log.0)
-    (subst (λ k. IsOpening (acts_of made.bytes.items made.steps.items) 0 made.log.room k image (g.C.Crashes.may_leave n)) (sym is.log.1)
-    (opened_does image made.log.room (acts_of made.bytes.items made.steps.items) (reads_can c.args.files image reads can) (reads_calls c.args.files image reads made.log.room _ is.calls) (g.C.Crashes.may_leave n)))
+    subst (λ k. IsOpening (acts_of made.bytes.items made.steps.items) k made.log.room made.log.count image (Found image (g.C.Crashes.may_leave n))) (sym is.log.0)
+    (subst (λ k. IsOpening (acts_of made.bytes.items made.steps.items) 0 made.log.room k image (Found image (g.C.Crashes.may_leave n))) (sym is.log.1.0)
+    (opened_does image made.log.room (acts_of made.bytes.items made.steps.items) (reads_can c.args.files image reads can) (reads_calls c.args.files image reads made.log.room _ is.calls) (Found image (g.C.Crashes.may_leave n))))
 
 pub returns-clause-run : goal.returns-clause-run
 returns-clause-run g c = λ image n reads.

@@ -5,11 +5,11 @@ use Rattle.sdbm_log.specs.Protocol.{clear_acts, start_acts}
 use Rattle.sdbm_log.specs.Steps.{acts_of, with_head}
 use Rattle.sdbm_log.proofs.opening.push_restart.Goals as goal
 
-pub returns-then-not-is_reusable : goal.returns-then-not-is_reusable
-returns-then-not-is_reusable c = (start_acts (4096 + c.args.room), (λ rest. c.in_ok-push_start.ensures rest, inr (refl, omega (arith, c.requires.small))))
+pub returns-then-not-is_reusable-clause-restarts : goal.returns-then-not-is_reusable-clause-restarts
+returns-then-not-is_reusable-clause-restarts c = (start_acts (4096 + c.args.room), (λ rest. c.in_ok-push_start.ensures rest, inr (refl, omega (arith, c.requires.small))))
 
-pub returns-then-used-eq0 : goal.returns-then-used-eq0
-returns-then-used-eq0 c =
+pub returns-then-used-eq0-clause-restarts : goal.returns-then-used-eq0-clause-restarts
+returns-then-used-eq0-clause-restarts c =
     let is = c.if-not-is_reusable.ensures refl in (
       [],
       (
@@ -24,8 +24,8 @@ returns-then-used-eq0 c =
       ),
     )
 
-pub returns : goal.returns
-returns c =
+pub returns-clause-restarts : goal.returns-clause-restarts
+returns-clause-restarts c =
     let is = c.if-not-is_reusable.ensures refl in (
       clear_acts c.used_room-used.result,
       (

@@ -11,7 +11,7 @@ returns-clause-calls c =
     let found = c.in_ok-push_recover.ensures in
     let bytes : List ℕ = with_head found.0 in
     let settled : acts_of bytes c.push_settle.new.steps.items ≡ settle_acts = c.in_ok-push_settle.ensures bytes ∙ ap (λ l. acts_of bytes l ++ settle_acts) c.new-steps.ensures.items in
-    let last = c.in_ok-room.ensures in
+    let last = c.in_ok-room.ensures.restarts in
     record {
       last = last.0;
       restart = last.1.1;

@@ -1,8 +1,9 @@
-use Rattle.std.proofs.Common.{◌≡◌, ◌∙◌, ◌++◌, inl, inr, ◌+◌, ℕ, refl, ap, arith, length, List}
+use Rattle.std.proofs.Common.{false, ◌≡◌, ◌∙◌, ◌++◌, inl, inr, ◌+◌, ℕ, refl, ap, arith, length, List}
 use Rattle.sdbm_saves.specs.Acts.{Act}
 use Rattle.sdbm_log.specs.Protocol.{apply_acts, close_acts, clear_acts}
 use Rattle.sdbm_log.specs.Steps.{acts_of}
 use Rattle.sdbm_log.specs.declared.log.Log.{Log}
+use Rattle.sdbm_log.proofs.Header.{never_both}
 use Rattle.sdbm_log.proofs.Stepping.{then_acts}
 use Rattle.sdbm_log.proofs.saving.push_rest.Goals as goal
 
@@ -24,6 +25,6 @@ returns c =
             then_acts (old bytes) (apply_acts c.args.plan.now) (acts_of bytes c.push_apply.new.steps.items) _ (close_acts ++ clear_acts (c.args.log.end + (8 + length c.args.plan.now))) (c.in_ok-push_apply.ensures bytes is)
             (then_acts (acts_of bytes c.push_apply.new.steps.items) close_acts (acts_of bytes c.push_close.new.steps.items) _ (clear_acts (c.args.log.end + (8 + length c.args.plan.now))) (c.in_ok-push_close.ensures bytes)
             (c.in_ok-push_clear.ensures bytes ∙ ap (λ k. acts_of bytes c.push_close.new.steps.items ++ clear_acts k) end)),
-        inr (refl, refl),
+        inr ((λ growing. never_both false (c.if-is_growing.ensures.1 growing) refl), (refl, refl)),
       ),
     )

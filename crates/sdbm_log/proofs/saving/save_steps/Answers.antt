@@ -4,7 +4,7 @@ use Rattle.sdbm_log.specs.Log.{record_of}
 use Rattle.sdbm_log.specs.Protocol.{commit_acts}
 use Rattle.sdbm_log.specs.Saving.{IsApplied}
 use Rattle.sdbm_log.specs.Steps.{acts_of, with_head}
-use Rattle.sdbm_log.proofs.Saves.{save_does, save_is_run}
+use Rattle.sdbm_log.proofs.Saves.{save_found, save_is_run, commit_alone, apply_alone}
 use Rattle.sdbm_log.proofs.saving.save_steps.Goals as goal
 
 pub returns-clause-buffer : goal.returns-clause-buffer
@@ -31,8 +31,16 @@ returns-clause-calls g c =
 
 pub returns-clause-saves : goal.returns-clause-saves
 returns-clause-saves g c = λ seen n ready knows.
-    save_does c.args.log c.in_ok-log.log c.args.plan.now _ _ c.requires.plan (omega (arith, c.requires.short)) (returns-clause-calls g c) seen (g.C.Crashes.may_leave n) ready knows
+    save_found c.args.log c.in_ok-log.log c.args.plan.now _ _ c.requires.plan (omega (arith, c.requires.short)) (returns-clause-calls g c) seen (g.C.Crashes.may_leave n) ready knows
 
 pub returns-clause-run : goal.returns-clause-run
 returns-clause-run g c = λ seen n ready knows.
     save_is_run c.args.log c.in_ok-log.log c.args.plan.now _ _ c.requires.plan (omega (arith, c.requires.short)) (returns-clause-calls g c) seen (g.C.Crashes.may_leave n) ready knows
+
+pub returns-clause-commit_run : goal.returns-clause-commit_run
+returns-clause-commit_run g c = λ seen n ready knows.
+    commit_alone c.args.log c.in_ok-log.log c.args.plan.now _ _ c.requires.plan (omega (arith, c.requires.short)) (returns-clause-calls g c) seen (g.C.Crashes.may_leave n) ready knows
+
+pub returns-clause-apply_run : goal.returns-clause-apply_run
+returns-clause-apply_run g c = λ seen n ready knows.
+    apply_alone c.args.log c.in_ok-log.log c.args.plan.now _ _ c.requires.plan (omega (arith, c.requires.short)) (returns-clause-calls g c) seen (g.C.Crashes.may_leave n) ready knows

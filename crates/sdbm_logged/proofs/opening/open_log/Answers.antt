@@ -49,7 +49,7 @@ returns-clause-ready g c =
     let left : Image → Type 0 = g.D.Disk.may_leave c.make_steps.new.disk in
     subst (λ (o : Image). IsReady log.end log.room log.count o left) (sym c.in_ok-make_steps.ensures.seen)
     (subst (λ k. IsReady k log.room log.count (seen_after acts seen) left) (sym is.log.0)
-    (subst (λ k. IsReady 0 log.room k (seen_after acts seen) left) (sym is.log.1)
+    (subst (λ k. IsReady 0 log.room k (seen_after acts seen) left) (sym is.log.1.0)
     (ready_fewer 0 log.room 0 (seen_after acts seen) left _ c.in_ok-make_steps.ensures.left does.after.0)))
 
 pub returns-clause-same : goal.returns-clause-same

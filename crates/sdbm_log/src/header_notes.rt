@@ -6,7 +6,7 @@ ghost use Rattle.sdbm_log.specs.Notes.{words_bytes, word_at, notes_words, notes_
 use sdbm_addr::{KeyBytes, hash};
 use sdbm_saves::write_in;
 
-/// The offset of the notes in the redo file, for `write_notes`.
+/// The offset of the notes in the redo file.
 pub const NOTES_START: usize = 16;
 
 /// The number of bytes of the notes.
@@ -63,7 +63,7 @@ pub struct FileState {
 }
 
 impl Notes {
-    /// The notes as bytes, for `write_notes` at `NOTES_START`. `from_bytes` reads them back.
+    /// The notes as bytes, for `NOTES_START`. `from_bytes` reads them back.
     pub fn bytes(&self) -> [u8; NOTES_LEN]
         ensures is { result ≡ notes_bytes self.now }
         ensures words { AreWords self.now }
@@ -196,7 +196,7 @@ fn is_same(one: &[u8], other: &[u8]) -> bool
 }
 
 /// Whether notes say that all records of a log are applied. `now` is the end of its records (`records_end`), the boot and the states of both
-/// data files as they are now. After `append` the records have another end, so the hint of the save before does not match. Write notes with
+/// data files as they are now. After the next save the records have another end, so the hint of the save before does not match. Write notes with
 /// no hint before the log is emptied: other records may end at the same place later.
 pub fn says_applied(notes: &Notes, now: &Applied) -> bool
     ensures { IsTrue result ↔ notes.now.applied ≡ Some now.now }

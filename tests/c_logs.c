@@ -1,0 +1,283 @@
+/* Redo files, from C, in the folder that is the argument: those that no save has left, those of the form before the log, and logs, whole,
+ * torn and damaged. tests/c_library builds and runs it. */
+#define _DEFAULT_SOURCE
+#include "boddurci_files.h"
+#include <fcntl.h>
+#include <stdio.h>
+#include <stdlib.h>
+#include <string.h>
+#include <sys/stat.h>
+#include <sys/wait.h>
+#include <unistd.h>
+
+enum { PAIRS = 100, HEADER = 4096, LOG = HEADER + 1048576, SAVES = 3 };
+
+static unsigned long looked;
+static boddurci_fault fault;
+
+#define EXPECT(what)                                                                                                               \
+    do {                                                                                                                           \
+        looked++;                                                                                                                  \
+        if (!(what)) {                                                                                                             \
+            fprintf(stderr, "c_logs.c:%d: not so: %s (%s)\n", __LINE__, #what, fault.text);                                        \
+            exit(1);                                                                                                               \
+        }                                                                                                                          \
+    } while (0)
+
+static int fails(const char *name, uint32_t flags, uint32_t status)
+{
+    return boddurci_open_files(name, flags, &fault) == NULL && fault.status == status && fault.text[0] != 0;
+}
+
+static boddurci_base *opened(const char *name, uint32_t flags)
+{
+    boddurci_base *base = boddurci_open_files(name, flags, &fault);
+    EXPECT(base != NULL && fault.status == BODDURCI_DONE);
+    return base;
+}
+
+static void write_text(const char *name, const char *bytes, size_t length)
+{
+    FILE *file = fopen(name, "wb");
+    EXPECT(file != NULL && fwrite(bytes, 1, length, file) == length && fclose(file) == 0);
+}
+
+static long long length_of(const char *name)
+{
+    struct stat found;
+    return stat(name, &found) == 0 ? (long long)found.st_size : -1;
+}
+
+static int is_marked(const char *name)
+{
+    FILE *file = fopen(name, "rb");
+    int first = file != NULL ? fgetc(file) : 0;
+    if (file != NULL)
+        fclose(file);
+    return first == 1;
+}
+
+static size_t count_of(boddurci_base *base)
+{
+    size_t count = 0;
+    EXPECT(boddurci_count(boddurci_take(base), &count) == BODDURCI_DONE);
+    boddurci_give(base);
+    return count;
+}
+
+static size_t found_in(const char *name)
+{
+    boddurci_base *base = opened(name, BODDURCI_READ_ONLY);
+    size_t count = count_of(base);
+    boddurci_close_files(base);
+    return count;
+}
+
+static void store_one(boddurci_base *base, int i)
+{
+    char key[16];
+    int length = snprintf(key, sizeof key, "key%d", i);
+    EXPECT(boddurci_store(boddurci_take(base), (const uint8_t *)key, (size_t)length, (const uint8_t *)key, (size_t)length, 1) == BODDURCI_DONE);
+    boddurci_give(base);
+}
+
+/* ---- redo files of one save */
+
+/* A marked redo file without changes: the new lengths of .pag and .dir, and the old ones. */
+static void write_redo(const char *name, const uint32_t lengths[4])
+{
+    char redo[29] = "\1sdbmred2";
+    for (int i = 0; i < 16; i++)
+        redo[9 + i] = (char)(lengths[i / 4] >> 8 * (i % 4));
+    write_text(name, redo, sizeof redo);
+}
+
+static int is_bad_redo(const char *name)
+{
+    return fails(name, 0, BODDURCI_BAD_REDO) && fails(name, BODDURCI_READ_ONLY, BODDURCI_BAD_REDO) && strstr(fault.text, "is not of these files");
+}
+
+/* Redo files: one that no save has left, one of the form before this one, one of other files, and one that is not marked. */
+static void test_redo(void)
+{
+    static const uint32_t other[4] = {1024, 0, 2048, 0}, long_file[4] = {1073742848, 0, 0, 0}, long_dir[4] = {0, 268435457, 0, 0};
+    static const char former[21] = "\1sdbmredo";
+    write_text("visits.redo", "\1plan", 5);
+    EXPECT(is_bad_redo("visits"));
+    write_text("visits.redo", former, sizeof former);
+    EXPECT(is_bad_redo("visits"));
+    write_redo("visits.redo", other);
+    EXPECT(is_bad_redo("visits"));
+    write_redo("none.redo", long_file);
+    EXPECT(fails("none", 0, BODDURCI_TOO_LONG) && fails("none", BODDURCI_READ_ONLY, BODDURCI_TOO_LONG));
+    write_redo("none.redo", long_dir);
+    EXPECT(fails("none", 0, BODDURCI_TOO_LONG) && fails("none", BODDURCI_READ_ONLY, BODDURCI_TOO_LONG) && is_marked("none.redo"));
+    write_text("visits.redo", "\0plan", 5);
+    /* Of one that is not marked nothing more is read, however long it is. The first save makes it anew, and the end of a base that was not
+     * saved leaves it. */
+    EXPECT(truncate("visits.redo", 3000000000) == 0);
+    boddurci_base *base = opened("visits", 0);
+    EXPECT(count_of(base) == PAIRS && length_of("visits.redo") == 3000000000);
+    boddurci_close_files(base);
+    base = opened("visits", 0);
+    store_one(base, PAIRS);
+    EXPECT(boddurci_save(base, &fault) == BODDURCI_DONE && length_of("visits.redo") == LOG);
+    boddurci_close_files(base);
+}
+
+/* A save of an empty database that was cut off: a reader finds it empty and writes nothing, and a writer ends it. */
+static void test_cut_off(void)
+{
+    static const uint32_t lengths[4] = {0, 0, 1024, 0};
+    boddurci_base *base = opened("cut", 0);
+    store_one(base, 1);
+    EXPECT(boddurci_save(base, &fault) == BODDURCI_DONE);
+    boddurci_close_files(base);
+    write_redo("cut.redo", lengths);
+    base = opened("cut", BODDURCI_READ_ONLY | BODDURCI_MUST_EXIST);
+    EXPECT(count_of(base) == 0 && length_of("cut.pag") == 1024 && is_marked("cut.redo"));
+    boddurci_close_files(base);
+    base = opened("cut", 0);
+    EXPECT(count_of(base) == 0 && length_of("cut.pag") == 0 && !is_marked("cut.redo"));
+    boddurci_close_files(base);
+}
+
+/* A plan whose block is half done, is done, or is of other bytes; and two changes of one place. */
+static void test_known(void)
+{
+    static const uint8_t head[29] = {1, 's', 'd', 'b', 'm', 'r', 'e', 'd', '2', 0, 4, 0, 0, 0, 0, 0, 0, 0, 4, 0, 0, 0, 0, 0, 0, 2};
+    static const uint8_t changes[2][13] = {{0, 252, 3, 0, 0, 2, 0, 0, 0, 'n', 'e', 0, 0}, {0, 253, 3, 0, 0, 2, 0, 0, 0, 'x', 'y', 'e', 0}};
+    char redo[55], page[1024] = {0};
+    memcpy(redo, head, 29);
+    memcpy(redo + 29, changes, 26);
+    for (int found = 0; found < 256; found++) {
+        page[1021] = (char)found;
+        write_text("known.pag", page, sizeof page);
+        write_text("known.redo", redo, sizeof redo);
+        if (found == 0 || found == 'e' || found == 'x')
+            boddurci_close_files(opened("known", BODDURCI_READ_ONLY));
+        else
+            EXPECT(is_bad_redo("known"));
+    }
+    EXPECT(unlink("known.redo") == 0 && unlink("known.pag") == 0);
+}
+
+/* ---- logs */
+
+/* Makes saves of one pair each, in a process that ends without closing the base. */
+static void leave_log(const char *name, int from, int saves)
+{
+    int status;
+    pid_t child = fork();
+    if (child == 0) {
+        boddurci_base *base = opened(name, 0);
+        for (int i = from; i < from + saves; i++) {
+            store_one(base, i);
+            EXPECT(boddurci_save(base, &fault) == BODDURCI_DONE && fault.system == 0);
+        }
+        _exit(0);
+    }
+    EXPECT(child > 0 && waitpid(child, &status, 0) == child && WIFEXITED(status) && WEXITSTATUS(status) == 0);
+}
+
+static uint8_t *bytes_of(const char *name, size_t *length)
+{
+    static uint8_t bytes[2 * LOG];
+    FILE *file = fopen(name, "rb");
+    EXPECT(file != NULL);
+    *length = fread(bytes, 1, sizeof bytes, file);
+    fclose(file);
+    return bytes;
+}
+
+/* Where a record ends that begins here: it has four bytes, four for the length of its plan, which are its digits to the base 255 and 1 more
+ * each, and the plan. */
+static size_t end_of(const uint8_t *bytes, size_t at)
+{
+    size_t length = 0;
+    for (size_t i = 4; i-- > 0;)
+        length = 255 * length + bytes[at + 4 + i] - 1;
+    return at + 8 + length;
+}
+
+/* The saves of a log that was left are done by the next who opens the base: of data files as they are, and of those before any of them. */
+static void test_left(void)
+{
+    leave_log("left", 0, SAVES);
+    EXPECT(is_marked("left.redo") && length_of("left.redo") == LOG && length_of("left.pag") == 1024);
+    for (int i = 0; i < 2; i++) {
+        EXPECT(found_in("left") == SAVES && is_marked("left.redo"));
+        EXPECT(truncate("left.pag", 0) == 0);
+    }
+    boddurci_base *base = opened("left", 0);
+    EXPECT(count_of(base) == SAVES && !is_marked("left.redo") && length_of("left.pag") == 1024);
+    boddurci_close_files(base);
+    EXPECT(found_in("left") == SAVES);
+    leave_log("left", SAVES, SAVES);
+    EXPECT(is_marked("left.redo") && found_in("left") == 2 * SAVES);
+    EXPECT(unlink("left.pag") == 0 && unlink("left.dir") == 0 && unlink("left.redo") == 0);
+}
+
+/* The last record with a byte that is missing was never committed; one before it with such a byte is damage, and nobody uses it. */
+static void test_damaged(void)
+{
+    size_t length, ends[SAVES + 1] = {HEADER};
+    leave_log("torn", 0, SAVES);
+    uint8_t *bytes = bytes_of("torn.redo", &length);
+    EXPECT(length == LOG);
+    for (int i = 0; i < SAVES; i++)
+        ends[i + 1] = end_of(bytes, ends[i]);
+    for (int i = 0; i < SAVES; i++)
+        for (size_t at = ends[i]; at < ends[i + 1]; at += at < ends[i] + 8 ? 1 : 97) {
+            uint8_t was = bytes[at];
+            if (was == 0)
+                continue;
+            bytes[at] = 0;
+            write_text("torn.redo", (const char *)bytes, length);
+            bytes[at] = was;
+            if (i < SAVES - 1)
+                EXPECT(fails("torn", 0, BODDURCI_BAD_REDO) && fails("torn", BODDURCI_READ_ONLY, BODDURCI_BAD_REDO) && strstr(fault.text, "is damaged") != NULL);
+            else
+                EXPECT(truncate("torn.pag", 0) == 0 && found_in("torn") == SAVES - 1);
+        }
+    write_text("torn.redo", (const char *)bytes, length);
+    EXPECT(found_in("torn") == SAVES);
+}
+
+/* A save that is longer than a log has a longer one made; the next who opens the base uses it. A log without room is emptied. */
+static void test_long(void)
+{
+    boddurci_base *base = opened("long", 0);
+    for (int i = 0; i < 60000; i++)
+        store_one(base, i);
+    EXPECT(boddurci_save(base, &fault) == BODDURCI_DONE);
+    long long longer = length_of("long.redo");
+    EXPECT(longer > LOG && (longer - HEADER) % 1048576 == 0);
+    for (int i = 0; i < 3000; i++) {
+        store_one(base, 70000 + i);
+        EXPECT(boddurci_save(base, &fault) == BODDURCI_DONE && fault.system == 0);
+    }
+    EXPECT(length_of("long.redo") == longer && count_of(base) == 63000);
+    boddurci_close_files(base);
+    leave_log("long", 80000, 1);
+    EXPECT(length_of("long.redo") == longer && is_marked("long.redo") && found_in("long") == 63001);
+}
+
+int main(int argc, char **argv)
+{
+    if (argc != 2 || chdir(argv[1]) != 0)
+        return 2;
+    boddurci_base *base = opened("visits", 0);
+    for (int i = 0; i < PAIRS; i++)
+        store_one(base, i);
+    EXPECT(boddurci_save(base, &fault) == BODDURCI_DONE);
+    boddurci_close_files(base);
+    test_redo();
+    test_cut_off();
+    test_known();
+    test_left();
+    test_damaged();
+    test_long();
+    printf("%lu answers as expected\n", looked);
+    return 0;
+}

@@ -177,6 +177,16 @@ static void give_up(struct boddurci_logged *logged)
     errno = system;
 }
 
+/* After the redo file could not be opened to be written: removes one without a mark that this user may not write. */
+static uint32_t remove_denied(struct boddurci_disk *disk, boddurci_fault *fault)
+{
+    boddurci_fault second;
+    int is_marked, is_denied = fault->status == BODDURCI_FILE_FAILED && fault->system == EACCES;
+    if (!is_denied || look_only(disk->place, &is_marked, &second) != BODDURCI_DONE || is_marked)
+        return fault->status;
+    return boddurci_disk_remove_redo(disk) == 0 ? boddurci_no_fault(fault) : cannot_be_written(disk, fault);
+}
+
 /* Opens the redo file to be written, if it exists. One of this user becomes like the pages. */
 static uint32_t open_redo(struct boddurci_disk *disk, boddurci_fault *fault)
 {
@@ -185,7 +195,9 @@ static uint32_t open_redo(struct boddurci_disk *disk, boddurci_fault *fault)
     disk->last = BODDURCI_REDO;
     boddurci_disk_drop(disk, BODDURCI_REDO);
     uint32_t status = boddurci_open_beside(disk->place, BODDURCI_REDO, O_RDWR, opened, fault);
-    if (status != BODDURCI_DONE || *opened < 0)
+    if (status != BODDURCI_DONE)
+        return remove_denied(disk, fault);
+    if (*opened < 0)
         return status;
     int is_own = fstat(*opened, &found) == 0 && (found.st_uid == geteuid() || geteuid() == 0);
     if (is_own && !boddurci_is_like_pages(disk->place, *opened) && boddurci_be_like_pages(disk->place, BODDURCI_REDO, *opened) != 0)

@@ -281,7 +281,10 @@ static int is_full(const boddurci_fault *fault)
 static uint32_t open_log(struct boddurci_logged *logged, boddurci_fault *fault)
 {
     uint32_t status = try_open(logged, ROOM, fault);
-    return status != BODDURCI_DONE && is_full(fault) ? try_open(logged, LEAST_ROOM, fault) : status;
+    if (status == BODDURCI_DONE || !is_full(fault))
+        return status;
+    boddurci_no_fault(fault);
+    return try_open(logged, LEAST_ROOM, fault);
 }
 
 uint32_t boddurci_logged_recover(struct boddurci_logged *logged, int *is_ended, boddurci_fault *fault)

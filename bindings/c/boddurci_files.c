@@ -430,6 +430,21 @@ static uint32_t read_pages(int file, struct reading *reading, boddurci_fault *fa
     return BODDURCI_DONE;
 }
 
+/* Reads all of .dir. If it is short it is not mapped, which would take longer than to read it. */
+static uint32_t read_directory(int file, struct boddurci_bytes *directory, boddurci_fault *fault)
+{
+    enum { SHORT = 65536 };
+    size_t length;
+    uint32_t status = boddurci_length_of(file, BODDURCI_DIRECTORY, &length, fault);
+    if (status != BODDURCI_DONE || length > SHORT)
+        return status != BODDURCI_DONE ? status : boddurci_read_all(file, BODDURCI_DIRECTORY, directory, fault);
+    directory->at = calloc(length + 1, 1);
+    if (directory->at == NULL)
+        return boddurci_no_memory(fault);
+    directory->length = length;
+    return read_at(file, 0, directory->at, length) == 0 ? status : boddurci_fail_by_system(fault, "a file cannot be read");
+}
+
 /* Reads the directory, or the pages that are listed. The files of a base that was saved are open. A file that is missing has no bytes. */
 static uint32_t read_part(boddurci_base *base, enum boddurci_file which, struct reading *reading, boddurci_fault *fault)
 {
@@ -440,7 +455,7 @@ static uint32_t read_part(boddurci_base *base, enum boddurci_file which, struct 
     if (which == BODDURCI_PAGES)
         status = read_pages(file, reading, fault);
     else
-        status = boddurci_read_all(file, which, &reading->directory, fault);
+        status = read_directory(file, &reading->directory, fault);
     if (held < 0)
         close(file);
     return status;

@@ -17,6 +17,7 @@ ghost use Rattle.boddurci_c.specs.Tickets.{Asks, AsksNot, Works, WorksNot, Finis
 ghost use Rattle.sdbm_files.specs.Opened.{IsOpenFault, SpellsNoDatabase};
 
 mod db;
+mod logs;
 mod opening;
 mod plans;
 mod rooms;
@@ -27,6 +28,8 @@ mod turns;
 mod units;
 
 use boddurci_handles::{Db, Handle, Job, Reading, Status, Ticket, read_piece};
+pub use logs::{boddurci_log_close, boddurci_log_open, boddurci_log_read, boddurci_log_save};
+
 use db::{ask, delete, end_of, fetch, files, run, store};
 use opening::{open, open_reading, pages_in};
 use plans::plan;

@@ -1,9 +1,21 @@
 //! Rooms that C lends.
+ghost use Rattle.std.specs.Prelude.{◌≡◌, ◌≢◌, ◌⊎◌, ◌<◌, ◌++◌, length};
+ghost use Rattle.boddurci_handles.specs.declared.status.Status.TheVariants.{Done, ShortRoom, NoMemory};
+ghost use Rattle.boddurci_logs.specs.Answers.{IsFilled, HandsOut};
 
+use crate::words::words_of;
 use boddurci_handles::Status;
+use sdbm_log::Step;
+use std::alloc::Global;
 
-/// Writes bytes or numbers in the first places of a room if they fit, and tells how many they are.
-pub fn copy_out<T: Copy>(items: &[T], room: &mut [T], len: &mut usize) -> Status {
+/// Writes items in the first places of a room if they fit, and tells how many they are.
+pub fn copy_out<T: Copy>(items: &[T], room: &mut [T], len: &mut usize) -> Status
+    ensures done { result ≡ Done → IsFilled items.now room.old room.new }
+    ensures untouched { result ≢ Done → room.new ≡ room.old }
+    ensures len { len.new ≡ length items.now }
+    ensures short { result ≡ ShortRoom → length room.old < length items.now }
+    ensures only { (result ≡ Done) ⊎ (result ≡ ShortRoom) }
+{
     *len = items.len();
     if items.len() > room.len() {
         return Status::ShortRoom;
@@ -12,27 +24,40 @@ pub fn copy_out<T: Copy>(items: &[T], room: &mut [T], len: &mut usize) -> Status
     Status::Done
 }
 
-/// Writes bytes and words in the first places of two rooms if both fit, and tells how many they are.
-pub fn copy_both(
-    bytes: &[u8],
-    words: &[u64],
-    bytes_room: &mut [u8],
+/// Hands out a buffer and the words of steps, if both rooms are long enough, and tells their lengths.
+pub fn hand_out(
+    alloc: Global,
+    made: (&[u8], &[Step]),
+    bytes: &mut [u8],
     bytes_len: &mut usize,
-    words_room: &mut [u64],
+    words: &mut [u64],
     words_len: &mut usize,
-) -> Status {
-    *bytes_len = bytes.len();
-    *words_len = words.len();
-    if bytes.len() > bytes_room.len() || words.len() > words_room.len() {
+) -> Status
+    ensures { HandsOut made.entry.0.now made.entry.1.now bytes.old bytes.new bytes_len.new words.old words.new words_len.new result }
+{
+    let (buffer, steps) = made;
+    let Ok(all) = words_of(alloc, steps) else {
+        return Status::NoMemory;
+    };
+    *bytes_len = buffer.len();
+    *words_len = all.len();
+    if buffer.len() > bytes.len() {
         return Status::ShortRoom;
     }
-    bytes_room[..bytes.len()].copy_from_slice(bytes);
-    words_room[..words.len()].copy_from_slice(words);
+    if all.len() > words.len() {
+        return Status::ShortRoom;
+    }
+    bytes[..buffer.len()].copy_from_slice(buffer);
+    words[..all.len()].copy_from_slice(all.as_slice());
     Status::Done
 }
 
 /// Writes two lists of words, one after the other, in the first places of a room if they fit, and tells how many they are.
-pub fn copy_joined(first: &[u64], rest: &[u64], room: &mut [u64], len: &mut usize) -> Status {
+pub fn copy_joined(first: &[u64], rest: &[u64], room: &mut [u64], len: &mut usize) -> Status
+    ensures done { result ≡ Done → IsFilled (first.now ++ rest.now) room.old room.new }
+    ensures untouched { result ≢ Done → room.new ≡ room.old }
+    ensures only { (result ≡ Done) ⊎ ((result ≡ ShortRoom) ⊎ (result ≡ NoMemory)) }
+{
     let Some(count) = first.len().checked_add(rest.len()) else {
         return Status::NoMemory;
     };

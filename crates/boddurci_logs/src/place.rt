@@ -1,4 +1,6 @@
 //! The place of the next record, as C has it.
+ghost use Rattle.std.specs.Prelude.{◌≡◌};
+ghost use Rattle.boddurci_logs.specs.Answers.{log_at};
 
 use sdbm_log::Log;
 
@@ -15,9 +17,7 @@ pub struct LogPlace {
 impl LogPlace {
     /// The place of a log.
     pub fn of(log: Log) -> LogPlace
-        ensures end { result.end ≡ log.end }
-        ensures room { result.room ≡ log.room }
-        ensures count { result.count ≡ log.count }
+        ensures { log_at result ≡ log }
     {
         LogPlace {
             end: log.end,
@@ -28,7 +28,7 @@ impl LogPlace {
 
     /// The log of a place.
     pub fn log(&self) -> Log
-        ensures { result ≡ record { end = self.now.end; room = self.now.room; count = self.now.count } }
+        ensures { result ≡ log_at self.now }
     {
         Log {
             end: self.end,

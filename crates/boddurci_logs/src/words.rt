@@ -1,4 +1,8 @@
 //! Steps as words of 64 bits: five a step.
+ghost use Rattle.std.specs.Prelude.{◌≡◌, ◌∷◌, ◌⊎◌, [], IfOk};
+ghost use Rattle.boddurci_handles.specs.declared.status.Status.TheVariants as status;
+ghost use Rattle.boddurci_logs.specs.Words.{number_of_file, words_of_step, words_of};
+ghost use Rattle.sdbm_log.specs.declared.records.LogFault.TheVariants as fault;
 
 use boddurci_handles::Status;
 use sdbm_log::{LogFault, Step};
@@ -6,7 +10,9 @@ use sdbm_saves::File;
 use std::alloc::{AllocError, Global};
 
 /// The words of steps: for each its kind, its file, its offset, its place in the buffer, and a length.
-pub fn words_of(alloc: Global, steps: &[Step]) -> Result<Vec<u64>, AllocError> {
+pub fn words_of(alloc: Global, steps: &[Step]) -> Result<Vec<u64>, AllocError>
+    ensures { IfOk result (λ words. words.items ≡ words_of steps.now) }
+{
     let mut words = Vec::new(alloc);
     for index in 0..steps.len() {
         words.extend_from_slice(&words_of_step(steps[index]))?;
@@ -15,7 +21,9 @@ pub fn words_of(alloc: Global, steps: &[Step]) -> Result<Vec<u64>, AllocError> {
 }
 
 // The words of a step.
-fn words_of_step(step: Step) -> [u64; 5] {
+fn words_of_step(step: Step) -> [u64; 5]
+    ensures { result ≡ words_of_step step }
+{
     match step {
         Step::Write {
             file,
@@ -30,7 +38,9 @@ fn words_of_step(step: Step) -> [u64; 5] {
 }
 
 // The number of a file.
-fn code_of(file: File) -> u64 {
+fn code_of(file: File) -> u64
+    ensures { result ≡ number_of_file file }
+{
     match file {
         File::Pages => 0,
         File::Directory => 1,
@@ -39,8 +49,12 @@ fn code_of(file: File) -> u64 {
 }
 
 /// The status of a fault.
-pub fn status_of(fault: LogFault) -> Status {
-    match fault {
+pub fn status_of(why: LogFault) -> Status
+    ensures memory { why ≡ fault.NoMemory → result ≡ status.NoMemory }
+    ensures foreign { why ≡ fault.Foreign → result ≡ status.BadFiles }
+    ensures damaged { why ≡ fault.Damaged → result ≡ status.Stale }
+{
+    match why {
         LogFault::NoMemory => Status::NoMemory,
         LogFault::Foreign => Status::BadFiles,
         LogFault::Damaged => Status::Stale,

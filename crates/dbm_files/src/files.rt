@@ -1,9 +1,9 @@
 //! The files of a run, read and written.
-ghost use Rattle.std.specs.Prelude.{◌≡◌, ◌≤◌, ◌%◌, length, true, IfOk, OnOk};
+ghost use Rattle.std.specs.Prelude.{◌≡◌, ◌≤◌, ◌%◌, length, true, IfOk, IfSome, OnOk};
 ghost use Rattle.sdbm_files.specs.Reading.{with_piece};
 ghost use Rattle.sdbm_addr.specs.Pairs.{page_bytes};
-ghost use Rattle.sdbm_saves.specs.Redo.{files, CanEnd, IsPlan, Knows};
-ghost use Rattle.sdbm_saves.specs.Recording.{image_of, part_image};
+ghost use Rattle.sdbm_saves.specs.Redo.{files, IsPlan, Knows};
+ghost use Rattle.sdbm_saves.specs.Recording.{part_image};
 
 use crate::host::{RealFiles, forget_redo};
 use crate::peeking::{Guard, UnreadPages};
@@ -15,20 +15,24 @@ use dbm_places::{
 };
 use sdbm_addr::PageSize;
 use sdbm_files::{Image, ReadPages};
+use sdbm_log::{LogFault, LogFiles, make_steps, open_steps, plan_of};
 use sdbm_saves::{
-    CallLog, Found, FoundPart, FoundRead, Recorded, Unknown, can_end, lengths_after, plan_in,
-    read_through, recover,
+    CallLog, File as Part, Found, FoundPart, FoundRead, Recorded, Unknown, number, plan_in,
 };
 use std::alloc::Global;
 use std::fs;
 use std::fs::{File, OpenFile};
 use std::io::{self, ErrorKind, Read, Write};
+use std::marker::Brand;
 use std::rt::Files;
 use std::time::{Clock, Duration};
 
 /// A redo file of the program has at most this many bytes: those of both files at their limits, new and old, in blocks of 1,024 with
 /// nine bytes before each, and twenty-nine at the start.
 const REDO_LIMIT: u64 = 2_696_151_069;
+
+// The room of a log that a recovery leaves, which is empty: with its header it has 65,536 bytes.
+const ROOM: usize = 61_440;
 
 /// How many bytes of BASE.pag are read at once: whole pages of either size.
 const PIECE: usize = 262_144;
@@ -326,21 +330,25 @@ fn read_database<R: Files<File = File> + AllocGlobal>(
         directory: read.directory,
         redo,
     };
-    if !can_end(&found) {
-        return Err(FilesFault::BadRedo);
-    }
-    if is_too_long(place, found.redo.as_slice()) {
+    let plan = match plan_of(rt.alloc(), log_files(&found)) {
+        Ok(plan) => plan,
+        Err(fault) => return Err(fault_of(fault)),
+    };
+    if let Some(plan) = &plan
+        && is_too_long(place, plan.as_slice())
+    {
         return Err(FilesFault::FileTooLong);
     }
     if place.writes {
-        end_save(rt, &files.names, seen, &found)?;
+        drop(plan);
+        recover_files(rt, &files.names, seen, &found)?;
         drop(found);
         return read_files(rt, place, false);
     }
     if keep_plan(rt, &files.names).is_err() {
         return Err(FilesFault::ReadFile);
     }
-    let over = lay_over(rt.alloc(), place, found)?;
+    let over = lay_over(rt.alloc(), place, found, plan)?;
     Ok(FileBytes {
         program: read.program,
         seen,
@@ -348,14 +356,32 @@ fn read_database<R: Files<File = File> + AllocGlobal>(
     })
 }
 
-// Whether a file would be longer than it may be, once the save is ended that was cut off.
-fn is_too_long(place: RunPlace<'_>, redo: &[u8]) -> bool {
-    match lengths_after(redo) {
-        Some((pages, directory)) => {
-            pages as u64 > place.pages_limit || directory as u64 > DIR_LIMIT
-        }
-        None => false,
+// The bytes of three files, as the log wants them.
+fn log_files(found: &Found) -> LogFiles<'_>
+    ensures redo { result.redo.now ≡ found.now.redo.items }
+    ensures pages { result.pages.now ≡ found.now.pages.items }
+    ensures directory { result.directory.now ≡ found.now.directory.items }
+{
+    LogFiles {
+        pages: found.pages.as_slice(),
+        directory: found.directory.as_slice(),
+        redo: found.redo.as_slice(),
     }
+}
+
+// The fault of a run whose files cannot be recovered.
+fn fault_of(fault: LogFault) -> FilesFault {
+    match fault {
+        LogFault::NoMemory => FilesFault::NoMemory,
+        LogFault::Foreign | LogFault::Damaged => FilesFault::BadRedo,
+    }
+}
+
+// Whether a plan makes a file longer than it may be.
+fn is_too_long(place: RunPlace<'_>, plan: &[u8]) -> bool
+    requires { IsPlan plan.now }
+{
+    number(plan, 8) as u64 > place.pages_limit || number(plan, 12) as u64 > DIR_LIMIT
 }
 
 // Keeps a plan that is marked, and its name, before anything that stands on it is told: the run that marked it may have been killed before
@@ -373,34 +399,64 @@ fn keep_plan<R: Files<File = File>>(rt: &R, names: &Names) -> io::Result<()> {
     Ok(())
 }
 
-// What files stand for where a save was cut off once its plan was marked.
-fn lay_over(alloc: Global, place: RunPlace<'_>, found: Found) -> Result<FileBytes, FilesFault>
-    requires { CanEnd (image_of found) }
+// What the files mean: the data files with this plan done.
+fn lay_over(
+    alloc: Global,
+    place: RunPlace<'_>,
+    found: Found,
+    plan: Option<Vec<u8>>,
+) -> Result<FileBytes, FilesFault>
+    requires { IfSome plan (λ plan. IsPlan plan.items) }
 {
-    let stands = read_through(alloc, &found)?;
-    drop(found);
+    let Found {
+        pages: old_pages,
+        directory: old_directory,
+        redo,
+    } = found;
+    drop(redo);
     let mut pages = ReadPages::new(alloc, place.page_size);
-    pages.push(stands.pages.as_slice())?;
-    Ok(FileBytes {
-        directory: stands.directory,
+    let Some(plan) = plan else {
+        pages.push(old_pages.as_slice())?;
+        return Ok(read_over(alloc, pages, old_directory));
+    };
+    let new_pages = sdbm_saves::lay_over(alloc, plan.as_slice(), Part::Pages, old_pages.as_slice())?;
+    drop(old_pages);
+    pages.push(new_pages.as_slice())?;
+    drop(new_pages);
+    let directory = sdbm_saves::lay_over(
+        alloc,
+        plan.as_slice(),
+        Part::Directory,
+        old_directory.as_slice(),
+    )?;
+    Ok(read_over(alloc, pages, directory))
+}
+
+// Files that were read, without a program.
+fn read_over(alloc: Global, pages: ReadPages<Global>, directory: Vec<u8>) -> FileBytes {
+    FileBytes {
+        directory,
         pages,
         program: Vec::new(alloc),
         seen: SeenFiles::none(),
-    })
+    }
 }
 
-// Ends a save that was cut off, in the files that were read.
-fn end_save<R: Files<File = File> + AllocGlobal>(
+// Recovers the files after a kill or the loss of power: does what the redo file holds in both data files, and clears its mark.
+fn recover_files<R: Files<File = File> + AllocGlobal>(
     rt: &R,
     names: &Names,
     seen: SeenFiles,
     found: &Found,
-) -> Result<(), FilesFault>
-    requires { CanEnd (image_of found.now) }
-{
+) -> Result<(), FilesFault> {
+    let opened = match open_steps::<Brand>(rt.alloc(), log_files(found), ROOM) {
+        Ok(opened) => opened,
+        Err(fault) => return Err(fault_of(fault)),
+    };
     let files = RealFiles::new(rt, names, seen, CallLog::new(rt.alloc())?);
     let mut disk = Recorded::<RealFiles<'_, R>, Unknown, Found>::new(files, found);
-    Ok(recover(&mut disk, found.redo.as_slice())?)
+    let bytes = opened.bytes.as_slice();
+    Ok(make_steps(rt.alloc(), &mut disk, bytes, opened.steps.as_slice())?)
 }
 
 // The bytes of a redo file that is marked. One that is not marked is no file of a save that was committed, and the next save takes it

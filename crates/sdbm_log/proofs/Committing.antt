@@ -68,7 +68,7 @@ module _ (end : ℕ) (plan bytes : List ℕ) (bytes_are : bytes ≡ record_of pl
       let last : Image = put Redo (written (4096 + end) bytes first.redo) first in
       let One : Image → Type 0 = λ c. (d : Image) × may_leave d × Within Redo (Torn (4096 + end) bytes) d c in
       let one : (c : Image) → One c → Holds (files first) c ⊎ Holds (renewed_files plan first) c = λ c l.
-          appending end bytes plan first bytes_are is_plan knows short log place follows room l.0 c (durable.kept l.0 l.1) (durable.holds l.0 l.1) l.2 in
+      appending end bytes plan first bytes_are is_plan knows short log place follows room l.0 c (durable.kept l.0 l.1) (durable.holds l.0 l.1) l.2 in
       let after = appended end bytes plan first bytes_are is_plan knows short log place follows room in
       let now = after first last (kept_self first.redo first.redo refl) durable.now refl refl in
       record {
@@ -134,12 +134,12 @@ module _ (plan : List ℕ) (is_plan : IsPlan plan) (first : Image) (sized : (g :
       let next : (c : Image) → Next c → Alikes plan may_leave c = λ c l. let old = alike l.0 l.1 in (old.0, old.1, for_joins plan old.0 l.0 c old.2 (for_change plan k lt change refl l.0 c l.2)) in
       let fit : Fits plan change = is_plan.fits k lt in
       let long : length (content (file_of change) seen) ≡ new_length (file_of change) plan =
-          ap (λ (o : Image). length (content (file_of change) o)) is ∙ image_sized plan is_plan k (omega (arith, lt)) first sized (get_or change 0 0) in
+      ap (λ (o : Image). length (content (file_of change) o)) is ∙ image_sized plan is_plan k (omega (arith, lt)) first sized (get_or change 0 0) in
       let done : acted (write (file_of change) (offset_of change) (data_of change)) seen ≡ replayed_image (k + 1) plan first =
-          ap (λ (o : Image). put (file_of change) (written (offset_of change) (data_of change) (content (file_of change) o)) o) is ∙ image_next plan k first change refl in
+      ap (λ (o : Image). put (file_of change) (written (offset_of change) (data_of change) (content (file_of change) o)) o) is ∙ image_next plan k first change refl in
       let rest = changes_do n (k + 1) (omega (arith, all)) (acted (write (file_of change) (offset_of change) (data_of change)) seen) Next done next in
       let there = subst (λ (l : List ℕ). Does (change_acts n l) (acted (write (file_of change) (offset_of change) (data_of change)) seen) Next (Alikes plan may_leave) (λ s m. (s ≡ replayed_image (count_of plan) plan first) × ((c : Image) → m c → Alikes plan may_leave c)))
-          (rest_next k (changes_of plan)) rest in
+      (rest_next k (changes_of plan)) rest in
       record {
         can = (omega (arith, fit.inside, long), there.can);
         any_moment = λ c l. ⊎_elim (λ here. alike c here) (λ later. there.any_moment c later) l;

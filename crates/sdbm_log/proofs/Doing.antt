@@ -10,7 +10,7 @@ pub then_does : (acts more : List Act) (seen : Image) (may_leave P : Image → T
 then_does [] more seen may_leave P Q R first next = next seen may_leave first.after
 then_does (act ∷ acts) more seen may_leave P Q R first next =
     let rest : Does (acts ++ more) (acted act seen) (LeftBy act seen may_leave) P R = then_does acts more (acted act seen) (LeftBy act seen may_leave) P Q R
-        (record { can = first.can.1; any_moment = λ c left. first.any_moment c (inr left); after = first.after }) next in
+    (record { can = first.can.1; any_moment = λ c left. first.any_moment c (inr left); after = first.after }) next in
     record {
       can = (first.can.0, rest.can);
       any_moment = λ c left. ⊎_elim (λ here. first.any_moment c (inl here)) (λ later. rest.any_moment c later) left;
@@ -23,7 +23,7 @@ pub then_at : (acts more : List Act) (seen : Image) (may_leave P : Image → Typ
 then_at [] more seen may_leave P Q R first next = next
 then_at (act ∷ acts) more seen may_leave P Q R first next =
     let rest : Does (acts ++ more) (acted act seen) (LeftBy act seen may_leave) P R = then_at acts more (acted act seen) (LeftBy act seen may_leave) P Q R
-        (record { can = first.can.1; any_moment = λ c left. first.any_moment c (inr left); after = first.after }) next in
+    (record { can = first.can.1; any_moment = λ c left. first.any_moment c (inr left); after = first.after }) next in
     record {
       can = (first.can.0, rest.can);
       any_moment = λ c left. ⊎_elim (λ here. first.any_moment c (inl here)) (λ later. rest.any_moment c later) left;

@@ -29,7 +29,7 @@ close_any first may_leave both are all long =
     let Left : Image → Type 0 = LeftAfter close_acts first may_leave in
     let same : (d : Image) → Synced d → files d ≡ files first = λ d is i. (is.0.1 i, is.1 i) in
     let holds : (c : Image) → (d : Image) × Synced d × Within Redo (Torn 0 (0 ∷ [])) d c → Holds both c = λ c from.
-        cleared both from.0 c (same from.0 from.1 ∙ sym are) (all from.0 from.1.0.0) (long from.0 from.1.0.0) from.2 in
+    cleared both from.0 c (same from.0 from.1 ∙ sym are) (all from.0 from.1.0.0) (long from.0 from.1.0.0) from.2 in
     let kept : IsKept Redo last Left = λ c l. l.1 in
     record {
       can = (tt, (tt, (omega arith, (tt, tt))));
@@ -66,7 +66,7 @@ clear_does first may_leave room n rest unmarked signed long near inside none =
     let last : Image = put Redo (written 4096 zeros first.redo) first in
     let fits : 4096 + length zeros ≤ length first.redo = omega (arith, size, long, inside) in
     let stays : (c : Image) → (d : Image) × may_leave d × Within Redo (Torn 4096 zeros) d c → Stays may_leave c =
-        stays_next may_leave may_leave (Within Redo (Torn 4096 zeros)) (stays_now may_leave) (stays_behind zeros) in
+    stays_next may_leave may_leave (Within Redo (Torn 4096 zeros)) (stays_now may_leave) (stays_behind zeros) in
     let holds : (c : Image) → Stays may_leave c → Holds (files first) c = λ c is. settled_holds first may_leave rest is.0 c is.1 is.2 in
     let zero : get_or last.redo 0 0 ≡ 0 = written_before 4096 zeros first.redo 0 (omega (arith, fits)) (omega arith) ∙ unmarked in
     let same : (c : Image) → Left c → files c ≡ files last = λ c l. let is = stays c l.0 in is.2.files ∙ rest.kept is.0 is.1 in
@@ -89,9 +89,9 @@ pieces_empty len redo long is =
     let first : length (take 9 redo) ≡ 9 = length-take-le 9 redo (omega (arith, long, is)) in
     let past : drop (9 + length zeros) redo ≡ [] = drop_all (9 + length zeros) redo (omega (arith, size, is, long)) in
     let behind : drop 9 (written 9 zeros redo) ≡ zeros =
-        drop-append-le 9 (take 9 redo) (zeros ++ drop (9 + length zeros) redo) (omega (arith, first))
-        ∙ ap (λ (l : List ℕ). l ++ (zeros ++ drop (9 + length zeros) redo)) (drop_all 9 (take 9 redo) (omega (arith, first)))
-        ∙ ap (λ (l : List ℕ). zeros ++ l) past ∙ append-nil zeros in
+    drop-append-le 9 (take 9 redo) (zeros ++ drop (9 + length zeros) redo) (omega (arith, first))
+    ∙ ap (λ (l : List ℕ). l ++ (zeros ++ drop (9 + length zeros) redo)) (drop_all 9 (take 9 redo) (omega (arith, first)))
+    ∙ ap (λ (l : List ℕ). zeros ++ l) past ∙ append-nil zeros in
     ap (λ (l : List ℕ). 0 ∷ 115 ∷ 100 ∷ 98 ∷ 109 ∷ 108 ∷ 111 ∷ 103 ∷ 49 ∷ l) behind
 
 pub start_does : (first : Image) (may_leave : Image → Type 0) (len : ℕ) → IsAtRest first may_leave → 4096 ≤ len → len ≤ 4000000000
@@ -105,12 +105,12 @@ start_does first may_leave len rest long near =
     let last : Image = put Redo (written 0 head (written 9 zeros (resized len first.redo))) first in
     let empty : last.redo ≡ empty_log len = pieces_empty len (resized len first.redo) (omega (arith, long)) sized in
     let count : length last.redo ≡ len = length-written 0 head (written 9 zeros (resized len first.redo)) (omega (arith, long, sized, size, length-written 9 zeros (resized len first.redo) (omega (arith, size, sized, long))))
-        ∙ length-written 9 zeros (resized len first.redo) (omega (arith, size, sized, long)) ∙ sized in
+    ∙ length-written 9 zeros (resized len first.redo) (omega (arith, size, sized, long)) ∙ sized in
     let One : Image → Type 0 = λ c. (d : Image) × may_leave d × Within Redo (TornLength len) d c in
     let Two : Image → Type 0 = λ c. (d : Image) × One d × Within Redo (Torn 9 zeros) d c in
     let one : (c : Image) → One c → Stays may_leave c = stays_next may_leave may_leave (Within Redo (TornLength len)) (stays_now may_leave) (stays_resized len (omega (arith, long))) in
     let two : (c : Image) → Two c → Stays may_leave c = stays_next may_leave One (Within Redo (Torn 9 zeros)) one
-        (λ d c within. stays_within (Torn 9 zeros) (λ x y torn. inl (torn.before 0 (omega arith))) d c within) in
+    (λ d c within. stays_within (Torn 9 zeros) (λ x y torn. inl (torn.before 0 (omega arith))) d c within) in
     let three : (c : Image) → (d : Image) × Two d × Within Redo (Torn 0 head) d c → Stays may_leave c = stays_next may_leave Two (Within Redo (Torn 0 head)) two (stays_first head (omega arith) refl) in
     let holds : (c : Image) → Stays may_leave c → Holds (files first) c = λ c is. settled_holds first may_leave rest is.0 c is.1 is.2 in
     let same : (c : Image) → Left c → files c ≡ files last = λ c l. let is = three c l.0 in is.2.files ∙ rest.kept is.0 is.1 in

@@ -5,6 +5,7 @@ pub mod Header
 pub mod Joins
 pub mod LogRuns
 pub mod Logs
+pub mod Makes
 pub mod Noting
 pub mod Opens
 pub mod Saves

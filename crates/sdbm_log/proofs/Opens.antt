@@ -112,16 +112,16 @@ module _ (first : Image) (can : CanRecover first) (s : Image) (m : Image → Typ
       let redo_is : first.redo ≡ 1 ∷ plan = marked_list first.redo marked in
       let all : files_of first ≡ renewed_files plan first = ap (λ b. files_by b first) no_log ∙ when_marked first marked in
       let old : (d c : Image) → m d → Alike plan d c → Holds (files_of first) c = λ d c l alike.
-          plan_holds (files_of first) c (half_done plan first redo_is d c (only d l) alike ∙ sym all) (half_ended plan first ends.0 ends.1 redo_is d c (only d l) alike) in
+      plan_holds (files_of first) c (half_done plan first redo_is d c (only d l) alike ∙ sym all) (half_ended plan first ends.0 ends.1 redo_is d c (only d l) alike) in
       then_does (apply_acts plan) close_acts s m (λ c. Holds (files_of first) c) (λ t n. (t ≡ renewed_image plan s) × ((c : Image) → n c → Alikes plan m c)) _
       (weaker_does (apply_acts plan) s m _ _ _ _ (λ c is. old is.0 c is.1 (is.2 plan (ends_itself plan ends.0))) (λ t n is. is) (alike_does plan ends.0 s m))
       (λ t n is.
       let same : files t ≡ files_of first = ap (λ (o : Image). files o) is.0 ∙ ap (λ (o : Image). renewed_files plan o) read ∙ sym all in
       let redo : t.redo ≡ first.redo = ap (λ (o : Image). o.redo) is.0 ∙ ap (λ (o : Image). o.redo) read in
       let long : (c : Image) → n c → 1 ≤ length c.redo = λ c l.
-          let from = is.1 c l in
-          let kept : c.redo ≡ first.redo = (from.2 plan (ends_itself plan ends.0)).redo ∙ ap (λ (o : Image). o.redo) (only from.0 from.1) in
-          omega (arith, ap (λ (l : List ℕ). length l) kept, ap (λ (l : List ℕ). length l) redo_is) in
+      let from = is.1 c l in
+      let kept : c.redo ≡ first.redo = (from.2 plan (ends_itself plan ends.0)).redo ∙ ap (λ (o : Image). o.redo) (only from.0 from.1) in
+      omega (arith, ap (λ (l : List ℕ). length l) kept, ap (λ (l : List ℕ). length l) redo_is) in
       weaker_does close_acts t n _ _ _ _ (λ c holds. holds)
       (λ u k done. closed first.redo (files_of first) u k refl marked t redo same done)
       (close_any t n (files_of first) (sym same) (λ c l. let from = is.1 c l in old from.0 c from.1 (from.2 plan (ends_itself plan ends.0))) long))
@@ -308,7 +308,7 @@ module _ (found : LogFiles) (image : Image) (reads : Reads found image) where
       let marked : get_or found.redo.now 0 0 ≡ 1 = ⊎_elim (λ log. log_mark found.redo.now log.0) (λ old. old.1.0) is_redo in
       let same : image ≡ image_in found = read_marked (ap (λ (l : List ℕ). get_or l 0 0) reads.redo ∙ marked) in
       let means : files_of (image_in found) ≡ renewed_files plan (image_in found) = ⊎_elim
-          (λ log. files_some plan (image_in found) log.1.0 log.1.1)
-          (λ old. ap (λ b. files_by b (image_in found)) old.0 ∙ when_marked (image_in found) old.1.0 ∙ ap (λ (l : List ℕ). renewed_files l (image_in found)) (sym old.1.1))
-          is_redo in
+      (λ log. files_some plan (image_in found) log.1.0 log.1.1)
+      (λ old. ap (λ b. files_by b (image_in found)) old.0 ∙ when_marked (image_in found) old.1.0 ∙ ap (λ (l : List ℕ). renewed_files l (image_in found)) (sym old.1.1))
+      is_redo in
       (does.can, ap (λ (o : Image). files o) does.after.0 ∙ ap (λ (o : Image). renewed_files plan o) same ∙ sym means ∙ ap (λ (o : Image). files_of o) (sym same))

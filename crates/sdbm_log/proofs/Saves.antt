@@ -24,9 +24,9 @@ rest_zero : (end : ℕ) (log : List ℕ) → HasRecords end log → nonzero (dro
 rest_zero end log place =
     let all : end ≡ length place.records = place.ends in
     let is : drop end log ≡ place.slack =
-        ap (λ (l : List ℕ). drop end l) place.is
-        ∙ drop-append-le end place.records place.slack (omega (arith, all))
-        ∙ ap (λ (l : List ℕ). l ++ place.slack) (drop_all end place.records (omega (arith, all))) in
+    ap (λ (l : List ℕ). drop end l) place.is
+    ∙ drop-append-le end place.records place.slack (omega (arith, all))
+    ∙ ap (λ (l : List ℕ). l ++ place.slack) (drop_all end place.records (omega (arith, all))) in
     ap (λ (l : List ℕ). nonzero l) is ∙ place.zeros
 
 records_within : (end room : ℕ) (redo : List ℕ) → HasRecords end (records_of redo) → length redo ≡ 4096 + room → end ≤ room
@@ -217,9 +217,9 @@ save_does log next plan commit apply is_plan short calls seen may_leave ready kn
     let long : length (record_of plan) ≡ 8 + length plan = omega arith in
     let end : mid.end + length (record_of plan) ≡ mid.end + (8 + length plan) = omega (arith, long) in
     let commits = commit_after plan (record_of plan) refl is_plan short calls.making mid.end mid.room mid.count seen may_leave (made_room log mid plan calls.making calls.room seen may_leave ready) knows
-        (room_follows log mid plan calls.making calls.room) (omega (arith, calls.room.fits, long)) calls.room.few in
+    (room_follows log mid plan calls.making calls.room) (omega (arith, calls.room.fits, long)) calls.room.few in
     let here = subst (λ (l : List Act). Does l seen may_leave (λ c. Holds (files seen) c ⊎ Holds (renewed_files plan seen) c) (IsWaiting plan (mid.end + (8 + length plan)) mid.room (mid.count + count_of plan) (files seen))) (sym calls.commits)
-        (subst (λ k. Does (calls.making ++ commit_acts mid.end (record_of plan)) seen may_leave (λ c. Holds (files seen) c ⊎ Holds (renewed_files plan seen) c) (IsWaiting plan k mid.room (mid.count + count_of plan) (files seen))) end commits) in
+    (subst (λ k. Does (calls.making ++ commit_acts mid.end (record_of plan)) seen may_leave (λ c. Holds (files seen) c ⊎ Holds (renewed_files plan seen) c) (IsWaiting plan k mid.room (mid.count + count_of plan) (files seen))) end commits) in
     ⊎_elim
     (λ growing. subst (λ (l : List Act). IsSave plan commit l next.end next.room next.count seen may_leave) (sym growing.1.0)
     (subst (λ (l : Log). IsSave plan commit (apply_acts plan) l.end l.room l.count seen may_leave) (sym growing.1.1)

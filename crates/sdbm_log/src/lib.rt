@@ -6,15 +6,19 @@
 mod header_notes;
 mod knowing;
 mod log;
+mod making;
 mod opening;
 mod reading;
 mod records;
 mod runs;
 mod saving;
 mod steps;
+#[cfg(test)]
+mod tests;
 
 pub use header_notes::{Applied, BootId, FileState, NOTES_LEN, NOTES_START, Notes, says_applied};
 pub use log::Log;
+pub use making::make_steps;
 pub use opening::{OpenSteps, close_steps, open_steps};
 pub use reading::{ReadSteps, read_steps};
 pub use records::{LogFault, LogFiles, is_log, plan_of, records_end};

@@ -14,7 +14,9 @@ ghost use Rattle.sdbm_log.specs.declared.records.LogFault.TheVariants.{Foreign, 
 use crate::log::{HEADER, Log};
 use crate::records::{LogFault, LogFiles, is_signed, plan_of, used_room};
 use crate::runs::Crashes;
-use crate::steps::{HEAD, RECORD_AT, Step, push_apply, push_clear, push_close, push_settle, push_start};
+use crate::steps::{
+    HEAD, RECORD_AT, Step, push_apply, push_clear, push_close, push_settle, push_start,
+};
 use sdbm_saves::byte_at;
 use std::alloc::{AllocError, Global};
 

@@ -126,6 +126,7 @@ pub struct LogFiles<'a> {
 /// record is damaged. `NoMemory` if memory runs out.
 pub fn plan_of(alloc: Global, files: LogFiles<'_>) -> Result<Option<Vec<u8>>, LogFault>
     ensures some { IfOk result (λ found_plan. IfSome found_plan (λ plan. IsRedoPlan (image_in files.entry) plan.items × CanRecover (image_in files.entry))) }
+    ensures plan { IfOk result (λ found_plan. IfSome found_plan (λ plan. IsPlan plan.items)) }
     ensures none { IfOk result (λ found_plan. IsNone found_plan → HasNoPlan (image_in files.entry) × CanRecover (image_in files.entry)) }
     ensures foreign { IfErr result (λ fault. fault ≡ Foreign → CanRecover (image_in files.entry) → ⊥) }
     ensures damaged { IfErr result (λ fault. fault ≡ Damaged → CanRecover (image_in files.entry) → ⊥) }
@@ -140,6 +141,7 @@ pub fn plan_of(alloc: Global, files: LogFiles<'_>) -> Result<Option<Vec<u8>>, Lo
 fn old_plan(alloc: Global, files: LogFiles<'_>) -> Result<Option<Vec<u8>>, LogFault>
     requires { is_log files.redo.now ≡ false }
     ensures some { IfOk result (λ found_plan. IfSome found_plan (λ plan. IsRedoPlan (image_in files.entry) plan.items × CanRecover (image_in files.entry))) }
+    ensures plan { IfOk result (λ found_plan. IfSome found_plan (λ plan. IsPlan plan.items)) }
     ensures none { IfOk result (λ found_plan. IsNone found_plan → HasNoPlan (image_in files.entry) × CanRecover (image_in files.entry)) }
     ensures foreign { IfErr result (λ fault. fault ≡ Foreign → CanRecover (image_in files.entry) → ⊥) }
     ensures damaged { IfErr result (λ fault. fault ≡ Damaged → CanRecover (image_in files.entry) → ⊥) }
@@ -172,6 +174,7 @@ fn contents<'a>(files: LogFiles<'a>) -> Contents<'a>
 fn plan_of_log(alloc: Global, files: LogFiles<'_>) -> Result<Option<Vec<u8>>, LogFault>
     requires { is_log files.redo.now ≡ true }
     ensures some { IfOk result (λ found_plan. IfSome found_plan (λ plan. IsRedoPlan (image_in files.entry) plan.items × CanRecover (image_in files.entry))) }
+    ensures plan { IfOk result (λ found_plan. IfSome found_plan (λ plan. IsPlan plan.items)) }
     ensures none { IfOk result (λ found_plan. IsNone found_plan → HasNoPlan (image_in files.entry) × CanRecover (image_in files.entry)) }
     ensures foreign { IfErr result (λ fault. fault ≡ Foreign → CanRecover (image_in files.entry) → ⊥) }
     ensures damaged { IfErr result (λ fault. fault ≡ Damaged → CanRecover (image_in files.entry) → ⊥) }

@@ -43,15 +43,13 @@ pub struct SaveSteps {
 /// # Errors
 ///
 /// `AllocError` if memory runs out.
-pub fn save_steps<C: Crashes>(
-    alloc: Global,
-    log: Log,
-    plan: &[u8],
-) -> Result<SaveSteps, AllocError>
+pub fn save_steps<C: Crashes>(alloc: Global, log: Log, plan: &[u8]) -> Result<SaveSteps, AllocError>
     requires plan { IsPlan plan.now }
     requires short { length plan.now < 3000000000 }
     requires near { log.end ≤ 4000000000 }
 
+    // The bytes are a head of ten, and then the record of the plan.
+    ensures buffer { IfOk result (λ save. save.bytes.items ≡ with_head (record_of plan.now)) }
     ensures calls { IfOk result (λ save. AreSaveCalls log save.log plan.now (acts_of save.bytes.items save.commit.items) (acts_of save.bytes.items save.apply.items)) }
 
     // The promises of these calls, whatever a crash might have left before them.

@@ -20,11 +20,20 @@ pub enum Step {
         len: usize,
     },
     /// Writes zeros at this offset.
-    Zeros { file: File, at: usize, len: usize },
+    Zeros {
+        file: File,
+        at: usize,
+        len: usize,
+    },
     /// Cuts a file to a length, or makes it longer by zeros.
-    Resize { file: File, len: usize },
+    Resize {
+        file: File,
+        len: usize,
+    },
     /// Syncs a file: its bytes, its length and its name.
-    Sync { file: File },
+    Sync {
+        file: File,
+    },
 }
 
 // What a buffer of steps begins with: the mark, and the first nine bytes of an empty log.

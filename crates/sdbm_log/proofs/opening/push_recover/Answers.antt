@@ -28,8 +28,7 @@ returns c =
     let plan : List ℕ = c.in-Some.plan.items in
     let is_redo : IsRedoPlan (image_in c.args.files) plan = subst (λ o. IfSome o (λ plan. IsRedoPlan (image_in c.args.files) plan.items)) c.in-Some.is c.requires.some in
     let slice : c.as_slice.result.now ≡ plan = c.as_slice.ensures.value in
-    let again : c.as_slice-2.result.now ≡ plan = c.as_slice-2.ensures.value in
-    (
+    let again : c.as_slice-2.result.now ≡ plan = c.as_slice-2.ensures.value in (
       plan,
       (
         c.in_ok-extend_from_slice.ensures.items ∙ ap (λ (l : List ℕ). l ++ c.as_slice-2.result.now) c.requires.head ∙ ap (λ (l : List ℕ). with_head l) again,

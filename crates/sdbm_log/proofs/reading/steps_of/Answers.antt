@@ -27,5 +27,5 @@ returns c = λ image reads.
     let is_redo : IsRedoPlan (image_in c.args.found) plan = subst (λ o. IfSome o (λ plan. IsRedoPlan (image_in c.args.found) plan.items)) c.in-Some.is c.requires.some in
     let slice : c.as_slice.result.now ≡ plan = c.as_slice.ensures.value in
     let acts : acts_of plan c.push_apply.new.steps.items ≡ apply_acts plan =
-        c.in_ok-push_apply.ensures plan (sym slice) ∙ ap (λ l. acts_of plan l ++ apply_acts c.as_slice.result.now) c.new-steps.ensures.items ∙ ap (λ (l : List ℕ). apply_acts l) slice in
+    c.in_ok-push_apply.ensures plan (sym slice) ∙ ap (λ l. acts_of plan l ++ apply_acts c.as_slice.result.now) c.new-steps.ensures.items ∙ ap (λ (l : List ℕ). apply_acts l) slice in
     subst (λ (l : List Act). CanDo l image × (files (seen_after l image) ≡ files_of image)) (sym acts) (reads_plan c.args.found image reads plan c.requires.can_recover is_redo)

@@ -7,6 +7,9 @@ use Rattle.sdbm_log.specs.Steps.{acts_of, with_head}
 use Rattle.sdbm_log.proofs.Saves.{save_does, save_is_run}
 use Rattle.sdbm_log.proofs.saving.save_steps.Goals as goal
 
+pub returns-clause-buffer : goal.returns-clause-buffer
+returns-clause-buffer g c = c.in_ok-push_record.ensures ∙ ap (λ (l : List ℕ). l ++ record_of c.args.plan.now) c.in_ok-bytes.ensures.items
+
 pub returns-clause-calls : goal.returns-clause-calls
 returns-clause-calls g c =
     let plan : List ℕ = c.args.plan.now in

@@ -1,0 +1,94 @@
+//! The log of a base: which calls on its files C is to make.
+ghost use Rattle.std.specs.Prelude.{◌≡◌};
+ghost use Rattle.boddurci_handles.specs.Statuses.{code_of};
+ghost use Rattle.boddurci_handles.specs.declared.status.Status.{Status};
+ghost use Rattle.boddurci_logs.specs.Answers.{files_in, OpenAnswer, ReadAnswer, SaveAnswer, CloseAnswer};
+
+use boddurci_logs::{LogPlace, close, open, read, save};
+use sdbm_log::LogFiles;
+use std::alloc::Global;
+
+/// Tells the steps that open the log of a base with at least this much room, and the log after them. They sync what was read, recover the data
+/// files if the redo file has its mark, and make the redo file an empty log. The data files are needed only if it has the mark.
+///
+/// Returns `ShortRoom` and writes nothing but the lengths if a room is too short; `BadFiles` if the redo file has no plan of these files;
+/// `Stale` if its log is damaged; `TooLong` if the room is over 2^30; or `NoMemory`.
+#[unsafe(no_mangle)]
+pub extern "C" fn boddurci_log_open(
+    alloc: Global,
+    pages: &[u8],
+    directory: &[u8],
+    redo: &[u8],
+    room: usize,
+    log: &mut LogPlace,
+    bytes: &mut [u8],
+    bytes_len: &mut usize,
+    words: &mut [u64],
+    words_len: &mut usize,
+) -> u32
+    ensures { (status : Status) × ((result ≡ code_of status) × OpenAnswer (files_in pages.now directory.now redo.now) room log.old log.new bytes.old bytes.new words.old words.new status) }
+{
+    let found = LogFiles {
+        pages,
+        directory,
+        redo,
+    };
+    open(alloc, found, room, log, bytes, bytes_len, words, words_len).code()
+}
+
+/// Tells the steps that make copies of the data files what the files of a base mean: none if the redo file has no plan.
+///
+/// Returns what `boddurci_log_open` does.
+#[unsafe(no_mangle)]
+pub extern "C" fn boddurci_log_read(
+    alloc: Global,
+    pages: &[u8],
+    directory: &[u8],
+    redo: &[u8],
+    bytes: &mut [u8],
+    bytes_len: &mut usize,
+    words: &mut [u64],
+    words_len: &mut usize,
+) -> u32
+    ensures { (status : Status) × ((result ≡ code_of status) × ReadAnswer (files_in pages.now directory.now redo.now) bytes.old bytes.new words.old words.new status) }
+{
+    let found = LogFiles {
+        pages,
+        directory,
+        redo,
+    };
+    read(alloc, found, bytes, bytes_len, words, words_len).code()
+}
+
+/// Tells the steps of a save in a log, how many words those have that commit it, and the log after all of them. `bytes` has room for 18 bytes
+/// and then the plan; the bytes before the plan are written.
+///
+/// Returns `ShortRoom` and writes nothing but the lengths if the room for words is too short; `BadFiles` if the bytes are no plan; `TooLong` if
+/// the plan has 3,000,000,000 bytes or more; or `NoMemory`.
+#[unsafe(no_mangle)]
+pub extern "C" fn boddurci_log_save(
+    alloc: Global,
+    log: &mut LogPlace,
+    bytes: &mut [u8],
+    words: &mut [u64],
+    words_len: &mut usize,
+    committed: &mut usize,
+) -> u32
+    ensures { (status : Status) × ((result ≡ code_of status) × SaveAnswer log.old log.new bytes.old bytes.new words.old words.new committed.new status) }
+{
+    save(alloc, log, bytes, words, words_len, committed).code()
+}
+
+/// Tells the steps that close a log: they sync both data files, and clear the mark. They write no bytes of a buffer.
+///
+/// Returns `ShortRoom` if the room is too short, or `NoMemory`.
+#[unsafe(no_mangle)]
+pub extern "C" fn boddurci_log_close(
+    alloc: Global,
+    words: &mut [u64],
+    words_len: &mut usize,
+) -> u32
+    ensures { (status : Status) × ((result ≡ code_of status) × CloseAnswer words.old words.new status) }
+{
+    close(alloc, words, words_len).code()
+}

@@ -1,0 +1,88 @@
+-- What the calls of C answer about a log.
+use Rattle.std.specs.Prelude.{◌≡◌, ◌≢◌, ◌⊎◌, ◌<◌, ◌≤◌, ℕ, ◌+◌, ◌^◌, List, [], ◌∷◌, ◌++◌, length, drop, get_or}
+use Rattle.sdbm_saves.specs.Acts.{seen_after}
+use Rattle.sdbm_saves.specs.Disk.{Image}
+use Rattle.sdbm_saves.specs.Redo.{files, IsPlan}
+use Rattle.sdbm_log.specs.Doing.{CanDo}
+use Rattle.sdbm_log.specs.Log.{files_of, CanRecover}
+use Rattle.sdbm_log.specs.Protocol.{close_acts}
+use Rattle.sdbm_log.specs.Saving.{AreOpenCalls, AreSaveCalls}
+use Rattle.sdbm_log.specs.Steps.{acts_of}
+use Rattle.sdbm_log.specs.declared.log.Log.{Log}
+use Rattle.sdbm_log.specs.declared.steps.Step.{Step}
+use Rattle.boddurci_handles.specs.declared.status.Status.{Status}
+use Rattle.boddurci_handles.specs.declared.status.Status.TheVariants.{Done, ShortRoom, BadFiles, Stale, NoMemory, TooLong}
+use Rattle.boddurci_logs.specs.declared.place.LogPlace.{LogPlace}
+use Rattle.boddurci_logs.specs.Words.{words_of}
+
+-- items stand in the first places of a room
+abbrev pub IsFilled : {X : Type 0} → List X → List X → List X → Type 0
+IsFilled items old new = (length items ≤ length old) × (new ≡ items ++ drop (length items) old)
+
+-- a buffer and steps were handed out in two rooms
+pub record AreHandedOut (buffer : List ℕ) (steps : List Step) (bytes_old bytes_new words_old words_new : List ℕ) : Type 0 where
+  pub bytes : IsFilled buffer bytes_old bytes_new
+  pub words : IsFilled (words_of steps) words_old words_new
+
+-- a buffer and steps do not fit in two rooms
+abbrev pub AreTooMany : List ℕ → List Step → List ℕ → List ℕ → Type 0
+AreTooMany buffer steps bytes words = (length bytes < length buffer) ⊎ (length words < length (words_of steps))
+
+abbrev pub files_in : List ℕ → List ℕ → List ℕ → Image
+files_in pages directory redo = record { pages = pages; directory = directory; redo = redo }
+
+abbrev pub log_at : LogPlace → Log
+log_at place = record { end = place.end; room = place.room; count = place.count }
+
+-- an image of which this was read: the redo file, and if that has its mark, both data files
+pub record ReadsLike (found image : Image) : Type 0 where
+  pub redo : image.redo ≡ found.redo
+  pub both : get_or found.redo 0 0 ≡ 1 → files image ≡ files found
+
+-- steps that open the log of what was read, with the log after them
+pub record AreOpenSteps (found : Image) (buffer : List ℕ) (steps : List Step) (log : LogPlace) : Type 0 where
+  pub calls : (image : Image) → ReadsLike found image → AreOpenCalls image log.room (acts_of buffer steps)
+  pub end : log.end ≡ 0
+  pub count : log.count ≡ 0
+
+-- steps that make copies of the data files what was read means
+abbrev pub AreReadSteps : Image → List ℕ → List Step → Type 0
+AreReadSteps found buffer steps = (image : Image) → ReadsLike found image → CanDo (acts_of buffer steps) image × (files (seen_after (acts_of buffer steps) image) ≡ files_of image)
+
+-- steps of a save in a log by a plan, with the log after them; the first words are those that commit it
+pub record AreSaveSteps (plan : List ℕ) (old new : LogPlace) (buffer : List ℕ) (commit apply : List Step) : Type 0 where
+  pub calls : AreSaveCalls (log_at old) (log_at new) plan (acts_of buffer commit) (acts_of buffer apply)
+
+-- A buffer and steps are handed out if both rooms are long enough; their lengths are told either way.
+pub record HandsOut (buffer : List ℕ) (steps : List Step) (bytes_old bytes_new : List ℕ) (bytes_len : ℕ) (words_old words_new : List ℕ) (words_len : ℕ) (status : Status) : Type 0 where
+  pub done : status ≡ Done → AreHandedOut buffer steps bytes_old bytes_new words_old words_new
+  pub untouched : status ≢ Done → (bytes_new ≡ bytes_old) × (words_new ≡ words_old)
+  pub short : status ≡ ShortRoom → AreTooMany buffer steps bytes_old words_old
+  pub told : status ≢ NoMemory → (bytes_len ≡ length buffer) × (words_len ≡ length (words_of steps))
+  pub only : (status ≡ Done) ⊎ ((status ≡ ShortRoom) ⊎ (status ≡ NoMemory))
+
+-- The answer about steps that open a log.
+pub record OpenAnswer (found : Image) (room : ℕ) (log_old log_new : LogPlace) (bytes_old bytes_new words_old words_new : List ℕ) (status : Status) : Type 0 where
+  pub done : status ≡ Done → (buffer : List ℕ) × (steps : List Step) × (AreOpenSteps found buffer steps log_new × AreHandedOut buffer steps bytes_old bytes_new words_old words_new)
+  pub untouched : status ≢ Done → (log_new ≡ log_old) × ((bytes_new ≡ bytes_old) × (words_new ≡ words_old))
+  pub refused : (status ≡ BadFiles) ⊎ (status ≡ Stale) → CanRecover found → ⊥
+  pub too_long : status ≡ TooLong → 2 ^ 30 < room
+
+-- The answer about steps for a reader.
+pub record ReadAnswer (found : Image) (bytes_old bytes_new words_old words_new : List ℕ) (status : Status) : Type 0 where
+  pub done : status ≡ Done → (buffer : List ℕ) × (steps : List Step) × (AreReadSteps found buffer steps × AreHandedOut buffer steps bytes_old bytes_new words_old words_new)
+  pub untouched : status ≢ Done → (bytes_new ≡ bytes_old) × (words_new ≡ words_old)
+  pub refused : (status ≡ BadFiles) ⊎ (status ≡ Stale) → CanRecover found → ⊥
+
+-- The answer about steps of a save. The plan stands in the bytes after the first 18, and the steps write bytes of these.
+pub record SaveAnswer (log_old log_new : LogPlace) (bytes_old bytes_new words_old words_new : List ℕ) (committed : ℕ) (status : Status) : Type 0 where
+  pub done : status ≡ Done → (commit : List Step) × (apply : List Step) × (AreSaveSteps (drop 18 bytes_old) log_old log_new bytes_new commit apply
+      × (IsFilled (words_of commit ++ words_of apply) words_old words_new × (committed ≡ length (words_of commit))))
+  pub plan : drop 18 bytes_new ≡ drop 18 bytes_old
+  pub untouched : status ≢ Done → (log_new ≡ log_old) × ((bytes_new ≡ bytes_old) × (words_new ≡ words_old))
+  pub refused : status ≡ BadFiles → (length bytes_old < 18) ⊎ (IsPlan (drop 18 bytes_old) → ⊥)
+
+-- The answer about steps that close a log.
+pub record CloseAnswer (words_old words_new : List ℕ) (status : Status) : Type 0 where
+  pub done : status ≡ Done → (steps : List Step) × (IsFilled (words_of steps) words_old words_new × ((buffer : List ℕ) → acts_of buffer steps ≡ close_acts))
+  pub untouched : status ≢ Done → words_new ≡ words_old

@@ -1,0 +1,64 @@
+//! Steps that open a log, and those for a reader.
+ghost use Rattle.std.specs.Prelude.{◌≡◌};
+ghost use Rattle.boddurci_logs.specs.Answers.{OpenAnswer, ReadAnswer};
+ghost use Rattle.sdbm_log.specs.Saving.{image_in};
+
+use crate::out::hand_out;
+use crate::place::LogPlace;
+use crate::words::status_of;
+use boddurci_handles::Status;
+use sdbm_log::{LogFiles, open_steps, read_steps};
+use std::alloc::Global;
+use std::marker::Brand;
+
+// The most room that may be asked for.
+const MOST_ROOM: usize = 1 << 30;
+
+/// Hands out the steps that open a log.
+pub fn open(
+    alloc: Global,
+    found: LogFiles<'_>,
+    room: usize,
+    log: &mut LogPlace,
+    bytes: &mut [u8],
+    bytes_len: &mut usize,
+    words: &mut [u64],
+    words_len: &mut usize,
+) -> Status
+    ensures { OpenAnswer (image_in found.entry) room log.old log.new bytes.old bytes.new words.old words.new result }
+{
+    if room > MOST_ROOM {
+        return Status::TooLong;
+    }
+    let opened = match open_steps::<Brand>(alloc, found, room) {
+        Ok(opened) => opened,
+        Err(fault) => return status_of(fault),
+    };
+    let made = (opened.bytes.as_slice(), opened.steps.as_slice());
+    match hand_out(alloc, made, bytes, bytes_len, words, words_len) {
+        Status::Done => {
+            *log = LogPlace::of(opened.log);
+            Status::Done
+        }
+        status => status,
+    }
+}
+
+/// Hands out the steps for a reader.
+pub fn read(
+    alloc: Global,
+    found: LogFiles<'_>,
+    bytes: &mut [u8],
+    bytes_len: &mut usize,
+    words: &mut [u64],
+    words_len: &mut usize,
+) -> Status
+    ensures { ReadAnswer (image_in found.entry) bytes.old bytes.new words.old words.new result }
+{
+    let read = match read_steps(alloc, found) {
+        Ok(read) => read,
+        Err(fault) => return status_of(fault),
+    };
+    let made = (read.bytes.as_slice(), read.steps.as_slice());
+    hand_out(alloc, made, bytes, bytes_len, words, words_len)
+}

@@ -1,0 +1,441 @@
+// Logs as bytes.
+
+use crate::making::part;
+use crate::records::push_record;
+use crate::{
+    Applied, BootId, FileState, Log, LogFault, LogFiles, NOTES_LEN, Notes, ReadSteps, Step,
+    close_steps, is_log, open_steps, plan_of, read_steps, records_end, save_steps, says_applied,
+};
+use sdbm_saves::{File, Found, is_plan, lay_over, spelled};
+use std::alloc::{AllocError, Global};
+use std::marker::Brand;
+use std::test::Fail;
+
+// A plan that changes one of the four bytes of `.pag`, which was 0.
+fn plan(alloc: Global, at: usize, byte: u8) -> Result<Vec<u8>, AllocError> {
+    let mut plan = Vec::from_slice(alloc, b"sdbmred2")?;
+    plan.extend_from_slice(&spelled(4))?;
+    plan.extend_from_slice(&spelled(1))?;
+    plan.extend_from_slice(&spelled(4))?;
+    plan.extend_from_slice(&spelled(1))?;
+    plan.extend_from_slice(&spelled(1))?;
+    plan.extend_from_slice(&[0])?;
+    plan.extend_from_slice(&spelled(at))?;
+    plan.extend_from_slice(&spelled(1))?;
+    plan.extend_from_slice(&[byte, 0])?;
+    Ok(plan)
+}
+
+fn record(alloc: Global, at: usize, byte: u8) -> Result<Vec<u8>, AllocError> {
+    let plan = plan(alloc, at, byte)?;
+    if plan.len() > 100 {
+        return Err(AllocError);
+    }
+    let mut bytes = Vec::new(alloc);
+    push_record(&mut bytes, plan.as_slice())?;
+    Ok(bytes)
+}
+
+// The record of a second save after that of a first one. A crash has left the bytes of the second before `cut`, but not that at `hole`.
+fn log(alloc: Global, cut: usize, hole: usize) -> Result<Vec<u8>, AllocError> {
+    let mut log = record(alloc, 1, 7)?;
+    let second = record(alloc, 2, 9)?;
+    for index in 0..second.len() {
+        if index < cut && index != hole {
+            log.push(second[index])?;
+        } else {
+            log.push(0)?;
+        }
+    }
+    Ok(log)
+}
+
+// Files with these bytes in the log, and the mark set.
+fn found(alloc: Global, pages: &[u8], log: &[u8]) -> Result<Found, AllocError> {
+    let mut redo = Vec::from_slice(alloc, b"\x01sdbmlog1")?;
+    redo.resize(4096, 0)?;
+    redo.extend_from_slice(log)?;
+    redo.resize(4096 + 200, 0)?;
+    Ok(Found {
+        pages: Vec::from_slice(alloc, pages)?,
+        directory: Vec::from_slice(alloc, &[0])?,
+        redo,
+    })
+}
+
+fn files_of(found: &Found) -> LogFiles<'_> {
+    LogFiles {
+        pages: found.pages.as_slice(),
+        directory: found.directory.as_slice(),
+        redo: found.redo.as_slice(),
+    }
+}
+
+// Whether files with these bytes of `.pag` and of the log mean these pages.
+fn reads(alloc: Global, pages: &[u8], log: &[u8], meant: &[u8]) -> Result<bool, AllocError> {
+    let found = found(alloc, pages, log)?;
+    let Ok(plan) = plan_of(alloc, files_of(&found)) else {
+        return Ok(false);
+    };
+    let Some(plan) = plan else {
+        return Ok(found.pages.as_slice() == meant);
+    };
+    if !is_plan(plan.as_slice()) {
+        return Ok(false);
+    }
+    let laid = lay_over(alloc, plan.as_slice(), File::Pages, found.pages.as_slice())?;
+    Ok(laid.as_slice() == meant)
+}
+
+#[test]
+fn a_log_with_no_records_means_the_files(rt: HostRuntime) -> Result<(), Fail> {
+    assert!(rt; reads(rt.alloc(), &[1, 2, 3, 4], &[], &[1, 2, 3, 4])?);
+    Ok(())
+}
+
+// Whatever of both plans is done in the data files.
+#[test]
+fn records_mean_both_plans(rt: HostRuntime) -> Result<(), Fail> {
+    let both = log(rt.alloc(), 99, 99)?;
+    assert!(rt; reads(rt.alloc(), &[0, 0, 0, 0], both.as_slice(), &[0, 7, 9, 0])?);
+    assert!(rt; reads(rt.alloc(), &[0, 7, 0, 0], both.as_slice(), &[0, 7, 9, 0])?);
+    assert!(rt; reads(rt.alloc(), &[0, 0, 9, 0], both.as_slice(), &[0, 7, 9, 0])?);
+    assert!(rt; reads(rt.alloc(), &[0, 7, 9, 0], both.as_slice(), &[0, 7, 9, 0])?);
+    Ok(())
+}
+
+// The last byte of a record that is not zero is the last but one.
+#[test]
+fn a_torn_last_record_is_as_if_never_written(rt: HostRuntime) -> Result<(), Fail> {
+    let second = record(rt.alloc(), 2, 9)?;
+    for cut in 0..second.len() {
+        let torn = log(rt.alloc(), cut, 99)?;
+        let is_whole = cut == second.len() - 1;
+        assert!(rt; reads(rt.alloc(), &[0, 0, 0, 0], torn.as_slice(), &[0, 7, 0, 0])? != is_whole);
+        let holed = log(rt.alloc(), 99, cut)?;
+        let was_zero = second[cut] == 0;
+        assert!(rt; reads(rt.alloc(), &[0, 0, 0, 0], holed.as_slice(), &[0, 7, 0, 0])? != was_zero);
+    }
+    Ok(())
+}
+
+// What keeps files with these bytes of `.pag` and of the log from being recovered.
+fn fault_of(alloc: Global, pages: &[u8], log: &[u8]) -> Result<Option<LogFault>, AllocError> {
+    let found = found(alloc, pages, log)?;
+    Ok(plan_of(alloc, files_of(&found)).err())
+}
+
+// The records of two saves. This byte of the first is lost.
+fn damaged(alloc: Global, hole: usize) -> Result<Vec<u8>, AllocError> {
+    let first = record(alloc, 1, 7)?;
+    let mut damaged = Vec::new(alloc);
+    for index in 0..first.len() {
+        if index == hole {
+            damaged.push(0)?;
+        } else {
+            damaged.push(first[index])?;
+        }
+    }
+    damaged.extend_from_slice(record(alloc, 2, 9)?.as_slice())?;
+    Ok(damaged)
+}
+
+// A byte of its weight, of its length, or the first one of its plan.
+#[test]
+fn a_record_that_is_damaged_before_another_is_refused(rt: HostRuntime) -> Result<(), Fail> {
+    for hole in 0..9 {
+        let damaged = damaged(rt.alloc(), hole)?;
+        let fault = fault_of(rt.alloc(), &[0, 0, 0, 0], damaged.as_slice())?;
+        assert_eq!(rt; fault, Some(LogFault::Damaged));
+    }
+    Ok(())
+}
+
+#[test]
+fn other_files_are_foreign(rt: HostRuntime) -> Result<(), Fail> {
+    let first = record(rt.alloc(), 1, 7)?;
+    let fault = fault_of(rt.alloc(), &[0, 5, 0, 0], first.as_slice())?;
+    assert_eq!(rt; fault, Some(LogFault::Foreign));
+    Ok(())
+}
+
+// Both saves change the byte 1 of `.pag`.
+#[test]
+fn a_byte_that_two_saves_change_may_be_that_of_each(rt: HostRuntime) -> Result<(), Fail> {
+    let mut both = record(rt.alloc(), 1, 7)?;
+    both.extend_from_slice(record(rt.alloc(), 1, 9)?.as_slice())?;
+    assert!(rt; reads(rt.alloc(), &[0, 0, 0, 0], both.as_slice(), &[0, 9, 0, 0])?);
+    assert!(rt; reads(rt.alloc(), &[0, 7, 0, 0], both.as_slice(), &[0, 9, 0, 0])?);
+    assert!(rt; reads(rt.alloc(), &[0, 9, 0, 0], both.as_slice(), &[0, 9, 0, 0])?);
+    let fault = fault_of(rt.alloc(), &[0, 5, 0, 0], both.as_slice())?;
+    assert_eq!(rt; fault, Some(LogFault::Foreign));
+    Ok(())
+}
+
+fn applied(end: u64, changed: u64) -> Applied {
+    Applied {
+        end,
+        boot: BootId {
+            first: 3,
+            second: 4,
+        },
+        pages: FileState {
+            device: 5,
+            inode: 6,
+            len: 4096,
+            changed,
+        },
+        directory: FileState {
+            device: 9,
+            inode: 10,
+            len: 0,
+            changed: 11,
+        },
+    }
+}
+
+#[test]
+fn notes_are_read_back(rt: HostRuntime) -> Result<(), Fail> {
+    let none = Notes {
+        saves: 258,
+        applied: None,
+    };
+    let some = Notes {
+        saves: 18446744073709551615,
+        applied: Some(applied(2, 8)),
+    };
+    assert!(rt; Notes::from_bytes(&none.bytes()) == Some(none));
+    assert!(rt; Notes::from_bytes(&some.bytes()) == Some(some));
+    assert!(rt; none.bytes()[..17] == b"sdbmnot1\x02\x01\0\0\0\0\0\0\0"[..]);
+    assert!(rt; some.bytes()[8..17] == [255, 255, 255, 255, 255, 255, 255, 255, 1][..]);
+    Ok(())
+}
+
+#[test]
+fn other_bytes_are_no_notes(rt: HostRuntime) -> Result<(), Fail> {
+    let notes = Notes {
+        saves: 1,
+        applied: Some(applied(2, 8)),
+    };
+    let bytes = notes.bytes();
+    for index in 0..bytes.len() {
+        let mut torn = bytes;
+        torn[index] = torn[index].wrapping_add(1);
+        assert!(rt; Notes::from_bytes(&torn) == None);
+    }
+    assert!(rt; Notes::from_bytes(&[0; NOTES_LEN]) == None);
+    assert!(rt; Notes::from_bytes(&bytes[1..]) == None);
+    Ok(())
+}
+
+#[test]
+fn a_hint_is_for_one_end_and_one_state_of_the_files(rt: HostRuntime) -> Result<(), Fail> {
+    let notes = Notes {
+        saves: 1,
+        applied: Some(applied(2, 8)),
+    };
+    let none = Notes {
+        saves: 1,
+        applied: None,
+    };
+    assert!(rt; says_applied(&notes, &applied(2, 8)));
+    assert!(rt; !says_applied(&notes, &applied(3, 8)));
+    assert!(rt; !says_applied(&notes, &applied(2, 9)));
+    assert!(rt; !says_applied(&none, &applied(2, 8)));
+    Ok(())
+}
+
+#[test]
+fn the_records_end_after_the_last_whole_one(rt: HostRuntime) -> Result<(), Fail> {
+    let first = record(rt.alloc(), 1, 7)?;
+    let both = log(rt.alloc(), 99, 99)?;
+    let whole = found(rt.alloc(), &[], both.as_slice())?;
+    assert_eq!(rt; records_end(whole.redo.as_slice()), both.len());
+    let cut = log(rt.alloc(), 9, 99)?;
+    let torn = found(rt.alloc(), &[], cut.as_slice())?;
+    assert_eq!(rt; records_end(torn.redo.as_slice()), first.len());
+    Ok(())
+}
+
+// A disk of three files in memory, which counts syncs.
+#[derive(Drop)]
+struct Memory {
+    files: Found,
+    syncs: usize,
+}
+
+impl Memory {
+    fn new(alloc: Global, pages: &[u8]) -> Result<Memory, AllocError> {
+        Ok(Memory {
+            files: Found {
+                pages: Vec::from_slice(alloc, pages)?,
+                directory: Vec::from_slice(alloc, &[0])?,
+                redo: Vec::new(alloc),
+            },
+            syncs: 0,
+        })
+    }
+
+    fn bytes_of(&mut self, file: File) -> &mut Vec<u8> {
+        match file {
+            File::Pages => &mut self.files.pages,
+            File::Directory => &mut self.files.directory,
+            File::Redo => &mut self.files.redo,
+        }
+    }
+
+    fn write(&mut self, file: File, at: usize, bytes: &[u8]) -> Result<(), AllocError> {
+        let old = self.bytes_of(file);
+        let end = at.saturating_add(bytes.len());
+        if old.len() < end {
+            old.resize(end, 0)?;
+        }
+        for index in 0..bytes.len() {
+            let place = at.saturating_add(index);
+            if place < old.len() {
+                old.as_mut_slice()[place] = bytes[index];
+            }
+        }
+        Ok(())
+    }
+
+    // Makes the first of some steps.
+    fn make(
+        &mut self,
+        alloc: Global,
+        bytes: &[u8],
+        steps: &[Step],
+        count: usize,
+    ) -> Result<(), AllocError> {
+        for index in 0..steps.len().min(count) {
+            match steps[index] {
+                Step::Write {
+                    file,
+                    at,
+                    from,
+                    len,
+                } => self.write(file, at, part(bytes, from, len))?,
+                Step::Zeros { file, at, len } => {
+                    let zeros = vec![in alloc; 0u8; len]?;
+                    self.write(file, at, zeros.as_slice())?;
+                }
+                Step::Resize { file, len } => self.bytes_of(file).resize(len, 0)?,
+                Step::Sync { .. } => self.syncs = self.syncs.saturating_add(1),
+            }
+        }
+        Ok(())
+    }
+
+    fn make_all(&mut self, alloc: Global, bytes: &[u8], steps: &[Step]) -> Result<(), AllocError> {
+        self.make(alloc, bytes, steps, steps.len())
+    }
+
+    // Opens the log.
+    fn open(&mut self, alloc: Global) -> Result<Log, AllocError> {
+        let Ok(opened) = open_steps::<Brand>(alloc, files_of(&self.files), 400) else {
+            return Err(AllocError);
+        };
+        self.make_all(alloc, opened.bytes.as_slice(), opened.steps.as_slice())?;
+        Ok(opened.log)
+    }
+
+    // The steps for a reader.
+    fn read(&self, alloc: Global) -> Result<ReadSteps, AllocError> {
+        match read_steps(alloc, files_of(&self.files)) {
+            Ok(read) => Ok(read),
+            Err(_) => Err(AllocError),
+        }
+    }
+
+    // Saves a byte of the pages, which was 0, and makes the first steps of the save.
+    fn save(
+        &mut self,
+        alloc: Global,
+        log: Log,
+        at: usize,
+        byte: u8,
+        count: usize,
+    ) -> Result<Log, AllocError> {
+        let plan = plan(alloc, at, byte)?;
+        if !is_plan(plan.as_slice()) || plan.len() > 100 || log.end > 1000 {
+            return Err(AllocError);
+        }
+        let save = save_steps::<Brand>(alloc, log, plan.as_slice())?;
+        let commits = save.commit.len();
+        self.make(alloc, save.bytes.as_slice(), save.commit.as_slice(), count)?;
+        let left = count.saturating_sub(commits);
+        self.make(alloc, save.bytes.as_slice(), save.apply.as_slice(), left)?;
+        Ok(save.log)
+    }
+}
+
+// All steps of a save.
+const ALL: usize = 99;
+
+#[test]
+fn a_save_takes_one_sync(rt: HostRuntime) -> Result<(), Fail> {
+    let mut disk = Memory::new(rt.alloc(), &[0, 0, 0, 0])?;
+    let log = disk.open(rt.alloc())?;
+    assert_eq!(rt; disk.files.redo.len(), 4096 + 400);
+    let before = disk.syncs;
+    let log = disk.save(rt.alloc(), log, 1, 7, ALL)?;
+    let log = disk.save(rt.alloc(), log, 2, 9, ALL)?;
+    assert_eq!(rt; disk.syncs, before.saturating_add(2));
+    assert!(rt; disk.files.pages.as_slice() == [0, 7, 9, 0].as_slice());
+    assert_eq!(rt; records_end(disk.files.redo.as_slice()), log.end);
+    let steps = close_steps::<Brand>(rt.alloc())?;
+    disk.make_all(rt.alloc(), &[], steps.as_slice())?;
+    assert_eq!(rt; disk.syncs, before.saturating_add(5));
+    assert!(rt; !is_log(disk.files.redo.as_slice()));
+    Ok(())
+}
+
+#[test]
+fn a_full_log_is_emptied(rt: HostRuntime) -> Result<(), Fail> {
+    let mut disk = Memory::new(rt.alloc(), &[0, 0, 0, 0])?;
+    let mut log = disk.open(rt.alloc())?;
+    for byte in 1..20 {
+        log = disk.save(rt.alloc(), log, 1, byte, ALL)?;
+    }
+    assert!(rt; disk.files.pages.as_slice() == [0, 19, 0, 0].as_slice());
+    assert!(rt; log.end < 400);
+    assert_eq!(rt; records_end(disk.files.redo.as_slice()), log.end);
+    Ok(())
+}
+
+// Whatever steps of a second save were made, the next opening has the first save, and the second if its record is whole.
+#[test]
+fn an_interrupted_save_is_recovered(rt: HostRuntime) -> Result<(), Fail> {
+    for count in 0..9 {
+        let mut disk = Memory::new(rt.alloc(), &[0, 0, 0, 0])?;
+        let log = disk.open(rt.alloc())?;
+        let log = disk.save(rt.alloc(), log, 1, 7, 4)?;
+        disk.save(rt.alloc(), log, 2, 9, count)?;
+        let second = if count == 0 { 0 } else { 9 };
+        let read = disk.read(rt.alloc())?;
+        let mut copy = Memory::new(rt.alloc(), disk.files.pages.as_slice())?;
+        copy.make_all(rt.alloc(), read.bytes.as_slice(), read.steps.as_slice())?;
+        assert!(rt; copy.files.pages.as_slice() == [0, 7, second, 0].as_slice());
+        let _log = disk.open(rt.alloc())?;
+        assert!(rt; disk.files.pages.as_slice() == [0, 7, second, 0].as_slice());
+        assert!(rt; !is_log(disk.files.redo.as_slice()));
+        assert_eq!(rt; records_end(disk.files.redo.as_slice()), 0);
+    }
+    Ok(())
+}
+
+// A closed log has records that mean nothing; the next opening overwrites them.
+#[test]
+fn a_closed_log_is_used_again(rt: HostRuntime) -> Result<(), Fail> {
+    let mut disk = Memory::new(rt.alloc(), &[0, 0, 0, 0])?;
+    let log = disk.open(rt.alloc())?;
+    disk.save(rt.alloc(), log, 1, 7, ALL)?;
+    let steps = close_steps::<Brand>(rt.alloc())?;
+    disk.make_all(rt.alloc(), &[], steps.as_slice())?;
+    disk.write(File::Pages, 1, &[8])?;
+    let log = disk.open(rt.alloc())?;
+    assert!(rt; disk.files.pages.as_slice() == [0, 8, 0, 0].as_slice());
+    assert_eq!(rt; log.room, 400);
+    assert_eq!(rt; records_end(disk.files.redo.as_slice()), 0);
+    Ok(())
+}

@@ -218,6 +218,12 @@ static void test_left(void)
     EXPECT(unlink("left.pag") == 0 && unlink("left.dir") == 0 && unlink("left.redo") == 0);
 }
 
+static int is_damaged(const char *name)
+{
+    EXPECT(fails(name, 0, BODDURCI_BAD_REDO) && strstr(fault.text, "is damaged") != NULL);
+    return fails(name, BODDURCI_READ_ONLY, BODDURCI_BAD_REDO) && strstr(fault.text, "is damaged") != NULL;
+}
+
 /* The last record with a byte that is missing was never committed; one before it with such a byte is damage, and nobody uses it. */
 static void test_damaged(void)
 {
@@ -236,7 +242,7 @@ static void test_damaged(void)
             write_text("torn.redo", (const char *)bytes, length);
             bytes[at] = was;
             if (i < SAVES - 1)
-                EXPECT(fails("torn", 0, BODDURCI_BAD_REDO) && fails("torn", BODDURCI_READ_ONLY, BODDURCI_BAD_REDO) && strstr(fault.text, "is damaged") != NULL);
+                EXPECT(is_damaged("torn"));
             else
                 EXPECT(truncate("torn.pag", 0) == 0 && found_in("torn") == SAVES - 1);
         }

@@ -594,7 +594,7 @@ static uint32_t prepare(boddurci_base *base, struct note notes[2], boddurci_faul
     if (status == BODDURCI_DONE)
         status = are_named(base, notes, fault);
     base->is_noted = !is_ended && are_noted(base, notes);
-    if (status == BODDURCI_DONE && !base->is_noted)
+    if (status == BODDURCI_DONE && !base->is_noted && !is_ended)
         status = boddurci_logged_renew(&base->logged, fault);
     if (status == BODDURCI_DONE && notes[BODDURCI_PAGES].length > (off_t)boddurci_most_bytes(BODDURCI_PAGES))
         status = boddurci_fail(fault, BODDURCI_TOO_LONG, 0, boddurci_files_text(BODDURCI_TOO_LONG));

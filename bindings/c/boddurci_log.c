@@ -382,7 +382,7 @@ void boddurci_logged_end(struct boddurci_logged *logged)
     if (logged->is_open && logged->next.end != 0 && close_log(logged) != 0)
         give_up(logged);
     else if (logged->is_open && !is_of_use(disk) && boddurci_is_named(disk->place, BODDURCI_REDO, disk->files[BODDURCI_REDO]))
-        (void)!boddurci_disk_remove_redo(disk);
+        (void)!(boddurci_disk_remove_redo(disk) == 0 && boddurci_disk_sync(disk, BODDURCI_REDO) == 0);
     logged->is_open = 0;
     boddurci_give_signal(disk);
     boddurci_disk_close(disk);

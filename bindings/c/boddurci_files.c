@@ -40,12 +40,13 @@ static int is_of_another(const boddurci_base *base)
 
 /* ---- what the files were */
 
-static struct note note_of(const struct boddurci_place *place, enum boddurci_file file)
+/* What a data file is: the one that is opened, or if none is, the one under the name. */
+static struct note note_of(const struct boddurci_place *place, enum boddurci_file file, int opened)
 {
     struct stat is;
     struct note note;
     memset(&note, 0, sizeof note);
-    if (fstatat(place->folder, place->names[file], &is, 0) != 0)
+    if ((opened >= 0 ? fstat(opened, &is) : fstatat(place->folder, place->names[file], &is, 0)) != 0)
         return note;
     note.is_there = 1;
     note.device = is.st_dev;
@@ -56,10 +57,18 @@ static struct note note_of(const struct boddurci_place *place, enum boddurci_fil
     return note;
 }
 
-static void note_files(const struct boddurci_place *place, struct note notes[2])
+/* Notes the files under the names. */
+static void note_named(const boddurci_base *base, struct note notes[2])
 {
-    notes[BODDURCI_PAGES] = note_of(place, BODDURCI_PAGES);
-    notes[BODDURCI_DIRECTORY] = note_of(place, BODDURCI_DIRECTORY);
+    for (enum boddurci_file file = BODDURCI_PAGES; file <= BODDURCI_DIRECTORY; file++)
+        notes[file] = note_of(&base->place, file, -1);
+}
+
+/* Notes those that are held open, which takes less time. */
+static void note_held(const boddurci_base *base, struct note notes[2])
+{
+    for (enum boddurci_file file = BODDURCI_PAGES; file <= BODDURCI_DIRECTORY; file++)
+        notes[file] = note_of(&base->place, file, base->logged.disk.files[file]);
 }
 
 static int is_same_time(struct timespec one, struct timespec other)
@@ -170,7 +179,7 @@ static uint32_t read_files(boddurci_base *base, struct parts *parts, boddurci_fa
     boddurci_give_signal(disk);
     if (base->flags & BODDURCI_EMPTY)
         see_files(&base->place);
-    note_files(&base->place, base->notes);
+    note_named(base, base->notes);
     if (status == BODDURCI_DONE && !(base->flags & BODDURCI_EMPTY)) {
         status = read_parts(&base->place, must_exist, parts, fault);
         base->is_noted = status == BODDURCI_DONE;
@@ -590,7 +599,7 @@ static uint32_t prepare(boddurci_base *base, struct note notes[2], boddurci_faul
     if (!boddurci_is_held(&base->place))
         return boddurci_fail(fault, BODDURCI_MOVED, 0, "BASE.lock is another file than is held, and nothing was written");
     uint32_t status = boddurci_logged_recover(&base->logged, &is_ended, fault);
-    note_files(&base->place, notes);
+    note_named(base, notes);
     if (status == BODDURCI_DONE)
         status = are_named(base, notes, fault);
     base->is_noted = !is_ended && are_noted(base, notes);
@@ -611,7 +620,7 @@ static uint32_t save_prepared(boddurci_base *base, struct note notes[2], boddurc
     struct note again[2];
     reading.length = (size_t)notes[BODDURCI_PAGES].length;
     uint32_t status = plan_now(base, !base->is_noted, &reading, &plan, fault);
-    note_files(&base->place, again);
+    note_held(base, again);
     if (status == BODDURCI_DONE)
         status = do_plan(base, &reading, plan, fault);
     if (status == BODDURCI_DONE) {
@@ -619,7 +628,7 @@ static uint32_t save_prepared(boddurci_base *base, struct note notes[2], boddurc
         base->is_planned = 1;
         base->is_noted = base->is_noted && are_same_notes(notes, again);
         if (plan.length != 0)
-            note_files(&base->place, notes);
+            note_held(base, notes);
         memcpy(base->notes, notes, 2 * sizeof *notes);
     }
     end_reading(&reading);

@@ -4,6 +4,7 @@
 #include "boddurci_saves.h"
 #include <errno.h>
 #include <fcntl.h>
+#include <pthread.h>
 #include <stdlib.h>
 #include <sys/stat.h>
 #include <unistd.h>
@@ -377,6 +378,8 @@ static int is_of_use(struct boddurci_disk *disk)
 void boddurci_logged_end(struct boddurci_logged *logged)
 {
     struct boddurci_disk *disk = &logged->disk;
+    int could_be_cancelled;
+    pthread_setcancelstate(PTHREAD_CANCEL_DISABLE, &could_be_cancelled);
     logged->is_open = logged->is_open && boddurci_is_held(disk->place);
     boddurci_hold_signal(disk);
     if (logged->is_open && logged->next.end != 0 && close_log(logged) != 0)
@@ -386,6 +389,7 @@ void boddurci_logged_end(struct boddurci_logged *logged)
     logged->is_open = 0;
     boddurci_give_signal(disk);
     boddurci_disk_close(disk);
+    pthread_setcancelstate(could_be_cancelled, NULL);
 }
 
 /* ---- reading only */

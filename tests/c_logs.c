@@ -269,6 +269,28 @@ static void test_long(void)
     EXPECT(length_of("long.redo") == longer && is_marked("long.redo") && found_in("long") == 63001);
 }
 
+/* Another who has no lock empties the log of an open base, and writes its pages: the next save begins the log anew. */
+static void test_written_beside(void)
+{
+    boddurci_base *base = opened("beside", 0);
+    for (int i = 0; i < SAVES; i++) {
+        store_one(base, 0);
+        store_one(base, i + 1);
+        EXPECT(boddurci_save(base, &fault) == BODDURCI_DONE && is_marked("beside.redo"));
+        EXPECT(rename("beside.lock", "away") == 0);
+        boddurci_base *other = opened("beside", 0);
+        EXPECT(boddurci_delete(boddurci_take(other), (const uint8_t *)"key0", 4) == BODDURCI_DONE);
+        boddurci_give(other);
+        EXPECT(boddurci_save(other, &fault) == BODDURCI_DONE);
+        boddurci_close_files(other);
+        EXPECT(!is_marked("beside.redo") && unlink("beside.lock") == 0 && rename("away", "beside.lock") == 0);
+        store_one(base, i + 10);
+        EXPECT(boddurci_save(base, &fault) == BODDURCI_DONE && is_marked("beside.redo") && count_of(base) == (size_t)(3 + 2 * i));
+        EXPECT(rename("beside.lock", "away") == 0 && found_in("beside") == (size_t)(3 + 2 * i) && rename("away", "beside.lock") == 0);
+    }
+    boddurci_close_files(base);
+}
+
 int main(int argc, char **argv)
 {
     if (argc != 2 || chdir(argv[1]) != 0)
@@ -284,6 +306,7 @@ int main(int argc, char **argv)
     test_left();
     test_damaged();
     test_long();
+    test_written_beside();
     printf("%lu answers as expected\n", looked);
     return 0;
 }

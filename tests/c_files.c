@@ -413,43 +413,6 @@ static void test_limited(void)
     boddurci_close_files(base);
 }
 
-static void store_empty_key(boddurci_base *base, const char *value)
-{
-    EXPECT(boddurci_store(boddurci_take(base), BODDURCI_NO_BYTES, (const uint8_t *)value, strlen(value), 1) == BODDURCI_DONE);
-    boddurci_give(base);
-}
-
-/* The length of .dir counts too, also where a change is in .pag alone. The empty key's hash is 0, so its page is the first one, however deep
- * the directory is there. */
-static void test_limited_directory(void)
-{
-    static uint8_t directory[131072];
-    struct stat pages, deep;
-    boddurci_base *base = opened("deep", 0);
-    store_empty_key(base, "1");
-    EXPECT(boddurci_save(base, &fault) == BODDURCI_DONE);
-    boddurci_close_files(base);
-    for (unsigned depth = 0; depth <= 20; depth++) {
-        unsigned bit = (1u << depth) - 1;
-        directory[bit / 8] |= (uint8_t)(1u << bit % 8);
-    }
-    write_text("deep.dir", (const char *)directory, sizeof directory);
-    EXPECT(stat("deep.pag", &pages) == 0 && pages.st_size == 1024 && stat("deep.dir", &deep) == 0);
-    base = opened("deep", 0);
-    EXPECT(value_of(base, "") == 1);
-    store_empty_key(base, "22");
-    set_limit(100000);
-    EXPECT(boddurci_save(base, &fault) == BODDURCI_FILE_FAILED && fault.system == EFBIG && strstr(fault.text, "BASE.dir") != NULL);
-    EXPECT(is_untouched("deep.pag", &pages) && is_untouched("deep.dir", &deep) && !is_marked("deep.redo"));
-    set_limit(131072);
-    EXPECT(boddurci_save(base, &fault) == BODDURCI_DONE && fault.system == 0);
-    set_limit(RLIM_INFINITY);
-    boddurci_close_files(base);
-    base = opened("deep", BODDURCI_READ_ONLY);
-    EXPECT(value_of(base, "") == 2);
-    boddurci_close_files(base);
-}
-
 /* What a save has planned and could not write is in the next one. */
 static void test_written_later(void)
 {
@@ -814,7 +777,6 @@ int main(int argc, char **argv)
     test_untouched();
     test_written_beside();
     test_limited();
-    test_limited_directory();
     test_written_later();
     test_meanwhile();
     test_links();

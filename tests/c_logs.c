@@ -1,11 +1,13 @@
 /* Redo files, from C, in the folder that is the argument: those that no save has left, those of the form before the log, and logs, whole,
- * torn and damaged. tests/c_library builds and runs it. */
+ * torn and damaged; and a limit on the length of .dir. tests/c_library builds and runs it. */
 #define _DEFAULT_SOURCE
 #include "boddurci_files.h"
+#include <errno.h>
 #include <signal.h>
 #include <stdio.h>
 #include <stdlib.h>
 #include <string.h>
+#include <sys/resource.h>
 #include <sys/stat.h>
 #include <sys/wait.h>
 #include <unistd.h>
@@ -291,6 +293,72 @@ static void test_written_beside(void)
     boddurci_close_files(base);
 }
 
+/* ---- limits */
+
+static void set_limit(rlim_t most)
+{
+    struct rlimit limit;
+    EXPECT(getrlimit(RLIMIT_FSIZE, &limit) == 0);
+    limit.rlim_cur = most < limit.rlim_max ? most : limit.rlim_max;
+    EXPECT(setrlimit(RLIMIT_FSIZE, &limit) == 0);
+}
+
+/* Whether a file is as it was, and when it was changed last too. */
+static int is_untouched(const char *name, const struct stat *before)
+{
+    struct stat is;
+    EXPECT(stat(name, &is) == 0);
+    return is.st_ino == before->st_ino && is.st_size == before->st_size && is.st_mtim.tv_sec == before->st_mtim.tv_sec &&
+           is.st_mtim.tv_nsec == before->st_mtim.tv_nsec && is.st_ctim.tv_sec == before->st_ctim.tv_sec && is.st_ctim.tv_nsec == before->st_ctim.tv_nsec;
+}
+
+static size_t value_of(boddurci_base *base, const char *key)
+{
+    uint8_t value[BODDURCI_VALUE_MOST];
+    size_t length = 0;
+    if (boddurci_fetch(boddurci_take(base), (const uint8_t *)key, strlen(key), value, sizeof value, &length) != BODDURCI_DONE)
+        length = 0;
+    boddurci_give(base);
+    return length;
+}
+
+static void store_empty_key(boddurci_base *base, const char *value)
+{
+    EXPECT(boddurci_store(boddurci_take(base), BODDURCI_NO_BYTES, (const uint8_t *)value, strlen(value), 1) == BODDURCI_DONE);
+    boddurci_give(base);
+}
+
+/* The length of .dir counts too, also where a change is in .pag alone. The empty key's hash is 0, so its page is the first one, however deep
+ * the directory is there. */
+static void test_limited_directory(void)
+{
+    static uint8_t directory[131072];
+    struct stat pages, deep;
+    boddurci_base *base = opened("deep", 0);
+    store_empty_key(base, "1");
+    EXPECT(boddurci_save(base, &fault) == BODDURCI_DONE);
+    boddurci_close_files(base);
+    for (unsigned depth = 0; depth <= 20; depth++) {
+        unsigned bit = (1u << depth) - 1;
+        directory[bit / 8] |= (uint8_t)(1u << bit % 8);
+    }
+    write_text("deep.dir", (const char *)directory, sizeof directory);
+    EXPECT(stat("deep.pag", &pages) == 0 && pages.st_size == 1024 && stat("deep.dir", &deep) == 0);
+    base = opened("deep", 0);
+    EXPECT(value_of(base, "") == 1);
+    store_empty_key(base, "22");
+    set_limit(100000);
+    EXPECT(boddurci_save(base, &fault) == BODDURCI_FILE_FAILED && fault.system == EFBIG && strstr(fault.text, "BASE.dir") != NULL);
+    EXPECT(is_untouched("deep.pag", &pages) && is_untouched("deep.dir", &deep) && !is_marked("deep.redo"));
+    set_limit(131072);
+    EXPECT(boddurci_save(base, &fault) == BODDURCI_DONE && fault.system == 0);
+    set_limit(RLIM_INFINITY);
+    boddurci_close_files(base);
+    base = opened("deep", BODDURCI_READ_ONLY);
+    EXPECT(value_of(base, "") == 2);
+    boddurci_close_files(base);
+}
+
 int main(int argc, char **argv)
 {
     if (argc != 2 || chdir(argv[1]) != 0)
@@ -307,6 +375,7 @@ int main(int argc, char **argv)
     test_damaged();
     test_long();
     test_written_beside();
+    test_limited_directory();
     printf("%lu answers as expected\n", looked);
     return 0;
 }

@@ -15,6 +15,12 @@
  * boddurci_take waits for its mutex, boddurci_give lets it go, and boddurci_save takes it by itself. Threads that save at the same time
  * share saves.
  *
+ * A save appends a record to the log in BASE.redo and syncs that file once, which makes the save durable. Then it writes BASE.pag and
+ * BASE.dir without a sync. BASE.redo stays beside them, and belongs to them. Its first byte, the mark, is 1 while it has saves that may not be
+ * on the disk in both files; closing the base syncs the files and clears the mark. After a kill or the loss of power the next who opens the
+ * base recovers it. A program that knows nothing of the log, as Perl's SDBM_File, sees each save at once, but after the loss of power it may
+ * see old or mixed pages until this library or dbm has opened the base to write once.
+ *
  * The lock is that of the program dbm: an exclusive flock on BASE.lock, from boddurci_open_files to boddurci_close_files. So dbm and
  * other services wait meanwhile; a program that knows nothing of the lock, as Perl, does not. To read only, open with
  * BODDURCI_READ_ONLY: the lock is then shared, and let go as soon as the files are read. Where both files are symbolic links to those of
@@ -25,8 +31,9 @@
  *
  * BASE.redo and BASE.lock are taken only where they are files with one name, of yourself, of root or of the owner of BASE.pag, which nobody
  * may write who may not write BASE.pag; else it is BODDURCI_UNSAFE. A lock may also be of one who may write BASE.pag, by its group or as all
- * may. Look then who has made it: take it away where it is a stranger's. A redo file of one whom you trust is ended by his next run, or is
- * given to the owner of BASE.pag, since the files may hold half of its save.
+ * may. Look then who has made it: take it away where it is a stranger's. A redo file of one whom you trust is recovered by his next run, or is
+ * given to the owner of BASE.pag, since the files may hold half of its saves. Closing a base removes a redo file that could not get the owner,
+ * the group and the permissions of BASE.pag, so it is left only by a process that was killed.
  *
  * A base is of the process that has opened it. In a child that it forked boddurci_save is BODDURCI_FORKED, boddurci_take returns NULL,
  * boddurci_give does nothing, and boddurci_close_files frees memory alone: the lock stays its parent's.
@@ -63,7 +70,8 @@ enum boddurci_files_status {
     BODDURCI_FILE_FAILED = 32, /* a call of the system failed, and fault.system has its errno; or links lead to two bases, and it is 0 */
     BODDURCI_LOCKED = 33,      /* another has the lock */
     BODDURCI_BAD_REDO = 34,    /* BASE.redo is marked, and is not of these files: no save has left it, an older copy of them was put back,
-                                  or another program wrote them. Move it away to have the files as they are */
+                                  or another program wrote them. Or a record in the middle of its log is damaged, as the text says then.
+                                  Move it away to have the files as they are */
     BODDURCI_NO_SAVE = 35,     /* it was opened to be read only */
     BODDURCI_TOO_LONG = 36,    /* a file has more bytes than dbm takes: 1 GiB of .pag, 256 MiB of .dir */
     BODDURCI_UNSAFE = 37,      /* BASE.redo or BASE.lock may be a stranger's; the text says why. Control characters, invalid UTF-8 and
@@ -88,13 +96,13 @@ typedef struct boddurci_fault {
 /* The name of a status of either header, in words. */
 const char *boddurci_files_text(uint32_t status);
 
-/* Opens the database in BASE.dir and BASE.pag, each of which may be missing, or returns NULL and says why. A save that was cut off is ended
- * first, no matter who made it; a base that is read only writes nothing, and reads what the save would have left, once that is kept on the
- * disk. It waits for the lock without an end, also after a signal. Where it returns NULL nothing was changed but that such a save was ended,
- * and that a lock may have been made. Memory: what the open database takes, and
- * the data of .dir and one piece of .pag; of a page with other free bytes than the library writes, also its bytes. A reader of a save that was
- * cut off also has the data of .pag. Holes take none. Who may not write a .pag that is there makes no lock. FILE_FAILED, LOCKED (by NO_WAIT
- * alone), BAD_REDO, TOO_LONG, UNSAFE, MOVED, BAD_NAME, OPEN_HERE, OTHER_SIZE, and BAD_FILES and NO_MEMORY of boddurci.h. */
+/* Opens the database in BASE.dir and BASE.pag, each of which may be missing, or returns NULL and says why. If BASE.redo is marked the files
+ * are recovered first, no matter who saved, also by the redo file of a version before the log. A base that is read only writes nothing, and
+ * reads what its saves would have left, once BASE.redo is synced. It waits for the lock without an end, also after a signal. Where it returns
+ * NULL nothing was changed but that the files were recovered, and that a lock may have been made. Memory: what the open database takes, and
+ * the data of .dir and one piece of .pag; of a page with other free bytes than the library writes, also its bytes. An opening that recovers
+ * also takes the data of .pag and BASE.redo. Holes take none. Who may not write a .pag that is there makes no lock. FILE_FAILED, LOCKED (by
+ * NO_WAIT alone), BAD_REDO, TOO_LONG, UNSAFE, MOVED, BAD_NAME, OPEN_HERE, OTHER_SIZE, and BAD_FILES and NO_MEMORY of boddurci.h. */
 boddurci_base *boddurci_open_files(const char *base, uint32_t flags, boddurci_fault *fault);
 
 /* The same, which waits for the lock so long: LOCKED where another has it then. 0 tries once, and -1 waits without an end. INTERRUPTED where
@@ -107,11 +115,14 @@ boddurci_base *boddurci_open_files_within(const char *base, uint32_t flags, int6
 boddurci *boddurci_take(boddurci_base *base);
 void boddurci_give(boddurci_base *base);
 
-/* Makes the files those of the database in memory, as dbm saves: what changed is written to BASE.redo first, then in place, so that the
- * files keep their owner, permissions and links. A .dir that is new gets those of .pag. Where nothing changed nothing is written or made. A
- * crash at any moment leaves what the next opening, or dbm, reads as the database before the save or the one after it. After a fault it is
- * the one before; but where BASE.redo itself failed it may be either once the machine stops. Then save again: a fault leaves the base open
- * and as it was.
+/* Makes the files those of the database in memory. What changed is appended to the log in BASE.redo, which is synced, and is then written in
+ * place, so that the files keep their owner, permissions and links. A .dir that is new gets those of .pag. Where nothing changed nothing is
+ * written or made. A crash at any moment leaves what the next opening reads as the database before the save or the one after it, and once it
+ * has returned as the one after it. After a fault it is the one before; but if the text says that BASE.redo cannot be written it may be either:
+ * the next save or opening finds out. Then save again: a fault leaves the base open and as it was.
+ *
+ * A save is one sync and a few writes. The first one after an opening opens the log too, which takes some syncs more and room for 1 MiB, or
+ * 64 KiB if the disk or the process has no more; so does a save that finds the log full and empties it.
  *
  * It reads .dir and the pages that may have changed, and no others: a save costs what changed, and not the base. Where a file is another, or
  * of another length or time of last change, than this base has left or read it, or where it began with BODDURCI_EMPTY, it reads and
@@ -129,12 +140,13 @@ void boddurci_give(boddurci_base *base);
  * Both files get the blocks that they want before the save counts, where the file system can give them, so that a full disk is FILE_FAILED
  * with nothing changed. So is a save that would make one of the three files longer than the process may (RLIMIT_FSIZE): no SIGXFSZ comes of it.
  * Where a file cannot be written all the same, it is DONE, fault->system is not 0, and the text says which file: the
- * save is kept in BASE.redo, and the next who saves or opens to write ends it. Until then a program that knows nothing of BASE.redo, as
- * Perl's SDBM_File, may see half of it. */
+ * save is kept in BASE.redo, and the next who saves or opens to write brings it into both files. Until then a program that knows nothing of
+ * BASE.redo, as Perl's SDBM_File, may see half of it. */
 uint32_t boddurci_save(boddurci_base *base, boddurci_fault *fault) BODDURCI_IS_LOOKED_AT;
 
-/* Lets the lock go, and the memory. Nothing is saved. base may be NULL. No thread may use the base meanwhile, or later. In a child it frees
- * memory alone. */
+/* Closes the log, and lets the lock go, and the memory. Nothing is saved. If it saved anything it syncs both data files first; if that fails
+ * the next who opens the base recovers it. base may be NULL. No thread may use the base meanwhile, or later. In a child it frees memory
+ * alone. */
 void boddurci_close_files(boddurci_base *base);
 
 #ifdef __cplusplus

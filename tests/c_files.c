@@ -116,6 +116,16 @@ static int is_there(const char *name)
     return lstat(name, &found) == 0;
 }
 
+/* Whether a redo file has its mark: its saves are not synced in the data files yet. */
+static int is_marked(const char *name)
+{
+    FILE *file = fopen(name, "rb");
+    int first = file != NULL ? fgetc(file) : 0;
+    if (file != NULL)
+        fclose(file);
+    return first == 1;
+}
+
 static void delete_one(boddurci_base *base, const char *key)
 {
     EXPECT(boddurci_delete(boddurci_take(base), (const uint8_t *)key, strlen(key)) == BODDURCI_DONE);
@@ -141,13 +151,14 @@ static void test_new(void)
     EXPECT(!is_there("visits.pag") && is_there("visits.lock"));
     for (int i = 0; i < PAIRS; i++)
         store_one(base, i);
-    EXPECT(boddurci_save(base, &fault) == BODDURCI_DONE && is_there("visits.pag") && !is_there("visits.redo"));
+    EXPECT(boddurci_save(base, &fault) == BODDURCI_DONE && is_there("visits.pag") && is_marked("visits.redo"));
     EXPECT(fails("visits", 0, BODDURCI_OPEN_HERE) && fails("visits", BODDURCI_NO_WAIT, BODDURCI_OPEN_HERE));
     EXPECT(fails("visits", BODDURCI_READ_ONLY, BODDURCI_OPEN_HERE));
     EXPECT(is_locked("visits", 0) && is_locked("visits", BODDURCI_READ_ONLY));
     /* What is not saved is not there. */
     store_one(base, PAIRS);
     boddurci_close_files(base);
+    EXPECT(is_there("visits.redo") && !is_marked("visits.redo"));
     boddurci_close_files(NULL);
 }
 
@@ -167,18 +178,23 @@ static void test_reader(void)
     boddurci_close_files(base);
 }
 
-/* A save that fails leaves the files as they were. */
+/* A save that fails leaves the files as they were, also if the redo file of an open log is taken away. */
 static void test_failing(void)
 {
     boddurci_base *base = opened("visits", 0);
     delete_one(base, "key0");
-    EXPECT(mkdir("visits.redo", 0777) == 0 && boddurci_save(base, &fault) == BODDURCI_UNSAFE);
+    EXPECT(unlink("visits.redo") == 0 && mkdir("visits.redo", 0777) == 0 && boddurci_save(base, &fault) == BODDURCI_UNSAFE);
     EXPECT(strcmp(fault.text, "visits.redo is a folder, and is not taken") == 0 && rmdir("visits.redo") == 0);
     EXPECT(symlink("elsewhere", "visits.redo") == 0 && boddurci_save(base, &fault) == BODDURCI_UNSAFE);
     EXPECT(strcmp(fault.text, "visits.redo is a symbolic link, and is not taken") == 0 && unlink("visits.redo") == 0);
     EXPECT(!is_there("elsewhere") && found_beside("visits", "visits.lock") == PAIRS + 1);
-    EXPECT(boddurci_save(base, NULL) == BODDURCI_DONE && !is_there("visits.redo"));
+    EXPECT(boddurci_save(base, NULL) == BODDURCI_DONE && is_marked("visits.redo"));
     EXPECT(found_beside("visits", "visits.lock") == PAIRS);
+    store_one(base, PAIRS + 1);
+    EXPECT(rename("visits.redo", "former") == 0 && mkdir("visits.redo", 0777) == 0 && boddurci_save(base, &fault) == BODDURCI_UNSAFE);
+    EXPECT(rmdir("visits.redo") == 0 && boddurci_save(base, &fault) == BODDURCI_DONE && is_marked("visits.redo") && unlink("former") == 0);
+    delete_one(base, "key1001");
+    EXPECT(boddurci_save(base, &fault) == BODDURCI_DONE);
     boddurci_close_files(base);
 }
 
@@ -223,15 +239,15 @@ static void test_ends(void)
 /* A save of no change touches nothing, not after a save either, nor where a pair was stored that stands there already. */
 static void test_untouched(void)
 {
-    struct stat pages, directory, folder;
+    struct stat pages, directory, redo, folder;
     boddurci_base *base = opened("visits", 0);
     store_one(base, 5000);
     EXPECT(boddurci_save(base, &fault) == BODDURCI_DONE);
     delete_one(base, "key5000");
     EXPECT(boddurci_save(base, &fault) == BODDURCI_DONE);
-    EXPECT(stat("visits.pag", &pages) == 0 && stat("visits.dir", &directory) == 0 && stat(".", &folder) == 0);
+    EXPECT(stat("visits.pag", &pages) == 0 && stat("visits.dir", &directory) == 0 && stat("visits.redo", &redo) == 0 && stat(".", &folder) == 0);
     for (int i = 0; i < 3; i++) {
-        EXPECT(boddurci_save(base, &fault) == BODDURCI_DONE && fault.system == 0 && !is_there("visits.redo"));
+        EXPECT(boddurci_save(base, &fault) == BODDURCI_DONE && fault.system == 0 && is_untouched("visits.redo", &redo));
         EXPECT(is_untouched("visits.pag", &pages) && is_untouched("visits.dir", &directory) && is_untouched(".", &folder));
         store_one(base, 5000);
         delete_one(base, "key5000");
@@ -371,14 +387,14 @@ static void test_limited(void)
         int told = save_in_child("limited", sync, sync % 2);
         EXPECT(told >= 0 && told <= 2);
         seen[told]++;
-        EXPECT(is_there("limited.redo") == (told == 2));
+        EXPECT(is_marked("limited.redo") == (told == 2));
         if (told == 2) {
             set_limit(1024);
-            EXPECT(fails("limited", 0, BODDURCI_FILE_FAILED) && fault.system == EFBIG && is_there("limited.redo"));
+            EXPECT(fails("limited", 0, BODDURCI_FILE_FAILED) && fault.system == EFBIG && is_marked("limited.redo"));
             set_limit(RLIM_INFINITY);
         }
         base = opened("limited", 0);
-        EXPECT(count_of(base) == (told == 1 ? 40 : 80) && !is_there("limited.redo"));
+        EXPECT(count_of(base) == (told == 1 ? 40 : 80) && !is_marked("limited.redo"));
         boddurci_close_files(base);
         EXPECT(unlink("limited.pag") == 0 && (unlink("limited.dir") == 0 || errno == ENOENT));
     }
@@ -397,43 +413,6 @@ static void test_limited(void)
     boddurci_close_files(base);
 }
 
-static void store_empty_key(boddurci_base *base, const char *value)
-{
-    EXPECT(boddurci_store(boddurci_take(base), BODDURCI_NO_BYTES, (const uint8_t *)value, strlen(value), 1) == BODDURCI_DONE);
-    boddurci_give(base);
-}
-
-/* The length of .dir counts too, also where a change is in .pag alone. The empty key's hash is 0, so its page is the first one, however deep
- * the directory is there. */
-static void test_limited_directory(void)
-{
-    static uint8_t directory[8192];
-    struct stat pages, deep;
-    boddurci_base *base = opened("deep", 0);
-    store_empty_key(base, "1");
-    EXPECT(boddurci_save(base, &fault) == BODDURCI_DONE);
-    boddurci_close_files(base);
-    for (unsigned depth = 0; depth <= 16; depth++) {
-        unsigned bit = (1u << depth) - 1;
-        directory[bit / 8] |= (uint8_t)(1u << bit % 8);
-    }
-    write_text("deep.dir", (const char *)directory, sizeof directory);
-    EXPECT(stat("deep.pag", &pages) == 0 && pages.st_size == 1024 && stat("deep.dir", &deep) == 0);
-    base = opened("deep", 0);
-    EXPECT(value_of(base, "") == 1);
-    store_empty_key(base, "22");
-    set_limit(4096);
-    EXPECT(boddurci_save(base, &fault) == BODDURCI_FILE_FAILED && fault.system == EFBIG && strstr(fault.text, "BASE.dir") != NULL);
-    EXPECT(is_untouched("deep.pag", &pages) && is_untouched("deep.dir", &deep) && !is_there("deep.redo"));
-    set_limit(8192);
-    EXPECT(boddurci_save(base, &fault) == BODDURCI_DONE && fault.system == 0);
-    set_limit(RLIM_INFINITY);
-    boddurci_close_files(base);
-    base = opened("deep", BODDURCI_READ_ONLY);
-    EXPECT(value_of(base, "") == 2);
-    boddurci_close_files(base);
-}
-
 /* What a save has planned and could not write is in the next one. */
 static void test_written_later(void)
 {
@@ -447,7 +426,7 @@ static void test_written_later(void)
     few.rlim_cur = 1024;
     for (int i = 0; i < 2; i++) {
         EXPECT(setrlimit(RLIMIT_FSIZE, &few) == 0 && boddurci_save(base, &fault) == BODDURCI_FILE_FAILED && fault.system == EFBIG);
-        EXPECT(setrlimit(RLIMIT_FSIZE, &all) == 0 && !is_there("visits.redo") && found_beside("visits", "visits.lock") == count);
+        EXPECT(setrlimit(RLIMIT_FSIZE, &all) == 0 && !is_marked("visits.redo") && found_beside("visits", "visits.lock") == count);
         store_one(base, 8040 + i);
     }
     EXPECT(boddurci_save(base, &fault) == BODDURCI_DONE && found_beside("visits", "visits.lock") == count + 42);
@@ -528,82 +507,6 @@ static void test_other_base(void)
     EXPECT(is_locked("visits", 0));
     boddurci_close_files(base);
     EXPECT(symlink("nowhere", "astray.pag") == 0 && fails("astray", 0, BODDURCI_FILE_FAILED) && fault.system == ENOENT);
-}
-
-/* A marked redo file without changes: the new lengths of .pag and .dir, and the old ones. */
-static void write_redo(const char *name, const uint32_t lengths[4])
-{
-    char redo[29] = "\1sdbmred2";
-    for (int i = 0; i < 16; i++)
-        redo[9 + i] = (char)(lengths[i / 4] >> 8 * (i % 4));
-    write_text(name, redo, sizeof redo);
-}
-
-static int is_bad_redo(const char *name)
-{
-    return fails(name, 0, BODDURCI_BAD_REDO) && fails(name, BODDURCI_READ_ONLY, BODDURCI_BAD_REDO) && strstr(fault.text, "is not of these files");
-}
-
-/* Redo files: one that no save has left, one of the form before this one, one of other files, and one that is not marked. */
-static void test_redo(void)
-{
-    static const uint32_t other[4] = {1024, 0, 2048, 0}, long_file[4] = {1073742848, 0, 0, 0}, long_dir[4] = {0, 268435457, 0, 0};
-    static const char former[21] = "\1sdbmredo";
-    write_text("visits.redo", "\1plan", 5);
-    EXPECT(is_bad_redo("visits"));
-    write_text("visits.redo", former, sizeof former);
-    EXPECT(is_bad_redo("visits"));
-    write_redo("visits.redo", other);
-    EXPECT(is_bad_redo("visits"));
-    write_redo("visits.redo", long_file);
-    EXPECT(fails("visits", 0, BODDURCI_TOO_LONG) && fails("visits", BODDURCI_READ_ONLY, BODDURCI_TOO_LONG));
-    write_redo("visits.redo", long_dir);
-    EXPECT(fails("visits", 0, BODDURCI_TOO_LONG) && fails("visits", BODDURCI_READ_ONLY, BODDURCI_TOO_LONG));
-    write_text("visits.redo", "\0plan", 5);
-    /* Of one that is not marked nothing more is read, however long it is. */
-    EXPECT(truncate("visits.redo", 3000000000) == 0);
-    boddurci_base *base = opened("visits", 0);
-    EXPECT(count_of(base) == PAIRS && is_there("visits.redo"));
-    boddurci_close_files(base);
-    EXPECT(unlink("visits.redo") == 0);
-}
-
-/* A save of an empty database that was cut off: a reader finds it empty and writes nothing, and a writer ends it. */
-static void test_cut_off(void)
-{
-    static const uint32_t lengths[4] = {0, 0, 1024, 0};
-    struct stat found;
-    boddurci_base *base = opened("cut", 0);
-    store_one(base, 1);
-    EXPECT(boddurci_save(base, &fault) == BODDURCI_DONE);
-    boddurci_close_files(base);
-    write_redo("cut.redo", lengths);
-    base = opened("cut", BODDURCI_READ_ONLY | BODDURCI_MUST_EXIST);
-    EXPECT(count_of(base) == 0 && stat("cut.pag", &found) == 0 && found.st_size == 1024 && is_there("cut.redo"));
-    boddurci_close_files(base);
-    base = opened("cut", 0);
-    EXPECT(count_of(base) == 0 && stat("cut.pag", &found) == 0 && found.st_size == 0 && !is_there("cut.redo"));
-    boddurci_close_files(base);
-}
-
-/* A plan whose block is half done, is done, or is of other bytes; and two changes of one place. */
-static void test_known(void)
-{
-    static const uint8_t head[29] = {1, 's', 'd', 'b', 'm', 'r', 'e', 'd', '2', 0, 4, 0, 0, 0, 0, 0, 0, 0, 4, 0, 0, 0, 0, 0, 0, 2};
-    static const uint8_t changes[2][13] = {{0, 252, 3, 0, 0, 2, 0, 0, 0, 'n', 'e', 0, 0}, {0, 253, 3, 0, 0, 2, 0, 0, 0, 'x', 'y', 'e', 0}};
-    char redo[55], page[1024] = {0};
-    memcpy(redo, head, 29);
-    memcpy(redo + 29, changes, 26);
-    for (int found = 0; found < 256; found++) {
-        page[1021] = (char)found;
-        write_text("known.pag", page, sizeof page);
-        write_text("known.redo", redo, sizeof redo);
-        if (found == 0 || found == 'e' || found == 'x')
-            boddurci_close_files(opened("known", BODDURCI_READ_ONLY));
-        else
-            EXPECT(is_bad_redo("known"));
-    }
-    EXPECT(unlink("known.redo") == 0 && unlink("known.pag") == 0);
 }
 
 static void test_bytes(void)
@@ -689,7 +592,7 @@ static void test_unsafe(void)
 {
     char text[100];
     make_database("beside");
-    EXPECT(chmod("beside.pag", 0644) == 0 && unlink("beside.lock") == 0);
+    EXPECT(chmod("beside.pag", 0644) == 0 && unlink("beside.lock") == 0 && unlink("beside.redo") == 0);
     EXPECT(mkfifo("beside.redo", 0600) == 0 && is_unsafe("beside", "beside.redo is a FIFO, and is not taken") && unlink("beside.redo") == 0);
     write_text("beside.redo", "", 0);
     EXPECT(link("beside.redo", "second") == 0 && is_unsafe("beside", "beside.redo has another name beside this one, and is not taken"));
@@ -713,7 +616,16 @@ static void test_permissions(void)
     for (int i = 0; i < PAIRS; i++)
         store_one(base, i);
     EXPECT(boddurci_save(base, &fault) == BODDURCI_DONE && stat("beside.dir", &found) == 0 && (found.st_mode & 07777) == 0620);
+    EXPECT(stat("beside.redo", &found) == 0 && (found.st_mode & 07777) == 0620);
     boddurci_close_files(base);
+    /* Those of a redo file that exists follow .pag when it is opened; one that has others at the end is removed. */
+    EXPECT(chmod("beside.pag", 0660) == 0);
+    base = opened("beside", 0);
+    store_one(base, PAIRS);
+    EXPECT(boddurci_save(base, &fault) == BODDURCI_DONE && stat("beside.redo", &found) == 0 && (found.st_mode & 07777) == 0660);
+    EXPECT(chmod("beside.pag", 0600) == 0);
+    boddurci_close_files(base);
+    EXPECT(!is_there("beside.redo"));
 }
 
 /* A file that is another than was opened is left alone, and the base stays usable. */
@@ -727,7 +639,7 @@ static void test_moved(void)
         store_one(base, 10 + i);
         EXPECT(rename(names[i], "away") == 0 && boddurci_save(base, &fault) == BODDURCI_MOVED && !is_there(names[i]));
         write_text(names[i], "", 0);
-        EXPECT(boddurci_save(base, &fault) == BODDURCI_MOVED && stat(names[i], &found) == 0 && found.st_size == 0 && !is_there("moved.redo"));
+        EXPECT(boddurci_save(base, &fault) == BODDURCI_MOVED && stat(names[i], &found) == 0 && found.st_size == 0 && !is_marked("moved.redo"));
         EXPECT(rename("away", names[i]) == 0 && boddurci_save(base, &fault) == BODDURCI_DONE && count_of(base) == (size_t)(2 + i));
         boddurci_close_files(base);
     }
@@ -798,10 +710,12 @@ static void test_forked(void)
     make_database("forked");
     boddurci_base *base = opened("forked", 0);
     store_one(base, 2);
+    EXPECT(boddurci_save(base, &fault) == BODDURCI_DONE);
     pid_t child = fork();
     if (child == 0)
         _exit(in_child(base));
     EXPECT(child > 0 && waitpid(child, &status, 0) == child && WIFEXITED(status) && WEXITSTATUS(status) == 0);
+    EXPECT(is_marked("forked.redo"));
     EXPECT(is_locked("forked", 0) && boddurci_save(base, &fault) == BODDURCI_DONE);
     /* A child that lives on does not keep the lock. */
     child = fork();
@@ -863,14 +777,10 @@ int main(int argc, char **argv)
     test_untouched();
     test_written_beside();
     test_limited();
-    test_limited_directory();
     test_written_later();
     test_meanwhile();
     test_links();
     test_other_base();
-    test_redo();
-    test_cut_off();
-    test_known();
     test_bytes();
     test_other_size();
     test_names();

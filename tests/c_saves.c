@@ -4,10 +4,11 @@
  *     c_saves change BASE    does the lines of standard input, `replace KEY VALUE` and `delete KEY` in hex, saves, and prints `saved`;
  *                            where the save is kept in the redo file alone, it says so on standard error
  *     c_saves insist BASE    the same, but where the save fails it saves once more
- *     c_saves each BASE      saves after each line, and goes on where that fails */
+ *     c_saves each BASE      saves after each line, prints `saved` and the number of lines so far, and goes on if a save fails */
 #include "boddurci_files.h"
 #include <stdio.h>
 #include <string.h>
+#include <unistd.h>
 
 static boddurci_fault fault;
 
@@ -15,6 +16,13 @@ static int fail(void)
 {
     fprintf(stderr, "c_saves: %s\n", fault.text);
     return 2;
+}
+
+/* Prints at once, by a call that tests/cut.c notes. */
+static void say(const char *text)
+{
+    if (write(1, text, strlen(text)) < 0)
+        fail();
 }
 
 static void print_hex(const uint8_t *bytes, size_t length, const char *end)
@@ -66,14 +74,19 @@ static int change(boddurci *db, const char *line)
 static int change_all(const char *name, int saves_each, int insists)
 {
     static char line[8300];
+    char saved[32];
     boddurci_base *base = boddurci_open_files(name, 0, &fault);
     if (base == NULL)
         return fail();
-    int status = 0;
+    int status = 0, count = 0;
     while (status == 0 && fgets(line, sizeof line, stdin) != NULL) {
         status = change(boddurci_take(base), line) ? 0 : 3;
         boddurci_give(base);
-        if (saves_each && boddurci_save(base, &fault) != BODDURCI_DONE)
+        count++;
+        snprintf(saved, sizeof saved, "saved %d\n", count);
+        if (saves_each && boddurci_save(base, &fault) == BODDURCI_DONE)
+            say(saved);
+        else if (saves_each)
             fail();
     }
     if (status == 0 && boddurci_save(base, &fault) != BODDURCI_DONE)
@@ -81,8 +94,7 @@ static int change_all(const char *name, int saves_each, int insists)
     if (status == 0 && fault.system != 0)
         fprintf(stderr, "c_saves: %s\n", fault.text);
     if (status == 0)
-        puts("saved");
-    fflush(stdout);
+        say("saved\n");
     boddurci_close_files(base);
     return status;
 }

@@ -2,7 +2,7 @@
  * blocks, or notes these calls. CUT_CALL is N; with none no call is cut off. CUT_FAULT is the errno with which the call fails; 0 is a kill.
  * CUT_TOLD is a file that is made once a call has failed. With CUT_LINES what is printed, to a descriptor 1 that is no file, counts too, but
  * for writes of no bytes. CUT_LOG is one in which calls are noted, once they are done: pwrite, ftruncate, unlink, syncs and those that
- * failed, in a line each, with bytes in hex. */
+ * failed, in a line each, with bytes in hex; with CUT_LINES also what is printed. */
 #define _GNU_SOURCE
 #include <dlfcn.h>
 #include <errno.h>
@@ -98,6 +98,8 @@ static void note_opened(const char *call, int fd, long long number, const void *
 
 ssize_t write(int fd, const void *bytes, size_t count)
 {
+    if (log_name != NULL && is_line(fd, count))
+        note("told", "-", 0, bytes, count);
     if (log_name != NULL || !(is_file(fd) || is_line(fd, count)))
         return REAL(write)(fd, bytes, count);
     if (is_next_cut() && count > 1)

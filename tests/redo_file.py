@@ -22,3 +22,31 @@ def redo_of(before, after, mark=1, signature=SIGNATURE):
                 changes.append(bytes([which]) + number(at) + number(len(data)) + data + was)
     lengths = [number(len(new)) for _, new in both] + [number(len(old)) for old, _ in both]
     return bytes([mark]) + signature + b"".join(lengths) + number(len(changes)) + b"".join(changes)
+
+
+# ---- logs, as the head of crates/sdbm_log/specs/Log.antt has them
+
+HEADER = 4096
+LOG_SIGNATURE = b"sdbmlog1"
+ROOM = 1 << 20
+
+
+def digits(value):
+    """A number as four bytes that are not zero."""
+    return bytes(value // 255**place % 255 + 1 for place in range(4))
+
+
+def record_of(before, after):
+    """The record of a save that makes the files of one database, by their endings, those of another."""
+    plan = redo_of(before, after)[1:]
+    body = digits(len(plan)) + plan
+    return digits(len(body) - body.count(0)) + body
+
+
+def log_of(records, room=ROOM):
+    """A log with these bytes after its header."""
+    return (b"\1" + LOG_SIGNATURE).ljust(HEADER, b"\0") + records.ljust(room, b"\0")
+
+
+def is_marked_log(redo):
+    return redo[:9] == b"\1" + LOG_SIGNATURE

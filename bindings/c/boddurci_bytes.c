@@ -3,6 +3,7 @@
 #define _GNU_SOURCE
 #include "boddurci_saves.h"
 #include <errno.h>
+#include <fcntl.h>
 #include <stdlib.h>
 #include <string.h>
 #include <sys/mman.h>
@@ -103,6 +104,53 @@ int boddurci_read_bytes(int file, size_t length, struct boddurci_bytes *bytes)
         }
     }
     return 0;
+}
+
+/* ---- whole files */
+
+size_t boddurci_most_bytes(enum boddurci_file file)
+{
+    static const size_t most[3] = {1073741824, 268435456, 2698000000};
+    return most[file];
+}
+
+uint32_t boddurci_length_of(int opened, enum boddurci_file file, size_t *length, boddurci_fault *fault)
+{
+    struct stat found;
+    if (fstat(opened, &found) != 0)
+        return boddurci_fail_by_system(fault, "a file cannot be read");
+    if (found.st_size > (off_t)boddurci_most_bytes(file))
+        return boddurci_fail(fault, BODDURCI_TOO_LONG, 0, boddurci_files_text(BODDURCI_TOO_LONG));
+    *length = (size_t)found.st_size;
+    return BODDURCI_DONE;
+}
+
+uint32_t boddurci_read_all(int opened, enum boddurci_file file, struct boddurci_bytes *bytes, boddurci_fault *fault)
+{
+    size_t length;
+    uint32_t status = boddurci_length_of(opened, file, &length, fault);
+    if (status != BODDURCI_DONE)
+        return status;
+    return boddurci_read_bytes(opened, length, bytes) == 0 ? status : boddurci_fail_by_system(fault, "a file cannot be read");
+}
+
+uint32_t boddurci_open_to_read(struct boddurci_place *place, enum boddurci_file file, int must_exist, int *opened, boddurci_fault *fault)
+{
+    *opened = boddurci_open_data(place, file, O_RDONLY);
+    if (*opened >= 0 || (errno == ENOENT && !must_exist))
+        return BODDURCI_DONE;
+    return boddurci_fail_by_system(fault, "a file cannot be opened");
+}
+
+uint32_t boddurci_read_data(struct boddurci_place *place, enum boddurci_file file, struct boddurci_bytes *bytes, boddurci_fault *fault)
+{
+    int opened;
+    uint32_t status = boddurci_open_to_read(place, file, 0, &opened, fault);
+    if (status != BODDURCI_DONE || opened < 0)
+        return status;
+    status = boddurci_read_all(opened, file, bytes, fault);
+    close(opened);
+    return status;
 }
 
 /* ---- pages, piece by piece */

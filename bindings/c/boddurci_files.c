@@ -11,9 +11,6 @@
 #include <sys/stat.h>
 #include <unistd.h>
 
-/* The most bytes of BASE.pag, .dir and .redo. */
-static const size_t limits[3] = {1073741824, 268435456, 2696151069};
-
 /* What a data file was when it was last read or saved. */
 struct note {
     int is_there;
@@ -26,6 +23,7 @@ struct note {
 struct boddurci_base {
     boddurci db;
     struct boddurci_place place;
+    struct boddurci_logged logged;
     uint32_t flags;
     pid_t process;               /* which has opened it */
     int is_noted;                /* the data files, while they stay so, are those of the base but on its changed pages */
@@ -40,29 +38,15 @@ static int is_of_another(const boddurci_base *base)
     return base->process != getpid();
 }
 
-static uint32_t cannot_be_written(boddurci_fault *fault, enum boddurci_file file)
-{
-    static const char *const what[3] = {"BASE.pag cannot be written", "BASE.dir cannot be written", "BASE.redo cannot be written"};
-    return boddurci_fail_by_system(fault, what[file]);
-}
-
-/* Tells of a save that stands in its redo file alone. */
-static uint32_t is_pending(boddurci_fault *fault, enum boddurci_file file)
-{
-    static const char *const what[3] = {"the save is kept in BASE.redo, and BASE.pag could not be written",
-                                        "the save is kept in BASE.redo, and BASE.dir could not be written",
-                                        "the save is done, and BASE.redo could not be taken away"};
-    return boddurci_fail(fault, BODDURCI_DONE, errno, what[file]);
-}
-
 /* ---- what the files were */
 
-static struct note note_of(const struct boddurci_place *place, enum boddurci_file file)
+/* What a data file is: the one that is opened, or if none is, the one under the name. */
+static struct note note_of(const struct boddurci_place *place, enum boddurci_file file, int opened)
 {
     struct stat is;
     struct note note;
     memset(&note, 0, sizeof note);
-    if (fstatat(place->folder, place->names[file], &is, 0) != 0)
+    if ((opened >= 0 ? fstat(opened, &is) : fstatat(place->folder, place->names[file], &is, 0)) != 0)
         return note;
     note.is_there = 1;
     note.device = is.st_dev;
@@ -73,10 +57,18 @@ static struct note note_of(const struct boddurci_place *place, enum boddurci_fil
     return note;
 }
 
-static void note_files(const struct boddurci_place *place, struct note notes[2])
+/* Notes the files under the names. */
+static void note_named(const boddurci_base *base, struct note notes[2])
 {
-    notes[BODDURCI_PAGES] = note_of(place, BODDURCI_PAGES);
-    notes[BODDURCI_DIRECTORY] = note_of(place, BODDURCI_DIRECTORY);
+    for (enum boddurci_file file = BODDURCI_PAGES; file <= BODDURCI_DIRECTORY; file++)
+        notes[file] = note_of(&base->place, file, -1);
+}
+
+/* Notes those that are held open, which takes less time. */
+static void note_held(const boddurci_base *base, struct note notes[2])
+{
+    for (enum boddurci_file file = BODDURCI_PAGES; file <= BODDURCI_DIRECTORY; file++)
+        notes[file] = note_of(&base->place, file, base->logged.disk.files[file]);
 }
 
 static int is_same_time(struct timespec one, struct timespec other)
@@ -105,66 +97,6 @@ static int are_noted(const boddurci_base *base, const struct note notes[2])
 
 /* ---- reading */
 
-static uint32_t too_long(boddurci_fault *fault)
-{
-    return boddurci_fail(fault, BODDURCI_TOO_LONG, 0, boddurci_files_text(BODDURCI_TOO_LONG));
-}
-
-/* How long an opened file is, which may not be longer than a limit. */
-static uint32_t length_of(int file, size_t limit, size_t *length, boddurci_fault *fault)
-{
-    struct stat found;
-    if (fstat(file, &found) != 0)
-        return boddurci_fail_by_system(fault, "a file cannot be read");
-    if (found.st_size > (off_t)limit)
-        return too_long(fault);
-    *length = (size_t)found.st_size;
-    return BODDURCI_DONE;
-}
-
-static uint32_t read_all(int file, size_t limit, struct boddurci_bytes *bytes, boddurci_fault *fault)
-{
-    size_t length;
-    uint32_t status = length_of(file, limit, &length, fault);
-    if (status != BODDURCI_DONE)
-        return status;
-    return boddurci_read_bytes(file, length, bytes) == 0 ? status : boddurci_fail_by_system(fault, "a file cannot be read");
-}
-
-/* Opens a data file; one that is not there is -1, unless it has to be there. */
-static uint32_t open_file(struct boddurci_place *place, enum boddurci_file which, int must_exist, int *file, boddurci_fault *fault)
-{
-    *file = boddurci_open_data(place, which, O_RDONLY);
-    if (*file >= 0 || (errno == ENOENT && !must_exist))
-        return BODDURCI_DONE;
-    return boddurci_fail_by_system(fault, "a file cannot be opened");
-}
-
-/* Reads a data file; one that is not there has no bytes, unless it has to be there. */
-static uint32_t read_file(struct boddurci_place *place, enum boddurci_file which, int must_exist, struct boddurci_bytes *bytes,
-                          boddurci_fault *fault)
-{
-    int file;
-    uint32_t status = open_file(place, which, must_exist, &file, fault);
-    if (status != BODDURCI_DONE || file < 0)
-        return status;
-    status = read_all(file, limits[which], bytes, fault);
-    close(file);
-    return status;
-}
-
-static uint32_t read_both(struct boddurci_place *place, int must_exist, struct boddurci_bytes *files, boddurci_fault *fault)
-{
-    uint32_t status = read_file(place, BODDURCI_DIRECTORY, 0, &files[BODDURCI_DIRECTORY], fault);
-    return status == BODDURCI_DONE ? read_file(place, BODDURCI_PAGES, must_exist, &files[BODDURCI_PAGES], fault) : status;
-}
-
-static void let_both_go(struct boddurci_bytes *files)
-{
-    boddurci_let_go(&files[BODDURCI_PAGES]);
-    boddurci_let_go(&files[BODDURCI_DIRECTORY]);
-}
-
 /* The data that an opening reads: all bytes of .dir, and the pages of .pag without its bytes. */
 struct parts {
     struct boddurci_bytes directory;
@@ -182,7 +114,7 @@ static void let_parts_go(struct parts *parts)
 static uint32_t read_pieces(int file, struct parts *parts, boddurci_fault *fault)
 {
     size_t length;
-    uint32_t status = length_of(file, limits[BODDURCI_PAGES], &length, fault);
+    uint32_t status = boddurci_length_of(file, BODDURCI_PAGES, &length, fault);
     if (status != BODDURCI_DONE)
         return status;
     parts->has_data = boddurci_has_data(file, length);
@@ -195,9 +127,9 @@ static uint32_t read_pieces(int file, struct parts *parts, boddurci_fault *fault
 static uint32_t read_parts(struct boddurci_place *place, int must_exist, struct parts *parts, boddurci_fault *fault)
 {
     int file;
-    uint32_t status = read_file(place, BODDURCI_DIRECTORY, 0, &parts->directory, fault);
+    uint32_t status = boddurci_read_data(place, BODDURCI_DIRECTORY, &parts->directory, fault);
     if (status == BODDURCI_DONE)
-        status = open_file(place, BODDURCI_PAGES, must_exist, &file, fault);
+        status = boddurci_open_to_read(place, BODDURCI_PAGES, must_exist, &file, fault);
     if (status != BODDURCI_DONE || file < 0)
         return status;
     status = read_pieces(file, parts, fault);
@@ -205,130 +137,19 @@ static uint32_t read_parts(struct boddurci_place *place, int must_exist, struct 
     return status;
 }
 
-/* ---- a save that was cut off */
-
-static uint32_t bad_redo(boddurci_fault *fault)
+/* Reads both data files as they are for a database that may not be written; if the redo file has its mark, with its saves done in them. */
+static uint32_t read_over(struct boddurci_place *place, int must_exist, struct parts *parts, boddurci_fault *fault)
 {
-    return boddurci_fail(fault, BODDURCI_BAD_REDO, 0,
-                         "BASE.redo is marked, and is not of these files: an older copy was put back, or another program wrote them");
-}
-
-/* Reads one that begins with a mark; another counts as one without bytes, whatever its length. */
-static uint32_t read_marked(int file, struct boddurci_bytes *redo, boddurci_fault *fault)
-{
-    uint8_t first = 0;
-    ssize_t got;
-    do
-        got = pread(file, &first, 1, 0);
-    while (got < 0 && errno == EINTR);
-    if (got < 0)
-        return boddurci_fail_by_system(fault, "a file cannot be read");
-    struct boddurci_bytes head = {&first, (size_t)got, 0};
-    return boddurci_is_marked(head) ? read_all(file, limits[BODDURCI_REDO], redo, fault) : BODDURCI_DONE;
-}
-
-/* Reads the redo file, and tells its descriptor, which is to be closed; one that is not there has no bytes. */
-static uint32_t read_redo(struct boddurci_place *place, int how, struct boddurci_bytes *redo, int *opened, boddurci_fault *fault)
-{
-    uint32_t status = boddurci_open_beside(place, BODDURCI_REDO, how, opened, fault);
-    if (status == BODDURCI_DONE && *opened >= 0)
-        status = read_marked(*opened, redo, fault);
-    if (status != BODDURCI_DONE || !boddurci_is_marked(*redo))
-        return status;
-    if (!boddurci_is_whole(*redo))
-        return bad_redo(fault);
-    for (enum boddurci_file file = BODDURCI_PAGES; file <= BODDURCI_DIRECTORY; file++)
-        if (boddurci_new_length(*redo, file) > limits[file])
-            return too_long(fault);
-    return status;
-}
-
-/* Whether a marked redo file is of these data files. */
-static uint32_t know(struct boddurci_bytes redo, const struct boddurci_bytes *files, boddurci_fault *fault)
-{
-    int is_known = boddurci_knows(redo, files);
-    if (is_known < 0)
-        return boddurci_no_memory(fault);
-    return is_known ? BODDURCI_DONE : bad_redo(fault);
-}
-
-/* Opens the redo file that was read once more, to end its save. */
-static uint32_t open_again(struct boddurci_disk *disk, int first, boddurci_fault *fault)
-{
-    struct stat was, is;
-    int *opened = &disk->files[BODDURCI_REDO];
-    uint32_t status = boddurci_open_beside(disk->place, BODDURCI_REDO, O_RDWR, opened, fault);
-    if (status != BODDURCI_DONE)
-        return status;
-    if (*opened < 0 || fstat(first, &was) != 0 || fstat(*opened, &is) != 0 || was.st_ino != is.st_ino || was.st_dev != is.st_dev)
-        return boddurci_fail(fault, BODDURCI_MOVED, 0, "BASE.redo is another file than was read");
-    return status;
-}
-
-/* Ends a save that was cut off, where one was, and says whether. */
-static uint32_t end_marked(struct boddurci_disk *disk, int *is_ended, boddurci_fault *fault)
-{
-    struct boddurci_bytes redo = {NULL, 0, 0}, files[2] = {{NULL, 0, 0}, {NULL, 0, 0}};
-    int opened = -1;
-    uint32_t status = read_redo(disk->place, O_RDONLY, &redo, &opened, fault);
-    int is_cut_off = status == BODDURCI_DONE && boddurci_is_marked(redo);
-    *is_ended = is_cut_off;
-    if (is_cut_off)
-        status = read_both(disk->place, 0, files, fault);
-    if (is_cut_off && status == BODDURCI_DONE)
-        status = know(redo, files, fault);
-    let_both_go(files);
-    if (is_cut_off && status == BODDURCI_DONE)
-        status = open_again(disk, opened, fault);
-    if (is_cut_off && status == BODDURCI_DONE && boddurci_recover(disk, redo) != 0)
-        status = cannot_be_written(fault, disk->last);
-    if (opened >= 0)
-        close(opened);
-    boddurci_let_go(&redo);
-    return status;
-}
-
-/* Keeps a redo file that a reader is to lay over: else what is read might not be so once the machine stops. Where nothing may be written
- * nothing is to be kept. */
-static uint32_t keep_marked(struct boddurci_place *place, int redo, boddurci_fault *fault)
-{
-    if ((boddurci_keep_opened(redo) == 0 && boddurci_keep_folder(place) == 0) || errno == EROFS || errno == EINVAL)
-        return BODDURCI_DONE;
-    return boddurci_fail_by_system(fault, "BASE.redo cannot be kept");
-}
-
-/* Reads both data files with a save done in them that was cut off. */
-static uint32_t read_done(struct boddurci_place *place, struct boddurci_bytes redo, struct parts *parts, boddurci_fault *fault)
-{
-    struct boddurci_bytes files[2] = {{NULL, 0, 0}, {NULL, 0, 0}};
-    uint32_t status = read_both(place, 0, files, fault);
-    if (status == BODDURCI_DONE)
-        status = know(redo, files, fault);
-    for (enum boddurci_file file = BODDURCI_PAGES; status == BODDURCI_DONE && file <= BODDURCI_DIRECTORY; file++)
-        if (boddurci_lay_over(redo, file, &files[file]) != 0)
-            status = boddurci_no_memory(fault);
+    struct boddurci_bytes files[2];
+    int is_marked;
+    uint32_t status = boddurci_read_marked(place, &is_marked, files, fault);
+    if (status == BODDURCI_DONE && !is_marked)
+        return read_parts(place, must_exist, parts, fault);
     if (status == BODDURCI_DONE && boddurci_move_pages(&files[BODDURCI_PAGES], parts->is_wide, &parts->pages) != 0)
         status = boddurci_no_memory(fault);
     boddurci_let_go(&files[BODDURCI_PAGES]);
     parts->has_data = 1;
     parts->directory = files[BODDURCI_DIRECTORY];
-    return status;
-}
-
-/* Reads both data files as they stand for a database that may not be written: where a save was cut off, with the save done in them. */
-static uint32_t read_over(struct boddurci_place *place, int must_exist, struct parts *parts, boddurci_fault *fault)
-{
-    struct boddurci_bytes redo = {NULL, 0, 0};
-    int opened = -1;
-    uint32_t status = read_redo(place, O_RDONLY, &redo, &opened, fault);
-    int is_cut_off = status == BODDURCI_DONE && boddurci_is_marked(redo);
-    if (is_cut_off)
-        status = keep_marked(place, opened, fault);
-    if (status == BODDURCI_DONE)
-        status = is_cut_off ? read_done(place, redo, parts, fault) : read_parts(place, must_exist, parts, fault);
-    if (opened >= 0)
-        close(opened);
-    boddurci_let_go(&redo);
     return status;
 }
 
@@ -344,21 +165,21 @@ static void see_files(struct boddurci_place *place)
     }
 }
 
-/* Reads both data files, after a save that was cut off. */
+/* Reads both data files, once they are recovered. */
 static uint32_t read_files(boddurci_base *base, struct parts *parts, boddurci_fault *fault)
 {
-    struct boddurci_disk disk;
+    struct boddurci_disk *disk = &base->logged.disk;
     int must_exist = (base->flags & BODDURCI_MUST_EXIST) != 0, is_ended;
     boddurci_no_fault(fault);
     boddurci_see_none(&base->place);
     if (base->flags & BODDURCI_READ_ONLY)
         return base->flags & BODDURCI_EMPTY ? BODDURCI_DONE : read_over(&base->place, must_exist, parts, fault);
-    boddurci_disk_of(&disk, &base->place);
-    uint32_t status = end_marked(&disk, &is_ended, fault);
-    boddurci_disk_close(&disk);
+    boddurci_hold_signal(disk);
+    uint32_t status = boddurci_logged_recover(&base->logged, &is_ended, fault);
+    boddurci_give_signal(disk);
     if (base->flags & BODDURCI_EMPTY)
         see_files(&base->place);
-    note_files(&base->place, base->notes);
+    note_named(base, base->notes);
     if (status == BODDURCI_DONE && !(base->flags & BODDURCI_EMPTY)) {
         status = read_parts(&base->place, must_exist, parts, fault);
         base->is_noted = status == BODDURCI_DONE;
@@ -423,8 +244,10 @@ static uint32_t read_base(boddurci_base *base, const char *name, int64_t millise
         status = read_files(base, &parts, fault);
     if (may_read && base->place.lock < 0)
         status = read_again(base, &parts, status, milliseconds, fault);
-    if (status != BODDURCI_DONE || reads)
+    if (status != BODDURCI_DONE || reads) {
+        boddurci_logged_end(&base->logged);
         boddurci_give_lock(&base->place, 1);
+    }
     if (status == BODDURCI_DONE)
         status = look_at_size(base, &parts, fault);
     if (status == BODDURCI_DONE)
@@ -443,6 +266,7 @@ static boddurci_base *new_base(uint32_t flags)
     base->flags = flags;
     base->process = getpid();
     base->place.folder = base->place.lock = -1;
+    boddurci_logged_of(&base->logged, &base->place);
     if (pthread_mutex_init(&base->mutex, NULL) == 0) {
         if (boddurci_group_init(&base->saves) == 0)
             return base;
@@ -487,6 +311,10 @@ void boddurci_close_files(boddurci_base *base)
     int is_own = !is_of_another(base);
     if (is_own || pthread_mutex_trylock(&base->mutex) == 0)
         boddurci_close(&base->db);
+    if (is_own)
+        boddurci_logged_end(&base->logged);
+    else
+        boddurci_disk_close(&base->logged.disk);
     boddurci_give_lock(&base->place, is_own);
     boddurci_place_close(&base->place);
     if (is_own) {
@@ -600,30 +428,56 @@ static size_t side_by_side(const struct reading *reading, size_t first)
     return count;
 }
 
-/* Reads the pages that are listed. A file that is not there has no bytes. */
-static uint32_t read_pages(struct boddurci_place *place, struct reading *reading, boddurci_fault *fault)
+/* Reads the pages that are listed. */
+static uint32_t read_pages(int file, struct reading *reading, boddurci_fault *fault)
 {
-    uint32_t status = BODDURCI_DONE;
-    reading->pages = calloc(reading->count + 1, reading->size);
-    if (reading->pages == NULL)
-        return boddurci_no_memory(fault);
-    int file = boddurci_open_data(place, BODDURCI_PAGES, O_RDONLY);
-    if (file < 0)
-        return errno == ENOENT ? BODDURCI_DONE : boddurci_fail_by_system(fault, "a file cannot be opened");
-    for (size_t i = 0, count; i < reading->count && status == BODDURCI_DONE; i += count) {
+    for (size_t i = 0, count; i < reading->count; i += count) {
         count = side_by_side(reading, i);
         if (read_at(file, (uint64_t)reading->numbers[i] * reading->size, reading->pages + i * reading->size, count * reading->size) != 0)
-            status = boddurci_fail_by_system(fault, "a file cannot be read");
+            return boddurci_fail_by_system(fault, "a file cannot be read");
     }
-    close(file);
+    return BODDURCI_DONE;
+}
+
+/* Reads all of .dir. If it is short it is not mapped, which would take longer than to read it. */
+static uint32_t read_directory(int file, struct boddurci_bytes *directory, boddurci_fault *fault)
+{
+    enum { SHORT = 65536 };
+    size_t length;
+    uint32_t status = boddurci_length_of(file, BODDURCI_DIRECTORY, &length, fault);
+    if (status != BODDURCI_DONE || length > SHORT)
+        return status != BODDURCI_DONE ? status : boddurci_read_all(file, BODDURCI_DIRECTORY, directory, fault);
+    directory->at = calloc(length + 1, 1);
+    if (directory->at == NULL)
+        return boddurci_no_memory(fault);
+    directory->length = length;
+    return read_at(file, 0, directory->at, length) == 0 ? status : boddurci_fail_by_system(fault, "a file cannot be read");
+}
+
+/* Reads the directory, or the pages that are listed. The files of a base that was saved are open. A file that is missing has no bytes. */
+static uint32_t read_part(boddurci_base *base, enum boddurci_file which, struct reading *reading, boddurci_fault *fault)
+{
+    int held = base->logged.disk.files[which], file = held;
+    uint32_t status = held >= 0 ? BODDURCI_DONE : boddurci_open_to_read(&base->place, which, 0, &file, fault);
+    if (status != BODDURCI_DONE || file < 0)
+        return status;
+    if (which == BODDURCI_PAGES)
+        status = read_pages(file, reading, fault);
+    else
+        status = read_directory(file, &reading->directory, fault);
+    if (held < 0)
+        close(file);
     return status;
 }
 
 /* Reads the directory, and the pages that are listed. */
-static uint32_t read_listed(struct boddurci_place *place, struct reading *reading, boddurci_fault *fault)
+static uint32_t read_listed(boddurci_base *base, struct reading *reading, boddurci_fault *fault)
 {
-    uint32_t status = read_file(place, BODDURCI_DIRECTORY, 0, &reading->directory, fault);
-    return status == BODDURCI_DONE ? read_pages(place, reading, fault) : status;
+    uint32_t status = read_part(base, BODDURCI_DIRECTORY, reading, fault);
+    reading->pages = calloc(reading->count + 1, reading->size);
+    if (reading->pages == NULL)
+        return boddurci_no_memory(fault);
+    return status == BODDURCI_DONE ? read_part(base, BODDURCI_PAGES, reading, fault) : status;
 }
 
 /* ---- saving */
@@ -643,32 +497,30 @@ static size_t room_of(const struct reading *reading)
     return LEAST + (blocks < MOST ? blocks : MOST) * CHANGE;
 }
 
-/* The redo file, not marked yet, that makes the files those of the database; an empty one where they are that already. It is to be freed
- * in any case. */
-static uint32_t plan_of(boddurci *db, const struct reading *reading, struct boddurci_bytes *redo)
+/* The plan that makes the files those of the database, after the room that its record needs; it is empty if they are that already. It is to
+ * be freed in any case. */
+static uint32_t plan_of(boddurci *db, const struct reading *reading, struct boddurci_bytes *plan)
 {
     const uint8_t *directory = or_none(reading->directory);
     const uint32_t *numbers = numbers_of(reading);
     size_t room, length = room_of(reading), pages = reading->count * reading->size;
     uint32_t status = BODDURCI_SHORT_ROOM;
     while (status == BODDURCI_SHORT_ROOM) {
-        uint8_t *grown = realloc(redo->at, 1 + length);
+        uint8_t *grown = realloc(plan->at, BODDURCI_PLAN_AT + length);
         if (grown == NULL)
             return BODDURCI_NO_MEMORY;
-        redo->at = grown;
+        plan->at = grown;
         room = length;
         status = boddurci_plan(db, directory, reading->directory.length, reading->length, numbers, reading->count, reading->pages,
-                               pages, grown + 1, room, &length);
+                               pages, grown + BODDURCI_PLAN_AT, room, &length);
     }
-    if (status != BODDURCI_DONE)
-        return status;
-    redo->at[0] = 0;
-    redo->length = length == 0 ? 0 : 1 + length;
+    if (status == BODDURCI_DONE)
+        plan->length = length == 0 ? 0 : BODDURCI_PLAN_AT + length;
     return status;
 }
 
 /* Lists the pages that are to be read, reads them, and plans; under the mutex, but not while it reads, unless it is to hold it then too. */
-static uint32_t try_plan(boddurci_base *base, int reads_all, int holds, struct reading *reading, struct boddurci_bytes *redo,
+static uint32_t try_plan(boddurci_base *base, int reads_all, int holds, struct reading *reading, struct boddurci_bytes *plan,
                          boddurci_fault *fault)
 {
     boddurci *db = boddurci_take(base);
@@ -677,12 +529,12 @@ static uint32_t try_plan(boddurci_base *base, int reads_all, int holds, struct r
         boddurci_give(base);
     int is_listed = status == BODDURCI_DONE, plans = reads_all || reading->count != 0 || !base->is_planned;
     if (is_listed && plans)
-        status = read_listed(&base->place, reading, fault);
+        status = read_listed(base, reading, fault);
     int is_read = is_listed && status == BODDURCI_DONE;
     if (!holds)
         boddurci_take(base);
     if (is_read && plans)
-        status = plan_of(db, reading, redo);
+        status = plan_of(db, reading, plan);
     boddurci_give(base);
     if (status == BODDURCI_DONE || status == BODDURCI_STALE || (is_listed && !is_read))
         return status;
@@ -692,36 +544,21 @@ static uint32_t try_plan(boddurci_base *base, int reads_all, int holds, struct r
 enum { TRIES = 3 };
 
 /* Plans, once more where others have changed more pages meanwhile. */
-static uint32_t plan_now(boddurci_base *base, int reads_all, struct reading *reading, struct boddurci_bytes *redo, boddurci_fault *fault)
+static uint32_t plan_now(boddurci_base *base, int reads_all, struct reading *reading, struct boddurci_bytes *plan, boddurci_fault *fault)
 {
     uint32_t status = BODDURCI_STALE;
     for (int tries = 0; status == BODDURCI_STALE; tries++) {
         end_reading(reading);
-        status = try_plan(base, reads_all, tries >= TRIES, reading, redo, fault);
+        status = try_plan(base, reads_all, tries >= TRIES, reading, plan, fault);
     }
     return status;
 }
 
-/* Whether the files may have the lengths that a save gives them. */
-static uint32_t fit(struct boddurci_bytes redo, boddurci_fault *fault)
+/* Does what was planned. If that fails the pages count as changed again, or else the next save reads all. */
+static uint32_t do_plan(boddurci_base *base, const struct reading *reading, struct boddurci_bytes plan, boddurci_fault *fault)
 {
-    for (enum boddurci_file file = BODDURCI_PAGES; redo.length != 0 && file <= BODDURCI_DIRECTORY; file++)
-        if (boddurci_new_length(redo, file) > limits[file])
-            return boddurci_fail(fault, BODDURCI_TOO_LONG, 0, "a file would be too long: 1 GiB of pages and 256 MiB of directory is the most");
-    return BODDURCI_DONE;
-}
-
-/* Does what was planned. Where that fails the pages count as changed again, or else the next save reads all. */
-static uint32_t do_plan(boddurci_base *base, struct boddurci_disk *disk, const struct reading *reading, struct boddurci_bytes redo,
-                        boddurci_fault *fault)
-{
-    struct boddurci_bytes none = {NULL, 0, 0};
     int is_left = 0;
-    uint32_t status = fit(redo, fault);
-    if (status == BODDURCI_DONE && redo.length != 0)
-        is_left = boddurci_recover(disk, none) != 0 || boddurci_stage(disk, redo) != 0 ? -1 : boddurci_commit(disk, redo);
-    if (is_left != 0)
-        status = is_left < 0 ? cannot_be_written(fault, disk->last) : is_pending(fault, disk->last);
+    uint32_t status = plan.length != 0 ? boddurci_logged_save(&base->logged, plan, &is_left, fault) : BODDURCI_DONE;
     if (status != BODDURCI_DONE) {
         if (boddurci_mark(boddurci_take(base), numbers_of(reading), reading->count) != BODDURCI_DONE)
             base->is_noted = 0;
@@ -740,41 +577,73 @@ static void settle_lock(struct boddurci_place *place)
     place->is_lock_early = boddurci_be_like_pages(place, BODDURCI_LOCK, place->lock) != 0;
 }
 
-/* The whole save. Where no page has changed and the files are those that were noted, nothing is read, unless it is the first save, which
- * looks at the lengths of the files and at the directory; and where the files are those of the database nothing is written. Where another
- * program writes them while they are read, the next save reads all. */
-static uint32_t save(boddurci_base *base, boddurci_fault *fault)
+/* Whether the data files that are held open are still those under their names. */
+static uint32_t are_named(const boddurci_base *base, const struct note notes[2], boddurci_fault *fault)
 {
-    struct boddurci_disk disk;
-    struct boddurci_bytes redo = {NULL, 0, 0};
-    struct reading reading = {{NULL, 0, 0}, 0, NULL, 0, NULL, base->flags & BODDURCI_WIDE ? 8192 : 1024};
-    struct note notes[2], again[2];
+    for (enum boddurci_file file = BODDURCI_PAGES; file <= BODDURCI_DIRECTORY; file++) {
+        const struct boddurci_seen *seen = &base->place.seen[file];
+        const struct note *note = &notes[file];
+        if (seen->is_there && (!note->is_there || note->device != seen->device || note->number != seen->number)) {
+            errno = ESTALE;
+            return boddurci_fail_by_system(fault, "");
+        }
+    }
+    return BODDURCI_DONE;
+}
+
+/* Recovers the files after a save that failed, and notes what they are. If another program has written them, the log begins anew, since its
+ * records are not of these files. */
+static uint32_t prepare(boddurci_base *base, struct note notes[2], boddurci_fault *fault)
+{
     int is_ended = 0;
     if (!boddurci_is_held(&base->place))
         return boddurci_fail(fault, BODDURCI_MOVED, 0, "BASE.lock is another file than is held, and nothing was written");
-    boddurci_disk_of(&disk, &base->place);
-    uint32_t status = end_marked(&disk, &is_ended, fault);
-    note_files(&base->place, notes);
+    uint32_t status = boddurci_logged_recover(&base->logged, &is_ended, fault);
+    note_named(base, notes);
+    if (status == BODDURCI_DONE)
+        status = are_named(base, notes, fault);
     base->is_noted = !is_ended && are_noted(base, notes);
+    if (status == BODDURCI_DONE && !base->is_noted && !is_ended)
+        status = boddurci_logged_renew(&base->logged, fault);
+    if (status == BODDURCI_DONE && notes[BODDURCI_PAGES].length > (off_t)boddurci_most_bytes(BODDURCI_PAGES))
+        status = boddurci_fail(fault, BODDURCI_TOO_LONG, 0, boddurci_files_text(BODDURCI_TOO_LONG));
+    return status;
+}
+
+/* The whole save. If no page has changed and the files are those that were noted, nothing is read, unless it is the first save, which looks
+ * at the lengths of the files and at the directory; and if the files are those of the database nothing is written. If another program writes
+ * them while they are read, the next save reads all. */
+static uint32_t save_prepared(boddurci_base *base, struct note notes[2], boddurci_fault *fault)
+{
+    struct boddurci_bytes plan = {NULL, 0, 0};
+    struct reading reading = {{NULL, 0, 0}, 0, NULL, 0, NULL, base->flags & BODDURCI_WIDE ? 8192 : 1024};
+    struct note again[2];
     reading.length = (size_t)notes[BODDURCI_PAGES].length;
-    if (status == BODDURCI_DONE && notes[BODDURCI_PAGES].length > (off_t)limits[BODDURCI_PAGES])
-        status = too_long(fault);
+    uint32_t status = plan_now(base, !base->is_noted, &reading, &plan, fault);
+    note_held(base, again);
     if (status == BODDURCI_DONE)
-        status = plan_now(base, !base->is_noted, &reading, &redo, fault);
-    note_files(&base->place, again);
-    if (status == BODDURCI_DONE)
-        status = do_plan(base, &disk, &reading, redo, fault);
+        status = do_plan(base, &reading, plan, fault);
     if (status == BODDURCI_DONE) {
         settle_lock(&base->place);
         base->is_planned = 1;
         base->is_noted = base->is_noted && are_same_notes(notes, again);
-        if (redo.length != 0)
-            note_files(&base->place, notes);
-        memcpy(base->notes, notes, sizeof notes);
+        if (plan.length != 0)
+            note_held(base, notes);
+        memcpy(base->notes, notes, 2 * sizeof *notes);
     }
     end_reading(&reading);
-    boddurci_let_go(&redo);
-    boddurci_disk_close(&disk);
+    boddurci_let_go(&plan);
+    return status;
+}
+
+static uint32_t save(boddurci_base *base, boddurci_fault *fault)
+{
+    struct note notes[2];
+    boddurci_hold_signal(&base->logged.disk);
+    uint32_t status = prepare(base, notes, fault);
+    if (status == BODDURCI_DONE)
+        status = save_prepared(base, notes, fault);
+    boddurci_give_signal(&base->logged.disk);
     return status;
 }
 

@@ -169,9 +169,7 @@ static int wait_for(int lock, int how, int64_t end)
 
 int boddurci_is_held(const struct boddurci_place *place)
 {
-    struct stat held, named;
-    return fstat(place->lock, &held) == 0 && fstatat(place->folder, place->names[BODDURCI_LOCK], &named, AT_SYMLINK_NOFOLLOW) == 0 &&
-           held.st_dev == named.st_dev && held.st_ino == named.st_ino;
+    return boddurci_is_named(place, BODDURCI_LOCK, place->lock);
 }
 
 /* Whether this run may write .pag, where that is there: a run that may not makes no lock. */

@@ -263,6 +263,21 @@ int boddurci_be_like_pages(const struct boddurci_place *place, enum boddurci_fil
     return fchmod(opened, mode);
 }
 
+int boddurci_is_like_pages(const struct boddurci_place *place, int opened)
+{
+    struct stat own, pages;
+    if (fstatat(place->folder, place->names[BODDURCI_PAGES], &pages, 0) != 0 || fstat(opened, &own) != 0)
+        return 0;
+    return own.st_uid == pages.st_uid && own.st_gid == pages.st_gid && (own.st_mode & 07777) == (pages.st_mode & 0666);
+}
+
+int boddurci_is_named(const struct boddurci_place *place, enum boddurci_file file, int opened)
+{
+    struct stat held, named;
+    return fstat(opened, &held) == 0 && fstatat(place->folder, place->names[file], &named, AT_SYMLINK_NOFOLLOW) == 0 &&
+           held.st_dev == named.st_dev && held.st_ino == named.st_ino;
+}
+
 /* ---- keeping */
 
 static int sync_wholly(int opened, int (*sync)(int))

@@ -1,5 +1,5 @@
-/* What the files in C beside the library share: where a database is, its lock, and a save by a redo file, as dbm makes it;
- * docs/DECISIONS.md says how under "Reading and writing files" and "Calls from C". boddurci_files.c stands on it, and no program that uses
+/* What the files in C beside the library share: where a database is, its lock, and its log of saves; docs/DECISIONS.md says how under
+ * "Reading and writing files" and "Calls from C". boddurci_files.c stands on it, and no program that uses
  * the library. Where a call returns an int and not whether something is so, 0 is success, and after -1 errno says why; where it returns a
  * status, the fault says why. */
 #ifndef BODDURCI_SAVES_H
@@ -55,35 +55,12 @@ int boddurci_read_pages(int file, size_t length, uint32_t is_wide, boddurci_read
 /* Does the same with the bytes of a .pag in memory, which go as they are read. */
 int boddurci_move_pages(struct boddurci_bytes *bytes, uint32_t is_wide, boddurci_reading *pages);
 
-/* ---- boddurci_plan.c: the bytes of a redo file */
+/* The most bytes that a file may have. */
+size_t boddurci_most_bytes(enum boddurci_file file);
 
-/* A change of a data file, which stands in a redo file; where the next one stands, and how many there are. */
-struct boddurci_change {
-    enum boddurci_file file;
-    size_t at, size;
-    const uint8_t *bytes; /* what is to stand there */
-    const uint8_t *old;   /* and what stood there */
-    size_t next, left;
-};
-
-/* Whether the redo file is marked, so that its save is committed; and whether it is one that a save can have left. All calls below want a
- * whole one that is not empty. */
-int boddurci_is_marked(struct boddurci_bytes redo);
-int boddurci_is_whole(struct boddurci_bytes redo);
-
-/* How long a file is after the save, and was before it. */
-size_t boddurci_new_length(struct boddurci_bytes redo, enum boddurci_file file);
-size_t boddurci_old_length(struct boddurci_bytes redo, enum boddurci_file file);
-
-/* Each change in turn: what stands before the first one, and whether there is a next one, and which. */
-struct boddurci_change boddurci_before_changes(struct boddurci_bytes redo);
-int boddurci_next_change(struct boddurci_bytes redo, struct boddurci_change *change);
-
-/* Whether the save is one of these data files, which stand before it, after it, or in the middle of it: 1 or 0; or -1, where memory ran out. */
-int boddurci_knows(struct boddurci_bytes redo, const struct boddurci_bytes files[2]);
-
-/* Does the save in the bytes of a data file, which are mapped. */
-int boddurci_lay_over(struct boddurci_bytes redo, enum boddurci_file file, struct boddurci_bytes *bytes);
+/* How long an opened file is: TOO_LONG if that is too much. The second call reads all of it. */
+uint32_t boddurci_length_of(int opened, enum boddurci_file file, size_t *length, boddurci_fault *fault);
+uint32_t boddurci_read_all(int opened, enum boddurci_file file, struct boddurci_bytes *bytes, boddurci_fault *fault);
 
 /* ---- boddurci_place.c: the folder of a database, and its files */
 
@@ -118,6 +95,11 @@ int boddurci_open_data(struct boddurci_place *place, enum boddurci_file file, in
 int boddurci_see(struct boddurci_place *place, enum boddurci_file file, int opened);
 void boddurci_see_none(struct boddurci_place *place);
 
+/* Opens a data file to be read; one that is missing is -1, unless it has to exist. The second call reads all of one, and one that is missing
+ * has no bytes. Both are in boddurci_bytes.c. */
+uint32_t boddurci_open_to_read(struct boddurci_place *place, enum boddurci_file file, int must_exist, int *opened, boddurci_fault *fault);
+uint32_t boddurci_read_data(struct boddurci_place *place, enum boddurci_file file, struct boddurci_bytes *bytes, boddurci_fault *fault);
+
 /* Opens the redo file or the lock where it is there, and else tells -1: UNSAFE where a stranger may have made it. */
 uint32_t boddurci_open_beside(const struct boddurci_place *place, enum boddurci_file file, int how, int *opened, boddurci_fault *fault);
 
@@ -126,6 +108,12 @@ int boddurci_make(const struct boddurci_place *place, enum boddurci_file file, m
 
 /* Gives a file that was made the owner, the group and the permissions of .pag, where that is there, as far as the system lets it. */
 int boddurci_be_like_pages(const struct boddurci_place *place, enum boddurci_file file, int opened);
+
+/* Whether an opened file has the owner, the group and the permissions of .pag. */
+int boddurci_is_like_pages(const struct boddurci_place *place, int opened);
+
+/* Whether the name of a file leads to the one that is opened. */
+int boddurci_is_named(const struct boddurci_place *place, enum boddurci_file file, int opened);
 
 /* The permissions of .pag, or these where it is not there. */
 mode_t boddurci_mode_of_pages(const struct boddurci_place *place, mode_t otherwise);
@@ -151,36 +139,140 @@ int boddurci_is_held(const struct boddurci_place *place);
 /* Lets the lock go: for all who have the descriptor, or, in a child, for nobody else. */
 void boddurci_give_lock(struct boddurci_place *place, int is_own);
 
-/* ---- boddurci_disk.c: the three files of a save, written */
+/* ---- crates/boddurci_logs: the steps of a log. docs/DESIGN.md says what they promise, and they are proved. */
 
-/* Each data file is opened when it is first kept or written, made where it is not there, and then kept open. From boddurci_disk_of to
- * boddurci_disk_close SIGXFSZ is kept from this thread: a write past the limit of the process on the length of a file is EFBIG. */
+/* The place of the next record in a log, from the end of its header on: where the records end, how much room they have, and how many changes
+ * their plans have. */
+typedef struct {
+    size_t end, room, count;
+} boddurci_log;
+
+enum { BODDURCI_WRITE, BODDURCI_ZEROS, BODDURCI_RESIZE, BODDURCI_SYNC };
+
+/* A call on a file, in five words: write so many bytes of a buffer, from a place in it on, or so many zeros, at an offset; make the file so
+ * long, with zeros after its end; or sync its bytes, its length and its name. */
+typedef struct {
+    uint64_t kind, file /* 0 .pag, 1 .dir, 2 .redo */, at, from, length;
+} boddurci_step;
+
+/* Tells the steps that open the log of these files with at least so much room, and the place of its first record. They recover the data files
+ * if the redo file has its mark, and otherwise need none of their bytes. SHORT_ROOM, and then only the lengths are told; BAD_FILES if the redo
+ * file has no plan of these files, STALE if a record in the middle of its log is damaged, NO_MEMORY. */
+uint32_t boddurci_log_open(const uint8_t *pages, size_t pages_length, const uint8_t *directory, size_t directory_length, const uint8_t *redo,
+                           size_t redo_length, size_t room, boddurci_log *log, uint8_t *bytes, size_t bytes_room, size_t *bytes_length,
+                           uint64_t *words, size_t words_room, size_t *words_length);
+
+/* Tells the steps that make copies of the data files what the three files mean: none if the redo file has no plan. The same statuses. */
+uint32_t boddurci_log_read(const uint8_t *pages, size_t pages_length, const uint8_t *directory, size_t directory_length, const uint8_t *redo,
+                           size_t redo_length, uint8_t *bytes, size_t bytes_room, size_t *bytes_length, uint64_t *words, size_t words_room,
+                           size_t *words_length);
+
+/* Tells the steps of a save by a plan, how many words those have that commit it, and the place of the next record. The plan is in `bytes`,
+ * after BODDURCI_PLAN_AT bytes, which are written. SHORT_ROOM, FILE_TOO_LONG, NO_MEMORY. */
+enum { BODDURCI_PLAN_AT = 18 };
+uint32_t boddurci_log_save(boddurci_log *log, uint8_t *bytes, size_t length, uint64_t *words, size_t words_room, size_t *words_length,
+                           size_t *committed);
+
+/* Tells the steps that close a log. They write no bytes of a buffer. SHORT_ROOM, NO_MEMORY. */
+uint32_t boddurci_log_close(uint64_t *words, size_t words_room, size_t *words_length);
+
+/* ---- boddurci_disk.c: the three files, opened to be written */
+
+/* Each data file is opened when it is first synced or written, made if it is missing, and then held open. The redo file is made when it is
+ * first written; boddurci_log.c opens one that exists. */
 struct boddurci_disk {
     struct boddurci_place *place;
-    int files[3];            /* -1 where it is not open */
-    int is_folder_kept;      /* the folder was synced, and no file was made since */
+    int files[3];            /* -1 if it is not open */
+    int is_folder_synced;    /* and no file was made since */
     enum boddurci_file last; /* which file the last call was about */
     sigset_t mask;           /* what was kept from the thread before */
     int is_signal_held;      /* the mask was changed */
     int was_signalled;       /* the signal had come before */
 };
 
-/* The files of a place; and what is to be called in any case. */
+/* The files of a place, none of them open yet; closes one, or all. */
 void boddurci_disk_of(struct boddurci_disk *disk, struct boddurci_place *place);
+void boddurci_disk_drop(struct boddurci_disk *disk, enum boddurci_file file);
 void boddurci_disk_close(struct boddurci_disk *disk);
 
-/* Keeps what the files hold; and where the redo file, which has these bytes, is marked, ends its save. Then it is opened to be written,
- * whole, and known. */
-int boddurci_recover(struct boddurci_disk *disk, struct boddurci_bytes redo);
+/* Keeps SIGXFSZ from this thread: a write past the limit of the process on the length of a file is EFBIG. The second call discards one that
+ * this thread's writes raised, and restores the mask. */
+void boddurci_hold_signal(struct boddurci_disk *disk);
+void boddurci_give_signal(struct boddurci_disk *disk);
 
-/* Writes a redo file that is not marked, a new one, and keeps it, so that nothing is committed yet; and gives the data files the blocks that
- * its save wants, where the file system can. Where there is no room, or a file would pass the limit of the process, or it cannot write it, it
- * takes it away. It wants boddurci_recover before it. */
-int boddurci_stage(struct boddurci_disk *disk, struct boddurci_bytes redo);
+/* Writes bytes, or zeros; sets the length; syncs the bytes, the length and the names of all files. A data file that is missing has nothing to
+ * sync; one that may not be written fails there. */
+int boddurci_disk_write(struct boddurci_disk *disk, enum boddurci_file file, uint64_t at, const uint8_t *bytes, size_t size);
+int boddurci_disk_zero(struct boddurci_disk *disk, enum boddurci_file file, uint64_t at, uint64_t size);
+int boddurci_disk_resize(struct boddurci_disk *disk, enum boddurci_file file, uint64_t length);
+int boddurci_disk_sync(struct boddurci_disk *disk, enum boddurci_file file);
 
-/* Marks the redo file that was staged, which commits its save, and ends it. Where the mark cannot be kept it takes the redo file away.
- * What fails after the mark is no fault, and then it is 1 and errno says why: the next who opens or saves ends the save. */
-int boddurci_commit(struct boddurci_disk *disk, struct boddurci_bytes redo);
+/* How long a file is: 0 if it is missing. */
+int boddurci_disk_length(struct boddurci_disk *disk, enum boddurci_file file, uint64_t *length);
+
+/* Closes and removes the redo file. */
+int boddurci_disk_remove_redo(struct boddurci_disk *disk);
+
+/* Gives a range of an opened file its blocks: its bytes stay, and its length. It is 1 if the file system cannot do that. The second call frees
+ * the blocks past this length, which the file has. */
+int boddurci_disk_reserve(struct boddurci_disk *disk, enum boddurci_file file, uint64_t at, uint64_t size);
+int boddurci_disk_trim(struct boddurci_disk *disk, enum boddurci_file file, uint64_t length);
+
+/* ---- boddurci_steps.c: steps, made */
+
+/* Steps, and the bytes that they write. */
+struct boddurci_steps {
+    boddurci_step *at;
+    size_t count;
+    size_t committed;     /* of a save: so many of them commit it */
+    const uint8_t *bytes;
+    size_t length;        /* of the bytes */
+    uint8_t *own;         /* the bytes, if they are to be freed with the steps */
+};
+
+/* Makes steps on the files, one after another until one fails. */
+int boddurci_do_steps(struct boddurci_disk *disk, const boddurci_step *steps, size_t count, const uint8_t *bytes);
+
+/* Makes those on the data files on copies of them, which are mapped. */
+int boddurci_do_in_memory(struct boddurci_bytes files[2], const struct boddurci_steps *steps);
+
+/* Whether the data files have no more bytes after the steps than they may; and whether this process may write files that long (RLIMIT_FSIZE). */
+int boddurci_is_within_limits(const struct boddurci_steps *steps);
+int boddurci_may_write(struct boddurci_disk *disk, const struct boddurci_steps *steps);
+
+/* Sees before the commit of a save that there is room for the steps after it: the data files get their blocks, and the redo file tries as many
+ * as they cannot be given. The second call frees what the data files have past their ends, and keeps errno. */
+int boddurci_take_room(struct boddurci_disk *disk, const struct boddurci_steps *steps);
+void boddurci_release_room(struct boddurci_disk *disk);
+
+/* ---- boddurci_log.c: the log of a base */
+
+/* The log of a base that is open to be written. */
+struct boddurci_logged {
+    struct boddurci_disk disk;
+    boddurci_log next; /* if it is open, the place of the next record */
+    int is_open;
+    int is_doubtful;   /* a call on the redo file failed, and it could not be removed: it is to be made anew if it has no mark */
+};
+
+void boddurci_logged_of(struct boddurci_logged *logged, struct boddurci_place *place);
+
+/* If the log is not open and the redo file has its mark, recovers the data files, opens the log if there is room for it, and sets *is_ended. */
+uint32_t boddurci_logged_recover(struct boddurci_logged *logged, int *is_ended, boddurci_fault *fault);
+
+/* Saves by a plan, which stands after BODDURCI_PLAN_AT bytes; opens the log first if it is not open. After a fault nothing was changed, or if
+ * BASE.redo itself failed, the save may be committed or not: the next save or opening finds out. What fails after the commit is no fault: then
+ * it is DONE, *is_left is 1 and the fault says what failed. */
+uint32_t boddurci_logged_save(struct boddurci_logged *logged, struct boddurci_bytes bytes, int *is_left, boddurci_fault *fault);
+
+/* Closes the log, so that the next save opens it anew. */
+uint32_t boddurci_logged_renew(struct boddurci_logged *logged, boddurci_fault *fault);
+
+/* Closes the log and the files. If that fails the next who opens the base recovers it. It makes no step if the lock is lost. */
+void boddurci_logged_end(struct boddurci_logged *logged);
+
+/* Says whether the redo file has its mark; if so, reads both data files with its saves done in them. The bytes are to be freed in any case. */
+uint32_t boddurci_read_marked(struct boddurci_place *place, int *is_marked, struct boddurci_bytes files[2], boddurci_fault *fault);
 
 /* ---- boddurci_group.c: threads that save a base at the same time */
 

@@ -411,7 +411,6 @@ class Saves(InFolder):
                 db.sync()
         finally:
             resource.setrlimit(resource.RLIMIT_FSIZE, limits)
-        self.assertFalse(os.path.exists(self.base + ".redo"))
         os.rename(self.base + ".lock", self.base + ".away")
         with boddurci.open(self.base) as reader:
             self.assertEqual(reader.items(), [(b"a", b"1")])
@@ -473,12 +472,11 @@ class Saves(InFolder):
         limits = resource.getrlimit(resource.RLIMIT_FSIZE)
         resource.setrlimit(resource.RLIMIT_FSIZE, (20000, limits[1]))
         try:
-            with self.assertRaisesRegex(boddurci.error, "BASE.pag cannot be written") as caught:
+            with self.assertRaisesRegex(boddurci.error, "BASE.(redo|pag) cannot be written") as caught:
                 db.sync()
         finally:
             resource.setrlimit(resource.RLIMIT_FSIZE, limits)
         self.assertEqual(caught.exception.errno, errno.EFBIG)
-        self.assertFalse(os.path.exists(self.base + ".redo"))
         self.assertEqual([pathlib.Path(self.base + ending).read_bytes() for ending in (".pag", ".dir")], before)
         db.close()
         with boddurci.open(self.base) as reader:
@@ -513,7 +511,7 @@ class Saves(InFolder):
         self.assertTrue(redo.exists())
         with boddurci.open(self.base, "w") as db:
             self.assertEqual(len(db), 0)
-        self.assertFalse(redo.exists())
+        self.assertEqual(redo.read_bytes()[:1], b"\0")
         for left in (b"\1plan", b"\1sdbmred2\0\4" + bytes(6) + b"\0\x08" + bytes(10)):
             redo.write_bytes(left)
             for flag in "rw":
@@ -524,6 +522,7 @@ class Saves(InFolder):
     def test_strangers(self):
         with boddurci.open(self.base, "c") as db:
             db[b"a"] = b"1"
+        os.unlink(self.base + ".redo")
         os.symlink("elsewhere", self.base + ".redo")
         with self.assertRaisesRegex(boddurci.error, "db.redo is a symbolic link, and is not taken"):
             boddurci.open(self.base)

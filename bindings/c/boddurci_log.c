@@ -1,0 +1,436 @@
+/* The log of a base in BASE.redo: it is opened, takes the record of each save, and is closed. The library tells the steps of each
+ * (crates/sdbm_log), and boddurci_steps.c makes them. */
+#define _POSIX_C_SOURCE 200809L
+#include "boddurci_saves.h"
+#include <errno.h>
+#include <fcntl.h>
+#include <pthread.h>
+#include <stdlib.h>
+#include <sys/stat.h>
+#include <unistd.h>
+
+/* The room that is asked for, and the room if the disk has not that much. A redo file without a mark that is longer than the last one is
+ * removed. */
+static const size_t ROOM = 1 << 20, LEAST_ROOM = 1 << 16, MOST_UNUSED = 1 << 28;
+
+static uint32_t cannot_be_written(const struct boddurci_disk *disk, boddurci_fault *fault)
+{
+    static const char *const what[3] = {"BASE.pag cannot be written", "BASE.dir cannot be written", "BASE.redo cannot be written"};
+    return boddurci_fail_by_system(fault, what[disk->last]);
+}
+
+/* Tells of a save that is committed, and of the call that failed afterwards. */
+static uint32_t is_pending(const struct boddurci_disk *disk, boddurci_fault *fault)
+{
+    static const char *const what[3] = {"the save is kept in BASE.redo, and BASE.pag could not be written",
+                                        "the save is kept in BASE.redo, and BASE.dir could not be written",
+                                        "the save is done, and BASE.redo could not be emptied"};
+    return boddurci_fail(fault, BODDURCI_DONE, errno, what[disk->last]);
+}
+
+static uint32_t too_long(boddurci_fault *fault)
+{
+    return boddurci_fail(fault, BODDURCI_TOO_LONG, 0, boddurci_files_text(BODDURCI_TOO_LONG));
+}
+
+/* ---- what the library tells */
+
+static const uint8_t *or_none(struct boddurci_bytes bytes)
+{
+    static const uint8_t none[1];
+    return bytes.at != NULL ? bytes.at : none;
+}
+
+static void free_steps(struct boddurci_steps *steps)
+{
+    free(steps->at);
+    free(steps->own);
+    steps->at = NULL;
+    steps->own = NULL;
+}
+
+/* Why the library tells no steps. */
+static uint32_t refused(uint32_t status, boddurci_fault *fault)
+{
+    switch (status) {
+    case BODDURCI_BAD_FILES:
+        return boddurci_fail(fault, BODDURCI_BAD_REDO, 0,
+                             "BASE.redo is marked, and is not of these files: an older copy was put back, or another program wrote them");
+    case BODDURCI_STALE:
+        return boddurci_fail(fault, BODDURCI_BAD_REDO, 0, "BASE.redo is marked, and a record in the middle of its log is damaged");
+    case BODDURCI_NO_MEMORY: return boddurci_no_memory(fault);
+    default: return too_long(fault);
+    }
+}
+
+enum { WORDS = sizeof(boddurci_step) / sizeof(uint64_t) };
+
+/* Makes the rooms for steps and their bytes. */
+static int make_rooms(struct boddurci_steps *steps, size_t words, size_t bytes)
+{
+    free_steps(steps);
+    steps->at = malloc((words + 1) * sizeof(uint64_t));
+    steps->own = malloc(bytes + 1);
+    steps->bytes = steps->own;
+    return steps->at != NULL && steps->own != NULL ? 0 : -1;
+}
+
+/* Asks for the steps that open the log of these files with so much room; if `log` is NULL, for those that make copies of the data files what
+ * the files mean. */
+static uint32_t ask(const struct boddurci_bytes files[3], size_t room, boddurci_log *log, struct boddurci_steps *steps, boddurci_fault *fault)
+{
+    const uint8_t *pag = or_none(files[0]), *dir = or_none(files[1]), *redo = or_none(files[2]);
+    size_t words = 16 * WORDS, bytes = 64, word_room, byte_room;
+    uint32_t status = BODDURCI_SHORT_ROOM;
+    while (status == BODDURCI_SHORT_ROOM) {
+        word_room = words, byte_room = bytes;
+        if (make_rooms(steps, words, bytes) != 0)
+            return boddurci_no_memory(fault);
+        if (log != NULL)
+            status = boddurci_log_open(pag, files[0].length, dir, files[1].length, redo, files[2].length, room, log, steps->own, byte_room,
+                                       &bytes, (uint64_t *)steps->at, word_room, &words);
+        else
+            status = boddurci_log_read(pag, files[0].length, dir, files[1].length, redo, files[2].length, steps->own, byte_room, &bytes,
+                                       (uint64_t *)steps->at, word_room, &words);
+    }
+    if (status != BODDURCI_DONE)
+        return refused(status, fault);
+    steps->count = words / WORDS;
+    steps->length = bytes;
+    return boddurci_is_within_limits(steps) ? status : too_long(fault);
+}
+
+/* Asks for the steps of a save. A change has a block of 1,024 bytes twice, as a rule. */
+static uint32_t ask_save(struct boddurci_bytes bytes, boddurci_log *log, struct boddurci_steps *steps, boddurci_fault *fault)
+{
+    size_t words = (bytes.length / 2048 + 32) * WORDS, room, committed = 0;
+    uint32_t status = BODDURCI_SHORT_ROOM;
+    while (status == BODDURCI_SHORT_ROOM) {
+        room = words;
+        if (make_rooms(steps, room, 0) != 0)
+            return boddurci_no_memory(fault);
+        status = boddurci_log_save(log, bytes.at, bytes.length, (uint64_t *)steps->at, room, &words, &committed);
+    }
+    if (status != BODDURCI_DONE)
+        return refused(status, fault);
+    steps->count = words / WORDS;
+    steps->committed = committed / WORDS;
+    steps->bytes = bytes.at;
+    steps->length = bytes.length;
+    if (boddurci_is_within_limits(steps))
+        return status;
+    return boddurci_fail(fault, BODDURCI_TOO_LONG, 0, "a file would be too long: 1 GiB of pages and 256 MiB of directory is the most");
+}
+
+/* ---- the mark */
+
+/* Whether an opened redo file begins with its mark; or -1. */
+static int has_mark(int opened)
+{
+    uint8_t first = 0;
+    ssize_t got;
+    do
+        got = pread(opened, &first, 1, 0);
+    while (got < 0 && errno == EINTR);
+    return got < 0 ? -1 : got == 1 && first == 1;
+}
+
+/* Opens the redo file to be read, and says whether it has its mark. One that is missing has none, and is -1. */
+static uint32_t look(const struct boddurci_place *place, int *opened, int *is_marked, boddurci_fault *fault)
+{
+    *is_marked = 0;
+    uint32_t status = boddurci_open_beside(place, BODDURCI_REDO, O_RDONLY, opened, fault);
+    if (status == BODDURCI_DONE && *opened >= 0)
+        *is_marked = has_mark(*opened);
+    return *is_marked < 0 ? boddurci_fail_by_system(fault, "BASE.redo cannot be read") : status;
+}
+
+static uint32_t look_only(const struct boddurci_place *place, int *is_marked, boddurci_fault *fault)
+{
+    int opened = -1;
+    uint32_t status = look(place, &opened, is_marked, fault);
+    if (opened >= 0)
+        close(opened);
+    return status;
+}
+
+/* ---- opening */
+
+void boddurci_logged_of(struct boddurci_logged *logged, struct boddurci_place *place)
+{
+    boddurci_disk_of(&logged->disk, place);
+    logged->is_open = logged->is_doubtful = 0;
+}
+
+/* Leaves the log after a call that failed: whoever opens it next recovers it. Without its mark it is of no use, and it is removed, since the
+ * disk may have other bytes of it than are read. */
+static void give_up(struct boddurci_logged *logged)
+{
+    struct boddurci_disk *disk = &logged->disk;
+    int system = errno, last = (int)disk->last, redo = disk->files[BODDURCI_REDO];
+    logged->is_open = 0;
+    if (redo >= 0 && has_mark(redo) == 0) {
+        boddurci_release_room(disk);
+        logged->is_doubtful = !boddurci_is_named(disk->place, BODDURCI_REDO, redo) || boddurci_disk_remove_redo(disk) != 0;
+    }
+    boddurci_disk_drop(disk, BODDURCI_REDO);
+    disk->last = (enum boddurci_file)last;
+    errno = system;
+}
+
+/* After the redo file could not be opened to be written: removes one without a mark that this user may not write. */
+static uint32_t remove_denied(struct boddurci_disk *disk, boddurci_fault *fault)
+{
+    boddurci_fault second;
+    int is_marked, is_denied = fault->status == BODDURCI_FILE_FAILED && fault->system == EACCES;
+    if (!is_denied || look_only(disk->place, &is_marked, &second) != BODDURCI_DONE || is_marked)
+        return fault->status;
+    return boddurci_disk_remove_redo(disk) == 0 ? boddurci_no_fault(fault) : cannot_be_written(disk, fault);
+}
+
+/* Opens the redo file to be written, if it exists. One of this user becomes like the pages. */
+static uint32_t open_redo(struct boddurci_disk *disk, boddurci_fault *fault)
+{
+    struct stat found;
+    int *opened = &disk->files[BODDURCI_REDO];
+    disk->last = BODDURCI_REDO;
+    boddurci_disk_drop(disk, BODDURCI_REDO);
+    uint32_t status = boddurci_open_beside(disk->place, BODDURCI_REDO, O_RDWR, opened, fault);
+    if (status != BODDURCI_DONE)
+        return remove_denied(disk, fault);
+    if (*opened < 0)
+        return status;
+    int is_own = fstat(*opened, &found) == 0 && (found.st_uid == geteuid() || geteuid() == 0);
+    if (is_own && !boddurci_is_like_pages(disk->place, *opened) && boddurci_be_like_pages(disk->place, BODDURCI_REDO, *opened) != 0)
+        return cannot_be_written(disk, fault);
+    return status;
+}
+
+/* Removes an opened redo file without a mark if it is of no use. */
+static uint32_t remove_useless(struct boddurci_logged *logged, boddurci_fault *fault)
+{
+    struct boddurci_disk *disk = &logged->disk;
+    uint64_t length;
+    if (boddurci_disk_length(disk, BODDURCI_REDO, &length) != 0)
+        return cannot_be_written(disk, fault);
+    if (!logged->is_doubtful && length <= MOST_UNUSED)
+        return BODDURCI_DONE;
+    if (boddurci_disk_remove_redo(disk) != 0)
+        return cannot_be_written(disk, fault);
+    logged->is_doubtful = 0;
+    return BODDURCI_DONE;
+}
+
+/* Reads the redo file, and both data files if it has its mark. */
+static uint32_t read_files(struct boddurci_logged *logged, struct boddurci_bytes files[3], int *is_marked, boddurci_fault *fault)
+{
+    struct boddurci_disk *disk = &logged->disk;
+    *is_marked = 0;
+    uint32_t status = open_redo(disk, fault);
+    if (status != BODDURCI_DONE || disk->files[BODDURCI_REDO] < 0)
+        return status;
+    *is_marked = has_mark(disk->files[BODDURCI_REDO]);
+    if (*is_marked < 0)
+        return boddurci_fail_by_system(fault, "BASE.redo cannot be read");
+    if (!*is_marked)
+        status = remove_useless(logged, fault);
+    if (status == BODDURCI_DONE && disk->files[BODDURCI_REDO] >= 0)
+        status = boddurci_read_all(disk->files[BODDURCI_REDO], BODDURCI_REDO, &files[BODDURCI_REDO], fault);
+    for (enum boddurci_file file = BODDURCI_PAGES; *is_marked && status == BODDURCI_DONE && file <= BODDURCI_DIRECTORY; file++)
+        status = boddurci_read_data(disk->place, file, &files[file], fault);
+    return status;
+}
+
+/* Makes the steps that open the log. A marked redo file is written once more first, with the bytes that were read: if a sync of it failed
+ * earlier, the disk may have others, and the next sync would not write them. */
+static uint32_t do_open(struct boddurci_logged *logged, struct boddurci_bytes redo, const struct boddurci_steps *steps, boddurci_fault *fault)
+{
+    struct boddurci_disk *disk = &logged->disk;
+    int is_written = redo.length == 0 || boddurci_disk_write(disk, BODDURCI_REDO, 0, redo.at, redo.length) == 0;
+    if (is_written && boddurci_do_steps(disk, steps->at, steps->count, steps->bytes) == 0) {
+        logged->is_open = 1;
+        return BODDURCI_DONE;
+    }
+    give_up(logged);
+    return cannot_be_written(disk, fault);
+}
+
+/* Opens the log with so much room. If the redo file has its mark the data files are recovered. */
+static uint32_t try_open(struct boddurci_logged *logged, size_t room, boddurci_fault *fault)
+{
+    struct boddurci_bytes files[3] = {{NULL, 0, 0}, {NULL, 0, 0}, {NULL, 0, 0}}, none = {NULL, 0, 0};
+    struct boddurci_steps steps = {NULL, 0, 0, NULL, 0, NULL};
+    int is_marked;
+    uint32_t status = read_files(logged, files, &is_marked, fault);
+    if (status == BODDURCI_DONE)
+        status = ask(files, room, &logged->next, &steps, fault);
+    for (enum boddurci_file file = BODDURCI_PAGES; file <= BODDURCI_DIRECTORY; file++)
+        boddurci_let_go(&files[file]);
+    if (status == BODDURCI_DONE)
+        status = do_open(logged, is_marked ? files[BODDURCI_REDO] : none, &steps, fault);
+    boddurci_let_go(&files[BODDURCI_REDO]);
+    free_steps(&steps);
+    return status;
+}
+
+static int is_full(const boddurci_fault *fault)
+{
+    int system = fault->status == BODDURCI_FILE_FAILED ? fault->system : 0;
+    return system == ENOSPC || system == EDQUOT || system == EFBIG;
+}
+
+static uint32_t open_log(struct boddurci_logged *logged, boddurci_fault *fault)
+{
+    uint32_t status = try_open(logged, ROOM, fault);
+    if (status == BODDURCI_DONE || !is_full(fault))
+        return status;
+    boddurci_no_fault(fault);
+    return try_open(logged, LEAST_ROOM, fault);
+}
+
+uint32_t boddurci_logged_recover(struct boddurci_logged *logged, int *is_ended, boddurci_fault *fault)
+{
+    boddurci_fault second;
+    struct boddurci_disk *disk = &logged->disk;
+    *is_ended = 0;
+    if (logged->is_open && boddurci_is_named(disk->place, BODDURCI_REDO, disk->files[BODDURCI_REDO]))
+        return BODDURCI_DONE;
+    logged->is_open = 0;
+    boddurci_disk_drop(disk, BODDURCI_REDO);
+    uint32_t status = look_only(disk->place, is_ended, fault);
+    if (status != BODDURCI_DONE || !*is_ended)
+        return status;
+    status = open_log(logged, fault);
+    int is_marked = 1;
+    if (status != BODDURCI_FILE_FAILED || look_only(disk->place, &is_marked, &second) != BODDURCI_DONE || is_marked)
+        return status;
+    /* The data files are recovered, and there is no room for a log yet. */
+    return boddurci_no_fault(fault);
+}
+
+/* ---- saving */
+
+/* Commits a save, and does it in the data files. */
+static uint32_t do_save(struct boddurci_logged *logged, const struct boddurci_steps *steps, int *is_left, boddurci_fault *fault)
+{
+    struct boddurci_disk *disk = &logged->disk;
+    if (boddurci_may_write(disk, steps) != 0 || boddurci_take_room(disk, steps) != 0)
+        return cannot_be_written(disk, fault);
+    if (boddurci_do_steps(disk, steps->at, steps->committed, steps->bytes) != 0) {
+        give_up(logged);
+        return cannot_be_written(disk, fault);
+    }
+    *is_left = boddurci_do_steps(disk, steps->at + steps->committed, steps->count - steps->committed, steps->bytes) != 0;
+    if (!*is_left)
+        return BODDURCI_DONE;
+    give_up(logged);
+    return is_pending(disk, fault);
+}
+
+uint32_t boddurci_logged_save(struct boddurci_logged *logged, struct boddurci_bytes bytes, int *is_left, boddurci_fault *fault)
+{
+    struct boddurci_steps steps = {NULL, 0, 0, NULL, 0, NULL};
+    uint32_t status = logged->is_open ? BODDURCI_DONE : open_log(logged, fault);
+    boddurci_log next = logged->next;
+    *is_left = 0;
+    if (status == BODDURCI_DONE)
+        status = ask_save(bytes, &next, &steps, fault);
+    if (status == BODDURCI_DONE)
+        status = do_save(logged, &steps, is_left, fault);
+    if (status == BODDURCI_DONE)
+        logged->next = next;
+    free_steps(&steps);
+    return status;
+}
+
+/* ---- closing */
+
+/* Makes the steps that close the log. */
+static int close_log(struct boddurci_logged *logged)
+{
+    boddurci_step steps[8];
+    size_t words;
+    if (boddurci_log_close((uint64_t *)steps, sizeof steps / sizeof *steps * WORDS, &words) != BODDURCI_DONE) {
+        errno = ENOMEM;
+        return -1;
+    }
+    return boddurci_do_steps(&logged->disk, steps, words / WORDS, (const uint8_t *)steps);
+}
+
+uint32_t boddurci_logged_renew(struct boddurci_logged *logged, boddurci_fault *fault)
+{
+    int is_closed = !logged->is_open || logged->next.end == 0 || close_log(logged) == 0;
+    if (!is_closed)
+        give_up(logged);
+    logged->is_open = 0;
+    boddurci_disk_drop(&logged->disk, BODDURCI_REDO);
+    return is_closed ? BODDURCI_DONE : cannot_be_written(&logged->disk, fault);
+}
+
+/* Whether the next who opens the base may use the redo file: all who may write the pages may write it, and it is not too long. */
+static int is_of_use(struct boddurci_disk *disk)
+{
+    uint64_t length;
+    return boddurci_is_like_pages(disk->place, disk->files[BODDURCI_REDO]) && boddurci_disk_length(disk, BODDURCI_REDO, &length) == 0 &&
+           length <= MOST_UNUSED;
+}
+
+void boddurci_logged_end(struct boddurci_logged *logged)
+{
+    struct boddurci_disk *disk = &logged->disk;
+    int could_be_cancelled;
+    pthread_setcancelstate(PTHREAD_CANCEL_DISABLE, &could_be_cancelled);
+    logged->is_open = logged->is_open && boddurci_is_held(disk->place);
+    boddurci_hold_signal(disk);
+    if (logged->is_open && logged->next.end != 0 && close_log(logged) != 0)
+        give_up(logged);
+    else if (logged->is_open && !is_of_use(disk) && boddurci_is_named(disk->place, BODDURCI_REDO, disk->files[BODDURCI_REDO]))
+        (void)!(boddurci_disk_remove_redo(disk) == 0 && boddurci_disk_sync(disk, BODDURCI_REDO) == 0);
+    logged->is_open = 0;
+    boddurci_give_signal(disk);
+    boddurci_disk_close(disk);
+    pthread_setcancelstate(could_be_cancelled, NULL);
+}
+
+/* ---- reading only */
+
+/* Syncs a marked redo file that a reader is to use: else what is read might not be so once the machine stops. If nothing may be written
+ * nothing is to be synced. */
+static uint32_t keep_marked(struct boddurci_place *place, int redo, boddurci_fault *fault)
+{
+    if ((boddurci_keep_opened(redo) == 0 && boddurci_keep_folder(place) == 0) || errno == EROFS || errno == EINVAL)
+        return BODDURCI_DONE;
+    return boddurci_fail_by_system(fault, "BASE.redo cannot be kept");
+}
+
+/* Reads both data files with the saves done in them that a marked redo file has. */
+static uint32_t read_done(struct boddurci_place *place, int redo, struct boddurci_bytes files[3], boddurci_fault *fault)
+{
+    struct boddurci_steps steps = {NULL, 0, 0, NULL, 0, NULL};
+    uint32_t status = keep_marked(place, redo, fault);
+    if (status == BODDURCI_DONE)
+        status = boddurci_read_all(redo, BODDURCI_REDO, &files[BODDURCI_REDO], fault);
+    for (enum boddurci_file file = BODDURCI_PAGES; status == BODDURCI_DONE && file <= BODDURCI_DIRECTORY; file++)
+        status = boddurci_read_data(place, file, &files[file], fault);
+    if (status == BODDURCI_DONE)
+        status = ask(files, 0, NULL, &steps, fault);
+    if (status == BODDURCI_DONE && boddurci_do_in_memory(files, &steps) != 0)
+        status = boddurci_no_memory(fault);
+    free_steps(&steps);
+    return status;
+}
+
+uint32_t boddurci_read_marked(struct boddurci_place *place, int *is_marked, struct boddurci_bytes files[2], boddurci_fault *fault)
+{
+    struct boddurci_bytes all[3] = {{NULL, 0, 0}, {NULL, 0, 0}, {NULL, 0, 0}};
+    int opened = -1;
+    uint32_t status = look(place, &opened, is_marked, fault);
+    if (status == BODDURCI_DONE && *is_marked)
+        status = read_done(place, opened, all, fault);
+    if (opened >= 0)
+        close(opened);
+    boddurci_let_go(&all[BODDURCI_REDO]);
+    files[BODDURCI_PAGES] = all[BODDURCI_PAGES];
+    files[BODDURCI_DIRECTORY] = all[BODDURCI_DIRECTORY];
+    return status;
+}

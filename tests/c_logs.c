@@ -318,7 +318,8 @@ static int is_untouched(const char *name, const struct stat *before)
     struct stat is;
     EXPECT(stat(name, &is) == 0);
     return is.st_ino == before->st_ino && is.st_size == before->st_size && is.st_mtim.tv_sec == before->st_mtim.tv_sec &&
-           is.st_mtim.tv_nsec == before->st_mtim.tv_nsec && is.st_ctim.tv_sec == before->st_ctim.tv_sec && is.st_ctim.tv_nsec == before->st_ctim.tv_nsec;
+           is.st_mtim.tv_nsec == before->st_mtim.tv_nsec && is.st_ctim.tv_sec == before->st_ctim.tv_sec &&
+           is.st_ctim.tv_nsec == before->st_ctim.tv_nsec;
 }
 
 static size_t value_of(boddurci_base *base, const char *key)

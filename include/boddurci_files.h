@@ -126,9 +126,10 @@ void boddurci_give(boddurci_base *base);
  *
  * It reads .dir and the pages that may have changed, and no others: a save costs what changed, and not the base. Where a file is another, or
  * of another length or time of last change, than this base has left or read it, or where it began with BODDURCI_EMPTY, it reads and
- * compares all of both. What another program writes while a save writes, or within the same tick of the clock, it does not see. A page on
- * which a run has saved nothing counts as one that may have changed. The mutex is held while pages are compared, and not while they are read and written (but where others change more
- * pages than it can follow, three times over, it reads once under the mutex): what other threads do meanwhile is in the next save.
+ * compares all of both. What another program writes while a save writes, or within the same tick of the clock (some milliseconds), it does
+ * not see. A page on which a run has saved nothing counts as one that may have changed. The mutex is held while pages are compared, and not
+ * while they are read and written (but where others change more pages than it can follow, three times over, it reads once under the mutex):
+ * what other threads do meanwhile is in the next save.
  * IS_CLOSED of a base that is NULL; FORKED, NO_SAVE, MOVED, UNSAFE, BAD_REDO, TOO_LONG, FILE_FAILED, and FILE_TOO_LONG and NO_MEMORY of
  * boddurci.h.
  *

@@ -255,10 +255,10 @@ static void test_untouched(void)
     boddurci_close_files(base);
 }
 
-/* Changes the files while another has them open, as who knows nothing of the lock. */
+/* Changes the files while another has them open, as who knows nothing of the lock, and in another tick of the clock than the other's save. */
 static void change_beside(const char *name, const char *lock)
 {
-    EXPECT(rename(lock, "away") == 0);
+    EXPECT(usleep(20000) == 0 && rename(lock, "away") == 0);
     boddurci_base *base = opened(name, 0);
     for (int i = 7000; i < 7100; i++)
         store_one(base, i);

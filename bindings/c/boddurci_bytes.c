@@ -117,7 +117,7 @@ size_t boddurci_most_bytes(enum boddurci_file file)
 uint32_t boddurci_length_of(int opened, enum boddurci_file file, size_t *length, boddurci_fault *fault)
 {
     struct stat found;
-    if (fstat(opened, &found) != 0)
+    if (boddurci_look_at(opened, &found) != 0)
         return boddurci_fail_by_system(fault, "a file cannot be read");
     if (found.st_size > (off_t)boddurci_most_bytes(file))
         return boddurci_fail(fault, BODDURCI_TOO_LONG, 0, boddurci_files_text(BODDURCI_TOO_LONG));

@@ -142,7 +142,7 @@ int boddurci_disk_length(struct boddurci_disk *disk, enum boddurci_file file, ui
     *length = 0;
     if (open_found(disk, file) != 0)
         return errno == ENOENT ? 0 : -1;
-    if (fstat(disk->files[file], &found) != 0)
+    if (boddurci_look_at(disk->files[file], &found) != 0)
         return -1;
     *length = (uint64_t)found.st_size;
     return 0;

@@ -1,5 +1,5 @@
 /* A database in its files: include/boddurci_files.h says what each call does. */
-#define _POSIX_C_SOURCE 200809L
+#define _GNU_SOURCE
 #include "boddurci_files.h"
 #include "boddurci_saves.h"
 #include <errno.h>
@@ -9,6 +9,7 @@
 #include <stdlib.h>
 #include <string.h>
 #include <sys/stat.h>
+#include <time.h>
 #include <unistd.h>
 
 /* What a data file was when it was last read or saved. */
@@ -29,6 +30,10 @@ struct boddurci_base {
     int is_noted;                /* the data files, while they stay so, are those of the base but on its changed pages */
     int is_planned;              /* a save has compared their lengths and the directory */
     struct note notes[2];
+    struct timespec tick;        /* of the clock, when the times in the notes were looked at */
+    struct timespec latest;      /* if the base has written within that tick later, when it last did; else 0 */
+    int has_our_clock;           /* the files get their times by the clock of this machine */
+    int is_quick;                /* this save looks at no times */
     pthread_mutex_t mutex;       /* of db */
     struct boddurci_group saves; /* of the files; a call that wants both has its turn to save before it takes the mutex */
 };
@@ -40,35 +45,38 @@ static int is_of_another(const boddurci_base *base)
 
 /* ---- what the files were */
 
-/* What a data file is: the one that is opened, or if none is, the one under the name. */
-static struct note note_of(const struct boddurci_place *place, enum boddurci_file file, int opened)
+/* What a data file is: the one that is opened, or if none is, the one under the name. A quick look copies the times of the last one. */
+static struct note note_of(const boddurci_base *base, enum boddurci_file file, int opened, int is_quick)
 {
     struct stat is;
     struct note note;
+    const struct boddurci_place *place = &base->place;
     memset(&note, 0, sizeof note);
-    if ((opened >= 0 ? fstat(opened, &is) : fstatat(place->folder, place->names[file], &is, 0)) != 0)
+    int folder = opened >= 0 ? opened : place->folder, how = opened >= 0 ? AT_EMPTY_PATH : 0;
+    const char *name = opened >= 0 ? "" : place->names[file];
+    if ((is_quick ? boddurci_look(folder, name, how, &is) : fstatat(folder, name, &is, how)) != 0)
         return note;
     note.is_there = 1;
     note.device = is.st_dev;
     note.number = is.st_ino;
     note.length = is.st_size;
-    note.written = is.st_mtim;
-    note.changed = is.st_ctim;
+    note.written = is_quick ? base->notes[file].written : is.st_mtim;
+    note.changed = is_quick ? base->notes[file].changed : is.st_ctim;
     return note;
 }
 
 /* Notes the files under the names. */
-static void note_named(const boddurci_base *base, struct note notes[2])
+static void note_named(const boddurci_base *base, struct note notes[2], int is_quick)
 {
     for (enum boddurci_file file = BODDURCI_PAGES; file <= BODDURCI_DIRECTORY; file++)
-        notes[file] = note_of(&base->place, file, -1);
+        notes[file] = note_of(base, file, -1, is_quick);
 }
 
 /* Notes those that are held open, which takes less time. */
-static void note_held(const boddurci_base *base, struct note notes[2])
+static void note_held(const boddurci_base *base, struct note notes[2], int is_quick)
 {
     for (enum boddurci_file file = BODDURCI_PAGES; file <= BODDURCI_DIRECTORY; file++)
-        notes[file] = note_of(&base->place, file, base->logged.disk.files[file]);
+        notes[file] = note_of(base, file, base->logged.disk.files[file], is_quick);
 }
 
 static int is_same_time(struct timespec one, struct timespec other)
@@ -76,23 +84,72 @@ static int is_same_time(struct timespec one, struct timespec other)
     return one.tv_sec == other.tv_sec && one.tv_nsec == other.tv_nsec;
 }
 
-static int is_same_note(const struct note *one, const struct note *other)
+/* Whether a time is the one that was noted, or one of later writes of the base. */
+static int is_our_time(struct timespec noted, struct timespec is, struct timespec latest)
 {
-    if (!one->is_there || !other->is_there)
-        return one->is_there == other->is_there;
-    return one->device == other->device && one->number == other->number && one->length == other->length &&
-           is_same_time(one->written, other->written) && is_same_time(one->changed, other->changed);
+    return is_same_time(noted, is) || is.tv_sec < latest.tv_sec || (is.tv_sec == latest.tv_sec && is.tv_nsec <= latest.tv_nsec);
 }
 
-static int are_same_notes(const struct note one[2], const struct note other[2])
+static int is_same_note(const struct note *noted, const struct note *is, struct timespec latest)
 {
-    return is_same_note(&one[BODDURCI_PAGES], &other[BODDURCI_PAGES]) && is_same_note(&one[BODDURCI_DIRECTORY], &other[BODDURCI_DIRECTORY]);
+    if (!noted->is_there || !is->is_there)
+        return noted->is_there == is->is_there;
+    return noted->device == is->device && noted->number == is->number && noted->length == is->length &&
+           is_our_time(noted->written, is->written, latest) && is_our_time(noted->changed, is->changed, latest);
 }
 
-/* Whether the files are those that were noted. */
-static int are_noted(const boddurci_base *base, const struct note notes[2])
+static int are_same_notes(const struct note noted[2], const struct note is[2], struct timespec latest)
 {
-    return base->is_noted && are_same_notes(base->notes, notes);
+    return is_same_note(&noted[BODDURCI_PAGES], &is[BODDURCI_PAGES], latest) &&
+           is_same_note(&noted[BODDURCI_DIRECTORY], &is[BODDURCI_DIRECTORY], latest);
+}
+
+static struct timespec clock_of(clockid_t clock)
+{
+    struct timespec now = {0, 0};
+    clock_gettime(clock, &now);
+    return now;
+}
+
+#ifdef CLOCK_REALTIME_COARSE
+enum { TICKING = CLOCK_REALTIME_COARSE };
+#else
+enum { TICKING = CLOCK_REALTIME };
+#endif
+
+/* Whether a time is within 20 milliseconds of another one. */
+static int is_near(struct timespec one, struct timespec other)
+{
+    double apart = (double)(one.tv_sec - other.tv_sec) + 1e-9 * (double)(one.tv_nsec - other.tv_nsec);
+    return apart > -0.02 && apart < 0.02;
+}
+
+/* Looks at the files before a save, and says whether they are those that were noted. Within the tick of the last look it is a quick look:
+ * what another program writes in that tick is not seen. */
+static int look_before(boddurci_base *base, struct note notes[2])
+{
+    struct timespec tick = clock_of(TICKING);
+    base->is_quick = base->is_noted && base->has_our_clock && is_same_time(tick, base->tick);
+    note_named(base, notes, base->is_quick);
+    int is_noted = base->is_noted && are_same_notes(base->notes, notes, base->latest);
+    if (!base->is_quick) {
+        base->tick = tick;
+        base->latest = (struct timespec){0, 0};
+    }
+    return is_noted;
+}
+
+/* Looks at them after the base has written them. */
+static void look_after(boddurci_base *base, struct note notes[2])
+{
+    struct timespec tick = clock_of(TICKING);
+    int is_quick = base->has_our_clock && is_same_time(tick, base->tick);
+    note_held(base, notes, is_quick);
+    base->latest = is_quick ? clock_of(CLOCK_REALTIME) : (struct timespec){0, 0};
+    if (is_quick)
+        return;
+    base->tick = tick;
+    base->has_our_clock = is_near(notes[BODDURCI_PAGES].written, tick);
 }
 
 /* ---- reading */
@@ -179,7 +236,7 @@ static uint32_t read_files(boddurci_base *base, struct parts *parts, boddurci_fa
     boddurci_give_signal(disk);
     if (base->flags & BODDURCI_EMPTY)
         see_files(&base->place);
-    note_named(base, base->notes);
+    note_named(base, base->notes, 0);
     if (status == BODDURCI_DONE && !(base->flags & BODDURCI_EMPTY)) {
         status = read_parts(&base->place, must_exist, parts, fault);
         base->is_noted = status == BODDURCI_DONE;
@@ -599,10 +656,9 @@ static uint32_t prepare(boddurci_base *base, struct note notes[2], boddurci_faul
     if (!boddurci_is_held(&base->place))
         return boddurci_fail(fault, BODDURCI_MOVED, 0, "BASE.lock is another file than is held, and nothing was written");
     uint32_t status = boddurci_logged_recover(&base->logged, &is_ended, fault);
-    note_named(base, notes);
+    base->is_noted = look_before(base, notes) && !is_ended;
     if (status == BODDURCI_DONE)
         status = are_named(base, notes, fault);
-    base->is_noted = !is_ended && are_noted(base, notes);
     if (status == BODDURCI_DONE && !base->is_noted && !is_ended)
         status = boddurci_logged_renew(&base->logged, fault);
     if (status == BODDURCI_DONE && notes[BODDURCI_PAGES].length > (off_t)boddurci_most_bytes(BODDURCI_PAGES))
@@ -620,15 +676,15 @@ static uint32_t save_prepared(boddurci_base *base, struct note notes[2], boddurc
     struct note again[2];
     reading.length = (size_t)notes[BODDURCI_PAGES].length;
     uint32_t status = plan_now(base, !base->is_noted, &reading, &plan, fault);
-    note_held(base, again);
+    note_held(base, again, base->is_quick);
     if (status == BODDURCI_DONE)
         status = do_plan(base, &reading, plan, fault);
     if (status == BODDURCI_DONE) {
         settle_lock(&base->place);
         base->is_planned = 1;
-        base->is_noted = base->is_noted && are_same_notes(notes, again);
+        base->is_noted = base->is_noted && are_same_notes(notes, again, (struct timespec){0, 0});
         if (plan.length != 0)
-            note_held(base, notes);
+            look_after(base, notes);
         memcpy(base->notes, notes, 2 * sizeof *notes);
     }
     end_reading(&reading);

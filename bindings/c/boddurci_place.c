@@ -8,6 +8,7 @@
 #include <stdlib.h>
 #include <string.h>
 #include <sys/stat.h>
+#include <sys/sysmacros.h>
 #include <unistd.h>
 
 /* A folder that may be searched and not read serves too. */
@@ -271,10 +272,32 @@ int boddurci_is_like_pages(const struct boddurci_place *place, int opened)
     return own.st_uid == pages.st_uid && own.st_gid == pages.st_gid && (own.st_mode & 07777) == (pages.st_mode & 0666);
 }
 
+int boddurci_look(int folder, const char *name, int how, struct stat *found)
+{
+#ifdef STATX_INO
+    struct statx is;
+    if (statx(folder, name, how, STATX_INO | STATX_SIZE, &is) == 0) {
+        memset(found, 0, sizeof *found);
+        found->st_dev = makedev(is.stx_dev_major, is.stx_dev_minor);
+        found->st_ino = is.stx_ino;
+        found->st_size = (off_t)is.stx_size;
+        return 0;
+    }
+    if (errno != ENOSYS && errno != EPERM)
+        return -1;
+#endif
+    return fstatat(folder, name, found, how);
+}
+
+int boddurci_look_at(int opened, struct stat *found)
+{
+    return boddurci_look(opened, "", AT_EMPTY_PATH, found);
+}
+
 int boddurci_is_named(const struct boddurci_place *place, enum boddurci_file file, int opened)
 {
     struct stat held, named;
-    return fstat(opened, &held) == 0 && fstatat(place->folder, place->names[file], &named, AT_SYMLINK_NOFOLLOW) == 0 &&
+    return boddurci_look_at(opened, &held) == 0 && boddurci_look(place->folder, place->names[file], AT_SYMLINK_NOFOLLOW, &named) == 0 &&
            held.st_dev == named.st_dev && held.st_ino == named.st_ino;
 }
 

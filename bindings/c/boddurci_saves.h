@@ -112,6 +112,12 @@ int boddurci_be_like_pages(const struct boddurci_place *place, enum boddurci_fil
 /* Whether an opened file has the owner, the group and the permissions of .pag. */
 int boddurci_is_like_pages(const struct boddurci_place *place, int opened);
 
+/* Which file it is, and how long, of a name in a folder or of an opened file; nothing else is told. To ask for the times of a file has the
+ * system give it new ones at its next write, and those are a second write for a sync on some file systems. */
+struct stat;
+int boddurci_look(int folder, const char *name, int how, struct stat *found);
+int boddurci_look_at(int opened, struct stat *found);
+
 /* Whether the name of a file leads to the one that is opened. */
 int boddurci_is_named(const struct boddurci_place *place, enum boddurci_file file, int opened);
 

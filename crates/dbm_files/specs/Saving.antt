@@ -1,8 +1,22 @@
--- What the files stand for that a crash may leave.
-use Rattle.std.specs.Prelude.{◌≡◌, ℕ, List}
+-- What a save makes of the files of a database, whatever a crash leaves of them.
+use Rattle.std.specs.Prelude.{◌≡◌, ◌⊎◌, ℕ, List}
+use Rattle.sdbm_addr.specs.Database.{Database}
 use Rattle.sdbm_saves.specs.Disk.{Image}
-use Rattle.sdbm_saves.specs.Redo.{stands_for}
+use Rattle.sdbm_saves.specs.Saves.{AreFilesFor}
+use Rattle.sdbm_log.specs.Log.{files_of, CanRecover, Holds}
 
--- whatever a crash leaves stands for these files
-abbrev pub StandFor : {D : Type 0} → List ℕ × List ℕ → (D → Image → Type 0) → D → Type 0
-StandFor both may_leave disk = (c : Image) → may_leave disk c → stands_for c ≡ both
+-- whatever a crash leaves means these files, and can be recovered
+abbrev pub LeavesFiles : {D : Type 0} → List ℕ × List ℕ → (D → Image → Type 0) → D → Type 0
+LeavesFiles both may_leave disk = (c : Image) → may_leave disk c → Holds both c
+
+-- an image means the files of a database, and can be recovered
+abbrev pub HoldsDatabase : Database → Image → Type 0
+HoldsDatabase db image = AreFilesFor db (files_of image).0 (files_of image).1 × CanRecover image
+
+-- an image means the old files, or those of a database, and can be recovered
+abbrev pub IsOldOrSaved : List ℕ × List ℕ → Database → Image → Type 0
+IsOldOrSaved old db image = Holds old image ⊎ HoldsDatabase db image
+
+-- The files are those of a database: they were those already, and the disk is as it was, or a crash leaves only those.
+abbrev pub IsSaved : {D : Type 0} → Database → List ℕ × List ℕ → (D → Image → Type 0) → D → D → Type 0
+IsSaved db before may_leave old new = (AreFilesFor db before.0 before.1 × (new ≡ old)) ⊎ ((c : Image) → may_leave new c → HoldsDatabase db c)

@@ -2,27 +2,23 @@
 ghost use Rattle.std.specs.Prelude.{◌≡◌, ◌≤◌, ◌%◌, length, true, IfOk, IfSome, OnOk};
 ghost use Rattle.sdbm_files.specs.Reading.{with_piece};
 ghost use Rattle.sdbm_addr.specs.Pairs.{page_bytes};
-ghost use Rattle.sdbm_saves.specs.Redo.{files, IsPlan, Knows};
-ghost use Rattle.sdbm_saves.specs.Recording.{part_image};
+ghost use Rattle.sdbm_saves.specs.Redo.{IsPlan};
 
-use crate::host::{RealFiles, forget_redo};
+use crate::host::RealFiles;
 use crate::peeking::{Guard, UnreadPages};
-use crate::saving::{Change, Saved, save_change, save_plan};
 use dbm_places::{
     DIR_LIMIT, FileBytes, FileId, FilesFault, Names, PROGRAM_LIMIT, Place, RunPlace, SeenFiles,
     Side, SideFault, SourceKind, folder_of, is_special, lock_to_read, lock_to_write, open_beside,
     side_fault, sources,
 };
 use sdbm_addr::PageSize;
-use sdbm_files::{Image, ReadPages};
+use sdbm_files::ReadPages;
 use sdbm_log::{LogFault, LogFiles, make_steps, plan_of, recover_steps};
-use sdbm_saves::{
-    CallLog, Disk, File as Part, Found, FoundPart, FoundRead, Recorded, Unknown, number, plan_in,
-};
+use sdbm_saves::{CallLog, Disk, File as Part, Found, Recorded, Unknown, number, plan_in};
 use std::alloc::Global;
 use std::fs;
 use std::fs::{File, OpenFile};
-use std::io::{self, ErrorKind, Read, Write};
+use std::io::{self, ErrorKind, Read};
 use std::marker::Brand;
 use std::rt::Files;
 use std::time::{Clock, Duration};
@@ -455,15 +451,15 @@ fn recover_files<R: Files<File = File> + AllocGlobal>(
         Ok(made) => made,
         Err(fault) => return Err(fault_of(fault)),
     };
-    let files = RealFiles::new(rt, names, seen, CallLog::new(rt.alloc())?);
+    let files = RealFiles::new(rt, names, seen, false, CallLog::new(rt.alloc())?);
     let mut disk = Recorded::<RealFiles<'_, R>, Unknown, Found>::new(files, found);
     let bytes = made.bytes.as_slice();
     make_steps(rt.alloc(), &mut disk, bytes, made.steps.as_slice())?;
     Ok(disk.clear()?)
 }
 
-// The bytes of a redo file that is marked. One that is not marked is no file of a save that was committed, and the next save takes it
-// away: it counts as no bytes, and no more than its first is read.
+// The bytes of a redo file that is marked. One that is not marked has nothing that is to be done: it counts as no bytes, and no more than its
+// first is read.
 fn read_redo<R: Files<File = File> + AllocGlobal>(
     rt: &R,
     names: &Names,
@@ -658,109 +654,10 @@ fn read_all<F: Read + Drop>(alloc: Global, file: F, limit: u64) -> Result<Vec<u8
 }
 
 // Reads the next bytes of a file, at most so many, after others.
-fn read_up_to<F: Read>(file: &mut F, most: u64, bytes: &mut Vec<u8>) -> Result<(), FilesFault> {
+pub(crate) fn read_up_to<F: Read>(file: &mut F, most: u64, bytes: &mut Vec<u8>) -> Result<(), FilesFault> {
     match file.take(most).read_to_end(bytes) {
         Ok(_) => Ok(()),
         Err(error) if error.kind() == ErrorKind::OutOfMemory => Err(FilesFault::NoMemory),
         Err(_) => Err(FilesFault::ReadFile),
-    }
-}
-
-/// Saves what a run has made of a database, gives its lock back, and then prints its lines. The files are written in place, by a redo file:
-/// a crash at any moment leaves files from which the next run gets the database before the save or after it. Where nothing changed no file
-/// is written, made or touched. Where a save failed before it was committed, its redo file is taken away.
-///
-/// # Errors
-/// Those of `save_change`, `BadRedo` where the redo file is marked, and before all else `Moved` where the lock or a data file has lost its
-/// name to another.
-pub fn save_files<R: Files<File = File> + AllocGlobal, W: Write>(
-    rt: &R,
-    held: LockedFiles,
-    old: &FoundRead<'_>,
-    new: &Image<Global>,
-    lines: &[u8],
-    writer: &mut W,
-) -> Result<Saved, FilesFault> {
-    let LockedFiles { place, seen, lock } = held;
-    place.must_be_held(rt, &lock, &seen)?;
-    let change = Change {
-        before: old.files,
-        redo: old.redo,
-        after: new,
-    };
-    if plan_in(change.redo).is_some() {
-        return Err(FilesFault::BadRedo);
-    }
-    let mut lock = Some(lock);
-    let files = RealFiles::new(rt, &place.names, seen, CallLog::new(rt.alloc())?);
-    let mut disk = Recorded::<RealFiles<'_, R>, Unknown, FoundRead<'_>>::new(files, old);
-    let saved = save_change(rt.alloc(), &mut disk, change, lines, writer, &mut lock);
-    forget_failed(rt, &place.names, &saved);
-    saved
-}
-
-/// The same, where the lock is kept, and nothing is printed. The files are those that were seen when they were read last.
-///
-/// # Errors
-/// As `save_files`.
-pub fn save_held<R: Files<File = File> + AllocGlobal>(
-    rt: &R,
-    held: &LockedFiles,
-    seen: &SeenFiles,
-    old: &FoundRead<'_>,
-    new: &Image<Global>,
-) -> Result<Saved, FilesFault> {
-    let LockedFiles { place, lock, .. } = held;
-    place.must_be_held(rt, lock, seen)?;
-    let change = Change {
-        before: old.files,
-        redo: old.redo,
-        after: new,
-    };
-    if plan_in(change.redo).is_some() {
-        return Err(FilesFault::BadRedo);
-    }
-    let mut kept: Option<File> = None;
-    let files = RealFiles::new(rt, &place.names, *seen, CallLog::new(rt.alloc())?);
-    let mut disk = Recorded::<RealFiles<'_, R>, Unknown, FoundRead<'_>>::new(files, old);
-    let writer = &mut io::sink();
-    let saved = save_change(rt.alloc(), &mut disk, change, &[], writer, &mut kept);
-    forget_failed(rt, &place.names, &saved);
-    saved
-}
-
-/// What `save_files` does, of a database of which one page was read, by a plan that knows its files.
-///
-/// # Errors
-/// Those of `save_plan`, `BadRedo` where the redo file is marked, and `Moved` as `save_files`.
-pub fn save_part<R: Files<File = File> + AllocGlobal, W: Write>(
-    rt: &R,
-    held: LockedFiles,
-    old: &FoundPart<'_>,
-    plan: &[u8],
-    lines: &[u8],
-    writer: &mut W,
-) -> Result<Saved, FilesFault>
-    requires plan { IsPlan plan.now }
-    requires knows { Knows plan.now (files (part_image old.now)) }
-{
-    let LockedFiles { place, seen, lock } = held;
-    place.must_be_held(rt, &lock, &seen)?;
-    if plan_in(old.redo).is_some() {
-        return Err(FilesFault::BadRedo);
-    }
-    let mut lock = Some(lock);
-    let files = RealFiles::new(rt, &place.names, seen, CallLog::new(rt.alloc())?);
-    let mut disk = Recorded::<RealFiles<'_, R>, Unknown, FoundPart<'_>>::new(files, old);
-    let saved = save_plan(&mut disk, old.redo, plan, lines, writer, &mut lock);
-    forget_failed(rt, &place.names, &saved);
-    saved
-}
-
-// Takes the redo file away of a save that has failed before it was committed. The lock is held still.
-fn forget_failed<R: Files<File = File>>(rt: &R, names: &Names, saved: &Result<Saved, FilesFault>) {
-    match saved {
-        Ok(_) | Err(FilesFault::Write) => (),
-        Err(_) => forget_redo(rt, names),
     }
 }

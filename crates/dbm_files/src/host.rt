@@ -4,13 +4,17 @@ ghost use Rattle.sdbm_saves.specs.declared.disk.DiskError.TheVariants.{Failed};
 
 use crate::limit::{most_bytes, number_at};
 use dbm_places::{
-    FileId, Names, SeenFiles, Side, folder_of, make, make_directory, make_redo, open_beside,
+    FileId, Names, SeenFiles, Side, folder_of, is_like_pages, make, make_directory, make_redo,
+    open_beside,
 };
 use sdbm_saves::{CallLog, DiskError, File as Part, Host};
 use std::fs::{self, File, OpenFile, OpenOptions};
 use std::io::{self, ErrorKind};
 use std::os::unix::fs::FileExt;
 use std::rt::Files;
+
+// The length of the header of a log.
+const LOG_HEADER: usize = 4096;
 
 // The name of one of the files.
 fn name_of(names: &Names, part: Part) -> &str {
@@ -21,7 +25,24 @@ fn name_of(names: &Names, part: Part) -> &str {
     }
 }
 
-// The files of a database, each opened when it is first written or synced, made where it was not there, and kept open. They are written in
+// A file as a save has it.
+#[derive(Drop)]
+struct SaveFile {
+    file: Option<File>,
+    // It was synced, and not written since.
+    is_synced: bool,
+}
+
+impl SaveFile {
+    fn new() -> SaveFile {
+        SaveFile {
+            file: None,
+            is_synced: false,
+        }
+    }
+}
+
+// The files of a database, each opened when it is first written or synced, made if it was absent, and kept open. They are written in
 // place, so they keep owner, permissions and links. A data file is the one that was read: another under its name is not opened. If there was
 // no data file, a file that appears later is not used.
 #[derive(Drop)]
@@ -31,17 +52,19 @@ struct OpenFiles<'a, R: Files<File = File>> {
     seen: SeenFiles,
     // The longest file that this process may write; a longer one raises SIGXFSZ.
     most: u64,
-    pages: Option<File>,
-    directory: Option<File>,
-    redo: Option<File>,
+    pages: SaveFile,
+    directory: SaveFile,
+    redo: SaveFile,
     // This run has synced the folder, and has made no file since. Names that an earlier run made are not taken to be kept.
     is_folder_kept: bool,
-    // This run has taken the redo file away, so it takes none that is there again.
+    // The redo file counts as absent, and is to be removed before it is used.
+    is_redo_stale: bool,
+    // This run has removed the redo file, so it opens none that is there again.
     is_redo_gone: bool,
 }
 
 impl<'a, R: Files<File = File>> OpenFiles<'a, R> {
-    fn slot(&mut self, part: Part) -> &mut Option<File> {
+    fn slot(&mut self, part: Part) -> &mut SaveFile {
         match part {
             Part::Pages => &mut self.pages,
             Part::Directory => &mut self.directory,
@@ -49,28 +72,33 @@ impl<'a, R: Files<File = File>> OpenFiles<'a, R> {
         }
     }
 
-    // Opens a file to write it, where it is not open, and makes it where it is not there.
+    // Opens a file to change it, if it is not open, and makes it if it is absent.
     fn open(&mut self, part: Part) -> io::Result<&mut File> {
-        if self.slot(part).is_none() {
+        if self.slot(part).file.is_none() {
             let file = match self.open_there(part) {
                 Err(error) if error.kind() == ErrorKind::NotFound => self.make(part)?,
                 opened => opened?,
             };
-            *self.slot(part) = Some(file);
+            self.slot(part).file = Some(file);
         }
-        match self.slot(part) {
+        let slot = self.slot(part);
+        slot.is_synced = false;
+        match &mut slot.file {
             Some(file) => Ok(file),
             None => Err(io::Error::from(ErrorKind::NotFound)),
         }
     }
 
     // Opens a file that is there, to write it.
-    fn open_there(&self, part: Part) -> io::Result<File> {
+    fn open_there(&mut self, part: Part) -> io::Result<File> {
         let name = name_of(self.names, part);
         match part {
             Part::Pages => return open_seen(self.rt, name, self.seen.pages),
             Part::Directory => return open_seen(self.rt, name, self.seen.directory),
             Part::Redo => (),
+        }
+        if self.is_redo_stale {
+            self.remove_redo()?;
         }
         if self.is_redo_gone {
             return Err(io::Error::from(ErrorKind::NotFound));
@@ -79,7 +107,7 @@ impl<'a, R: Files<File = File>> OpenFiles<'a, R> {
         Ok(open_beside(self.rt, Side::Redo, name, pages, true)?)
     }
 
-    // Makes a file that is not there.
+    // Makes a file that is absent.
     fn make(&mut self, part: Part) -> io::Result<File> {
         self.is_folder_kept = false;
         let name = name_of(self.names, part);
@@ -99,41 +127,51 @@ impl<'a, R: Files<File = File>> OpenFiles<'a, R> {
         Ok(())
     }
 
-    // Writes bytes, where the file may be as long as that. What is written after the byte for the mark is a plan, which has the new lengths
-    // of both data files behind its signature: they have to fit before it is marked.
+    // Writes bytes, if the file may be as long as that. What is written after the header of a log is a record, which has the new lengths of
+    // both data files in its plan: they have to fit before it is committed.
     fn write_in(&mut self, part: Part, at: usize, bytes: &[u8]) -> io::Result<()> {
         self.must_fit(at.saturating_add(bytes.len()))?;
-        if part == Part::Redo && at == 1 {
-            self.must_fit(number_at(bytes, 8))?;
-            self.must_fit(number_at(bytes, 12))?;
+        if part == Part::Redo && at >= LOG_HEADER {
+            self.must_fit(number_at(bytes, 16))?;
+            self.must_fit(number_at(bytes, 20))?;
         }
         self.open(part)?.write_all_at(bytes, at as u64)
     }
 
     fn set_len(&mut self, part: Part, len: usize) -> io::Result<()> {
-        self.must_fit(len)?;
-        let file = self.open(part)?;
-        if file.metadata()?.len() == len as u64 {
+        if self.is_long(part, len)? {
             return Ok(());
         }
-        file.set_len(len as u64)
+        self.must_fit(len)?;
+        self.open(part)?.set_len(len as u64)
+    }
+
+    // Whether a file is open and has this length.
+    fn is_long(&mut self, part: Part, len: usize) -> io::Result<bool> {
+        match &self.slot(part).file {
+            Some(file) => Ok(file.metadata()?.len() == len as u64),
+            None => Ok(false),
+        }
     }
 
     // Syncs a file, and the folder with its name. A file that this run has not written is synced too: an earlier run may have been
-    // killed after a write. One that is not there has nothing to sync, and one that may not be written fails here and not in the
+    // killed after a write. One that is absent has nothing to sync, and one that may not be written fails here and not in the
     // middle of a commit.
     fn keep(&mut self, part: Part) -> io::Result<()> {
-        match self.slot(part) {
-            Some(file) => file.sync_data()?,
-            None => match self.open_there(part) {
-                Ok(file) => {
-                    file.sync_data()?;
-                    self.keep_open(part, file);
-                }
+        if self.slot(part).file.is_none() {
+            match self.open_there(part) {
+                Ok(file) => self.slot(part).file = Some(file),
                 Err(error) if error.kind() == ErrorKind::NotFound => (),
                 Err(error) => return Err(error),
-            },
+            }
         }
+        let slot = self.slot(part);
+        if !slot.is_synced
+            && let Some(file) = &slot.file
+        {
+            file.sync_data()?;
+        }
+        slot.is_synced = true;
         if !self.is_folder_kept {
             fs::open(self.rt, folder_of(name_of(self.names, part)))?.sync_all()?;
             self.is_folder_kept = true;
@@ -141,15 +179,9 @@ impl<'a, R: Files<File = File>> OpenFiles<'a, R> {
         Ok(())
     }
 
-    // Keeps a data file open, so that what is written goes into it, whatever gets its name.
-    fn keep_open(&mut self, part: Part, file: File) {
-        if part != Part::Redo {
-            *self.slot(part) = Some(file);
-        }
-    }
-
     fn remove_redo(&mut self) -> io::Result<()> {
-        self.redo = None;
+        self.redo = SaveFile::new();
+        self.is_redo_stale = false;
         self.is_redo_gone = true;
         match fs::remove_file(self.rt, self.names.redo.as_str()) {
             Err(error) if error.kind() != ErrorKind::NotFound => Err(error),
@@ -185,8 +217,15 @@ pub struct RealFiles<'a, R: Files<File = File>> {
 impl<'a, R: Files<File = File>> RealFiles<'a, R> {
     ghost use Rattle.sdbm_saves.specs.CallLog.{acts};
 
-    /// The files with these names, of which these were read. None is opened yet.
-    pub fn new(rt: &'a R, names: &'a Names, seen: SeenFiles, log: CallLog) -> Self
+    /// The files with these names, of which these were read. None is opened yet. A stale redo file counts as absent, and is removed before it
+    /// is used.
+    pub fn new(
+        rt: &'a R,
+        names: &'a Names,
+        seen: SeenFiles,
+        is_redo_stale: bool,
+        log: CallLog,
+    ) -> Self
         ensures { result.log ≡ log }
     {
         RealFiles {
@@ -195,10 +234,11 @@ impl<'a, R: Files<File = File>> RealFiles<'a, R> {
                 names,
                 seen,
                 most: most_bytes(rt),
-                pages: None,
-                directory: None,
-                redo: None,
+                pages: SaveFile::new(),
+                directory: SaveFile::new(),
+                redo: SaveFile::new(),
                 is_folder_kept: false,
+                is_redo_stale,
                 is_redo_gone: false,
             },
             log,
@@ -241,10 +281,15 @@ impl<'a, R: Files<File = File>> Host for RealFiles<'a, R> {
         self.log.note_clear()?;
         told(self.files.remove_redo())
     }
+
+    fn keeps_redo(&self) -> bool {
+        let names = self.files.names;
+        is_like_pages(self.files.rt, names.redo.as_str(), names.pages.as_str())
+    }
 }
 
-/// Takes the redo file away of a save that has failed before it wrote either file. Where it stays without a mark, the next save takes it
-/// away; where its mark is set, the next run ends the save.
+/// Removes the redo file of a save that has failed before it wrote either data file. If it stays without a mark, the next save uses it
+/// again; if its mark is set, the next run that writes recovers the files.
 pub fn forget_redo<R: Files<File = File>>(rt: &R, names: &Names) {
     let _ = fs::remove_file(rt, names.redo.as_str());
 }

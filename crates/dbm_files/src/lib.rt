@@ -6,11 +6,10 @@ mod host;
 mod limit;
 mod peeking;
 mod saving;
+mod writing;
 
-pub use files::{
-    LockedFiles, RunFiles, read_again, read_program, save_files, save_held, save_part, take_files,
-    take_rest,
-};
+pub use files::{LockedFiles, RunFiles, read_again, read_program, take_files, take_rest};
 pub use host::RealFiles;
 pub use peeking::UnreadPages;
-pub use saving::{Change, Saved, save_change, save_plan};
+pub use saving::{Change, Planned, Saved, save_change, save_plan};
+pub use writing::{PlannedPart, save_files, save_held, save_part};

@@ -1,8 +1,9 @@
 //! Files that are not there, and names of no files.
 
-use crate::names::names_of;
+use crate::names::{Names, names_of};
+use crate::side::{Side, SideFault, open_beside};
 use std::fs::{self, File};
-use std::io::ErrorKind;
+use std::io::{ErrorKind, Read};
 use std::rt::Files;
 
 /// Whether a name leads to a FIFO, a device or a socket: a run that opens a FIFO waits for its other end.
@@ -13,7 +14,7 @@ pub fn is_special<R: Files>(rt: &R, name: &str) -> bool {
     }
 }
 
-/// Whether a run is about a database of which neither file is there, nor the redo file of a save.
+/// Whether a run is about a database of which neither file is there, nor a redo file with its mark.
 pub fn has_no_files<R: Files<File = File> + AllocGlobal>(rt: &R, base: Option<&str>) -> bool {
     let Some(base) = base else {
         return false;
@@ -22,9 +23,20 @@ pub fn has_no_files<R: Files<File = File> + AllocGlobal>(rt: &R, base: Option<&s
         Ok(names) => {
             is_absent(rt, names.pages.as_str())
                 && is_absent(rt, names.directory.as_str())
-                && is_absent(rt, names.redo.as_str())
+                && !may_be_marked(rt, &names)
         }
         Err(_) => false,
+    }
+}
+
+// Whether a redo file has its mark, or cannot be read.
+fn may_be_marked<R: Files<File = File>>(rt: &R, names: &Names) -> bool {
+    let (name, pages) = (names.redo.as_str(), names.pages.as_str());
+    let mut first = [0u8];
+    match open_beside(rt, Side::Redo, name, pages, false) {
+        Ok(mut file) => file.read_exact(&mut first).is_ok() && first == [1],
+        Err(SideFault::Absent) => false,
+        Err(_) => true,
     }
 }
 

@@ -216,6 +216,21 @@ pub fn make_redo<R: Files<File = File>>(rt: &R, name: &str, pages: &str) -> io::
     }
 }
 
+/// Whether a redo file has the owner, the group and the permissions of the pages. If not, others who may write the pages may be unable to use
+/// it.
+pub fn is_like_pages<R: Files>(rt: &R, name: &str, pages: &str) -> bool {
+    let Ok(found) = fs::symlink_metadata(rt, name) else {
+        return false;
+    };
+    let Ok(Some(like)) = pages_standing(rt, pages) else {
+        return false;
+    };
+    let found = standing_of(&found);
+    found.owner == like.owner
+        && found.group == like.group
+        && found.mode % 0o1000 == like.mode % 0o1000
+}
+
 /// Makes the directory of a database, which is not there. Beside pages it is made like them, as a redo file is; else as the umask says.
 pub fn make_directory<R: Files<File = File>>(rt: &R, name: &str, pages: &str) -> io::Result<File> {
     match pages_standing(rt, pages)? {

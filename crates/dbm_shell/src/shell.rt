@@ -13,7 +13,7 @@ use dbm_session::{Host, Own};
 use dbm_sessions::{Every, OwnLine, program_line, read_own, show_own};
 use dbm_telling::{is_terminal, note_unsaved, note_waiting_save};
 use sdbm_files::Image;
-use sdbm_saves::{FoundRead, ReadFiles};
+use sdbm_saves::ReadFiles;
 use std::alloc::{AllocError, Global};
 use std::fs::File;
 use std::rt::Runtime;
@@ -95,14 +95,11 @@ impl<'a, R: Runtime<File = File> + Clock + AllocGlobal> Shell<'a, R> {
         ensures { IfOk result (λ log. log.calls ≡ self.now.log.calls ++ DidSave image.now ∷ []) }
     {
         let read = read_again(self.rt, self.place, self.held, &self.seen)?;
-        let found = FoundRead {
-            files: ReadFiles {
-                pages: &read.pages,
-                directory: read.directory.as_slice(),
-            },
-            redo: &[],
+        let old = ReadFiles {
+            pages: &read.pages,
+            directory: read.directory.as_slice(),
         };
-        let saved = save_held(self.rt, self.held, &read.seen, &found, image)?;
+        let saved = save_held(self.rt, self.held, &read.seen, old, image)?;
         if saved == Saved::Pending {
             note_waiting_save(self.rt, self.place.base);
         }

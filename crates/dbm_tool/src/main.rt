@@ -29,7 +29,7 @@ use dbm_telling::{
 use ending::{Ending, ending_of, exit_status};
 use quick::{may_be_quick, print_quick, refusal_in, serve_quick};
 use request::{given_of, place_asked, told_of, work_asked, work_of};
-use sdbm_saves::{FoundRead, ReadFiles};
+use sdbm_saves::ReadFiles;
 use serve::serve;
 use sizes::{must_be_wide, refuse_small};
 use std::alloc::{AllocError, Global};
@@ -411,17 +411,14 @@ fn serve_change<R: Runtime<File = File> + AllocGlobal + Threads + Wait + Sync, I
     let outcome = serve(rt, alloc, wish, &given, reader, &mut lines);
     reader.has_bad_line = has_bad_line(lines.as_slice());
     reader.refusal = refusal_in(alloc, wish, given.file.as_slice(), lines.as_slice());
-    let old = FoundRead {
-        files: ReadFiles {
-            pages: &given.pag,
-            directory: given.dir.as_slice(),
-        },
-        redo: &[],
+    let old = ReadFiles {
+        pages: &given.pag,
+        directory: given.dir.as_slice(),
     };
     if let Some(new) = &outcome.database {
         tell_saving(rt, work_of(&wish), new.pag_len());
         let writer = &mut io::writer(rt);
-        let saved = save_files(rt, held, &old, new, lines.as_slice(), writer)?;
+        let saved = save_files(rt, held, old, new, lines.as_slice(), writer)?;
         reader.is_pending = saved == Saved::Pending;
     }
     match outcome.err {

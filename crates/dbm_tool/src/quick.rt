@@ -10,7 +10,7 @@ ghost use Rattle.dbm_tool.specs.Services.{service_in};
 use byte_text::write_all;
 use dbm_command_line::{Ask, Wish};
 use dbm_faults::ServeFault;
-use dbm_files::{LockedFiles, Saved, UnreadPages, save_part};
+use dbm_files::{LockedFiles, PlannedPart, Saved, UnreadPages, save_part};
 use dbm_places::FileBytes;
 use dbm_programs::refusal_of;
 use dbm_quick::{
@@ -22,7 +22,7 @@ use dbm_script::Notation;
 use dbm_telling::{Kept, Watched, is_refused};
 use dbm_words::Form;
 use sdbm_addr::PageSize;
-use sdbm_saves::{FoundPart, Part};
+use sdbm_saves::Part;
 use std::alloc::Global;
 use std::fs::File;
 use std::io::{self, Read};
@@ -101,14 +101,14 @@ fn save_quick<R: Runtime<File = File> + AllocGlobal, I: Read>(
     let Some(plan) = &quick.plan else {
         return Ok(());
     };
-    let old = FoundPart {
+    let planned = PlannedPart {
         part,
         size,
-        redo: &[],
+        plan: plan.as_slice(),
     };
     let lines = quick.text.as_slice();
     let writer = &mut io::writer(rt);
-    let saved = save_part(rt, held, &old, plan.as_slice(), lines, writer)?;
+    let saved = save_part(rt, held, planned, lines, writer)?;
     reader.is_pending = saved == Saved::Pending;
     Ok(())
 }

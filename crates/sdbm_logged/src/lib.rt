@@ -3,10 +3,14 @@
 
 mod closing;
 mod fault;
+mod once;
 mod opening;
+mod room;
 mod saving;
+mod settling;
 
 pub use closing::close_log;
 pub use fault::OpenFault;
+pub use once::save_once;
 pub use opening::open_log;
 pub use saving::{Saved, save_by};

@@ -39,8 +39,9 @@ pub fn open_log<D: Disk>(
     ensures foreign { IfErr result (λ why. why ≡ fault.Files Foreign → CanRecover (image_in found.entry) → ⊥) }
     ensures damaged { IfErr result (λ why. why ≡ fault.Files Damaged → CanRecover (image_in found.entry) → ⊥) }
 
-    // `Failed` comes only if the disk has failed.
+    // `Failed` comes only if the disk has failed, and a disk that has failed stays so.
     ensures cause { IfErr result (λ why. why ≡ fault.Disk Failed → D.has_failed disk.new) }
+    ensures stays { D.has_failed disk.old → D.has_failed disk.new }
 {
     let opened = open_steps::<Brand>(alloc, found, room)?;
     let bytes = opened.bytes.as_slice();

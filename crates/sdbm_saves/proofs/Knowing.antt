@@ -1,7 +1,7 @@
 -- The bytes that a plan has for the places of a file.
 use Rattle.std.proofs.Common.{true, false, ◌≡◌, ◌⊎◌, ℕ, ◌+◌, ◌<◌, ◌≤◌, List, get_or, refl, sym, subst, arith}
 use Rattle.sdbm_saves.specs.declared.disk.File.{File}
-use Rattle.sdbm_saves.specs.Redo.{file_of, offset_of, size_of, data_of, was_of, rest_after, changes_of, count_of, data_in, Fits, IsPlan, IsChangeOf, Offers, HasByte, KnowsBlock}
+use Rattle.sdbm_saves.specs.Redo.{file_of, offset_of, size_of, data_of, was_of, rest_after, changes_of, count_of, Fits, IsPlan, IsChangeOf, Offers, HasByte}
 
 pub never : false ≡ true → ⊥
 never is = cc
@@ -20,10 +20,3 @@ change_whole plan change is_plan one = subst (λ (l : List ℕ). Fits plan l) (s
 pub none_has : (plan : List ℕ) (file : File) (at byte n : ℕ) → count_of plan ≤ n → ((k : ℕ) → k < n → Offers (rest_after k (changes_of plan)) file at byte → ⊥) → HasByte plan file at byte → ⊥
 none_has plan file at byte n all none has =
     none has.one.index (omega (arith, has.one.counted, all)) (subst (λ (l : List ℕ). Offers l file at byte) has.one.is has.offers)
-
--- what each change was found to have is known of each
-pub all_known : (plan : List ℕ) (both : List ℕ × List ℕ) (n : ℕ) → count_of plan ≤ n
-    → ((k : ℕ) → k < n → KnowsBlock plan (rest_after k (changes_of plan)) (data_in both (file_of (rest_after k (changes_of plan)))))
-    → (change : List ℕ) → IsChangeOf plan change → KnowsBlock plan change (data_in both (file_of change))
-all_known plan both n all known change one =
-    subst (λ (l : List ℕ). KnowsBlock plan l (data_in both (file_of l))) (sym one.is) (known one.index (omega (arith, one.counted, all)))

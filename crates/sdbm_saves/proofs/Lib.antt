@@ -7,6 +7,5 @@ pub mod PageDrafts
 pub mod Parts
 pub mod Recording
 pub mod Replays
-pub mod Runs
 pub mod PartRead
 pub mod Puts

@@ -5,5 +5,4 @@ pub mod Drafts
 pub mod Recording
 pub mod Parts
 pub mod Redo
-pub mod Runs
 pub mod Saves

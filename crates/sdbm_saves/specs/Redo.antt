@@ -7,7 +7,7 @@
 use Rattle.std.specs.Prelude.{◌<◌, ◌≡◌, ◌≢◌, ◌⊎◌, ℕ, zero, suc, ◌+◌, ◌*◌, ◌≤◌, List, [], ◌∷◌, length, take, drop, get_or, if◌then◌else◌, ◌==◌, min, max}
 use Rattle.sdbm_saves.specs.declared.disk.File.{File}
 use Rattle.sdbm_saves.specs.declared.disk.File.TheVariants.{Pages, Directory, Redo}
-use Rattle.sdbm_saves.specs.Disk.{Image, written, resized, Only}
+use Rattle.sdbm_saves.specs.Disk.{Image, written, resized}
 
 unfoldable pub number_at : List ℕ → ℕ → ℕ
 number_at bytes at = get_or bytes at 0 + 256 * get_or bytes (at + 1) 0 + 65536 * get_or bytes (at + 2) 0 + 16777216 * get_or bytes (at + 3) 0
@@ -159,23 +159,6 @@ pub record Knows (plan : List ℕ) (both : List ℕ × List ℕ) : Type 0 where
 abbrev pub CanEnd : Image → Type 0
 CanEnd image = mark_of image ≡ 1 → IsPlan (drop 1 image.redo) × Knows (drop 1 image.redo) (files image)
 
--- no save is under way, and the data files are on the disk
-pub record IsSettled {D : Type 0} (seen : D → Image) (may_leave : D → Image → Type 0) (disk : D) : Type 0 where
-  pub unmarked : mark_of (seen disk) ≢ 1
-  pub left_unmarked : (c : Image) → may_leave disk c → mark_of c ≢ 1
-  pub kept : (c : Image) → may_leave disk c → files c ≡ files (seen disk)
-
--- a plan stands after a mark that is not set, and all of it is on the disk
-pub record IsStaged {D : Type 0} (plan : List ℕ) (seen : D → Image) (may_leave : D → Image → Type 0) (disk : D) : Type 0 where
-  pub unmarked : mark_of (seen disk) ≢ 1
-  pub behind : (seen disk).redo ≡ mark_of (seen disk) ∷ plan
-  pub durable : Only (seen disk) (may_leave disk)
-
--- a plan stands after a mark that is set, and all of it is on the disk: the save is committed
-pub record IsCommitted {D : Type 0} (plan : List ℕ) (seen : D → Image) (may_leave : D → Image → Type 0) (disk : D) : Type 0 where
-  pub marked : (seen disk).redo ≡ 1 ∷ plan
-  pub durable : Only (seen disk) (may_leave disk)
-
 -- two images with the same redo file that the plan makes the same, and of which it knows the second where it knows the first
 pub record Alike (plan : List ℕ) (old new : Image) : Type 0 where
   pub redo : new.redo ≡ old.redo
@@ -193,9 +176,6 @@ pub record EndsWith (whole plan : List ℕ) : Type 0 where
 -- two images that are alike for each plan that ends with this one
 abbrev pub AlikeFor : List ℕ → Image → Image → Type 0
 AlikeFor plan old new = (whole : List ℕ) → EndsWith whole plan → Alike whole old new
-
-abbrev pub IsOldOrNew : List ℕ × List ℕ → List ℕ × List ℕ → Image → Type 0
-IsOldOrNew old new image = (stands_for image ≡ old) ⊎ (stands_for image ≡ new)
 
 -- the data files stay, and no mark comes
 pub record StaysUnmarked (old new : Image) : Type 0 where

@@ -87,6 +87,9 @@ pub trait Disk {
         ensures time { Elapses (moment self.old) (moment self.new) (left_since self.old) (left_since self.new) (may_leave self.new) }
         ensures cause { HasCause (has_failed self.old) (has_failed self.new) result };
 
+    /// Whether the redo file may stay when it has no records: all who may change the data files can use it.
+    fn keeps_redo(&self) -> bool;
+
     /// This moment is one of those since an earlier one.
     ghost counts_now: { (disk : Self) (t : ℕ) (c : Image) → t ≤ moment disk → may_leave disk c → left_since disk t c };
 

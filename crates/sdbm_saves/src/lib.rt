@@ -1,5 +1,5 @@
-//! Saves of a database that a crash cannot break: what a save changes is written to a redo file first, and a mark on that
-//! file is the commit (write-ahead logging, a redo log: Gray and Reuter, Transaction Processing 1993, chapter 9).
+//! The plan of a save: which bytes of the data files it changes, with the old ones and the new ones. `Disk` says what a crash may leave of
+//! the files. A crate above commits plans in a log (a redo log: Gray and Reuter, Transaction Processing 1993, chapter 9).
 #![tactic(auto)]
 
 mod blocks;
@@ -14,19 +14,15 @@ mod plan;
 mod planning;
 mod reading;
 mod recorded;
-mod redo;
-mod room;
 
 pub use call_log::CallLog;
 pub use disk::{Disk, DiskError, File};
 pub use drafting::spelled;
-pub use known::{Contents, byte_at, can_end, knows};
+pub use known::{Contents, byte_at, was_of};
 pub use marked::{Marked, plan_marked};
-pub use overlay::{lay_over, read_through, write_in};
+pub use overlay::{lay_over, write_in};
 pub use part::{Part, plan_part};
-pub use plan::{is_plan, lengths_after, number, plan_in, replay};
+pub use plan::{file_of, is_plan, number, plan_in, rest_of};
 pub use planning::SavePlanFault;
 pub use reading::{ReadFiles, plan_read};
 pub use recorded::{Before, Found, FoundPart, FoundRead, Host, Past, Recorded, Unknown};
-pub use redo::{commit, finish, recover, stage};
-pub use room::try_room;

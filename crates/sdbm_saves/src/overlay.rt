@@ -1,41 +1,12 @@
-// What the files of a save that was cut off stand for, where they may not be written.
+// A plan done in memory, for a reader that may not write the files.
 ghost use Rattle.std.specs.Prelude.{◌≡◌, ◌≢◌, ◌≤◌, ◌+◌, length, IfOk};
 ghost use Rattle.sdbm_saves.specs.Disk.{resized, written};
-ghost use Rattle.sdbm_saves.specs.Redo.{file_of, offset_of, size_of, span_of, effect, renewed, files, stands_for, IsPlan, CanEnd};
-ghost use Rattle.sdbm_saves.specs.Recording.{image_of};
+ghost use Rattle.sdbm_saves.specs.Redo.{file_of, offset_of, size_of, span_of, effect, renewed, IsPlan};
 ghost use Rattle.sdbm_saves.specs.declared.disk.File.TheVariants.{Redo};
 
-use crate::plan::{file_of, number, plan_in, resized, rest_of};
-use crate::{File, Found};
-use std::alloc::{AllocError, Allocator, Global};
-
-/// What three files stand for, in memory, for a reader that may not write them: where a save was cut off after its mark, the data files
-/// with its plan laid over them, else copies of them. There is no redo file in it. It takes memory for both data files.
-///
-/// # Errors
-///
-/// `AllocError` where memory runs out.
-pub fn read_through(alloc: Global, found: &Found) -> Result<Found, AllocError>
-    requires can_end { CanEnd (image_of found.now) }
-    ensures { IfOk result (λ laid. files (image_of laid) ≡ stands_for (image_of found.now)) }
-{
-    let (pages, directory) = match plan_in(found.redo.as_slice()) {
-        Some(plan) => (
-            lay_over(alloc, plan, File::Pages, found.pages.as_slice())?,
-            lay_over(alloc, plan, File::Directory, found.directory.as_slice())?,
-        ),
-        None => (
-            found.pages.as_slice().to_vec(alloc)?,
-            found.directory.as_slice().to_vec(alloc)?,
-        ),
-    };
-    let redo = Vec::new(alloc);
-    Ok(Found {
-        pages,
-        directory,
-        redo,
-    })
-}
+use crate::plan::{file_of, number, resized, rest_of};
+use crate::File;
+use std::alloc::{AllocError, Allocator};
 
 /// The bytes of a data file with a plan done in them, in memory.
 ///

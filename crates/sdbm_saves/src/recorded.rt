@@ -87,6 +87,9 @@ pub trait Host {
     /// Takes the redo file away.
     fn clear(&mut self) -> Result<(), DiskError>
         ensures { Notes clear (calls self.old) (calls self.new) result };
+
+    /// Whether the redo file may stay when it has no records.
+    fn keeps_redo(&self) -> bool;
 }
 
 /// What a crash might have left of the files before a run opened them. No code can know it, so a function over every `Past` is proved
@@ -112,7 +115,7 @@ pub struct Recorded<'a, H: Host, P: Past, F: Before> {
 }
 
 impl<'a, H: Host, P: Past, F: Before> Recorded<'a, H, P, F> {
-    /// A disk over three files that were read, of which a crash might have left what `P` says. `recover` settles them.
+    /// A disk over three files that were read, of which a crash might have left what `P` says. They need not be on the disk.
     pub fn new(host: H, found: &'a F) -> Self
         requires { H.calls host ≡ [] }
         ensures seen { (⟦<Recorded<'a, H, P, F> as Disk>⟧).seen result ≡ F.image found.now }
@@ -188,5 +191,9 @@ impl<'a, H: Host, P: Past, F: Before> Disk for Recorded<'a, H, P, F> {
         let outcome = self.host.clear();
         self.failed = has_failed(&outcome);
         outcome
+    }
+
+    fn keeps_redo(&self) -> bool {
+        self.host.keeps_redo()
     }
 }

@@ -1,0 +1,202 @@
+//! The files of a run, written.
+ghost use Rattle.std.specs.Prelude.{◌≡◌, ◌≢◌, get_or, IfOk};
+ghost use Rattle.sdbm_saves.specs.Redo.{IsPlan, Knows};
+ghost use Rattle.sdbm_saves.specs.Recording.{part_pages};
+
+use crate::files::{LockedFiles, read_up_to};
+use crate::host::{RealFiles, forget_redo};
+use crate::saving::{Change, Planned, Saved, save_change, save_plan};
+use dbm_places::{
+    FilesFault, Names, SeenFiles, Side, SideFault, is_like_pages, open_beside, side_fault,
+};
+use sdbm_addr::PageSize;
+use sdbm_files::Image;
+use sdbm_saves::{
+    CallLog, FoundPart, FoundRead, Part, ReadFiles, Recorded, Unknown, plan_in,
+};
+use std::alloc::Global;
+use std::fs::File;
+use std::io::{self, Write};
+use std::rt::Files;
+
+// A save removes a redo file with more bytes than this, and does not use it again.
+const MOST_REDO: u64 = 1_052_672;
+
+// The redo file before a save.
+#[derive(Drop)]
+struct OldRedo {
+    // Its bytes. None if it is stale.
+    bytes: Vec<u8>,
+    // It is long, or others could not use it: the save removes it first.
+    is_stale: bool,
+}
+
+/// Saves what a run has made of a database, releases its lock, and then prints its lines. The files are written in place, by a log: a crash at
+/// any moment leaves files from which the next run gets the database before the save or after it. If nothing changed no file is written, made
+/// or touched. If a save failed before it was committed, its redo file is removed.
+///
+/// # Errors
+/// Those of `save_change`, `BadRedo` if the redo file is marked, and before all else `Moved` if the lock or a data file has lost its name to
+/// another file.
+pub fn save_files<R: Files<File = File> + AllocGlobal, W: Write>(
+    rt: &R,
+    held: LockedFiles,
+    old: ReadFiles<'_, Global>,
+    new: &Image<Global>,
+    lines: &[u8],
+    writer: &mut W,
+) -> Result<Saved, FilesFault> {
+    let LockedFiles { place, seen, lock } = held;
+    place.must_be_held(rt, &lock, &seen)?;
+    let redo = find_redo(rt, &place.names)?;
+    let change = change_of(old, &redo, new);
+    let mut lock = Some(lock);
+    let found = found_of(old, &redo);
+    let log = CallLog::new(rt.alloc())?;
+    let files = RealFiles::new(rt, &place.names, seen, redo.is_stale, log);
+    let mut disk = Recorded::<RealFiles<'_, R>, Unknown, FoundRead<'_>>::new(files, &found);
+    let saved = save_change(rt.alloc(), &mut disk, change, lines, writer, &mut lock);
+    forget_failed(rt, &place.names, &saved);
+    saved
+}
+
+/// The same, but the lock is kept, and nothing is printed. The files are those that were seen when they were read last.
+///
+/// # Errors
+/// As `save_files`.
+pub fn save_held<R: Files<File = File> + AllocGlobal>(
+    rt: &R,
+    held: &LockedFiles,
+    seen: &SeenFiles,
+    old: ReadFiles<'_, Global>,
+    new: &Image<Global>,
+) -> Result<Saved, FilesFault> {
+    let LockedFiles { place, lock, .. } = held;
+    place.must_be_held(rt, lock, seen)?;
+    let redo = find_redo(rt, &place.names)?;
+    let change = change_of(old, &redo, new);
+    let mut kept: Option<File> = None;
+    let found = found_of(old, &redo);
+    let log = CallLog::new(rt.alloc())?;
+    let files = RealFiles::new(rt, &place.names, *seen, redo.is_stale, log);
+    let mut disk = Recorded::<RealFiles<'_, R>, Unknown, FoundRead<'_>>::new(files, &found);
+    let saved = save_change(rt.alloc(), &mut disk, change, &[], &mut io::sink(), &mut kept);
+    forget_failed(rt, &place.names, &saved);
+    saved
+}
+
+/// A page of a database that a run has read, and the plan of its save.
+#[derive(Clone, Copy)]
+pub struct PlannedPart<'a> {
+    pub part: Part<'a>,
+    /// How large the pages are.
+    pub size: PageSize,
+    pub plan: &'a [u8],
+}
+
+/// What `save_files` does, of a database of which one page was read, by a plan that knows its files.
+///
+/// # Errors
+/// Those of `save_plan`, `BadRedo` if the redo file is marked, and `Moved` as `save_files`.
+pub fn save_part<R: Files<File = File> + AllocGlobal, W: Write>(
+    rt: &R,
+    held: LockedFiles,
+    planned: PlannedPart<'_>,
+    lines: &[u8],
+    writer: &mut W,
+) -> Result<Saved, FilesFault>
+    requires plan { IsPlan planned.plan.now }
+    requires knows { Knows planned.plan.now (part_pages planned.part planned.size, planned.part.directory.now) }
+{
+    let LockedFiles { place, seen, lock } = held;
+    place.must_be_held(rt, &lock, &seen)?;
+    let redo = find_redo(rt, &place.names)?;
+    let found = FoundPart {
+        part: planned.part,
+        size: planned.size,
+        redo: redo.bytes.as_slice(),
+    };
+    let plan = Planned {
+        redo: redo.bytes.as_slice(),
+        plan: planned.plan,
+    };
+    let mut lock = Some(lock);
+    let log = CallLog::new(rt.alloc())?;
+    let files = RealFiles::new(rt, &place.names, seen, redo.is_stale, log);
+    let mut disk = Recorded::<RealFiles<'_, R>, Unknown, FoundPart<'_>>::new(files, &found);
+    let saved = save_plan(rt.alloc(), &mut disk, plan, lines, writer, &mut lock);
+    forget_failed(rt, &place.names, &saved);
+    saved
+}
+
+// What a save changes.
+fn change_of<'a>(
+    old: ReadFiles<'a, Global>,
+    redo: &'a OldRedo,
+    new: &'a Image<Global>,
+) -> Change<'a>
+    ensures before { result.before ≡ old.entry }
+    ensures redo { result.redo.now ≡ redo.now.bytes.items }
+{
+    Change {
+        before: old,
+        redo: redo.bytes.as_slice(),
+        after: new,
+    }
+}
+
+// The files as they were read.
+fn found_of<'a>(old: ReadFiles<'a, Global>, redo: &'a OldRedo) -> FoundRead<'a>
+    ensures files { result.files ≡ old.entry }
+    ensures redo { result.redo.now ≡ redo.now.bytes.items }
+{
+    FoundRead {
+        files: old,
+        redo: redo.bytes.as_slice(),
+    }
+}
+
+// The redo file before a save, which has no mark.
+fn find_redo<R: Files<File = File> + AllocGlobal>(
+    rt: &R,
+    names: &Names,
+) -> Result<OldRedo, FilesFault>
+    ensures { IfOk result (λ redo. get_or redo.bytes.items 0 0 ≢ 1) }
+{
+    let bytes = read_redo(rt, names)?;
+    if plan_in(bytes.as_slice()).is_some() {
+        return Err(FilesFault::BadRedo);
+    }
+    let (name, pages) = (names.redo.as_str(), names.pages.as_str());
+    let is_stale = bytes.len() as u64 > MOST_REDO || !is_like_pages(rt, name, pages);
+    if is_stale {
+        return Ok(OldRedo {
+            bytes: Vec::new(rt.alloc()),
+            is_stale,
+        });
+    }
+    Ok(OldRedo { bytes, is_stale })
+}
+
+// The first bytes of the redo file, one more than may be used again. One that is absent has none.
+fn read_redo<R: Files<File = File> + AllocGlobal>(
+    rt: &R,
+    names: &Names,
+) -> Result<Vec<u8>, FilesFault> {
+    let mut bytes = Vec::new(rt.alloc());
+    let (name, pages) = (names.redo.as_str(), names.pages.as_str());
+    match open_beside(rt, Side::Redo, name, pages, false) {
+        Ok(mut file) => read_up_to(&mut file, MOST_REDO + 1, &mut bytes)?,
+        Err(SideFault::Absent) => (),
+        Err(fault) => return Err(side_fault(&fault, FilesFault::ReadFile)),
+    }
+    Ok(bytes)
+}
+
+// Removes the redo file of a save that has failed before it was committed. The lock is held still.
+fn forget_failed<R: Files<File = File>>(rt: &R, names: &Names, saved: &Result<Saved, FilesFault>) {
+    match saved {
+        Ok(_) | Err(FilesFault::Write) => (),
+        Err(_) => forget_redo(rt, names),
+    }
+}

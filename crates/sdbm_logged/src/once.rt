@@ -1,0 +1,203 @@
+// A save by a log that is open for it alone.
+ghost use Rattle.std.specs.Prelude.{◌≡◌, ◌≢◌, ◌⊎◌, ◌<◌, ◌≤◌, length, get_or, OnOk, IfOk};
+ghost use Rattle.sdbm_saves.specs.Disk.{Image, Through, LeavesOnly, HasCause};
+ghost use Rattle.sdbm_saves.specs.Redo.{files, renewed_files, IsPlan, Knows, StaysUnmarked};
+ghost use Rattle.sdbm_saves.specs.declared.disk.DiskError.TheVariants.{Failed};
+ghost use Rattle.sdbm_log.specs.Log.{Holds, IsAtRest, IsReady};
+ghost use Rattle.sdbm_logged.specs.declared.saving.Saved.TheVariants.{Done, Pending};
+
+use crate::closing::close_log;
+use crate::fault::OpenFault;
+use crate::opening::open_log;
+use crate::room::try_room;
+use crate::saving::{Saved, save_by};
+use crate::settling::settle;
+use sdbm_log::{Log, LogFault, LogFiles};
+use sdbm_saves::{Disk, DiskError, File};
+use std::alloc::Global;
+
+// The length of the header of a log.
+const HEADER: usize = 4096;
+
+// A new log has at least this much room, so that the next saves can use it again.
+const LEAST_ROOM: usize = 28_672;
+
+// A log with more room than this is removed after the save.
+const MOST_ROOM: usize = 1_048_576;
+
+// A log for a longer record is made by the save itself.
+const LONGEST: usize = 1 << 30;
+
+/// Saves by a plan that knows the files of a database at rest, whose redo file has these bytes: opens a log, commits the plan, does it in both
+/// data files, and closes the log. If the plan may want new blocks of the disk, it tries before whether there is room.
+///
+/// `Done` says that the database is at rest again. The redo file then stays as an empty log that the next save can use, unless it is long or
+/// others could not use it.
+/// `Pending` says that the save is durable, but something failed after the commit: open the files again, which does the rest.
+///
+/// # Errors
+///
+/// `Memory`, or the error of the disk. The save may be committed or not: open the files again.
+pub fn save_once<D: Disk>(
+    alloc: Global,
+    disk: &mut D,
+    redo: &[u8],
+    plan: &[u8],
+) -> Result<Saved, DiskError>
+    requires read { redo.now ≡ (D.seen disk.old).redo }
+    requires unmarked { get_or redo.now 0 0 ≢ 1 }
+    requires plan { IsPlan plan.now }
+    requires short { length plan.now < 3000000000 }
+    requires knows { Knows plan.now (files (D.seen disk.old)) }
+
+    ensures rest { IfOk result (λ outcome. outcome ≡ Done → IsAtRest (D.seen disk.new) (D.may_leave disk.new)) }
+    ensures done { IfOk result (λ outcome. outcome ≡ Done → files (D.seen disk.new) ≡ renewed_files plan.now (D.seen disk.old)) }
+
+    // Once it returns `Ok`, a crash leaves the files with the plan done.
+    ensures durable { OnOk result ((c : Image) → D.may_leave disk.new c → Holds (renewed_files plan.now (D.seen disk.old)) c) }
+
+    // A crash at any moment leaves what it might have left before, or the files as they were read, or with the plan done.
+    ensures any_moment { LeavesOnly D.moment D.left_since disk.old disk.new
+        (λ c. D.may_leave disk.old c ⊎ (Holds (files (D.seen disk.old)) c ⊎ Holds (renewed_files plan.now (D.seen disk.old)) c)) }
+
+    // `Failed`, alone or in `Pending`, comes only if the disk has failed.
+    ensures cause { HasCause (D.has_failed disk.old) (D.has_failed disk.new) result }
+    ensures pending { IfOk result (λ outcome. outcome ≡ Pending Failed → D.has_failed disk.new) }
+{
+    let mut log = open_once(alloc, disk, redo, plan)?;
+    match save_by(alloc, disk, &mut log, plan)? {
+        Saved::Done => Ok(end_once(alloc, disk, log)),
+        Saved::Pending(fault) => Ok(Saved::Pending(fault)),
+    }
+}
+
+// Opens a log for one save.
+fn open_once<D: Disk>(
+    alloc: Global,
+    disk: &mut D,
+    redo: &[u8],
+    plan: &[u8],
+) -> Result<Log, DiskError>
+    requires read { redo.now ≡ (D.seen disk.old).redo }
+    requires unmarked { get_or redo.now 0 0 ≢ 1 }
+    requires plan { IsPlan plan.now }
+
+    ensures ready { IfOk result (λ log. IsReady log.end log.room log.count (D.seen disk.new) (D.may_leave disk.new)) }
+    ensures first { IfOk result (λ log. log.end ≤ 4000000000) }
+    ensures same { OnOk result (files (D.seen disk.new) ≡ files (D.seen disk.old)) }
+    ensures any_moment { LeavesOnly D.moment D.left_since disk.old disk.new (λ c. D.may_leave disk.old c ⊎ Holds (files (D.seen disk.old)) c) }
+    ensures cause { HasCause (D.has_failed disk.old) (D.has_failed disk.new) result }
+{
+    settle(disk)?;
+    let left = try_room(disk, redo, plan)?;
+    let room = plan.len().saturating_add(8).max(LEAST_ROOM).min(LONGEST);
+    open_rest(alloc, disk, left, room)
+}
+
+// Opens a log of at least this much room over files at rest.
+fn open_rest<D: Disk>(
+    alloc: Global,
+    disk: &mut D,
+    redo: &[u8],
+    room: usize,
+) -> Result<Log, DiskError>
+    requires read { redo.now ≡ (D.seen disk.old).redo }
+    requires rest { IsAtRest (D.seen disk.old) (D.may_leave disk.old) }
+    requires small { room ≤ 1073741824 }
+
+    ensures ready { IfOk result (λ log. IsReady log.end log.room log.count (D.seen disk.new) (D.may_leave disk.new)) }
+    ensures first { IfOk result (λ log. log.end ≤ 4000000000) }
+    ensures same { OnOk result (files (D.seen disk.new) ≡ files (D.seen disk.old)) }
+    ensures any_moment { LeavesOnly D.moment D.left_since disk.old disk.new (λ c. Holds (files (D.seen disk.old)) c) }
+    ensures cause { HasCause (D.has_failed disk.old) (D.has_failed disk.new) result }
+{
+    let found = LogFiles {
+        pages: &[],
+        directory: &[],
+        redo,
+    };
+    match open_log(alloc, disk, found, room) {
+        Ok(log) => Ok(log),
+        Err(OpenFault::Disk(fault)) => Err(fault),
+        Err(OpenFault::Files(LogFault::NoMemory)) => Err(DiskError::Memory),
+        Err(OpenFault::Files(LogFault::Foreign | LogFault::Damaged)) => unreachable!(),
+    }
+}
+
+// Closes the log of one save, and then clears its records, or removes it.
+fn end_once<D: Disk>(alloc: Global, disk: &mut D, log: Log) -> Saved
+    requires ready { IsReady log.end log.room log.count (D.seen disk.old) (D.may_leave disk.old) }
+
+    ensures rest { result ≡ Done → IsAtRest (D.seen disk.new) (D.may_leave disk.new) }
+    ensures same { result ≡ Done → files (D.seen disk.new) ≡ files (D.seen disk.old) }
+    ensures durable { (c : Image) → D.may_leave disk.new c → Holds (files (D.seen disk.old)) c }
+    ensures any_moment { LeavesOnly D.moment D.left_since disk.old disk.new (λ c. Holds (files (D.seen disk.old)) c) }
+    ensures stays { D.has_failed disk.old → D.has_failed disk.new }
+    ensures pending { result ≡ Pending Failed → D.has_failed disk.new }
+{
+    match close_and_clear(alloc, disk, log) {
+        Ok(()) => Saved::Done,
+        Err(fault) => Saved::Pending(fault),
+    }
+}
+
+fn close_and_clear<D: Disk>(alloc: Global, disk: &mut D, log: Log) -> Result<(), DiskError>
+    requires ready { IsReady log.end log.room log.count (D.seen disk.old) (D.may_leave disk.old) }
+
+    ensures rest { OnOk result (IsAtRest (D.seen disk.new) (D.may_leave disk.new)) }
+    ensures same { OnOk result (files (D.seen disk.new) ≡ files (D.seen disk.old)) }
+    ensures any_moment { LeavesOnly D.moment D.left_since disk.old disk.new (λ c. Holds (files (D.seen disk.old)) c) }
+    ensures cause { HasCause (D.has_failed disk.old) (D.has_failed disk.new) result }
+{
+    let Log { end, room, .. } = log;
+    close_log(alloc, disk, log)?;
+    clear_records(alloc, disk, end, room)
+}
+
+// Clears the records of a closed log, which end here, or removes it if it is long or others could not use it.
+fn clear_records<D: Disk>(
+    alloc: Global,
+    disk: &mut D,
+    end: usize,
+    room: usize,
+) -> Result<(), DiskError>
+    requires rest { IsAtRest (D.seen disk.old) (D.may_leave disk.old) }
+    requires near { room ≤ 4000000000 }
+
+    ensures rest { OnOk result (IsAtRest (D.seen disk.new) (D.may_leave disk.new)) }
+    ensures same { OnOk result (files (D.seen disk.new) ≡ files (D.seen disk.old)) }
+    ensures any_moment { LeavesOnly D.moment D.left_since disk.old disk.new (λ c. Holds (files (D.seen disk.old)) c) }
+    ensures cause { HasCause (D.has_failed disk.old) (D.has_failed disk.new) result }
+{
+    if room > MOST_ROOM || !disk.keeps_redo() {
+        return remove(disk);
+    }
+    let zeros = vec![in alloc; 0u8; end.min(room)]?;
+    write_zeros(disk, room, zeros.as_slice())
+}
+
+// Removes the redo file.
+fn remove<D: Disk>(disk: &mut D) -> Result<(), DiskError>
+    requires rest { IsAtRest (D.seen disk.old) (D.may_leave disk.old) }
+
+    ensures rest { OnOk result (IsAtRest (D.seen disk.new) (D.may_leave disk.new)) }
+    ensures same { OnOk result (files (D.seen disk.new) ≡ files (D.seen disk.old)) }
+    ensures any_moment { LeavesOnly D.moment D.left_since disk.old disk.new (λ c. Holds (files (D.seen disk.old)) c) }
+    ensures cause { HasCause (D.has_failed disk.old) (D.has_failed disk.new) result }
+{
+    disk.clear()
+}
+
+// Writes zeros after the header of a closed log of this room.
+fn write_zeros<D: Disk>(disk: &mut D, room: usize, zeros: &[u8]) -> Result<(), DiskError>
+    requires rest { IsAtRest (D.seen disk.old) (D.may_leave disk.old) }
+    requires near { room ≤ 4000000000 }
+
+    ensures rest { OnOk result (IsAtRest (D.seen disk.new) (D.may_leave disk.new)) }
+    ensures same { OnOk result (files (D.seen disk.new) ≡ files (D.seen disk.old)) }
+    ensures any_moment { LeavesOnly D.moment D.left_since disk.old disk.new (λ c. Holds (files (D.seen disk.old)) c) }
+    ensures cause { HasCause (D.has_failed disk.old) (D.has_failed disk.new) result }
+{
+    disk.resize(File::Redo, HEADER + room)?;
+    disk.write_at(File::Redo, HEADER, zeros)
+}

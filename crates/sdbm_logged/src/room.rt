@@ -1,0 +1,114 @@
+// Whether the disk has room for what a save does after its commit.
+ghost use Rattle.std.specs.Prelude.{◌≡◌, ◌≤◌, ◌*◌, ◌^◌, ◌↔◌, [], length, All, IsTrue, OnOk, IfOk};
+ghost use Rattle.sdbm_saves.specs.Disk.{Through, LeavesOnly, HasCause};
+ghost use Rattle.sdbm_saves.specs.Redo.{span_of, IsPlan, files, StaysUnmarked};
+ghost use Rattle.sdbm_log.specs.Log.{Holds, IsAtRest};
+
+use sdbm_saves::{Disk, DiskError, File, file_of, number, rest_of, was_of};
+
+/// What a file system gives a file at once, in bytes. Where it gives less or more, the room that is tried is too small or too large.
+const DISK_BLOCK: usize = 4096;
+
+/// More blocks than these are not tried: a redo file of more bytes is none that is read.
+const MOST: usize = 658_000;
+
+// Tries before a save whether the disk has room for it: a save that is committed and then finds a full disk leaves its files half done for
+// programs that do not know the log. If the changes of the plan may want new blocks, a new redo file gets as many, and those of the plan
+// itself, each with a zero in it, and is removed. So it never has a mark, and the data files are not touched. Another program may take the
+// room in between. If no change wants a block nothing is done. Returns what the redo file has afterwards. The data files stay as they are,
+// whatever the disk says.
+pub(crate) fn try_room<'a, D: Disk>(
+    disk: &mut D,
+    redo: &'a [u8],
+    plan: &[u8],
+) -> Result<&'a [u8], DiskError>
+    requires plan { IsPlan plan.now }
+    requires read { redo.now ≡ (D.seen disk.old).redo }
+    requires rest { IsAtRest (D.seen disk.old) (D.may_leave disk.old) }
+
+    ensures read { IfOk result (λ left. left.now ≡ (D.seen disk.new).redo) }
+    ensures rest { OnOk result (IsAtRest (D.seen disk.new) (D.may_leave disk.new)) }
+    ensures same { OnOk result (files (D.seen disk.new) ≡ files (D.seen disk.old)) }
+    ensures any_moment { LeavesOnly D.moment D.left_since disk.old disk.new (λ c. Holds (files (D.seen disk.old)) c) }
+    ensures cause { HasCause (D.has_failed disk.old) (D.has_failed disk.new) result }
+{
+    let pages = new_blocks(plan, File::Pages);
+    let directory = new_blocks(plan, File::Directory);
+    let blocks = pages.saturating_add(directory);
+    if blocks == 0 {
+        return Ok(redo);
+    }
+    try_blocks(disk, blocks.saturating_add(1 + plan.len() / DISK_BLOCK))?;
+    Ok(&[])
+}
+
+// Writes a zero into each of so many blocks of a new redo file, and takes it away.
+fn try_blocks<D: Disk>(disk: &mut D, blocks: usize) -> Result<(), DiskError>
+    requires some { 1 ≤ blocks }
+
+    ensures cleared { OnOk result ((D.seen disk.new).redo ≡ []) }
+    ensures same { OnOk result (files (D.seen disk.new) ≡ files (D.seen disk.old)) }
+    ensures any_moment { Through D.moment D.left_since D.may_leave StaysUnmarked disk.old disk.new }
+    ensures cause { HasCause (D.has_failed disk.old) (D.has_failed disk.new) result }
+{
+    let blocks = blocks.min(MOST);
+    disk.clear()?;
+    disk.resize(File::Redo, blocks * DISK_BLOCK)?;
+    fill(disk, blocks)?;
+    disk.clear()
+}
+
+// Writes a zero into each of so many blocks of the redo file, which is that long.
+fn fill<D: Disk>(disk: &mut D, blocks: usize) -> Result<(), DiskError>
+    requires few { blocks ≤ 2 ^ 40 }
+    requires long { length (D.seen disk.old).redo ≡ blocks * 4096 }
+
+    ensures same { OnOk result (files (D.seen disk.new) ≡ files (D.seen disk.old)) }
+    ensures any_moment { Through D.moment D.left_since D.may_leave StaysUnmarked disk.old disk.new }
+    ensures cause { HasCause (D.has_failed disk.old) (D.has_failed disk.new) result }
+{
+    for index in 0..blocks {
+        disk.write_at(File::Redo, index * DISK_BLOCK, &[0])?;
+    }
+    Ok(())
+}
+
+// How many blocks the changes of one file may want that it has not. It is a guess: a page of zeros may be a hole or not. No clause says how
+// many they are, and no promise stands on it.
+fn new_blocks(plan: &[u8], file: File) -> usize
+    requires { IsPlan plan.now }
+{
+    let count = number(plan, 24);
+    let mut rest = &plan[28..];
+    let mut blocks = 0usize;
+    let mut next = 0;
+    for index in 0..count {
+        if file_of(rest) == file && wants_room(plan, rest) {
+            let at = number(rest, 1);
+            let first = next.max(at / DISK_BLOCK);
+            next = first.max((at + number(rest, 5)).div_ceil(DISK_BLOCK));
+            blocks = blocks.saturating_add(next - first);
+        }
+        rest = rest_of(rest);
+    }
+    blocks
+}
+
+// Whether a change may want blocks that its file has not: past its end, or in what may be a hole.
+fn wants_room(plan: &[u8], change: &[u8]) -> bool
+    requires header { 28 ≤ length plan.now }
+    requires whole { span_of change.now ≤ length change.now }
+{
+    let end = match file_of(change) {
+        File::Pages => number(plan, 16),
+        File::Directory | File::Redo => number(plan, 20),
+    };
+    number(change, 1) + number(change, 5) > end || is_zero(was_of(change))
+}
+
+// Whether all these bytes are zero.
+fn is_zero(bytes: &[u8]) -> bool
+    ensures { IsTrue result ↔ All (λ byte. byte ≡ 0) bytes.now }
+{
+    bytes.iter().all(|byte| *byte == 0)
+}

@@ -1,0 +1,20 @@
+// What is read of a database at rest is kept.
+ghost use Rattle.std.specs.Prelude.{◌≡◌, ◌≢◌, get_or, OnOk};
+ghost use Rattle.sdbm_saves.specs.Disk.{LeavesOnly, HasCause};
+ghost use Rattle.sdbm_log.specs.Log.{IsAtRest};
+
+use sdbm_saves::{Disk, DiskError, File};
+
+// Syncs all three files: after a kill what is read need not be on the disk.
+pub(crate) fn settle<D: Disk>(disk: &mut D) -> Result<(), DiskError>
+    requires unmarked { get_or (D.seen disk.old).redo 0 0 ≢ 1 }
+
+    ensures rest { OnOk result (IsAtRest (D.seen disk.new) (D.may_leave disk.new)) }
+    ensures seen { D.seen disk.new ≡ D.seen disk.old }
+    ensures any_moment { LeavesOnly D.moment D.left_since disk.old disk.new (D.may_leave disk.old) }
+    ensures cause { HasCause (D.has_failed disk.old) (D.has_failed disk.new) result }
+{
+    disk.sync(File::Redo)?;
+    disk.sync(File::Pages)?;
+    disk.sync(File::Directory)
+}

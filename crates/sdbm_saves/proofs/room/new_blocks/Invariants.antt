@@ -1,8 +1,0 @@
-use Rattle.std.proofs.Common.{◌≡◌}
-use Rattle.sdbm_saves.specs.Redo.{rest_after, changes_of}
-use Rattle.sdbm_saves.proofs.room.new_blocks.Given as goal
-
-abbrev pub invariant-loop-index : goal.invariant-loop-index
-invariant-loop-index l = record {
-  rest : l.rest ≡ rest_after l.index (changes_of l.plan);
-}

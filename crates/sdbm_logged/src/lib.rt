@@ -3,6 +3,7 @@
 
 mod closing;
 mod fault;
+mod keeping;
 mod once;
 mod opening;
 mod room;
@@ -11,6 +12,7 @@ mod settling;
 
 pub use closing::close_log;
 pub use fault::OpenFault;
-pub use once::save_once;
+pub use keeping::{DataBytes, Keeper, KeptDisk, NextSave, save_next};
+pub use once::{close_kept, open_for, save_once};
 pub use opening::open_log;
 pub use saving::{Saved, save_by};

@@ -64,19 +64,25 @@ pub fn save_once<D: Disk>(
     ensures cause { HasCause (D.has_failed disk.old) (D.has_failed disk.new) result }
     ensures pending { IfOk result (λ outcome. outcome ≡ Pending Failed → D.has_failed disk.new) }
 {
-    let mut log = open_once(alloc, disk, redo, plan)?;
+    let mut log = open_for(alloc, disk, redo, plan, LEAST_ROOM)?;
     match save_by(alloc, disk, &mut log, plan)? {
         Saved::Done => Ok(end_once(alloc, disk, log)),
         Saved::Pending(fault) => Ok(Saved::Pending(fault)),
     }
 }
 
-// Opens a log for one save.
-fn open_once<D: Disk>(
+/// Opens a log for a save by this plan, with at least this much room, over the files of a database at rest whose redo file has these bytes. If
+/// the plan may want new blocks of the disk, it tries before whether there is room.
+///
+/// # Errors
+///
+/// `Memory`, or the error of the disk. Open the files again.
+pub fn open_for<D: Disk>(
     alloc: Global,
     disk: &mut D,
     redo: &[u8],
     plan: &[u8],
+    least: usize,
 ) -> Result<Log, DiskError>
     requires read { redo.now ≡ (D.seen disk.old).redo }
     requires unmarked { get_or redo.now 0 0 ≢ 1 }
@@ -90,7 +96,7 @@ fn open_once<D: Disk>(
 {
     settle(disk)?;
     let left = try_room(disk, redo, plan)?;
-    let room = plan.len().saturating_add(8).max(LEAST_ROOM).min(LONGEST);
+    let room = plan.len().saturating_add(8).max(least).min(LONGEST);
     open_rest(alloc, disk, left, room)
 }
 
@@ -135,13 +141,19 @@ fn end_once<D: Disk>(alloc: Global, disk: &mut D, log: Log) -> Saved
     ensures stays { D.has_failed disk.old → D.has_failed disk.new }
     ensures pending { result ≡ Pending Failed → D.has_failed disk.new }
 {
-    match close_and_clear(alloc, disk, log) {
+    match close_kept(alloc, disk, log) {
         Ok(()) => Saved::Done,
         Err(fault) => Saved::Pending(fault),
     }
 }
 
-fn close_and_clear<D: Disk>(alloc: Global, disk: &mut D, log: Log) -> Result<(), DiskError>
+/// Closes a log: syncs both data files, and clears the mark. Then it clears the records, or removes the log if it is long or others could not
+/// use it.
+///
+/// # Errors
+///
+/// `Memory`, or the error of the disk. Open the files again.
+pub fn close_kept<D: Disk>(alloc: Global, disk: &mut D, log: Log) -> Result<(), DiskError>
     requires ready { IsReady log.end log.room log.count (D.seen disk.old) (D.may_leave disk.old) }
 
     ensures rest { OnOk result (IsAtRest (D.seen disk.new) (D.may_leave disk.new)) }

@@ -32,14 +32,27 @@ pub(crate) fn try_room<'a, D: Disk>(
     ensures any_moment { LeavesOnly D.moment D.left_since disk.old disk.new (λ c. Holds (files (D.seen disk.old)) c) }
     ensures cause { HasCause (D.has_failed disk.old) (D.has_failed disk.new) result }
 {
-    let pages = new_blocks(plan, File::Pages);
-    let directory = new_blocks(plan, File::Directory);
-    let blocks = pages.saturating_add(directory);
+    let blocks = blocks_wanted(plan);
     if blocks == 0 {
         return Ok(redo);
     }
     try_blocks(disk, blocks.saturating_add(1 + plan.len() / DISK_BLOCK))?;
     Ok(&[])
+}
+
+// Whether the changes of a plan may want new blocks of the disk.
+pub(crate) fn wants_blocks(plan: &[u8]) -> bool
+    requires { IsPlan plan.now }
+{
+    blocks_wanted(plan) > 0
+}
+
+// How many blocks the changes of a plan may want that the files have not.
+fn blocks_wanted(plan: &[u8]) -> usize
+    requires { IsPlan plan.now }
+{
+    let pages = new_blocks(plan, File::Pages);
+    pages.saturating_add(new_blocks(plan, File::Directory))
 }
 
 // Writes a zero into each of so many blocks of a new redo file, and takes it away.

@@ -1,5 +1,6 @@
 -- The image of three files that were read.
-use Rattle.std.specs.Prelude.{ℕ, ◌*◌, List, ◌++◌, replicate}
+use Rattle.std.specs.Prelude.{ℕ, ◌*◌, List, ◌++◌, replicate, refl}
+use Rattle.std.specs.Coded.{Coded, code_by, coded×, coded_ℕ, coded_list}
 use Rattle.sdbm_addr.specs.declared.PageSize.{PageSize}
 use Rattle.sdbm_addr.specs.Pairs.{page_bytes}
 use Rattle.sdbm_saves.specs.declared.recorded.Found.{Found}
@@ -20,3 +21,7 @@ part_pages part size = resized part.len (replicate (part.number * page_bytes siz
 
 abbrev pub part_image : FoundPart → Image
 part_image found = record { pages = part_pages found.part found.size; directory = found.part.directory.now; redo = found.redo.now }
+
+-- a code of an image, which lets it be the value of a ghost field
+abbrev pub coded_image : Coded Image
+coded_image = code_by ((List ℕ × List ℕ) × List ℕ) (coded× (coded× (coded_list coded_ℕ) (coded_list coded_ℕ)) (coded_list coded_ℕ)) (λ image. ((image.pages, image.directory), image.redo)) (λ p. record { pages = p.0.0; directory = p.0.1; redo = p.1 }) (λ _. refl)

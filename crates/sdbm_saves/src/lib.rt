@@ -2,12 +2,14 @@
 //! the files. A crate above commits plans in a log (a redo log: Gray and Reuter, Transaction Processing 1993, chapter 9).
 #![tactic(auto)]
 
+mod between;
 mod blocks;
 mod call_log;
 mod disk;
 mod drafting;
 mod known;
 mod marked;
+mod noted;
 mod overlay;
 mod part;
 mod plan;
@@ -15,11 +17,13 @@ mod planning;
 mod reading;
 mod recorded;
 
+pub use between::plan_between;
 pub use call_log::CallLog;
 pub use disk::{Disk, DiskError, File};
 pub use drafting::spelled;
 pub use known::{Contents, byte_at, was_of};
 pub use marked::{Marked, plan_marked};
+pub use noted::Noted;
 pub use overlay::{lay_over, write_in};
 pub use part::{Part, plan_part};
 pub use plan::{file_of, is_plan, number, plan_in, rest_of};

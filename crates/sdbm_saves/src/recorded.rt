@@ -5,6 +5,7 @@ ghost use Rattle.sdbm_saves.specs.declared.disk.DiskError.TheVariants.{Failed};
 ghost use Rattle.sdbm_saves.specs.Disk.{Image};
 ghost use Rattle.sdbm_saves.specs.Acts.{Act, write, resize, sync, clear, Notes};
 
+use crate::noted::Noted;
 use crate::{Disk, DiskError, File, Part, ReadFiles};
 use sdbm_addr::PageSize;
 use std::alloc::Global;
@@ -59,6 +60,10 @@ impl Before for FoundRead<'_> {
     ghost image = { read_image };
 }
 
+impl Before for Noted {
+    ghost image = { λ noted. noted.image };
+}
+
 impl Before for FoundPart<'_> {
     ghost use Rattle.sdbm_saves.specs.Recording.{part_image};
 
@@ -107,19 +112,19 @@ impl Past for Unknown {
 
 /// A disk over a system's files. After a call at which the system has failed it makes no more.
 #[derive(Drop)]
-pub struct Recorded<'a, H: Host, P: Past, F: Before> {
+pub struct Recorded<H: Host, P: Past, F: Before> {
     host: H,
-    found: &'a F,
+    found: F,
     failed: bool,
     past: PhantomData<P>,
 }
 
-impl<'a, H: Host, P: Past, F: Before> Recorded<'a, H, P, F> {
+impl<H: Host, P: Past, F: Before> Recorded<H, P, F> {
     /// A disk over three files that were read, of which a crash might have left what `P` says. They need not be on the disk.
-    pub fn new(host: H, found: &'a F) -> Self
+    pub fn new(host: H, found: F) -> Self
         requires { H.calls host ≡ [] }
-        ensures seen { (⟦<Recorded<'a, H, P, F> as Disk>⟧).seen result ≡ F.image found.now }
-        ensures past { (c : Image) → (⟦<Recorded<'a, H, P, F> as Disk>⟧).may_leave result c → P.may_leave c }
+        ensures seen { (⟦<Recorded<H, P, F> as Disk>⟧).seen result ≡ F.image found }
+        ensures past { (c : Image) → (⟦<Recorded<H, P, F> as Disk>⟧).may_leave result c → P.may_leave c }
     {
         Recorded {
             host,
@@ -140,22 +145,22 @@ fn has_failed(outcome: &Result<(), DiskError>) -> bool
     }
 }
 
-impl<'a, H: Host, P: Past, F: Before> Disk for Recorded<'a, H, P, F> {
+impl<H: Host, P: Past, F: Before> Disk for Recorded<H, P, F> {
     ghost use Rattle.sdbm_saves.specs.Acts.{seen_after, LeftAfter, LeftSince, now_counts, only_the_last};
 
-    ghost seen = { λ disk. seen_after (H.calls disk.host) (F.image disk.found.now) };
+    ghost seen = { λ disk. seen_after (H.calls disk.host) (F.image disk.found) };
 
-    ghost may_leave = { λ disk c. LeftAfter (H.calls disk.host) (F.image disk.found.now) P.may_leave c };
+    ghost may_leave = { λ disk c. LeftAfter (H.calls disk.host) (F.image disk.found) P.may_leave c };
 
     ghost moment = { λ disk. length (H.calls disk.host) };
 
-    ghost left_since = { λ disk t c. LeftSince (H.calls disk.host) (F.image disk.found.now) P.may_leave t c };
+    ghost left_since = { λ disk t c. LeftSince (H.calls disk.host) (F.image disk.found) P.may_leave t c };
 
     ghost has_failed = { λ disk. IsTrue disk.failed };
 
-    ghost counts_now = { λ disk t c later left. now_counts (H.calls disk.host) (F.image disk.found.now) P.may_leave t c later left };
+    ghost counts_now = { λ disk t c later left. now_counts (H.calls disk.host) (F.image disk.found) P.may_leave t c later left };
 
-    ghost only_now = { λ disk c left. only_the_last (H.calls disk.host) (F.image disk.found.now) P.may_leave c left };
+    ghost only_now = { λ disk c left. only_the_last (H.calls disk.host) (F.image disk.found) P.may_leave c left };
 
     fn write_at(&mut self, file: File, at: usize, bytes: &[u8]) -> Result<(), DiskError> {
         if self.failed {

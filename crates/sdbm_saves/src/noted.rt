@@ -1,0 +1,33 @@
+// Files as they were read, of which clauses alone have the bytes.
+ghost use Rattle.std.specs.Prelude.{◌≡◌};
+ghost use Rattle.sdbm_saves.specs.Disk.{Image};
+ghost use Rattle.sdbm_saves.specs.Recording.{coded_image, image_of};
+ghost use base.Fml.{ftrue};
+
+use crate::Found;
+use std::marker::Model;
+
+/// The three files as they were read, as clauses see them. It has no bytes and owns nothing.
+pub struct Noted {
+    pub ghost image: { Image } by { coded_image },
+}
+
+impl Model for Noted {
+    ghost also_owns = { λ _. ftrue };
+}
+
+impl Noted {
+    /// What was read.
+    pub fn of(found: &Found) -> Noted
+        ensures { result.image ≡ image_of found.now }
+    {
+        let _ = found;
+        Noted {}
+    }
+}
+
+impl Drop for Noted {
+    fn drop(self) {
+        let Noted {} = self;
+    }
+}

@@ -136,7 +136,7 @@ pub fn lock_sentence<'a>(base: Option<&'a str>, timeout: Option<&str>) -> Senten
             base,
         ),
         _ => with_one(
-            "Another run has held {}.lock all the time. Without --timeout this one waits for it.",
+            "Another run has held {}.lock all the time. --timeout SECONDS waits longer.",
             base,
         ),
     }

@@ -19,6 +19,6 @@ pub use files::finding_sentence;
 pub use finding::{Finding, Matter, Reason};
 pub use notes::{
     absent_note, bad_lines_note, half_line_note, line_end_note, object_note, pending_note,
-    refusal_note, unsaved_note, wait_note,
+    refusal_note, unsaved_note, wait_note, holder_note,
 };
 pub use sentence::{Part, Sentence};

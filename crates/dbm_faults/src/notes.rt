@@ -74,6 +74,20 @@ pub fn wait_note<'a>(base: &'a str, holder: Option<u64>, name: Option<&'a String
     )
 }
 
+/// A process with this name had the lock of a base to the end of a wait.
+pub fn holder_note<'a>(base: &'a str, process: u64, name: Option<&'a String>) -> Sentence<'a> {
+    let name = match name {
+        Some(name) => Part::Name(name.as_str()),
+        None => Part::Text("?"),
+    };
+    with_three(
+        "process {} ({}) has {}.lock",
+        Part::Number(process),
+        name,
+        Part::Name(base),
+    )
+}
+
 /// The line of a script that is the first that asks nothing, counted from 1, and how many more there are.
 pub fn bad_lines_note(first: u64, more: u64) -> Sentence<'static> {
     let first = Part::Number(first);

@@ -334,8 +334,7 @@ fn read_database<R: Files<File = File> + AllocGlobal>(
     }
     if place.writes {
         drop(plan);
-        recover_files(rt, &files.names, seen, &found)?;
-        drop(found);
+        recover_files(rt, &files.names, seen, found)?;
         return read_files(rt, place, false);
     }
     if keep_plan(rt, &files.names).is_err() {
@@ -445,9 +444,9 @@ fn recover_files<R: Files<File = File> + AllocGlobal>(
     rt: &R,
     names: &Names,
     seen: SeenFiles,
-    found: &Found,
+    found: Found,
 ) -> Result<(), FilesFault> {
-    let made = match recover_steps::<Brand>(rt.alloc(), log_files(found)) {
+    let made = match recover_steps::<Brand>(rt.alloc(), log_files(&found)) {
         Ok(made) => made,
         Err(fault) => return Err(fault_of(fault)),
     };

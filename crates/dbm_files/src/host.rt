@@ -211,7 +211,7 @@ fn moved() -> io::Error {
 #[derive(Drop)]
 pub struct RealFiles<'a, R: Files<File = File>> {
     files: OpenFiles<'a, R>,
-    log: CallLog,
+    pub(crate) log: CallLog,
 }
 
 impl<'a, R: Files<File = File>> RealFiles<'a, R> {

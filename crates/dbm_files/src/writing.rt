@@ -24,11 +24,11 @@ const MOST_REDO: u64 = 1_052_672;
 
 // The redo file before a save.
 #[derive(Drop)]
-struct OldRedo {
+pub(crate) struct OldRedo {
     // Its bytes. None if it is stale.
-    bytes: Vec<u8>,
+    pub(crate) bytes: Vec<u8>,
     // It is long, or others could not use it: the save removes it first.
-    is_stale: bool,
+    pub(crate) is_stale: bool,
 }
 
 /// Saves what a run has made of a database, releases its lock, and then prints its lines. The files are written in place, by a log: a crash at
@@ -54,7 +54,7 @@ pub fn save_files<R: Files<File = File> + AllocGlobal, W: Write>(
     let found = found_of(old, &redo);
     let log = CallLog::new(rt.alloc())?;
     let files = RealFiles::new(rt, &place.names, seen, redo.is_stale, log);
-    let mut disk = Recorded::<RealFiles<'_, R>, Unknown, FoundRead<'_>>::new(files, &found);
+    let mut disk = Recorded::<RealFiles<'_, R>, Unknown, FoundRead<'_>>::new(files, found);
     let saved = save_change(rt.alloc(), &mut disk, change, lines, writer, &mut lock);
     forget_failed(rt, &place.names, &saved);
     saved
@@ -79,7 +79,7 @@ pub fn save_held<R: Files<File = File> + AllocGlobal>(
     let found = found_of(old, &redo);
     let log = CallLog::new(rt.alloc())?;
     let files = RealFiles::new(rt, &place.names, *seen, redo.is_stale, log);
-    let mut disk = Recorded::<RealFiles<'_, R>, Unknown, FoundRead<'_>>::new(files, &found);
+    let mut disk = Recorded::<RealFiles<'_, R>, Unknown, FoundRead<'_>>::new(files, found);
     let saved = save_change(rt.alloc(), &mut disk, change, &[], &mut io::sink(), &mut kept);
     forget_failed(rt, &place.names, &saved);
     saved
@@ -123,7 +123,7 @@ pub fn save_part<R: Files<File = File> + AllocGlobal, W: Write>(
     let mut lock = Some(lock);
     let log = CallLog::new(rt.alloc())?;
     let files = RealFiles::new(rt, &place.names, seen, redo.is_stale, log);
-    let mut disk = Recorded::<RealFiles<'_, R>, Unknown, FoundPart<'_>>::new(files, &found);
+    let mut disk = Recorded::<RealFiles<'_, R>, Unknown, FoundPart<'_>>::new(files, found);
     let saved = save_plan(rt.alloc(), &mut disk, plan, lines, writer, &mut lock);
     forget_failed(rt, &place.names, &saved);
     saved
@@ -157,7 +157,7 @@ fn found_of<'a>(old: ReadFiles<'a, Global>, redo: &'a OldRedo) -> FoundRead<'a>
 }
 
 // The redo file before a save, which has no mark.
-fn find_redo<R: Files<File = File> + AllocGlobal>(
+pub(crate) fn find_redo<R: Files<File = File> + AllocGlobal>(
     rt: &R,
     names: &Names,
 ) -> Result<OldRedo, FilesFault>
@@ -194,7 +194,7 @@ fn read_redo<R: Files<File = File> + AllocGlobal>(
 }
 
 // Removes the redo file of a save that has failed before it was committed. The lock is held still.
-fn forget_failed<R: Files<File = File>>(rt: &R, names: &Names, saved: &Result<Saved, FilesFault>) {
+pub(crate) fn forget_failed<R: Files<File = File>>(rt: &R, names: &Names, saved: &Result<Saved, FilesFault>) {
     match saved {
         Ok(_) | Err(FilesFault::Write) => (),
         Err(_) => forget_redo(rt, names),

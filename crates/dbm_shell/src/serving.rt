@@ -65,7 +65,9 @@ fn answer_lines<R: Runtime<File = File> + Clock + AllocGlobal, I: Read>(
     shell: &mut Shell<'_, R>,
 ) -> Result<(), ServeFault> {
     let mut writer = io::writer(rt);
-    match run_session(rt.alloc(), notation, image, reader, &mut writer, shell) {
+    let ended = run_session(rt.alloc(), notation, image, reader, &mut writer, shell);
+    shell.end_saves();
+    match ended {
         Ok(
             Ended {
                 half_line: Some(line),

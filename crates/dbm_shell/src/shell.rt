@@ -5,7 +5,9 @@ ghost use Rattle.dbm_session.specs.HostCalls.{DidSave};
 
 use crate::host_log::HostLog;
 use dbm_faults::ServeFault;
-use dbm_files::{LockedFiles, Saved, read_again, read_program, save_held};
+use dbm_files::{
+    LockedFiles, Saved, SessionLog, close_session, read_program, save_session,
+};
 use dbm_places::{DataFiles, FilesFault, RunPlace, SeenFiles};
 use dbm_reports::is_too_long;
 use dbm_script::{Notation, TimeOfDay};
@@ -13,24 +15,24 @@ use dbm_session::{Host, Own};
 use dbm_sessions::{Every, OwnLine, program_line, read_own, show_own};
 use dbm_telling::{is_terminal, note_unsaved, note_waiting_save};
 use sdbm_files::Image;
-use sdbm_saves::ReadFiles;
 use std::alloc::{AllocError, Global};
 use std::fs::File;
 use std::rt::Runtime;
 use std::time::{Clock, Duration, SystemTime, UNIX_EPOCH};
 use stock_names::{NAMES, ProgramWord, read_word};
 
-/// The files of a session's database, the clock, and the terminal at which its lines are typed, if there is one. It keeps nothing that it
-/// has read of the files: each save reads them again, and finds what differs. It keeps which files they are, since a save is into these
-/// alone. Clauses see its saves and the times that it gave by a log.
+/// The files of a session's database, the clock, and the terminal at which its lines are typed, if there is one. Its saves share a log, which is
+/// open from the first one on. It keeps which files they are, since a save is into these alone. Clauses see its saves and the times that it
+/// gave by a log of its own.
 #[derive(Drop)]
-pub struct Shell<'a, R: Runtime> {
+pub struct Shell<'a, R: Runtime<File = File>> {
     rt: &'a R,
     place: RunPlace<'a>,
     held: &'a LockedFiles,
     seen: SeenFiles,
     // The data files that its saves have made, held open.
     made: DataFiles,
+    saves: Option<SessionLog<'a, R>>,
     notation: &'a Notation<Global>,
     every: Every,
     clock: bool,
@@ -58,6 +60,7 @@ impl<'a, R: Runtime<File = File> + Clock + AllocGlobal> Shell<'a, R> {
             held,
             seen: held.seen,
             made: DataFiles::none(),
+            saves: None,
             notation,
             every,
             clock,
@@ -90,20 +93,24 @@ impl<'a, R: Runtime<File = File> + Clock + AllocGlobal> Shell<'a, R> {
         })
     }
 
-    // Saves a database in the files, which are read again, and returns the log with that save. No other function logs a save.
-    fn save_logged(&self, image: &Image<Global>) -> Result<HostLog, FilesFault>
-        ensures { IfOk result (λ log. log.calls ≡ self.now.log.calls ++ DidSave image.now ∷ []) }
+    // Saves a database in the files, and returns the log with that save. No other function logs a save.
+    fn save_logged(&mut self, image: &Image<Global>) -> Result<HostLog, FilesFault>
+        ensures { IfOk result (λ log. log.calls ≡ self.old.log.calls ++ DidSave image.now ∷ []) }
     {
-        let read = read_again(self.rt, self.place, self.held, &self.seen)?;
-        let old = ReadFiles {
-            pages: &read.pages,
-            directory: read.directory.as_slice(),
-        };
-        let saved = save_held(self.rt, self.held, &read.seen, old, image)?;
+        let saves = &mut self.saves;
+        let saved = save_session(self.rt, self.place, self.held, &self.seen, saves, image)?;
         if saved == Saved::Pending {
             note_waiting_save(self.rt, self.place.base);
         }
         Ok(self.log.with_save(image))
+    }
+
+    /// Ends the saves of the session: both data files are whole then. If a file cannot be written, it reports that the next run that writes does
+    /// the rest.
+    pub fn end_saves(&mut self) {
+        if close_session(self.rt, &mut self.saves).is_err() {
+            note_waiting_save(self.rt, self.place.base);
+        }
     }
 
     // The seconds since the last save, as far as the system tells them.

@@ -2,7 +2,7 @@
 
 use crate::progress::{Work, tell_reading, tell_work};
 use crate::terminal::is_at_terminal;
-use dbm_faults::wait_note;
+use dbm_faults::{holder_note, wait_note};
 use dbm_files::{RunFiles, take_files};
 use dbm_places::{FilesFault, RunPlace, names_of, resolve};
 use std::fs::{self, File};
@@ -13,8 +13,8 @@ use std::time::{Clock, Duration};
 /// A run waits so many milliseconds before it says that it waits.
 const SILENT_WAIT: u64 = 500;
 
-/// What `take_files` does; but where the run is verbose, or standard error is a terminal, it says who has the lock once it has waited for
-/// half a second. At a terminal a command that takes its time on large files says so.
+/// What `take_files` does; but if the run is verbose, or standard error is a terminal, it says who has the lock once it has waited for half a
+/// second, and else at the end of a longer wait that was in vain. At a terminal a command that takes its time on large files says so.
 ///
 /// # Errors
 /// Those of `take_files`.
@@ -47,7 +47,11 @@ fn take_patiently<R: Runtime<File = File> + Clock + AllocGlobal>(
         None => None,
     };
     if !verbose && !is_at_terminal(rt) {
-        return take_files(rt, place, peeks, patience);
+        let taken = take_files(rt, place, peeks, patience);
+        if let Err(FilesFault::Locked) = &taken {
+            tell_holder(rt, place.base);
+        }
+        return taken;
     }
     match take_files(rt, place, peeks, Some(silent)) {
         Err(FilesFault::Locked) => {
@@ -72,6 +76,22 @@ fn tell_wait<R: Runtime<File = File> + AllocGlobal>(rt: &R, base: Option<&str>) 
         None => None,
     };
     let note = wait_note(base.as_str(), holder, name.as_ref());
+    let _ = eprintln!(rt; "dbm: note: {note}");
+}
+
+// Says who has the lock at the end of a wait of which nothing was said.
+fn tell_holder<R: Runtime<File = File> + AllocGlobal>(rt: &R, base: Option<&str>) {
+    let Some(base) = base else {
+        return;
+    };
+    let Ok(base) = resolve(rt, base) else {
+        return;
+    };
+    let Some(process) = holder_of(rt, base.as_str()) else {
+        return;
+    };
+    let name = name_of(rt, process);
+    let note = holder_note(base.as_str(), process, name.as_ref());
     let _ = eprintln!(rt; "dbm: note: {note}");
 }
 

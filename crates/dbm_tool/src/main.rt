@@ -43,6 +43,9 @@ use std::time::Duration;
 use std::{env, fs, io, thread};
 use stock::{print_programs, stock_file};
 
+// The seconds that a run waits for the lock which may change the database, unless it is told otherwise.
+const DEFAULT_PATIENCE: u64 = 60;
+
 fn main(rt: HostRuntime) -> ExitCode {
     let _standard = hold_standard(&rt);
     let ending = match read_args(&rt) {
@@ -217,7 +220,7 @@ fn serve_request<R: Runtime<File = File> + AllocGlobal + Threads + Wait + Sync, 
     {
         return Err(ServeFault::BadBase);
     }
-    let patience = patience_of(access.timeout)?;
+    let patience = patience_of(rt, access.timeout, place.writes)?;
     if access.must_exist && has_no_files(rt, place.base) {
         return Err(ServeFault::Absent);
     }
@@ -271,11 +274,25 @@ fn is_name(base: &str) -> bool {
     !matches!(last, "" | "." | "..")
 }
 
-// For how long a run waits for the lock, where that has an end.
-fn patience_of(timeout: Option<&str>) -> Result<Option<Duration>, ServeFault> {
-    let Some(word) = timeout else {
-        return Ok(None);
-    };
+// For how long a run waits for the lock: as the words ask, else as DBM_TIMEOUT asks, else for a minute if it may change the database. `None` is
+// without an end.
+fn patience_of<R: Runtime + AllocGlobal>(
+    rt: &R,
+    timeout: Option<&str>,
+    writes: bool,
+) -> Result<Option<Duration>, ServeFault> {
+    if let Some(word) = timeout {
+        return patience_in(word);
+    }
+    match env::var(rt, "DBM_TIMEOUT") {
+        Ok(word) => patience_in(word.as_str()),
+        Err(_) if writes => Ok(Some(Duration::from_secs(DEFAULT_PATIENCE))),
+        Err(_) => Ok(None),
+    }
+}
+
+// A number of seconds.
+fn patience_in(word: &str) -> Result<Option<Duration>, ServeFault> {
     match read_number(word.as_bytes(), u64::MAX) {
         Some(seconds) => Ok(Some(Duration::from_secs(seconds))),
         None => Err(ServeFault::Report(ReportFault::BadNumber)),

@@ -1,12 +1,14 @@
 // A log that stays open from one save to the next.
-ghost use Rattle.std.specs.Prelude.{◌≡◌, ◌⊎◌, ◌↔◌, ◌<◌, ◌≤◌, ◌+◌, length, IsTrue, OnOk, IfOk};
+ghost use Rattle.std.specs.Prelude.{get_or, ◌≢◌, ◌≡◌, ◌⊎◌, ◌↔◌, ◌<◌, ◌≤◌, ◌+◌, length, IsTrue, OnOk, IfOk};
 ghost use Rattle.sdbm_saves.specs.Disk.{Image, LeavesOnly, HasCause};
-ghost use Rattle.sdbm_saves.specs.Redo.{files, IsPlan};
+ghost use Rattle.sdbm_saves.specs.Redo.{files, renewed_files, IsPlan, Knows};
 ghost use Rattle.sdbm_saves.specs.declared.disk.DiskError.TheVariants.{Failed};
-ghost use Rattle.sdbm_log.specs.Log.{Holds};
+ghost use Rattle.sdbm_log.specs.Log.{Holds, IsReady};
 ghost use Rattle.sdbm_logged.specs.Keeping.{bytes_of, IsKept};
 ghost use Rattle.sdbm_logged.specs.declared.keeping.NextSave.TheVariants.{Same, Full, Done, Pending};
+ghost use Rattle.sdbm_logged.specs.declared.saving.Saved.TheVariants as saved;
 
+use crate::once::open_for;
 use crate::room::wants_blocks;
 use crate::saving::{Saved, save_by};
 use sdbm_log::Log;
@@ -58,6 +60,44 @@ pub enum NextSave {
     Done,
     /// The save is durable, but a data file or the log could not be written: open the files again.
     Pending(DiskError),
+}
+
+/// Saves by a plan that knows the files of a database at rest, whose redo file has these bytes, in a log of at least this much room, which
+/// stays open. Returns the log beside the outcome, and it can take the next record if that is `Done`.
+///
+/// # Errors
+///
+/// `Memory`, or the error of the disk. The save may be committed or not: open the files again.
+pub fn save_first<D: Disk>(
+    alloc: Global,
+    disk: &mut D,
+    redo: &[u8],
+    plan: &[u8],
+    room: usize,
+) -> Result<(Saved, Log), DiskError>
+    requires read { redo.now ≡ (D.seen disk.old).redo }
+    requires unmarked { get_or redo.now 0 0 ≢ 1 }
+    requires plan { IsPlan plan.now }
+    requires short { length plan.now < 3000000000 }
+    requires knows { Knows plan.now (files (D.seen disk.old)) }
+
+    ensures ready { IfOk result (λ both. both.0 ≡ saved.Done → IsReady both.1.end both.1.room both.1.count (D.seen disk.new) (D.may_leave disk.new)) }
+    ensures done { IfOk result (λ both. both.0 ≡ saved.Done → files (D.seen disk.new) ≡ renewed_files plan.now (D.seen disk.old)) }
+
+    // Once it returns `Ok`, a crash leaves the files with the plan done.
+    ensures durable { OnOk result ((c : Image) → D.may_leave disk.new c → Holds (renewed_files plan.now (D.seen disk.old)) c) }
+
+    // A crash at any moment leaves what it might have left before, or the files as they were read, or with the plan done.
+    ensures any_moment { LeavesOnly D.moment D.left_since disk.old disk.new
+        (λ c. D.may_leave disk.old c ⊎ (Holds (files (D.seen disk.old)) c ⊎ Holds (renewed_files plan.now (D.seen disk.old)) c)) }
+
+    // `Failed`, alone or in `Pending`, comes only if the disk has failed.
+    ensures cause { HasCause (D.has_failed disk.old) (D.has_failed disk.new) result }
+    ensures pending { IfOk result (λ both. both.0 ≡ saved.Pending Failed → D.has_failed disk.new) }
+{
+    let mut log = open_for(alloc, disk, redo, plan, room)?;
+    let saved = save_by(alloc, disk, &mut log, plan)?;
+    Ok((saved, log))
 }
 
 /// Saves these bytes of both data files in a log that is open. It takes one sync. If it returns `Done`, the old bytes of the files are

@@ -9,7 +9,7 @@ use Rattle.dbm_files.proofs.files.recover_files.Goals as goal
 
 pub make_steps-requires : goal.make_steps-requires
 make_steps-requires g c =
-    let image : Image = image_of c.args.found.now in
+    let image : Image = image_of c.args.found in
     let made = c.in-Ok.made in
     let reads : Reads c.log_files.result image = record { redo = sym c.log_files.ensures.redo; both = λ _ i. (sym c.log_files.ensures.pages i, sym c.log_files.ensures.directory i) } in
     let can : CanDo (acts_of made.bytes.items made.steps.items) image = (c.in-Ok.ensures.recovers image 0 reads).can in

@@ -18,7 +18,7 @@ pub use fault::ServeFault;
 pub use files::finding_sentence;
 pub use finding::{Finding, Matter, Reason};
 pub use notes::{
-    absent_note, bad_lines_note, half_line_note, line_end_note, object_note, pending_note,
-    refusal_note, unsaved_note, wait_note, holder_note,
+    absent_note, bad_lines_note, half_line_note, holder_note, line_end_note, object_note,
+    pending_note, refusal_note, unsaved_note, wait_note,
 };
 pub use sentence::{Part, Sentence};

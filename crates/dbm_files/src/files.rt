@@ -653,7 +653,11 @@ fn read_all<F: Read + Drop>(alloc: Global, file: F, limit: u64) -> Result<Vec<u8
 }
 
 // Reads the next bytes of a file, at most so many, after others.
-pub(crate) fn read_up_to<F: Read>(file: &mut F, most: u64, bytes: &mut Vec<u8>) -> Result<(), FilesFault> {
+pub(crate) fn read_up_to<F: Read>(
+    file: &mut F,
+    most: u64,
+    bytes: &mut Vec<u8>,
+) -> Result<(), FilesFault> {
     match file.take(most).read_to_end(bytes) {
         Ok(_) => Ok(()),
         Err(error) if error.kind() == ErrorKind::OutOfMemory => Err(FilesFault::NoMemory),

@@ -11,9 +11,7 @@ use dbm_places::{
 };
 use sdbm_addr::PageSize;
 use sdbm_files::Image;
-use sdbm_saves::{
-    CallLog, FoundPart, FoundRead, Part, ReadFiles, Recorded, Unknown, plan_in,
-};
+use sdbm_saves::{CallLog, FoundPart, FoundRead, Part, ReadFiles, Recorded, Unknown, plan_in};
 use std::alloc::Global;
 use std::fs::File;
 use std::io::{self, Write};
@@ -80,7 +78,14 @@ pub fn save_held<R: Files<File = File> + AllocGlobal>(
     let log = CallLog::new(rt.alloc())?;
     let files = RealFiles::new(rt, &place.names, *seen, redo.is_stale, log);
     let mut disk = Recorded::<RealFiles<'_, R>, Unknown, FoundRead<'_>>::new(files, found);
-    let saved = save_change(rt.alloc(), &mut disk, change, &[], &mut io::sink(), &mut kept);
+    let saved = save_change(
+        rt.alloc(),
+        &mut disk,
+        change,
+        &[],
+        &mut io::sink(),
+        &mut kept,
+    );
     forget_failed(rt, &place.names, &saved);
     saved
 }
@@ -194,7 +199,11 @@ fn read_redo<R: Files<File = File> + AllocGlobal>(
 }
 
 // Removes the redo file of a save that has failed before it was committed. The lock is held still.
-pub(crate) fn forget_failed<R: Files<File = File>>(rt: &R, names: &Names, saved: &Result<Saved, FilesFault>) {
+pub(crate) fn forget_failed<R: Files<File = File>>(
+    rt: &R,
+    names: &Names,
+    saved: &Result<Saved, FilesFault>,
+) {
     match saved {
         Ok(_) | Err(FilesFault::Write) => (),
         Err(_) => forget_redo(rt, names),

@@ -20,6 +20,6 @@ pub use names::{
 };
 pub use place::{DataFiles, FileId, Place, SeenFiles};
 pub use side::{
-    Side, SideFault, Standing, doubt_of, is_like_pages, make, make_directory, make_redo, open_beside, side_fault,
-    takes_lock, takes_redo,
+    Side, SideFault, Standing, doubt_of, is_like_pages, make, make_directory, make_redo,
+    open_beside, side_fault, takes_lock, takes_redo,
 };

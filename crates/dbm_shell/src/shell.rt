@@ -5,9 +5,7 @@ ghost use Rattle.dbm_session.specs.HostCalls.{DidSave};
 
 use crate::host_log::HostLog;
 use dbm_faults::ServeFault;
-use dbm_files::{
-    LockedFiles, Saved, SessionLog, close_session, read_program, save_session,
-};
+use dbm_files::{LockedFiles, Saved, SessionLog, close_session, read_program, save_session};
 use dbm_places::{DataFiles, FilesFault, RunPlace, SeenFiles};
 use dbm_reports::is_too_long;
 use dbm_script::{Notation, TimeOfDay};

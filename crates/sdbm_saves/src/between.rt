@@ -35,7 +35,14 @@ pub fn plan_between<A: Allocator + Copy>(
         changes: Vec::new(alloc),
         count: 0,
     };
-    draft_bytes(alloc, &mut draft, File::Directory, 0, old.directory, directory)?;
+    draft_bytes(
+        alloc,
+        &mut draft,
+        File::Directory,
+        0,
+        old.directory,
+        directory,
+    )?;
     draft_bytes(alloc, &mut draft, File::Pages, 0, old.pages, pages)?;
     if draft.count == 0 && have_same_lengths(old, new) {
         return Ok(None);

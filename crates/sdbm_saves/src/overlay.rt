@@ -4,8 +4,8 @@ ghost use Rattle.sdbm_saves.specs.Disk.{resized, written};
 ghost use Rattle.sdbm_saves.specs.Redo.{file_of, offset_of, size_of, span_of, effect, renewed, IsPlan};
 ghost use Rattle.sdbm_saves.specs.declared.disk.File.TheVariants.{Redo};
 
-use crate::plan::{file_of, number, resized, rest_of};
 use crate::File;
+use crate::plan::{file_of, number, resized, rest_of};
 use std::alloc::{AllocError, Allocator};
 
 /// The bytes of a data file with a plan done in them, in memory.

@@ -30,9 +30,10 @@ returns-then-have_same_lengths-clause-none g c = λ is.
     let whole = both_put (length new) (length own) both new own c.new.result.items _ _ _ _ draft.pages draft.directory draft.count draft.changes.items c.new.ensures.items first.pages first.directory second.pages second.directory
     (first.put both) (second.put both (from_start both.0)) in
     let long = c.have_same_lengths.ensures.0 c.if-have_same_lengths.true in
-    let none : 0 ≡ draft.count = sym c.if-draft-eq0.true in
-    (sym (sym (resized_own (length new) both.0 (sym long.0)) ∙ ap (λ (n : ℕ). replayed Pages n draft.changes.items (resized (length new) both.0)) none ∙ whole.put),
-    sym (sym (resized_own (length own) both.1 (sym long.1)) ∙ ap (λ (n : ℕ). replayed Directory n draft.changes.items (resized (length own) both.1)) none ∙ whole.bits))
+    let none : 0 ≡ draft.count = sym c.if-draft-eq0.true in (
+      sym (sym (resized_own (length new) both.0 (sym long.0)) ∙ ap (λ (n : ℕ). replayed Pages n draft.changes.items (resized (length new) both.0)) none ∙ whole.put),
+      sym (sym (resized_own (length own) both.1 (sym long.1)) ∙ ap (λ (n : ℕ). replayed Directory n draft.changes.items (resized (length own) both.1)) none ∙ whole.bits),
+    )
 
 pub returns-clause-plan : goal.returns-clause-plan
 returns-clause-plan g c =

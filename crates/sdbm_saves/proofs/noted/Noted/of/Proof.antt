@@ -23,8 +23,10 @@ use Rattle.sdbm_saves.specs.contracts.recorded.Found as found
 use Rattle.sdbm_saves.specs.contracts.noted.Noted.of as f
 use Rattle.sdbm_saves.proofs.noted.Noted.of.Statement.{statement}
 use Rattle.sdbm_saves.proofs.noted.Noted.of.Code as code
+
 abbrev stayed : Stays f.ended.signature.params f.ended.kept
 stayed = (stay_dropped _ yes, tt)
+
 pub of_spec : {M : Type 1} → statement M
 of_spec 𝓤 𝓛 𝓜 𝓡 wired =
     let c = f.clauses 𝓛 𝓜.mem 𝓡.returns in let W = walk_of 𝓛 f.ended stayed c in

@@ -1,4 +1,5 @@
-"""The bytes of the redo file of a save, as the head of crates/sdbm_saves/specs/Redo.antt has them, for the scripts that compare them."""
+"""The bytes of a redo file, for the scripts that compare them: a log, as the head of crates/sdbm_log/specs/Log.antt has it, and the marked
+plan of one save, as the head of crates/sdbm_saves/specs/Redo.antt has it. Older versions of `dbm` left such plans."""
 
 SIGNATURE = b"sdbmred2"
 # Both files are planned by blocks of so many bytes, the directory first.
@@ -9,8 +10,8 @@ def number(value):
     return value.to_bytes(4, "little")
 
 
-def redo_of(before, after, mark=1, signature=SIGNATURE):
-    """The redo file of a save that makes the files of one database, by their endings, those of another."""
+def plan_of(before, after, signature=SIGNATURE):
+    """The plan of a save that makes the files of one database, by their endings, those of another."""
     both = [(before.get(f"db.{end}", b""), after.get(f"db.{end}", b"")) for end in ("pag", "dir")]
     changes = []
     for which in (1, 0):
@@ -21,14 +22,22 @@ def redo_of(before, after, mark=1, signature=SIGNATURE):
             if was != data:
                 changes.append(bytes([which]) + number(at) + number(len(data)) + data + was)
     lengths = [number(len(new)) for _, new in both] + [number(len(old)) for old, _ in both]
-    return bytes([mark]) + signature + b"".join(lengths) + number(len(changes)) + b"".join(changes)
+    return signature + b"".join(lengths) + number(len(changes)) + b"".join(changes)
 
 
-# ---- logs, as the head of crates/sdbm_log/specs/Log.antt has them
+def redo_of(before, after, mark=1, signature=SIGNATURE):
+    """The redo file that older versions left of such a save."""
+    return bytes([mark]) + plan_of(before, after, signature)
+
+
+# ---- logs
 
 HEADER = 4096
 LOG_SIGNATURE = b"sdbmlog1"
+# The room for records after the header: in a log of the library; at least, in a log that `dbm` makes; and at most, in one that `dbm` keeps.
 ROOM = 1 << 20
+LEAST_ROOM = 28672
+MOST_ROOM = 1 << 20
 
 
 def digits(value):
@@ -36,17 +45,58 @@ def digits(value):
     return bytes(value // 255**place % 255 + 1 for place in range(4))
 
 
+def value_of(four):
+    """The number that four such bytes are."""
+    return sum((byte - 1) * 255**place for place, byte in enumerate(four))
+
+
 def record_of(before, after):
     """The record of a save that makes the files of one database, by their endings, those of another."""
-    plan = redo_of(before, after)[1:]
+    plan = plan_of(before, after)
     body = digits(len(plan)) + plan
     return digits(len(body) - body.count(0)) + body
 
 
-def log_of(records, room=ROOM):
+def log_of(records, room=ROOM, mark=1):
     """A log with these bytes after its header."""
-    return (b"\1" + LOG_SIGNATURE).ljust(HEADER, b"\0") + records.ljust(room, b"\0")
+    return (bytes([mark]) + LOG_SIGNATURE).ljust(HEADER, b"\0") + records.ljust(room, b"\0")
+
+
+def empty_log(room=LEAST_ROOM):
+    """The log that stays after a save of `dbm`."""
+    return log_of(b"", room, mark=0)
+
+
+def room_for(record):
+    """The room of a log that `dbm` makes for a record."""
+    return min(max(LEAST_ROOM, len(record)), 1 << 30)
+
+
+def is_marked(redo):
+    return redo[:1] == b"\1"
 
 
 def is_marked_log(redo):
     return redo[:9] == b"\1" + LOG_SIGNATURE
+
+
+def rooms_for(record, left):
+    """The rooms that a log of `dbm` may have in a save with this record, if the redo file had the bytes `left` before: that of a new log, and
+    that of a log which is used again."""
+    room, had = room_for(record), len(left) - HEADER
+    return {room, had} if left[:9] == b"\0" + LOG_SIGNATURE and room <= had <= MOST_ROOM else {room}
+
+
+def is_committed(redo):
+    """Whether a marked log has a whole record first: one whose weight is the number of its other bytes that are not zero."""
+    first = redo[HEADER : HEADER + 8]
+    if not is_marked_log(redo) or len(first) < 8 or 0 in first:
+        return False
+    body = redo[HEADER + 4 : HEADER + 8 + value_of(first[4:])]
+    return len(body) - body.count(0) == value_of(first[:4])
+
+
+def is_log_of(redo, record, rooms):
+    """Whether a redo file is a marked log of one of these rooms, with this record, a beginning of it or none, and zeros after that."""
+    begun = redo[HEADER:].rstrip(b"\0")
+    return record.startswith(begun) and any(redo == log_of(begun, room) for room in rooms)

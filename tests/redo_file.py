@@ -34,8 +34,10 @@ def redo_of(before, after, mark=1, signature=SIGNATURE):
 
 HEADER = 4096
 LOG_SIGNATURE = b"sdbmlog1"
-# The room for records after the header: in a log of the library; at least, in a log that `dbm` makes; and at most, in one that `dbm` keeps.
+# The room for records after the header: in a log of the library; in one of a session, and at least, in one that a command makes; and at most,
+# in one that a command keeps.
 ROOM = 1 << 20
+SESSION_ROOM = 258048
 LEAST_ROOM = 28672
 MOST_ROOM = 1 << 20
 

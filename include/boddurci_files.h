@@ -38,8 +38,8 @@
  * A base is of the process that has opened it. In a child that it forked boddurci_save is BODDURCI_FORKED, boddurci_take returns NULL,
  * boddurci_give does nothing, and boddurci_close_files frees memory alone: the lock stays its parent's.
  *
- * A fault may be NULL, and is then not told; a base, NULL, is a closed one. No other pointer may be NULL, but names, which are then
- * BODDURCI_BAD_NAME. None of this is proved; tests/c_library, tests/c_crashes and tests/hostile_library run it. */
+ * A fault may be NULL, and is then not told. A base or a name may be NULL: a save is then BODDURCI_IS_CLOSED, boddurci_take returns NULL,
+ * boddurci_give and boddurci_close_files do nothing, and an opening is BODDURCI_BAD_NAME. None of this is proved; tests/c_library, tests/c_crashes and tests/hostile_library run it. */
 #ifndef BODDURCI_FILES_H
 #define BODDURCI_FILES_H
 #include "boddurci.h"
@@ -111,7 +111,7 @@ boddurci_base *boddurci_open_files_within(const char *base, uint32_t flags, int6
 
 /* Waits for the mutex, and lends the handle until boddurci_give. Never close it, and never give it to
  * boddurci_plan, which takes the changes for saved. NULL in a child of the process that has opened the base, and
- * of a base that is NULL: then call neither boddurci_give nor anything else with it. */
+ * of a base that is NULL: each call with it is IS_CLOSED then, and boddurci_give does nothing. */
 boddurci *boddurci_take(boddurci_base *base);
 void boddurci_give(boddurci_base *base);
 

@@ -3,6 +3,7 @@ random run of calls beside a dict. BODDURCI_LIBRARY names the shared object; BOD
 it is not set); BODDURCI_WAY, whether calls go by "ctypes", or by the "extension", which has to be there then: else they go by what is
 there."""
 
+import ctypes
 import dbm
 import errno
 import fcntl
@@ -69,6 +70,17 @@ class Mapping(InFolder):
                 self.assertEqual((db.items(), db[kind(plain)]), ([(b"key", b"key")], b"key"))
             with self.assertRaises(boddurci.ProgramError):
                 db.program(Itself(b"\0"))
+
+    def test_no_handle(self):
+        """A call of the library with NULL for its handle says that it is closed."""
+        for name in ("limit", "fetch", "store", "delete", "count", "submit", "submit_stock", "run", "first", "next"):
+            call = getattr(boddurci._call, name)
+            nothing = [None if kind in (ctypes.c_char_p, ctypes.c_void_p) else 0 for kind in call.argtypes]
+            self.assertEqual(call(*nothing), boddurci._IS_CLOSED, name)
+        self.assertIsNone(boddurci._call.take(None))
+        self.assertEqual(boddurci._call.save(None, None), boddurci._IS_CLOSED)
+        boddurci._call.give(None)
+        boddurci._call.close_files(None)
 
     def test_pairs(self):
         with boddurci.open(self.base, "c") as db:

@@ -98,7 +98,8 @@ enum boddurci_status {
     BODDURCI_REFUSED = 5,        /* the image is no accepted program, or there are 4,096; the text says why */
     BODDURCI_BAD_TEXT = 6,       /* the text is no program; the line and the text of the fault are told */
     BODDURCI_BAD_FILES = 7,      /* the bytes are no database; the text says why; the handle stays closed */
-    BODDURCI_CHANGED = 8,        /* the page of the key is another than when the run was asked: ask again */
+    BODDURCI_CHANGED = 8,        /* the page of the key is another than when the run was asked: ask again. Of a save in files: another program
+                                    has changed them; the text says how */
     BODDURCI_STALE = 9,          /* a page that may have changed was not read for the plan: ask which those are, read, and ask again */
     BODDURCI_IS_CLOSED = 16,     /* the handle is closed, or NULL */
     BODDURCI_IS_OPEN = 17,       /* the handle is open already */

@@ -104,7 +104,7 @@ static void test_bases(void)
     boddurci_fault fault;
     EXPECT(boddurci_take(NULL) == NULL);
     boddurci_give(NULL);
-    EXPECT(boddurci_save(NULL, NULL) == BODDURCI_IS_CLOSED);
+    EXPECT(boddurci_save(NULL, NULL) == BODDURCI_IS_CLOSED && boddurci_save_with(NULL, BODDURCI_INSIST, NULL) == BODDURCI_IS_CLOSED);
     memset(&fault, 0x5a, sizeof fault);
     EXPECT(boddurci_save(NULL, &fault) == BODDURCI_IS_CLOSED && fault.status == BODDURCI_IS_CLOSED && fault.system == 0);
     EXPECT(strcmp(fault.text, "handle closed") == 0);

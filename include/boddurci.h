@@ -31,11 +31,14 @@
  * from thread to thread, so several may share one under a mutex of yours; two handles are nothing to each other. Neither a signal
  * handler nor the forked child of a process with threads may call the library.
  *
+ * NULL. A handle, a reading and a ticket may be NULL. Each call returns IS_CLOSED if the handle or the reading is NULL, also boddurci_open, and
+ * NO_TICKET if the ticket is. boddurci_is_open returns 0, and a call that returns nothing does nothing.
+ *
  * Long programs. boddurci_run takes your mutex as long as its program runs: mostly less than a microsecond, some 60 for the longest.
  * Where that is too long, run by a ticket, in three calls: boddurci_ask under the mutex, boddurci_work without it, boddurci_finish under
  * it. What they do together is what boddurci_run does, as one step at the moment of boddurci_finish.
  *
- * Bytes. A key, a value, an argument and an image are a pointer and a length. No pointer that a call is given may be NULL, also where a
+ * Bytes. A key, a value, an argument and an image are a pointer and a length. No other pointer may be NULL, also where a
  * length is 0: BODDURCI_NO_BYTES stands for no bytes. What a call only reads may overlap; what it writes (rooms, lengths, numbers, the handle)
  * must not overlap anything else that the call is given.
  *
@@ -95,9 +98,10 @@ enum boddurci_status {
     BODDURCI_REFUSED = 5,        /* the image is no accepted program, or there are 4,096; the text says why */
     BODDURCI_BAD_TEXT = 6,       /* the text is no program; the line and the text of the fault are told */
     BODDURCI_BAD_FILES = 7,      /* the bytes are no database; the text says why; the handle stays closed */
-    BODDURCI_CHANGED = 8,        /* the page of the key is another than when the run was asked: ask again */
+    BODDURCI_CHANGED = 8,        /* the page of the key is another than when the run was asked: ask again. Of a save in files: another program
+                                    has changed them; the text says how */
     BODDURCI_STALE = 9,          /* a page that may have changed was not read for the plan: ask which those are, read, and ask again */
-    BODDURCI_IS_CLOSED = 16,     /* the handle is closed */
+    BODDURCI_IS_CLOSED = 16,     /* the handle is closed, or NULL */
     BODDURCI_IS_OPEN = 17,       /* the handle is open already */
     BODDURCI_PAIR_TOO_LARGE = 18,/* key and value, or key and blank, have more than BODDURCI_PAIR_MOST(wide) bytes together */
     BODDURCI_ARG_TOO_LONG = 19,  /* the argument has more than BODDURCI_ARG_MOST bytes */
@@ -105,7 +109,7 @@ enum boddurci_status {
     BODDURCI_NO_MEMORY = 21,     /* memory ran out */
     BODDURCI_FILE_TOO_LONG = 22, /* .pag would have more than 1 GiB, or than boddurci_limit allows, so nothing changed; of a plan: a file has
                                     4 GiB or more */
-    BODDURCI_NO_TICKET = 23,     /* under the ticket nothing is asked, or what is asked is not worked */
+    BODDURCI_NO_TICKET = 23,     /* under the ticket nothing is asked, or what is asked is not worked; or the ticket is NULL */
     BODDURCI_NO_STOCK = 24       /* no stock program has the name */
 };
 

@@ -22,7 +22,8 @@
  * see old or mixed pages until this library or dbm has opened the base to write once.
  *
  * The lock is that of the program dbm: an exclusive flock on BASE.lock, from boddurci_open_files to boddurci_close_files. So dbm and
- * other services wait meanwhile; a program that knows nothing of the lock, as Perl, does not. To read only, open with
+ * other services wait meanwhile; a program that knows nothing of the lock, as Perl, does not. If it has written, the next save is
+ * BODDURCI_CHANGED and overwrites nothing, unless it insists. To read only, open with
  * BODDURCI_READ_ONLY: the lock is then shared, and let go as soon as the files are read. Where both files are symbolic links to those of
  * another base, that one's lock is taken.
  *
@@ -38,8 +39,8 @@
  * A base is of the process that has opened it. In a child that it forked boddurci_save is BODDURCI_FORKED, boddurci_take returns NULL,
  * boddurci_give does nothing, and boddurci_close_files frees memory alone: the lock stays its parent's.
  *
- * A fault may be NULL, and is then not told; a base, NULL, is a closed one. No other pointer may be NULL, but names, which are then
- * BODDURCI_BAD_NAME. None of this is proved; tests/c_library, tests/c_crashes and tests/hostile_library run it. */
+ * A fault may be NULL, and is then not told. A base or a name may be NULL: a save is then BODDURCI_IS_CLOSED, boddurci_take returns NULL,
+ * boddurci_give and boddurci_close_files do nothing, and an opening is BODDURCI_BAD_NAME. None of this is proved; tests/c_library, tests/c_crashes and tests/hostile_library run it. */
 #ifndef BODDURCI_FILES_H
 #define BODDURCI_FILES_H
 #include "boddurci.h"
@@ -63,6 +64,11 @@ enum boddurci_flags {
     BODDURCI_MUST_EXIST = 16,   /* where there is no BASE.pag, do not begin with an empty database */
     BODDURCI_EMPTY = 32,        /* begin with an empty database, whatever the files have */
     BODDURCI_ANY_SIZE = 64      /* with WIDE: open the files also if they look like those of small pages */
+};
+
+/* Flags of boddurci_save_with. */
+enum boddurci_save_flags {
+    BODDURCI_INSIST = 128 /* overwrite what another program has changed in the files. If threads share a save, one that insists is enough */
 };
 
 /* Statuses beside those of boddurci.h. */
@@ -111,7 +117,7 @@ boddurci_base *boddurci_open_files_within(const char *base, uint32_t flags, int6
 
 /* Waits for the mutex, and lends the handle until boddurci_give. Never close it, and never give it to
  * boddurci_plan, which takes the changes for saved. NULL in a child of the process that has opened the base, and
- * of a base that is NULL: then call neither boddurci_give nor anything else with it. */
+ * of a base that is NULL: each call with it is IS_CLOSED then, and boddurci_give does nothing. */
 boddurci *boddurci_take(boddurci_base *base);
 void boddurci_give(boddurci_base *base);
 
@@ -124,14 +130,21 @@ void boddurci_give(boddurci_base *base);
  * A save is one sync and a few writes. The first one after an opening opens the log too, which takes some syncs more and room for 1 MiB, or
  * 64 KiB if the disk or the process has no more; so does a save that finds the log full and empties it.
  *
- * It reads .dir and the pages that may have changed, and no others: a save costs what changed, and not the base. Where a file is another, or
- * of another length or time of last change, than this base has left or read it, or where it began with BODDURCI_EMPTY, it reads and
- * compares all of both. What another program writes while a save writes, or within the same tick of the clock (some milliseconds), it does
- * not see. A page on which a run has saved nothing counts as one that may have changed. The mutex is held while pages are compared, and not
+ * It reads .dir and the pages that may have changed, and no others: a save costs what changed, and not the base. If a time of a file differs
+ * from what this base has left or read, or if it began with BODDURCI_EMPTY, it reads and compares all of both. A page on which a run
+ * has saved nothing counts as one that may have changed. The mutex is held while pages are compared, and not
  * while they are read and written (but where others change more pages than it can follow, three times over, it reads once under the mutex):
  * what other threads do meanwhile is in the next save.
- * IS_CLOSED of a base that is NULL; FORKED, NO_SAVE, MOVED, UNSAFE, BAD_REDO, TOO_LONG, FILE_FAILED, and FILE_TOO_LONG and NO_MEMORY of
- * boddurci.h.
+ * IS_CLOSED of a base that is NULL; FORKED, NO_SAVE, MOVED, UNSAFE, BAD_REDO, TOO_LONG, FILE_FAILED, and CHANGED, FILE_TOO_LONG and NO_MEMORY
+ * of boddurci.h.
+ *
+ * CHANGED: another program has changed a data file since this base read or saved it. Neither file is written, and the base does not change.
+ * The text says what was found: another length, a file that was made, a later write, or a page with other bytes. Each later save is CHANGED
+ * too, until boddurci_save_with overwrites the files by BODDURCI_INSIST. To have what the other program wrote, close the base and open it anew.
+ * Nothing is merged. A file that was made without bytes is no change, nor are another owner, mode or link, nor a new time alone (touch) if this
+ * base has changed no page. A write during the sync of a save is a change for the next one. A write within the same tick of the clock (some
+ * milliseconds) as a save of this base may not be seen. On a file system that takes its times from elsewhere, as NFS, SMB and FUSE do, pages
+ * are compared and times are not, so a write on a page that this base has changed too is not seen.
  *
  * Threads may save at the same time, each after its own changes. A call returns the outcome of a save that began after the call, so its
  * changes are in that save. Calls that come during a save wait until it has ended. Then one of them saves for all that wait, and all of them
@@ -144,6 +157,7 @@ void boddurci_give(boddurci_base *base);
  * save is kept in BASE.redo, and the next who saves or opens to write brings it into both files. Until then a program that knows nothing of
  * BASE.redo, as Perl's SDBM_File, may see half of it. */
 uint32_t boddurci_save(boddurci_base *base, boddurci_fault *fault) BODDURCI_IS_LOOKED_AT;
+uint32_t boddurci_save_with(boddurci_base *base, uint32_t flags, boddurci_fault *fault) BODDURCI_IS_LOOKED_AT;
 
 /* Closes the log, and lets the lock go, and the memory. Nothing is saved. If it saved anything it syncs both data files first; if that fails
  * the next who opens the base recovers it. base may be NULL. No thread may use the base meanwhile, or later. In a child it frees memory

@@ -255,20 +255,6 @@ static void test_untouched(void)
     boddurci_close_files(base);
 }
 
-/* Changes the files while another has them open, as who knows nothing of the lock, and in another tick of the clock than the other's save. */
-static void change_beside(const char *name, const char *lock)
-{
-    EXPECT(usleep(20000) == 0 && rename(lock, "away") == 0);
-    boddurci_base *base = opened(name, 0);
-    for (int i = 7000; i < 7100; i++)
-        store_one(base, i);
-    delete_one(base, "key1");
-    delete_one(base, "key2");
-    EXPECT(boddurci_save(base, &fault) == BODDURCI_DONE);
-    boddurci_close_files(base);
-    EXPECT(unlink(lock) == 0 && rename("away", lock) == 0);
-}
-
 static size_t value_of(boddurci_base *base, const char *key)
 {
     uint8_t value[BODDURCI_VALUE_MOST];
@@ -277,35 +263,6 @@ static size_t value_of(boddurci_base *base, const char *key)
         length = 0;
     boddurci_give(base);
     return length;
-}
-
-/* Files that another has written meanwhile become those of the base as a whole, also where it has changed nothing, or begins as empty. */
-static void test_written_beside(void)
-{
-    boddurci_base *base = opened("visits", 0);
-    size_t count = count_of(base);
-    for (int changes = 0; changes < 2; changes++) {
-        change_beside("visits", "visits.lock");
-        EXPECT(found_beside("visits", "visits.lock") == count + 98);
-        if (changes)
-            store_one(base, 3);
-        EXPECT(boddurci_save(base, &fault) == BODDURCI_DONE && found_beside("visits", "visits.lock") == count);
-    }
-    boddurci_close_files(base);
-    base = opened("visits", 0);
-    EXPECT(count_of(base) == count && value_of(base, "key1") == 4 && value_of(base, "key7000") == 0);
-    boddurci_close_files(base);
-    base = opened("fresh", 0);
-    for (int i = 0; i < 100; i++)
-        store_one(base, i);
-    EXPECT(boddurci_save(base, &fault) == BODDURCI_DONE);
-    boddurci_close_files(base);
-    base = opened("fresh", BODDURCI_EMPTY);
-    store_one(base, 3);
-    EXPECT(boddurci_save(base, &fault) == BODDURCI_DONE && found_beside("fresh", "fresh.lock") == 1);
-    store_one(base, 4);
-    EXPECT(boddurci_save(base, &fault) == BODDURCI_DONE && found_beside("fresh", "fresh.lock") == 2);
-    boddurci_close_files(base);
 }
 
 /* The linker puts this in front of boddurci_mark: no pointer that the library is given may be NULL. */
@@ -775,7 +732,6 @@ int main(int argc, char **argv)
     test_unchanged();
     test_ends();
     test_untouched();
-    test_written_beside();
     test_limited();
     test_written_later();
     test_meanwhile();

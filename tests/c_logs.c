@@ -272,8 +272,8 @@ static void test_long(void)
     EXPECT(length_of("long.redo") == longer && is_marked("long.redo") && found_in("long") == 63001);
 }
 
-/* Another who has no lock empties the log of an open base, and writes its pages: the next save begins the log anew, also after saves that
- * came in one tick of the clock. */
+/* Another who has no lock empties the log of an open base, and writes its pages: the next save is refused and closes the log, and one that
+ * insists begins it anew, also after saves that came in one tick of the clock. */
 static void test_written_beside(void)
 {
     size_t count = 1;
@@ -296,7 +296,8 @@ static void test_written_beside(void)
         EXPECT(!is_marked("beside.redo") && unlink("beside.lock") == 0 && rename("away", "beside.lock") == 0);
         store_one(base, i + 10);
         count += 2 + FAST;
-        EXPECT(boddurci_save(base, &fault) == BODDURCI_DONE && is_marked("beside.redo") && count_of(base) == count);
+        EXPECT(boddurci_save(base, &fault) == BODDURCI_CHANGED && !is_marked("beside.redo"));
+        EXPECT(boddurci_save_with(base, BODDURCI_INSIST, &fault) == BODDURCI_DONE && is_marked("beside.redo") && count_of(base) == count);
         EXPECT(rename("beside.lock", "away") == 0 && found_in("beside") == count && rename("away", "beside.lock") == 0);
     }
     boddurci_close_files(base);

@@ -4,7 +4,8 @@
  *     c_saves change BASE    does the lines of standard input, `replace KEY VALUE` and `delete KEY` in hex, saves, and prints `saved`;
  *                            where the save is kept in the redo file alone, it says so on standard error
  *     c_saves insist BASE    the same, but where the save fails it saves once more
- *     c_saves each BASE      saves after each line, prints `saved` and the number of lines so far, and goes on if a save fails */
+ *     c_saves each BASE      saves after each line, prints `saved` and the number of lines so far, and goes on if a save fails
+ *     c_saves over BASE      the same, but overwrites what another program has changed */
 #include "boddurci_files.h"
 #include <stdio.h>
 #include <string.h>
@@ -71,7 +72,7 @@ static int change(boddurci *db, const char *line)
     return sscanf(line, "delete %4095s", words[0]) == 1 && boddurci_delete(db, key, read_hex(words[0], key)) <= BODDURCI_MISSING;
 }
 
-static int change_all(const char *name, int saves_each, int insists)
+static int change_all(const char *name, int saves_each, int insists, uint32_t flags)
 {
     static char line[8300];
     char saved[32];
@@ -84,7 +85,7 @@ static int change_all(const char *name, int saves_each, int insists)
         boddurci_give(base);
         count++;
         snprintf(saved, sizeof saved, "saved %d\n", count);
-        if (saves_each && boddurci_save(base, &fault) == BODDURCI_DONE)
+        if (saves_each && boddurci_save_with(base, flags, &fault) == BODDURCI_DONE)
             say(saved);
         else if (saves_each)
             fail();
@@ -104,10 +105,12 @@ int main(int argc, char **argv)
     if (argc == 3 && strcmp(argv[1], "list") == 0)
         return list(argv[2]);
     if (argc == 3 && strcmp(argv[1], "change") == 0)
-        return change_all(argv[2], 0, 0);
+        return change_all(argv[2], 0, 0, 0);
     if (argc == 3 && strcmp(argv[1], "insist") == 0)
-        return change_all(argv[2], 0, 1);
+        return change_all(argv[2], 0, 1, 0);
     if (argc == 3 && strcmp(argv[1], "each") == 0)
-        return change_all(argv[2], 1, 0);
+        return change_all(argv[2], 1, 0, 0);
+    if (argc == 3 && strcmp(argv[1], "over") == 0)
+        return change_all(argv[2], 1, 0, BODDURCI_INSIST);
     return 4;
 }

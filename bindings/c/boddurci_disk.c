@@ -51,6 +51,7 @@ void boddurci_disk_of(struct boddurci_disk *disk, struct boddurci_place *place)
     disk->last = BODDURCI_PAGES;
     disk->is_folder_synced = 0;
     disk->is_signal_held = 0;
+    disk->has_reserved = 0;
 }
 
 void boddurci_disk_drop(struct boddurci_disk *disk, enum boddurci_file file)

@@ -12,28 +12,18 @@
 #include <time.h>
 #include <unistd.h>
 
-/* What a data file was when it was last read or saved. */
-struct note {
-    int is_there;
-    dev_t device;
-    ino_t number;
-    off_t length;
-    struct timespec written, changed;
-};
-
 struct boddurci_base {
     boddurci db;
     struct boddurci_place place;
     struct boddurci_logged logged;
     uint32_t flags;
     pid_t process;               /* which has opened it */
+    struct boddurci_notes notes; /* of the data files, when the base last read or wrote them */
     int is_noted;                /* the data files, while they stay so, are those of the base but on its changed pages */
     int is_planned;              /* a save has compared their lengths and the directory */
-    struct note notes[2];
-    struct timespec tick;        /* of the clock, when the times in the notes were looked at */
-    struct timespec latest;      /* if the base has written within that tick later, when it last did; else 0 */
-    int has_our_clock;           /* the files get their times by the clock of this machine */
-    int is_quick;                /* this save looks at no times */
+    int may_have_written;        /* this save has made calls that may change the times of the data files */
+    enum boddurci_change doubt;  /* how times differed when all pages were known, if those are not compared yet */
+    char change[100];            /* how another program has changed the data files, which no save has overwritten; else empty */
     pthread_mutex_t mutex;       /* of db */
     struct boddurci_group saves; /* of the files; a call that wants both has its turn to save before it takes the mutex */
 };
@@ -41,115 +31,6 @@ struct boddurci_base {
 static int is_of_another(const boddurci_base *base)
 {
     return base->process != getpid();
-}
-
-/* ---- what the files were */
-
-/* What a data file is: the one that is opened, or if none is, the one under the name. A quick look copies the times of the last one. */
-static struct note note_of(const boddurci_base *base, enum boddurci_file file, int opened, int is_quick)
-{
-    struct stat is;
-    struct note note;
-    const struct boddurci_place *place = &base->place;
-    memset(&note, 0, sizeof note);
-    int folder = opened >= 0 ? opened : place->folder, how = opened >= 0 ? AT_EMPTY_PATH : 0;
-    const char *name = opened >= 0 ? "" : place->names[file];
-    if ((is_quick ? boddurci_look(folder, name, how, &is) : fstatat(folder, name, &is, how)) != 0)
-        return note;
-    note.is_there = 1;
-    note.device = is.st_dev;
-    note.number = is.st_ino;
-    note.length = is.st_size;
-    note.written = is_quick ? base->notes[file].written : is.st_mtim;
-    note.changed = is_quick ? base->notes[file].changed : is.st_ctim;
-    return note;
-}
-
-/* Notes the files under the names. */
-static void note_named(const boddurci_base *base, struct note notes[2], int is_quick)
-{
-    for (enum boddurci_file file = BODDURCI_PAGES; file <= BODDURCI_DIRECTORY; file++)
-        notes[file] = note_of(base, file, -1, is_quick);
-}
-
-/* Notes those that are held open, which takes less time. */
-static void note_held(const boddurci_base *base, struct note notes[2], int is_quick)
-{
-    for (enum boddurci_file file = BODDURCI_PAGES; file <= BODDURCI_DIRECTORY; file++)
-        notes[file] = note_of(base, file, base->logged.disk.files[file], is_quick);
-}
-
-static int is_same_time(struct timespec one, struct timespec other)
-{
-    return one.tv_sec == other.tv_sec && one.tv_nsec == other.tv_nsec;
-}
-
-/* Whether a time is the one that was noted, or one of later writes of the base. */
-static int is_our_time(struct timespec noted, struct timespec is, struct timespec latest)
-{
-    return is_same_time(noted, is) || is.tv_sec < latest.tv_sec || (is.tv_sec == latest.tv_sec && is.tv_nsec <= latest.tv_nsec);
-}
-
-static int is_same_note(const struct note *noted, const struct note *is, struct timespec latest)
-{
-    if (!noted->is_there || !is->is_there)
-        return noted->is_there == is->is_there;
-    return noted->device == is->device && noted->number == is->number && noted->length == is->length &&
-           is_our_time(noted->written, is->written, latest) && is_our_time(noted->changed, is->changed, latest);
-}
-
-static int are_same_notes(const struct note noted[2], const struct note is[2], struct timespec latest)
-{
-    return is_same_note(&noted[BODDURCI_PAGES], &is[BODDURCI_PAGES], latest) &&
-           is_same_note(&noted[BODDURCI_DIRECTORY], &is[BODDURCI_DIRECTORY], latest);
-}
-
-static struct timespec clock_of(clockid_t clock)
-{
-    struct timespec now = {0, 0};
-    clock_gettime(clock, &now);
-    return now;
-}
-
-#ifdef CLOCK_REALTIME_COARSE
-enum { TICKING = CLOCK_REALTIME_COARSE };
-#else
-enum { TICKING = CLOCK_REALTIME };
-#endif
-
-/* Whether a time is within 20 milliseconds of another one. */
-static int is_near(struct timespec one, struct timespec other)
-{
-    double apart = (double)(one.tv_sec - other.tv_sec) + 1e-9 * (double)(one.tv_nsec - other.tv_nsec);
-    return apart > -0.02 && apart < 0.02;
-}
-
-/* Looks at the files before a save, and says whether they are those that were noted. Within the tick of the last look it is a quick look:
- * what another program writes in that tick is not seen. */
-static int look_before(boddurci_base *base, struct note notes[2])
-{
-    struct timespec tick = clock_of(TICKING);
-    base->is_quick = base->is_noted && base->has_our_clock && is_same_time(tick, base->tick);
-    note_named(base, notes, base->is_quick);
-    int is_noted = base->is_noted && are_same_notes(base->notes, notes, base->latest);
-    if (!base->is_quick) {
-        base->tick = tick;
-        base->latest = (struct timespec){0, 0};
-    }
-    return is_noted;
-}
-
-/* Looks at them after the base has written them. */
-static void look_after(boddurci_base *base, struct note notes[2])
-{
-    struct timespec tick = clock_of(TICKING);
-    int is_quick = base->has_our_clock && is_same_time(tick, base->tick);
-    note_held(base, notes, is_quick);
-    base->latest = is_quick ? clock_of(CLOCK_REALTIME) : (struct timespec){0, 0};
-    if (is_quick)
-        return;
-    base->tick = tick;
-    base->has_our_clock = is_near(notes[BODDURCI_PAGES].written, tick);
 }
 
 /* ---- reading */
@@ -236,11 +117,12 @@ static uint32_t read_files(boddurci_base *base, struct parts *parts, boddurci_fa
     boddurci_give_signal(disk);
     if (base->flags & BODDURCI_EMPTY)
         see_files(&base->place);
-    note_named(base, base->notes, 0);
+    boddurci_note_opened(&base->notes, disk);
     if (status == BODDURCI_DONE && !(base->flags & BODDURCI_EMPTY)) {
         status = read_parts(&base->place, must_exist, parts, fault);
         base->is_noted = status == BODDURCI_DONE;
     }
+    boddurci_note_system(&base->notes, &base->place);
     return status;
 }
 
@@ -323,7 +205,7 @@ static boddurci_base *new_base(uint32_t flags)
     base->flags = flags;
     base->process = getpid();
     base->place.folder = base->place.lock = -1;
-    boddurci_logged_of(&base->logged, &base->place);
+    boddurci_logged_of(&base->logged, &base->place, &base->notes);
     if (pthread_mutex_init(&base->mutex, NULL) == 0) {
         if (boddurci_group_init(&base->saves) == 0)
             return base;
@@ -397,24 +279,36 @@ void boddurci_give(boddurci_base *base)
 
 /* ---- what a save reads */
 
-/* What was read of the files for a plan: all of .dir, and of .pag its length and the pages with these numbers. */
+/* Numbers of pages, in their order. */
+struct numbers {
+    uint32_t *at; /* or NULL, if the list is empty */
+    size_t count;
+};
+
+/* What was read of the files for a plan: all of .dir, and of .pag its length and the pages that are listed. */
 struct reading {
     struct boddurci_bytes directory;
     size_t length;
-    uint32_t *numbers;
-    size_t count;
+    struct numbers listed;
+    struct numbers own; /* if the pages are compared: those that may have changed when the plan was made */
     uint8_t *pages;
     size_t size; /* of a page */
 };
 
+static void free_numbers(struct numbers *numbers)
+{
+    free(numbers->at);
+    numbers->at = NULL;
+    numbers->count = 0;
+}
+
 static void end_reading(struct reading *reading)
 {
     boddurci_let_go(&reading->directory);
-    free(reading->numbers);
+    free_numbers(&reading->listed);
+    free_numbers(&reading->own);
     free(reading->pages);
     reading->pages = NULL;
-    reading->numbers = NULL;
-    reading->count = 0;
 }
 
 static int by_number(const void *one, const void *other)
@@ -423,18 +317,18 @@ static int by_number(const void *one, const void *other)
     return (a > b) - (a < b);
 }
 
-/* The numbers of the pages that may have changed, in their order. */
-static uint32_t list_changed(boddurci *db, struct reading *reading)
+/* The numbers of the pages that may have changed. */
+static uint32_t list_changed(boddurci *db, struct numbers *numbers)
 {
-    uint32_t none, status = boddurci_changed(db, &none, 0, &reading->count);
+    uint32_t none, status = boddurci_changed(db, &none, 0, &numbers->count);
     if (status != BODDURCI_SHORT_ROOM)
         return status;
-    reading->numbers = malloc(reading->count * sizeof *reading->numbers);
-    if (reading->numbers == NULL)
+    numbers->at = malloc(numbers->count * sizeof *numbers->at);
+    if (numbers->at == NULL)
         return BODDURCI_NO_MEMORY;
-    status = boddurci_changed(db, reading->numbers, reading->count, &reading->count);
+    status = boddurci_changed(db, numbers->at, numbers->count, &numbers->count);
     if (status == BODDURCI_DONE)
-        qsort(reading->numbers, reading->count, sizeof *reading->numbers, by_number);
+        qsort(numbers->at, numbers->count, sizeof *numbers->at, by_number);
     return status;
 }
 
@@ -442,7 +336,8 @@ static uint32_t list_changed(boddurci *db, struct reading *reading)
 static uint32_t list_all(boddurci *db, struct reading *reading)
 {
     boddurci_cursor cursor;
-    uint32_t status = list_changed(db, reading);
+    struct numbers *listed = &reading->listed;
+    uint32_t status = list_changed(db, listed);
     if (status == BODDURCI_DONE)
         status = boddurci_first(db, &cursor);
     if (status != BODDURCI_DONE)
@@ -450,15 +345,15 @@ static uint32_t list_all(boddurci *db, struct reading *reading)
     size_t end = (reading->length + reading->size - 1) / reading->size;
     if (cursor.end > end)
         end = cursor.end;
-    if (reading->count != 0 && reading->numbers[reading->count - 1] >= end)
-        end = (size_t)reading->numbers[reading->count - 1] + 1;
-    uint32_t *numbers = realloc(reading->numbers, (end + 1) * sizeof *numbers);
+    if (listed->count != 0 && listed->at[listed->count - 1] >= end)
+        end = (size_t)listed->at[listed->count - 1] + 1;
+    uint32_t *numbers = realloc(listed->at, (end + 1) * sizeof *numbers);
     if (numbers == NULL)
         return BODDURCI_NO_MEMORY;
     for (size_t i = 0; i < end; i++)
         numbers[i] = (uint32_t)i;
-    reading->numbers = numbers;
-    reading->count = end;
+    listed->at = numbers;
+    listed->count = end;
     return status;
 }
 
@@ -480,7 +375,8 @@ static int read_at(int file, uint64_t at, uint8_t *room, size_t size)
 static size_t side_by_side(const struct reading *reading, size_t first)
 {
     size_t count = 1;
-    while (first + count < reading->count && reading->numbers[first + count] == reading->numbers[first] + count)
+    const uint32_t *numbers = reading->listed.at;
+    while (first + count < reading->listed.count && numbers[first + count] == numbers[first] + count)
         count++;
     return count;
 }
@@ -488,9 +384,9 @@ static size_t side_by_side(const struct reading *reading, size_t first)
 /* Reads the pages that are listed. */
 static uint32_t read_pages(int file, struct reading *reading, boddurci_fault *fault)
 {
-    for (size_t i = 0, count; i < reading->count; i += count) {
+    for (size_t i = 0, count; i < reading->listed.count; i += count) {
         count = side_by_side(reading, i);
-        if (read_at(file, (uint64_t)reading->numbers[i] * reading->size, reading->pages + i * reading->size, count * reading->size) != 0)
+        if (read_at(file, (uint64_t)reading->listed.at[i] * reading->size, reading->pages + i * reading->size, count * reading->size) != 0)
             return boddurci_fail_by_system(fault, "a file cannot be read");
     }
     return BODDURCI_DONE;
@@ -531,26 +427,37 @@ static uint32_t read_part(boddurci_base *base, enum boddurci_file which, struct 
 static uint32_t read_listed(boddurci_base *base, struct reading *reading, boddurci_fault *fault)
 {
     uint32_t status = read_part(base, BODDURCI_DIRECTORY, reading, fault);
-    reading->pages = calloc(reading->count + 1, reading->size);
+    reading->pages = calloc(reading->listed.count + 1, reading->size);
     if (reading->pages == NULL)
         return boddurci_no_memory(fault);
     return status == BODDURCI_DONE ? read_part(base, BODDURCI_PAGES, reading, fault) : status;
 }
 
-/* ---- saving */
+/* ---- planning */
 
-/* The numbers that are listed, for a call: never NULL, also where there are none. */
-static const uint32_t *numbers_of(const struct reading *reading)
+/* One save. */
+struct saving {
+    int insists;                   /* it overwrites what another program has changed */
+    int compares;                  /* the pages that the base has not changed have to be those of the file */
+    enum boddurci_change change;   /* how the files differ from what was noted */
+    enum boddurci_file which;      /* and which of them */
+    struct boddurci_note found[2]; /* what they are */
+    struct reading reading;
+    struct boddurci_bytes plan;
+};
+
+/* The numbers of a list, for a call: never NULL, even if the list is empty. */
+static const uint32_t *numbers_of(const struct numbers *numbers)
 {
     static const uint32_t none;
-    return reading->numbers != NULL ? reading->numbers : &none;
+    return numbers->at != NULL ? numbers->at : &none;
 }
 
 /* Room for a plan of which each block of the pages changes, as far as they are not too many, so that it is made once as a rule. */
 static size_t room_of(const struct reading *reading)
 {
     enum { BLOCK = 1024, CHANGE = 9 + 2 * BLOCK, MOST = 8192, LEAST = 65536 };
-    size_t blocks = reading->count * (reading->size / BLOCK);
+    size_t blocks = reading->listed.count * (reading->size / BLOCK);
     return LEAST + (blocks < MOST ? blocks : MOST) * CHANGE;
 }
 
@@ -559,8 +466,8 @@ static size_t room_of(const struct reading *reading)
 static uint32_t plan_of(boddurci *db, const struct reading *reading, struct boddurci_bytes *plan)
 {
     const uint8_t *directory = or_none(reading->directory);
-    const uint32_t *numbers = numbers_of(reading);
-    size_t room, length = room_of(reading), pages = reading->count * reading->size;
+    const uint32_t *numbers = numbers_of(&reading->listed);
+    size_t room, length = room_of(reading), count = reading->listed.count, pages = count * reading->size;
     uint32_t status = BODDURCI_SHORT_ROOM;
     while (status == BODDURCI_SHORT_ROOM) {
         uint8_t *grown = realloc(plan->at, BODDURCI_PLAN_AT + length);
@@ -568,8 +475,8 @@ static uint32_t plan_of(boddurci *db, const struct reading *reading, struct bodd
             return BODDURCI_NO_MEMORY;
         plan->at = grown;
         room = length;
-        status = boddurci_plan(db, directory, reading->directory.length, reading->length, numbers, reading->count, reading->pages,
-                               pages, grown + BODDURCI_PLAN_AT, room, &length);
+        status = boddurci_plan(db, directory, reading->directory.length, reading->length, numbers, count, reading->pages, pages,
+                               grown + BODDURCI_PLAN_AT, room, &length);
     }
     if (status == BODDURCI_DONE)
         plan->length = length == 0 ? 0 : BODDURCI_PLAN_AT + length;
@@ -577,21 +484,23 @@ static uint32_t plan_of(boddurci *db, const struct reading *reading, struct bodd
 }
 
 /* Lists the pages that are to be read, reads them, and plans; under the mutex, but not while it reads, unless it is to hold it then too. */
-static uint32_t try_plan(boddurci_base *base, int reads_all, int holds, struct reading *reading, struct boddurci_bytes *plan,
-                         boddurci_fault *fault)
+static uint32_t try_plan(boddurci_base *base, struct saving *saving, int holds, boddurci_fault *fault)
 {
     boddurci *db = boddurci_take(base);
-    uint32_t status = reads_all ? list_all(db, reading) : list_changed(db, reading);
+    struct reading *reading = &saving->reading;
+    uint32_t status = base->is_noted ? list_changed(db, &reading->listed) : list_all(db, reading);
     if (!holds)
         boddurci_give(base);
-    int is_listed = status == BODDURCI_DONE, plans = reads_all || reading->count != 0 || !base->is_planned;
+    int is_listed = status == BODDURCI_DONE, plans = !base->is_noted || reading->listed.count != 0 || !base->is_planned;
     if (is_listed && plans)
         status = read_listed(base, reading, fault);
     int is_read = is_listed && status == BODDURCI_DONE;
     if (!holds)
         boddurci_take(base);
-    if (is_read && plans)
-        status = plan_of(db, reading, plan);
+    if (is_read && saving->compares)
+        status = list_changed(db, &reading->own);
+    if (is_read && plans && status == BODDURCI_DONE)
+        status = plan_of(db, reading, &saving->plan);
     boddurci_give(base);
     if (status == BODDURCI_DONE || status == BODDURCI_STALE || (is_listed && !is_read))
         return status;
@@ -601,28 +510,139 @@ static uint32_t try_plan(boddurci_base *base, int reads_all, int holds, struct r
 enum { TRIES = 3 };
 
 /* Plans, once more where others have changed more pages meanwhile. */
-static uint32_t plan_now(boddurci_base *base, int reads_all, struct reading *reading, struct boddurci_bytes *plan, boddurci_fault *fault)
+static uint32_t plan_now(boddurci_base *base, struct saving *saving, boddurci_fault *fault)
 {
     uint32_t status = BODDURCI_STALE;
     for (int tries = 0; status == BODDURCI_STALE; tries++) {
-        end_reading(reading);
-        status = try_plan(base, reads_all, tries >= TRIES, reading, plan, fault);
+        end_reading(&saving->reading);
+        status = try_plan(base, saving, tries >= TRIES, fault);
     }
     return status;
 }
 
-/* Does what was planned. If that fails the pages count as changed again, or else the next save reads all. */
-static uint32_t do_plan(boddurci_base *base, const struct reading *reading, struct boddurci_bytes plan, boddurci_fault *fault)
+/* Counts the pages as changed again whose plan is not done; if that fails the next save reads all. */
+static void mark_again(boddurci_base *base, const struct saving *saving)
+{
+    const struct numbers *numbers = saving->compares ? &saving->reading.own : &saving->reading.listed;
+    if (boddurci_mark(boddurci_take(base), numbers_of(numbers), numbers->count) != BODDURCI_DONE)
+        base->is_noted = 0;
+    boddurci_give(base);
+}
+
+/* ---- files that another program has changed */
+
+/* Keeps how a file was found. */
+static void note_change(boddurci_base *base, const struct saving *saving)
+{
+    static const char *const names[2] = {"BASE.pag", "BASE.dir"};
+    const struct boddurci_note *noted = &base->notes.files[saving->which], *is = &saving->found[saving->which];
+    unsigned long long length = (unsigned long long)is->length, before = (unsigned long long)noted->length;
+    if (saving->change != BODDURCI_OTHERS)
+        snprintf(base->change, sizeof base->change, "%s was written", names[saving->which]);
+    else if (!noted->is_there)
+        snprintf(base->change, sizeof base->change, "%s was made, with %llu bytes", names[saving->which], length);
+    else
+        snprintf(base->change, sizeof base->change, "%s has %llu bytes, and had %llu", names[saving->which], length, before);
+}
+
+/* The fault of a save that would overwrite what another program has changed. The log is closed, as far as that can be: its records are not of
+ * these files, and the next who opens the base must not change them by it. */
+static uint32_t is_changed(boddurci_base *base, boddurci_fault *fault)
+{
+    boddurci_fault second;
+    struct boddurci_logged *logged = &base->logged;
+    if (logged->is_open && boddurci_is_named(&base->place, BODDURCI_REDO, logged->disk.files[BODDURCI_REDO]))
+        (void)!boddurci_logged_renew(logged, &second);
+    boddurci_fail(fault, BODDURCI_CHANGED, 0, "");
+    snprintf(fault->text, sizeof fault->text, "another program has changed the files: %s. Nothing was written: insist to overwrite them",
+             base->change);
+    return fault->status;
+}
+
+static int has_own_changes(boddurci_base *base)
+{
+    uint32_t none;
+    size_t count = 0;
+    uint32_t status = boddurci_changed(boddurci_take(base), &none, 0, &count);
+    boddurci_give(base);
+    return status != BODDURCI_DONE || count != 0;
+}
+
+/* Before anything is written: whether another program has changed the files, as far as lengths and times tell. If only times differ all pages
+ * are compared, unless the other program may have written one that the base has changed. */
+static uint32_t must_be_ours(boddurci_base *base, struct saving *saving, boddurci_fault *fault)
+{
+    int is_known = base->is_noted || base->doubt != BODDURCI_SAME, is_other = saving->change == BODDURCI_OTHERS;
+    if (is_known && !is_other && saving->change > base->doubt)
+        base->doubt = saving->change;
+    if (saving->change == BODDURCI_WRITTEN || base->doubt == BODDURCI_WRITTEN)
+        is_other = is_other || !is_known || has_own_changes(base);
+    if (is_other && base->change[0] == 0)
+        note_change(base, saving);
+    saving->compares = base->doubt != BODDURCI_SAME && !saving->insists;
+    return base->change[0] != 0 && !saving->insists ? is_changed(base, fault) : BODDURCI_DONE;
+}
+
+static uint32_t number_at(const uint8_t *at)
+{
+    return (uint32_t)at[0] | (uint32_t)at[1] << 8 | (uint32_t)at[2] << 16 | (uint32_t)at[3] << 24;
+}
+
+/* Looks in a plan for a page that the base has not changed, or if it has changed none, for any difference. boddurci.h has the form of a plan. */
+static void compare(boddurci_base *base, const struct saving *saving)
+{
+    enum { HEADER = 28, CHANGE = 9 };
+    const struct numbers *own = &saving->reading.own;
+    if (saving->plan.length == 0)
+        return;
+    if (base->doubt == BODDURCI_WRITTEN && own->count != 0)
+        note_change(base, saving);
+    const uint8_t *at = saving->plan.at + BODDURCI_PLAN_AT + HEADER, *end = saving->plan.at + saving->plan.length;
+    for (; end - at > CHANGE && base->change[0] == 0; at += CHANGE + 2 * (size_t)number_at(at + 5)) {
+        uint32_t page = number_at(at + 1) / (uint32_t)saving->reading.size;
+        if (at[0] != 0 && own->count == 0)
+            snprintf(base->change, sizeof base->change, "BASE.dir has other bytes");
+        else if (at[0] == 0 && (own->count == 0 || bsearch(&page, own->at, own->count, sizeof page, by_number) == NULL))
+            snprintf(base->change, sizeof base->change, "page %lu of BASE.pag has other bytes", (unsigned long)page);
+    }
+}
+
+/* After the plan: whether another program has changed pages, or writes now. If so the plan is not done. */
+static uint32_t must_stay_ours(boddurci_base *base, const struct saving *saving, enum boddurci_change again, enum boddurci_file which,
+                               boddurci_fault *fault)
+{
+    if (saving->insists)
+        return BODDURCI_DONE;
+    if (saving->compares)
+        compare(base, saving);
+    if (base->change[0] == 0 && again >= BODDURCI_WRITTEN)
+        snprintf(base->change, sizeof base->change, "%s was written during the save", which == BODDURCI_PAGES ? "BASE.pag" : "BASE.dir");
+    if (base->change[0] == 0) {
+        base->doubt = BODDURCI_SAME;
+        return BODDURCI_DONE;
+    }
+    mark_again(base, saving);
+    return is_changed(base, fault);
+}
+
+/* ---- saving */
+
+/* Does what was planned. If that fails the pages count as changed again. */
+static uint32_t do_plan(boddurci_base *base, const struct saving *saving, boddurci_fault *fault)
 {
     int is_left = 0;
-    uint32_t status = plan.length != 0 ? boddurci_logged_save(&base->logged, plan, &is_left, fault) : BODDURCI_DONE;
-    if (status != BODDURCI_DONE) {
-        if (boddurci_mark(boddurci_take(base), numbers_of(reading), reading->count) != BODDURCI_DONE)
-            base->is_noted = 0;
-        boddurci_give(base);
-    } else {
-        base->is_noted = is_left == 0;
+    uint32_t status = BODDURCI_DONE;
+    base->notes.is_overtaken = 0;
+    if (saving->change != BODDURCI_SAME)
+        boddurci_note_found(&base->notes, saving->found);
+    if (saving->plan.length != 0) {
+        base->may_have_written = 1;
+        status = boddurci_logged_save(&base->logged, saving->plan, &is_left, fault);
     }
+    if (status == BODDURCI_DONE)
+        base->is_noted = is_left == 0;
+    else
+        mark_again(base, saving);
     return status;
 }
 
@@ -635,11 +655,11 @@ static void settle_lock(struct boddurci_place *place)
 }
 
 /* Whether the data files that are held open are still those under their names. */
-static uint32_t are_named(const boddurci_base *base, const struct note notes[2], boddurci_fault *fault)
+static uint32_t are_named(const boddurci_base *base, const struct boddurci_note found[2], boddurci_fault *fault)
 {
     for (enum boddurci_file file = BODDURCI_PAGES; file <= BODDURCI_DIRECTORY; file++) {
         const struct boddurci_seen *seen = &base->place.seen[file];
-        const struct note *note = &notes[file];
+        const struct boddurci_note *note = &found[file];
         if (seen->is_there && (!note->is_there || note->device != seen->device || note->number != seen->number)) {
             errno = ESTALE;
             return boddurci_fail_by_system(fault, "");
@@ -648,62 +668,93 @@ static uint32_t are_named(const boddurci_base *base, const struct note notes[2],
     return BODDURCI_DONE;
 }
 
-/* Recovers the files after a save that failed, and notes what they are. If another program has written them, the log begins anew, since its
- * records are not of these files. */
-static uint32_t prepare(boddurci_base *base, struct note notes[2], boddurci_fault *fault)
+/* Recovers the files after a save that failed. If another program has written them, the log begins anew, since its records are not of these
+ * files. */
+static uint32_t recover(boddurci_base *base, struct saving *saving, boddurci_fault *fault)
 {
     int is_ended = 0;
+    uint32_t status = boddurci_logged_recover(&base->logged, &is_ended, fault);
+    int is_same = saving->change == BODDURCI_SAME && base->doubt == BODDURCI_SAME && base->change[0] == 0;
+    base->is_noted = base->is_noted && is_same && !is_ended;
+    if (is_ended) {
+        boddurci_note_written(&base->notes, &base->logged.disk);
+        memcpy(saving->found, base->notes.files, sizeof saving->found);
+        saving->change = BODDURCI_SAME;
+    }
+    if (status != BODDURCI_DONE || base->is_noted || is_ended)
+        return status;
+    base->may_have_written = 1;
+    return boddurci_logged_renew(&base->logged, fault);
+}
+
+/* Looks whether the files are those that were noted, and makes them ready to be saved. */
+static uint32_t prepare(boddurci_base *base, struct saving *saving, boddurci_fault *fault)
+{
     if (!boddurci_is_held(&base->place))
         return boddurci_fail(fault, BODDURCI_MOVED, 0, "BASE.lock is another file than is held, and nothing was written");
-    uint32_t status = boddurci_logged_recover(&base->logged, &is_ended, fault);
-    base->is_noted = look_before(base, notes) && !is_ended;
+    saving->change = boddurci_look_before(&base->notes, &base->logged.disk, base->is_noted, saving->found, &saving->which);
+    uint32_t status = are_named(base, saving->found, fault);
     if (status == BODDURCI_DONE)
-        status = are_named(base, notes, fault);
-    if (status == BODDURCI_DONE && !base->is_noted && !is_ended)
-        status = boddurci_logged_renew(&base->logged, fault);
-    if (status == BODDURCI_DONE && notes[BODDURCI_PAGES].length > (off_t)boddurci_most_bytes(BODDURCI_PAGES))
+        status = must_be_ours(base, saving, fault);
+    if (status == BODDURCI_DONE)
+        status = recover(base, saving, fault);
+    if (status == BODDURCI_DONE && saving->found[BODDURCI_PAGES].length > (off_t)boddurci_most_bytes(BODDURCI_PAGES))
         status = boddurci_fail(fault, BODDURCI_TOO_LONG, 0, boddurci_files_text(BODDURCI_TOO_LONG));
     return status;
 }
 
+/* Notes the files after a save. If another program has written during the save, that is a change for the next one. */
+static void settle(boddurci_base *base, const struct saving *saving, enum boddurci_change again)
+{
+    settle_lock(&base->place);
+    base->is_planned = 1;
+    base->is_noted = base->is_noted && again == BODDURCI_SAME;
+    base->doubt = BODDURCI_SAME;
+    base->change[0] = 0;
+    if (base->notes.is_overtaken)
+        snprintf(base->change, sizeof base->change, "BASE.pag or BASE.dir was written during the last save");
+    if (saving->plan.length != 0)
+        boddurci_note_written(&base->notes, &base->logged.disk);
+}
+
 /* The whole save. If no page has changed and the files are those that were noted, nothing is read, unless it is the first save, which looks
  * at the lengths of the files and at the directory; and if the files are those of the database nothing is written. If another program writes
- * them while they are read, the next save reads all. */
-static uint32_t save_prepared(boddurci_base *base, struct note notes[2], boddurci_fault *fault)
+ * them while they are read, and the save insists, the next save reads all. */
+static uint32_t save_prepared(boddurci_base *base, struct saving *saving, boddurci_fault *fault)
 {
-    struct boddurci_bytes plan = {NULL, 0, 0};
-    struct reading reading = {{NULL, 0, 0}, 0, NULL, 0, NULL, base->flags & BODDURCI_WIDE ? 8192 : 1024};
-    struct note again[2];
-    reading.length = (size_t)notes[BODDURCI_PAGES].length;
-    uint32_t status = plan_now(base, !base->is_noted, &reading, &plan, fault);
-    note_held(base, again, base->is_quick);
+    enum boddurci_file which;
+    saving->reading.length = (size_t)saving->found[BODDURCI_PAGES].length;
+    uint32_t status = plan_now(base, saving, fault);
+    enum boddurci_change again = boddurci_look_again(&base->notes, &base->logged.disk, saving->found, &which);
     if (status == BODDURCI_DONE)
-        status = do_plan(base, &reading, plan, fault);
-    if (status == BODDURCI_DONE) {
-        settle_lock(&base->place);
-        base->is_planned = 1;
-        base->is_noted = base->is_noted && are_same_notes(notes, again, (struct timespec){0, 0});
-        if (plan.length != 0)
-            look_after(base, notes);
-        memcpy(base->notes, notes, 2 * sizeof *notes);
-    }
-    end_reading(&reading);
-    boddurci_let_go(&plan);
+        status = must_stay_ours(base, saving, again, which, fault);
+    if (status == BODDURCI_DONE)
+        status = do_plan(base, saving, fault);
+    if (status == BODDURCI_DONE)
+        settle(base, saving, again);
     return status;
 }
 
-static uint32_t save(boddurci_base *base, boddurci_fault *fault)
+static uint32_t save(boddurci_base *base, int insists, boddurci_fault *fault)
 {
-    struct note notes[2];
+    struct saving saving;
+    memset(&saving, 0, sizeof saving);
+    saving.insists = insists;
+    saving.reading.size = base->flags & BODDURCI_WIDE ? 8192 : 1024;
+    base->may_have_written = 0;
     boddurci_hold_signal(&base->logged.disk);
-    uint32_t status = prepare(base, notes, fault);
+    uint32_t status = prepare(base, &saving, fault);
     if (status == BODDURCI_DONE)
-        status = save_prepared(base, notes, fault);
+        status = save_prepared(base, &saving, fault);
+    if (status != BODDURCI_DONE && base->may_have_written)
+        boddurci_note_written(&base->notes, &base->logged.disk);
     boddurci_give_signal(&base->logged.disk);
+    end_reading(&saving.reading);
+    boddurci_let_go(&saving.plan);
     return status;
 }
 
-uint32_t boddurci_save(boddurci_base *base, boddurci_fault *fault)
+uint32_t boddurci_save_with(boddurci_base *base, uint32_t flags, boddurci_fault *fault)
 {
     boddurci_fault unsaid;
     fault = fault != NULL ? fault : &unsaid;
@@ -714,5 +765,10 @@ uint32_t boddurci_save(boddurci_base *base, boddurci_fault *fault)
         return boddurci_fail(fault, BODDURCI_FORKED, 0, boddurci_files_text(BODDURCI_FORKED));
     if (base->flags & BODDURCI_READ_ONLY)
         return boddurci_fail(fault, BODDURCI_NO_SAVE, 0, boddurci_files_text(BODDURCI_NO_SAVE));
-    return boddurci_group_save(&base->saves, save, base, fault);
+    return boddurci_group_save(&base->saves, save, base, (flags & BODDURCI_INSIST) != 0, fault);
+}
+
+uint32_t boddurci_save(boddurci_base *base, boddurci_fault *fault)
+{
+    return boddurci_save_with(base, 0, fault);
 }

@@ -9,6 +9,7 @@ struct boddurci_call {
     struct boddurci_call *next;
     boddurci_fault *fault;
     uint32_t status;
+    int insists;
     int is_served; /* a save for this call has ended; if not, its turn is to save */
     sem_t turn;
 };
@@ -53,6 +54,14 @@ static void take_all(struct boddurci_group *group)
     pthread_mutex_unlock(&group->mutex);
 }
 
+/* Whether one of these calls insists. */
+static int has_one_that_insists(const struct boddurci_call *call)
+{
+    while (call != NULL && !call->insists)
+        call = call->next;
+    return call != NULL;
+}
+
 /* Gives the turn to save to the first call that waits. It stays where it is until it has its turn, since nobody else takes the list. */
 static void pass_on(struct boddurci_group *group)
 {
@@ -78,9 +87,9 @@ static void serve(struct boddurci_call *call, uint32_t status, const boddurci_fa
 }
 
 /* No thread is cancelled in here: its call is in the list, or others wait for its save. */
-uint32_t boddurci_group_save(struct boddurci_group *group, boddurci_saving *save, boddurci_base *base, boddurci_fault *fault)
+uint32_t boddurci_group_save(struct boddurci_group *group, boddurci_saving *save, boddurci_base *base, int insists, boddurci_fault *fault)
 {
-    struct boddurci_call call = {.fault = fault};
+    struct boddurci_call call = {.fault = fault, .insists = insists};
     int could_be_cancelled;
     if (sem_init(&call.turn, 0, 0) != 0)
         return boddurci_fail_by_system(fault, "a thread cannot wait for its save");
@@ -90,7 +99,7 @@ uint32_t boddurci_group_save(struct boddurci_group *group, boddurci_saving *save
             continue;
     if (!call.is_served) {
         take_all(group);
-        call.status = save(base, fault);
+        call.status = save(base, has_one_that_insists(&call), fault);
         pthread_mutex_lock(&group->serving);
         pass_on(group);
         serve(call.next, call.status, fault);

@@ -156,9 +156,10 @@ static uint32_t look_only(const struct boddurci_place *place, int *is_marked, bo
 
 /* ---- opening */
 
-void boddurci_logged_of(struct boddurci_logged *logged, struct boddurci_place *place)
+void boddurci_logged_of(struct boddurci_logged *logged, struct boddurci_place *place, struct boddurci_notes *notes)
 {
     boddurci_disk_of(&logged->disk, place);
+    logged->notes = notes;
     logged->is_open = logged->is_doubtful = 0;
 }
 
@@ -320,6 +321,7 @@ static uint32_t do_save(struct boddurci_logged *logged, const struct boddurci_st
         give_up(logged);
         return cannot_be_written(disk, fault);
     }
+    boddurci_look_meanwhile(logged->notes, disk);
     *is_left = boddurci_do_steps(disk, steps->at + steps->committed, steps->count - steps->committed, steps->bytes) != 0;
     if (!*is_left)
         return BODDURCI_DONE;

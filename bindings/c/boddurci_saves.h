@@ -10,6 +10,7 @@
 #include <stddef.h>
 #include <stdint.h>
 #include <sys/types.h>
+#include <time.h>
 
 #pragma GCC visibility push(hidden)
 
@@ -194,6 +195,7 @@ struct boddurci_disk {
     sigset_t mask;           /* what was kept from the thread before */
     int is_signal_held;      /* the mask was changed */
     int was_signalled;       /* the signal had come before */
+    int has_reserved;        /* a save has taken room in a data file, which may change its times */
 };
 
 /* The files of a place, none of them open yet; closes one, or all. */
@@ -254,14 +256,17 @@ void boddurci_release_room(struct boddurci_disk *disk);
 /* ---- boddurci_log.c: the log of a base */
 
 /* The log of a base that is open to be written. */
+struct boddurci_notes;
+
 struct boddurci_logged {
     struct boddurci_disk disk;
+    struct boddurci_notes *notes;
     boddurci_log next; /* if it is open, the place of the next record */
     int is_open;
     int is_doubtful;   /* a call on the redo file failed, and it could not be removed: it is to be made anew if it has no mark */
 };
 
-void boddurci_logged_of(struct boddurci_logged *logged, struct boddurci_place *place);
+void boddurci_logged_of(struct boddurci_logged *logged, struct boddurci_place *place, struct boddurci_notes *notes);
 
 /* If the log is not open and the redo file has its mark, recovers the data files, opens the log if there is room for it, and sets *is_ended. */
 uint32_t boddurci_logged_recover(struct boddurci_logged *logged, int *is_ended, boddurci_fault *fault);
@@ -280,6 +285,55 @@ void boddurci_logged_end(struct boddurci_logged *logged);
 /* Says whether the redo file has its mark; if so, reads both data files with its saves done in them. The bytes are to be freed in any case. */
 uint32_t boddurci_read_marked(struct boddurci_place *place, int *is_marked, struct boddurci_bytes files[2], boddurci_fault *fault);
 
+/* ---- boddurci_notes.c: the state of the data files, and whether another program has changed them */
+
+/* The state of a data file. */
+struct boddurci_note {
+    int is_there;
+    dev_t device;
+    ino_t number;
+    off_t length;
+    struct timespec written, changed;
+};
+
+struct boddurci_notes {
+    struct boddurci_note files[2];
+    struct timespec tick;   /* of the clock, when the times were last looked at */
+    struct timespec latest; /* if the base has written within that tick later, when it last did; else 0 */
+    int is_local;           /* this system sets the times of the files while it writes them */
+    int has_our_clock;      /* and by the clock that this process reads */
+    int is_quick;           /* the look before this save copied the times */
+    int is_overtaken;       /* another program wrote while this save was committed */
+};
+
+/* How the data files differ from those that were noted. */
+enum boddurci_change {
+    BODDURCI_SAME,
+    BODDURCI_TOUCHED, /* a time differs as after chmod or a new link, or is not set by this system; or an empty file was made */
+    BODDURCI_WRITTEN, /* the time of the last write differs */
+    BODDURCI_OTHERS   /* a length differs, or the file under a name is another one */
+};
+
+/* Notes the files under the names, before they are read; and then what the file systems of the folder and of the opened files are. */
+void boddurci_note_opened(struct boddurci_notes *notes, const struct boddurci_disk *disk);
+void boddurci_note_system(struct boddurci_notes *notes, const struct boddurci_place *place);
+
+/* Looks at the files under the names before a save, and says how they differ, and which. If they are the same they are noted. Within the tick of
+ * the last look it may be a quick look, which does not see the times. */
+enum boddurci_change boddurci_look_before(struct boddurci_notes *notes, const struct boddurci_disk *disk, int may_be_quick,
+                                          struct boddurci_note found[2], enum boddurci_file *which);
+
+/* Looks once more, at the files that are held open, and says how they differ from what that look found. */
+enum boddurci_change boddurci_look_again(const struct boddurci_notes *notes, const struct boddurci_disk *disk,
+                                         const struct boddurci_note found[2], enum boddurci_file *which);
+
+/* Looks once a save is committed, before it writes the data files, unless the tick is that of the last look or the save has taken room. */
+void boddurci_look_meanwhile(struct boddurci_notes *notes, const struct boddurci_disk *disk);
+
+/* Notes the files that the last look found; and those that the base has written. */
+void boddurci_note_found(struct boddurci_notes *notes, const struct boddurci_note found[2]);
+void boddurci_note_written(struct boddurci_notes *notes, const struct boddurci_disk *disk);
+
 /* ---- boddurci_group.c: threads that save a base at the same time */
 
 struct boddurci_call;
@@ -296,10 +350,11 @@ struct boddurci_group {
 int boddurci_group_init(struct boddurci_group *group);
 void boddurci_group_destroy(struct boddurci_group *group);
 
-typedef uint32_t boddurci_saving(boddurci_base *base, boddurci_fault *fault);
+typedef uint32_t boddurci_saving(boddurci_base *base, int insists, boddurci_fault *fault);
 
-/* Returns the outcome of a save that began after this call did. One thread at a time calls `save`, for all calls that wait then. */
-uint32_t boddurci_group_save(struct boddurci_group *group, boddurci_saving *save, boddurci_base *base, boddurci_fault *fault);
+/* Returns the outcome of a save that began after this call did. One thread at a time calls `save`, for all calls that wait then, and insists if
+ * one of them does. */
+uint32_t boddurci_group_save(struct boddurci_group *group, boddurci_saving *save, boddurci_base *base, int insists, boddurci_fault *fault);
 
 #pragma GCC visibility pop
 #endif

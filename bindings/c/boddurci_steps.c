@@ -123,6 +123,7 @@ static int reserve_run(struct boddurci_disk *disk, const boddurci_step *run, str
         return 0;
     enum boddurci_file file = file_of(run);
     int status = disk->files[file] < 0 ? 1 : boddurci_disk_reserve(disk, file, run->at, run->length);
+    disk->has_reserved = 1;
     if (status > 0)
         need->absent += run->at % BLOCK + run->length + BLOCK - 1 - (run->at + run->length - 1) % BLOCK;
     return status < 0 ? -1 : 0;
@@ -177,6 +178,7 @@ void boddurci_release_room(struct boddurci_disk *disk)
 int boddurci_take_room(struct boddurci_disk *disk, const struct boddurci_steps *steps)
 {
     struct need need = {{0, 0}, 0};
+    disk->has_reserved = 0;
     for (enum boddurci_file file = BODDURCI_PAGES; file <= BODDURCI_DIRECTORY; file++)
         if (boddurci_disk_length(disk, file, &need.lengths[file]) != 0)
             return -1;

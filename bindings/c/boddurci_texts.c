@@ -12,7 +12,7 @@ const char *boddurci_version(void)
 
 uint32_t boddurci_stock(boddurci *db, const char *name, uint32_t *number)
 {
-    return boddurci_submit_stock(db, (const uint8_t *)name, strlen(name), number);
+    return db != NULL ? boddurci_submit_stock(db, (const uint8_t *)name, strlen(name), number) : BODDURCI_IS_CLOSED;
 }
 
 const char *boddurci_files_text(uint32_t status)

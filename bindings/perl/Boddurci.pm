@@ -15,12 +15,15 @@
 # Keys and values are bytes. A database is in memory while it is tied, under an exclusive lock on BASE.lock unless it is only read ("r");
 # `sync` and `untie` write its files, and a crash in between leaves the database before or after. If a tied hash ends without `untie`, or
 # is still tied when the program ends, it is saved then; a warning names the base and the fault if that fails, and the lock is released in
-# any case. Options follow the mode: wide => 1, unsigned_keys => 1, no_wait => 1, timeout => SECONDS, after which a lock that another
-# process holds is an error, any_size => 1, without which files that look like those of small pages are not opened as wide, and
-# limit => BYTES: a change that would make BASE.pag longer dies and is not made, and pages that exist stay. 1 GiB is the default and the
-# most. Set a limit if others choose your keys: they can make BASE.pag as long as it allows. In a child of the process that tied the hash
-# every call but `untie` dies, and nothing is saved. A handler of a signal may die while a hash is tied: the lock is released with it. Every
-# failure dies.
+# any case. If another program has changed the files meanwhile, as Perl's SDBM_File does without the lock, `sync` and `untie` die with a
+# Boddurci::Changed and write nothing; tied(%db)->sync(insist => 1) overwrites them. In a child of the process that tied the hash every call
+# but `untie` dies, and nothing is saved. A handler of a signal may die while a hash is tied: the lock is released with it. Every failure
+# dies.
+#
+# Options follow the mode: wide => 1, unsigned_keys => 1, no_wait => 1, timeout => SECONDS, after which a lock that another process holds is
+# an error, any_size => 1, without which files that look like those of small pages are not opened as wide, and limit => BYTES: a change that
+# would make BASE.pag longer dies and is not made, and pages that exist stay. 1 GiB is the default and the most. Set a limit if others choose
+# your keys: they can make BASE.pag as long as it allows.
 #
 # It needs FFI::Platypus (Debian: libffi-platypus-perl) and the shared object that `./dbm --build-library` makes. It takes the file that
 # BODDURCI_LIBRARY names by its absolute path, else the one beside this module, else the one in out/boddurci of the repository, else the
@@ -39,7 +42,8 @@ use Scalar::Util qw(refaddr);
 use Time::HiRes qw(clock_gettime CLOCK_MONOTONIC);
 
 # Statuses of boddurci.h and boddurci_files.h, and the words for some of them. The library has words for the others.
-my ($DONE, $MISSING, $REFUSED, $BAD_TEXT, $IS_CLOSED, $NO_PROGRAM, $NO_STOCK, $FORKED, $INTERRUPTED) = (0, 1, 5, 6, 16, 20, 24, 39, 41);
+my ($DONE, $MISSING, $REFUSED, $BAD_TEXT, $CHANGED, $IS_CLOSED, $NO_PROGRAM, $NO_STOCK, $FORKED, $INTERRUPTED)
+    = (0, 1, 5, 6, 8, 16, 20, 24, 39, 41);
 my %WORDS = (
     2  => "the key is there",
     3  => "crowded: no room for the pair, however often its page is split",
@@ -54,6 +58,7 @@ my %WORDS = (
 # boddurci_files.h
 my %FLAGS = (r => 4 | 16, w => 16, c => 0, n => 32);
 my %OPTIONS = (wide => 1, unsigned_keys => 2, no_wait => 8, any_size => 64);
+my $INSIST = 128;
 
 # The sizes of what calls write: a value, an image, a fault (as unpack reads it) and a cursor.
 my ($VALUE_MOST, $IMAGE_MOST, $FAULT, $CURSOR) = (8008, 32768, "L l Z200", 16);
@@ -91,7 +96,7 @@ $ffi->attach(["boddurci_$_->[0]" => "_$_->[0]"], $_->[1], $_->[2])
     for (
         ["open_files_within", ["string", "uint32", "sint64", "opaque"] => "opaque"],
         ["files_text",  ["uint32"] => "string"],
-        ["save",        ["opaque", "opaque"] => "uint32"],
+        ["save_with",   ["opaque", "uint32", "opaque"] => "uint32"],
         ["close_files", ["opaque"] => "void"],
         ["take",        ["opaque"] => "opaque"],
         ["give",        ["opaque"] => "void"],
@@ -137,7 +142,8 @@ sub _check {
 sub _die_of {
     my ($fault) = @_;
     my ($status, $system, $text) = unpack $FAULT, $$fault;
-    croak $text;
+    croak $text if $status != $CHANGED;
+    die bless { text => Carp::shortmess($text) }, "Boddurci::Changed";
 }
 
 # Opens the base once its lock is free. After a signal it runs the handler, and then waits on.
@@ -336,14 +342,16 @@ sub run {
     return ($end, $word);
 }
 
-# Writes both files and makes them durable. If a file cannot be written and the save is in BASE.redo alone, it warns: the next opening or
-# save completes it, and until then other programs may see half of it.
+# Writes both files and makes them durable. If another program has changed them, it dies with a Boddurci::Changed and writes nothing, unless the
+# option `insist` is true. If a file cannot be written and the save is in BASE.redo alone, it warns: the next opening or save completes it, and
+# until then other programs may see half of it.
 sub sync {
-    my ($self) = @_;
+    my ($self, %options) = @_;
+    Boddurci::Stocked::_need_options(\%options, "insist");
     $self->_db;
     my ($fault, $at) = _room(208);
     return if $$self->{reads};
-    _die_of($fault) if _save($$self->{base}, $at) != $DONE;
+    _die_of($fault) if _save_with($$self->{base}, $options{insist} ? $INSIST : 0, $at) != $DONE;
     my ($status, $system, $text) = unpack $FAULT, $$fault;
     carp $text if $system;
 }
@@ -404,6 +412,10 @@ sub DESTROY { $_[0]->_end }
 
 # At the end of the program, while all that a save needs still exists.
 END { _end_left(1) }
+
+# What `sync` and `untie` die with if another program has changed the files; as a string it is the text of the fault.
+package Boddurci::Changed;
+use overload '""' => sub { $_[0]{text} }, fallback => 1;
 
 # A key of a database, and the stock program that runs on its record.
 package Boddurci::Stocked;

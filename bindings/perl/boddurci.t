@@ -468,6 +468,34 @@ for my $mode ("w", "n") {
     untie %stock;
 }
 
+# What Perl's own SDBM_File stores beside a tied hash is not overwritten, until somebody insists.
+SKIP: {
+    skip "no SDBM_File", 1 unless eval { require SDBM_File; require Fcntl; 1 };
+    my $beside = "$base.beside";
+    tie my %db, "Boddurci", $beside, "c" or die;
+    $db{a} = "1";
+    tied(%db)->sync;
+    select undef, undef, undef, 0.05;
+    tie my %other, "SDBM_File", $beside, Fcntl::O_RDWR(), 0666 or die;
+    $other{$_} = $_ for 1 .. 2000;
+    untie %other;
+    $db{b} = "2";
+    for my $call (sub { tied(%db)->sync }, sub { tied(%db)->sync(insist => 0) }, sub { tied(%db)->close }) {
+        dies_with($call, qr/^another program has changed the files: BASE\.pag has \d+ bytes, and had 1024\. .* at \Q$0\E line/);
+        isa_ok($@, "Boddurci::Changed");
+    }
+    dies_with(sub { tied(%db)->sync(insists => 1) }, qr/^no option insists at/);
+    tie %other, "SDBM_File", $beside, Fcntl::O_RDONLY(), 0666 or die;
+    is(scalar(keys %other), 2001);
+    untie %other;
+    is_deeply({%db}, { a => 1, b => 2 });
+    tied(%db)->sync(insist => 1);
+    tie %other, "SDBM_File", $beside, Fcntl::O_RDONLY(), 0666 or die;
+    is_deeply({%other}, { a => 1, b => 2 });
+    untie %other;
+    untie %db;
+}
+
 # The POD has no errors.
 SKIP: {
     skip "no Pod::Checker", 1 unless eval { require Pod::Checker; 1 };

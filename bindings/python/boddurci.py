@@ -14,7 +14,8 @@ The methods `counter`, `lease`, `fenced_lease`, `semaphore` and `rate_limit` of 
 
 `open` can replace `dbm.open`: keys and values are bytes, a str counts as its UTF-8. A database is in memory while it is open, under an
 exclusive lock on BASE.lock unless it is only read; `sync` and `close` write its files, and a crash in between leaves the database before or
-after. A database that nobody closes is saved and closed when its object ends, or at the latest when the interpreter exits; if that fails, a
+after. If a program that ignores the lock, as Perl's SDBM_File, has changed the files meanwhile, they raise ChangedError and write nothing. A
+database that nobody closes is saved and closed when its object ends, or at the latest when the interpreter exits; if that fails, a
 RuntimeWarning names it. Threads may share a database. A signal handler that interrupts a call may not use it, but may raise. In a child of
 the process that opened it every call but `close` is an error, and nothing is saved.
 
@@ -42,11 +43,11 @@ from collections import deque
 from collections.abc import MutableMapping
 from typing import NamedTuple
 
-__all__ = ["Counter", "Database", "FencedLease", "Grant", "Lease", "Program", "ProgramError", "Ran", "RateLimit", "RecordError"]
+__all__ = ["ChangedError", "Counter", "Database", "FencedLease", "Grant", "Lease", "Program", "ProgramError", "Ran", "RateLimit", "RecordError"]
 __all__ += ["Semaphore", "error", "open"]
 
 # Statuses, and what some are called here: boddurci.h, boddurci_files.h. The library has words for the others.
-_DONE, _MISSING, _REFUSED, _BAD_TEXT, _IS_CLOSED, _NO_STOCK, _FORKED, _INTERRUPTED = 0, 1, 5, 6, 16, 24, 39, 41
+_DONE, _MISSING, _REFUSED, _BAD_TEXT, _CHANGED, _IS_CLOSED, _NO_STOCK, _FORKED, _INTERRUPTED = 0, 1, 5, 6, 8, 16, 24, 39, 41
 _WORDS = {
     2: "the key is there",
     3: "crowded: no room for the pair, however often its page is split",
@@ -59,7 +60,7 @@ _WORDS = {
 }
 
 # boddurci_files.h
-_WIDE, _UNSIGNED_KEYS, _READ_ONLY, _NO_WAIT, _MUST_EXIST, _EMPTY, _ANY_SIZE = 1, 2, 4, 8, 16, 32, 64
+_WIDE, _UNSIGNED_KEYS, _READ_ONLY, _NO_WAIT, _MUST_EXIST, _EMPTY, _ANY_SIZE, _INSIST = 1, 2, 4, 8, 16, 32, 64, 128
 
 _VALUE_MOST = 8008
 _IMAGE_MOST = 32768
@@ -82,6 +83,11 @@ class ProgramError(error, ValueError):
     def __init__(self, text, at):
         super().__init__(text)
         self.at = at
+
+
+class ChangedError(error):
+    """Another program has changed the files since this database read or saved them: `sync` and `close` then write nothing. The database stays
+    open; `sync(insist=True)` overwrites the files."""
 
 
 class RecordError(error, ValueError):
@@ -166,6 +172,7 @@ def _bind():
         "open_files_within": (waits, at, [text, u32, ctypes.c_int64, at]),
         "files_text": (quick, text, [u32]),
         "save": (waits, u32, [at, at]),
+        "save_with": (waits, u32, [at, u32, at]),
         "close_files": (waits, None, [at]),
         "take": (waits, at, [at]),
         "give": (quick, None, [at]),
@@ -504,9 +511,10 @@ class _Database(MutableMapping):
             raise KeyError(key)
         raise _error(status)
 
-    def sync(self):
-        """Writes both files and makes them durable. Meanwhile other threads go on. If a file cannot be written and the save is in FILE.redo
-        alone, it warns: the next opening or save completes it, and until then other programs may see half of it."""
+    def sync(self, *, insist=False):
+        """Writes both files and makes them durable. Meanwhile other threads go on. If another program has changed them, it is a ChangedError and
+        nothing is written, unless `insist` is true. If a file cannot be written and the save is in FILE.redo alone, it warns: the next opening
+        or save completes it, and until then other programs may see half of it."""
         fault = _Fault()
         with self._saving:
             with self._lock:
@@ -515,7 +523,8 @@ class _Database(MutableMapping):
                     return
                 self._beside = self._taken
             try:
-                status = _call.save(self._base, ctypes.byref(fault))
+                told = ctypes.byref(fault)
+                status = _call.save_with(self._base, _INSIST, told) if insist else _call.save(self._base, told)
             finally:
                 with self._lock:
                     self._beside = self._alone
@@ -800,7 +809,7 @@ def _of_fault(fault, name):
     text, name = fault.text.decode("utf-8", "replace"), os.fsdecode(name)
     if fault.system:
         return error(fault.system, text, name)
-    told = error(f"{text}: {name!r}")
+    told = (ChangedError if fault.status == _CHANGED else error)(f"{text}: {name!r}")
     told.filename = name
     return told
 

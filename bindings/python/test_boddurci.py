@@ -3,6 +3,7 @@ random run of calls beside a dict. BODDURCI_LIBRARY names the shared object; BOD
 it is not set); BODDURCI_WAY, whether calls go by "ctypes", or by the "extension", which has to be there then: else they go by what is
 there."""
 
+import ctypes
 import dbm
 import errno
 import fcntl
@@ -69,6 +70,18 @@ class Mapping(InFolder):
                 self.assertEqual((db.items(), db[kind(plain)]), ([(b"key", b"key")], b"key"))
             with self.assertRaises(boddurci.ProgramError):
                 db.program(Itself(b"\0"))
+
+    def test_no_handle(self):
+        """A call of the library with NULL for its handle says that it is closed."""
+        for name in ("limit", "fetch", "store", "delete", "count", "submit", "submit_stock", "run", "first", "next"):
+            call = getattr(boddurci._call, name)
+            nothing = [None if kind in (ctypes.c_char_p, ctypes.c_void_p) else 0 for kind in call.argtypes]
+            self.assertEqual(call(*nothing), boddurci._IS_CLOSED, name)
+        self.assertIsNone(boddurci._call.take(None))
+        self.assertEqual(boddurci._call.save(None, None), boddurci._IS_CLOSED)
+        self.assertEqual(boddurci._call.save_with(None, boddurci._INSIST, None), boddurci._IS_CLOSED)
+        boddurci._call.give(None)
+        boddurci._call.close_files(None)
 
     def test_pairs(self):
         with boddurci.open(self.base, "c") as db:
@@ -534,6 +547,99 @@ class Saves(InFolder):
             with self.assertRaisesRegex(boddurci.error, "BASE.lock is another file"):
                 db.sync()
             os.rename(self.base + ".away", self.base + ".lock")
+
+    def beside(self, script, *words):
+        """Runs Perl's own SDBM_File on the files, which ignores the lock, in another tick of the clock than the last save."""
+        if not shutil.which("perl") or subprocess.run(["perl", "-MSDBM_File", "-e", "1"], capture_output=True).returncode:
+            self.skipTest("Perl has no SDBM_File")
+        time.sleep(0.05)
+        tie = 'tie %h, "SDBM_File", shift, O_RDWR, 0666 or die; '
+        words = ["perl", "-MSDBM_File", "-MFcntl", "-e", tie + script, self.base, *words]
+        return subprocess.run(words, capture_output=True, text=True, check=True).stdout
+
+    def test_changed_by_perl(self):
+        """What Perl stores beside an open database is not overwritten, with changes of its own and without, until somebody insists."""
+        db = boddurci.open(self.base, "c")
+        db[b"a"] = b"1"
+        db.sync()
+        self.beside("$h{$_} = $_ for 1 .. 2000")
+        for changes in range(3):
+            files = [pathlib.Path(self.base + ending).read_bytes() for ending in (".pag", ".dir")]
+            with self.assertRaisesRegex(boddurci.ChangedError, "another program has changed the files: BASE.pag has [0-9]+ bytes, and had 1024") as told:
+                db.sync() if changes < 2 else db.close()
+            self.assertEqual(told.exception.filename, self.base)
+            self.assertIsInstance(told.exception, boddurci.error)
+            self.assertEqual([pathlib.Path(self.base + ending).read_bytes() for ending in (".pag", ".dir")], files)
+            db[b"b"] = b"2"
+        self.assertEqual(self.beside("print scalar keys %h"), "2001")
+        self.assertEqual(db.items(), [(b"a", b"1"), (b"b", b"2")])
+        db.sync(insist=True)
+        self.assertEqual(self.beside('print join " ", sort keys %h'), "a b")
+        db[b"c"] = b"3"
+        db.close()
+        self.assertEqual(self.beside('print join " ", sort keys %h'), "a b c")
+
+    def test_one_key_changed_by_perl(self):
+        """A write that leaves the length as it was, on a page that the database has changed too, and on one that it has not."""
+        for own in (True, False):
+            with boddurci.open(self.base, "n") as db:
+                db.update({b"%d" % i: b"x" * 20 for i in range(1000)})
+                db.sync()
+                self.beside('$h{7} = "p" x 20')
+                if own:
+                    db[b"7"] = b"y" * 20
+                with self.assertRaisesRegex(boddurci.ChangedError, "BASE.pag was written" if own else "page [0-9]+ of BASE.pag has other bytes"):
+                    db.sync()
+                self.assertEqual(self.beside("print $h{7}"), "p" * 20)
+                db.sync(insist=True)
+                self.assertEqual(self.beside("print $h{7}"), ("y" if own else "x") * 20)
+
+    def test_no_change(self):
+        """Another mode, link or time is no change of the data; and a save overwrites nothing that the database has read."""
+        with boddurci.open(self.base, "c") as db:
+            db[b"a"] = b"1"
+        self.beside("$h{perl} = 1")
+        with boddurci.open(self.base, "w") as db:
+            self.assertEqual(db[b"perl"], b"1")
+            os.chmod(self.base + ".pag", 0o640)
+            db.sync()
+            os.link(self.base + ".pag", self.base + ".link")
+            db[b"b"] = b"2"
+            db.sync()
+            os.utime(self.base + ".pag")
+            db.sync()
+            db[b"c"] = b"3"
+        self.assertEqual(self.beside('print join " ", sort keys %h'), "a b c perl")
+
+    def test_a_time_that_is_put_back(self):
+        """A write whose time is put back is found by the comparison of pages."""
+        with boddurci.open(self.base, "c") as db:
+            db[b"a"] = b"1"
+            db.sync()
+            before = os.stat(self.base + ".pag")
+            self.beside('$h{a} = "2"')
+            os.utime(self.base + ".pag", ns=(before.st_atime_ns, before.st_mtime_ns))
+            with self.assertRaisesRegex(boddurci.ChangedError, "page 0 of BASE.pag has other bytes"):
+                db.sync()
+            db.sync(insist=True)
+        self.assertEqual(self.beside("print $h{a}"), "1")
+
+    def test_what_another_program_wrote_is_read_anew(self):
+        """A process that is killed after the fault, and a database that ends, leave what another program wrote."""
+        script = "import boddurci, os, subprocess, sys, time; db = boddurci.open(sys.argv[1], 'c'); db[b'a'] = b'1'; db.sync(); time.sleep(0.05); "
+        script += "subprocess.run(sys.argv[3:], check=True); db[b'a'] = b'3'\n"
+        script += "try: db.sync()\nexcept boddurci.ChangedError: os.kill(os.getpid(), 9) if sys.argv[2] == 'kill' else None\n"
+        if not shutil.which("perl") or subprocess.run(["perl", "-MSDBM_File", "-e", "1"], capture_output=True).returncode:
+            self.skipTest("Perl has no SDBM_File")
+        perl = ["perl", "-MSDBM_File", "-MFcntl", "-e", 'tie %h, "SDBM_File", shift, O_RDWR, 0666 or die; $h{a} = "2"', self.base]
+        for how in ("kill", "end"):
+            env = {**os.environ, "PYTHONPATH": os.pathsep.join(sys.path)}
+            ran = subprocess.run([sys.executable, "-c", script, self.base, how, *perl], env=env, capture_output=True, text=True, timeout=60)
+            self.assertEqual(ran.returncode, -9 if how == "kill" else 0, ran.stderr)
+            if how == "end":
+                self.assertIn("the changes that were not saved are lost: another program has changed the files", ran.stderr)
+            with boddurci.open(self.base, "w", wait=False) as db:
+                self.assertEqual(db[b"a"], b"2")
 
     def test_a_slow_save_keeps_no_thread_waiting(self):
         save = boddurci._call.save

@@ -1,0 +1,186 @@
+/* Notes of the data files of a base, taken when it last read or wrote them, and how the files differ from them now.
+ * include/boddurci_files.h says which changes of other programs a save sees by this. */
+#define _GNU_SOURCE
+#include "boddurci_saves.h"
+#include <fcntl.h>
+#include <string.h>
+#include <sys/stat.h>
+#include <sys/vfs.h>
+
+/* ---- the clock */
+
+#ifdef CLOCK_REALTIME_COARSE
+enum { TICKING = CLOCK_REALTIME_COARSE };
+#else
+enum { TICKING = CLOCK_REALTIME };
+#endif
+
+static struct timespec clock_of(clockid_t clock)
+{
+    struct timespec now = {0, 0};
+    clock_gettime(clock, &now);
+    return now;
+}
+
+static int is_same_time(struct timespec one, struct timespec other)
+{
+    return one.tv_sec == other.tv_sec && one.tv_nsec == other.tv_nsec;
+}
+
+/* Whether a time is within 20 milliseconds of another one. */
+static int is_near(struct timespec one, struct timespec other)
+{
+    double apart = (double)(one.tv_sec - other.tv_sec) + 1e-9 * (double)(one.tv_nsec - other.tv_nsec);
+    return apart > -0.02 && apart < 0.02;
+}
+
+/* Whether this system itself sets the times of a file, while it writes the file. A server sets its own times, and may set them after we have
+ * looked. */
+static int is_local(int opened)
+{
+    /* ext2 to ext4, XFS, Btrfs, tmpfs, F2FS, overlayfs, ZFS, Bcachefs */
+    static const uint32_t kinds[] = {0xef53, 0x58465342, 0x9123683e, 0x01021994, 0xf2f52010, 0x794c7630, 0x2fc12fc1, 0xca451a4e};
+    struct statfs system;
+    if (fstatfs(opened, &system) != 0)
+        return 0;
+    for (size_t i = 0; i < sizeof kinds / sizeof *kinds; i++)
+        if ((uint32_t)system.f_type == kinds[i])
+            return 1;
+    return 0;
+}
+
+/* ---- looks */
+
+/* What a data file is: the one that is opened, or if none is, the one under the name. A quick look copies the times that were noted. */
+static struct boddurci_note look_at(const struct boddurci_notes *notes, const struct boddurci_disk *disk, enum boddurci_file file, int is_held)
+{
+    struct stat is;
+    struct boddurci_note note;
+    int held = is_held ? disk->files[file] : -1, folder = held >= 0 ? held : disk->place->folder, how = held >= 0 ? AT_EMPTY_PATH : 0;
+    const char *name = held >= 0 ? "" : disk->place->names[file];
+    memset(&note, 0, sizeof note);
+    if ((notes->is_quick ? boddurci_look(folder, name, how, &is) : fstatat(folder, name, &is, how)) != 0)
+        return note;
+    note.is_there = 1;
+    note.device = is.st_dev;
+    note.number = is.st_ino;
+    note.length = is.st_size;
+    note.written = notes->is_quick ? notes->files[file].written : is.st_mtim;
+    note.changed = notes->is_quick ? notes->files[file].changed : is.st_ctim;
+    return note;
+}
+
+/* Looks at both files: at those under the names, or at those that are held open, which takes less time. */
+static void look_at_both(const struct boddurci_notes *notes, const struct boddurci_disk *disk, int is_held, struct boddurci_note found[2])
+{
+    struct boddurci_note both[2];
+    for (enum boddurci_file file = BODDURCI_PAGES; file <= BODDURCI_DIRECTORY; file++)
+        both[file] = look_at(notes, disk, file, is_held);
+    memcpy(found, both, sizeof both);
+}
+
+/* ---- what has changed */
+
+static const struct timespec never = {0, 0};
+
+/* Whether a time is the one that was noted, or one of later writes of the base. */
+static int is_our_time(struct timespec noted, struct timespec is, struct timespec latest)
+{
+    return is_same_time(noted, is) || is.tv_sec < latest.tv_sec || (is.tv_sec == latest.tv_sec && is.tv_nsec <= latest.tv_nsec);
+}
+
+static enum boddurci_change change_of(const struct boddurci_note *noted, const struct boddurci_note *is, struct timespec latest, int is_local)
+{
+    if (!noted->is_there && !is->is_there)
+        return BODDURCI_SAME;
+    if (!noted->is_there)
+        return is->length == 0 ? BODDURCI_TOUCHED : BODDURCI_OTHERS;
+    if (!is->is_there || noted->device != is->device || noted->number != is->number || noted->length != is->length)
+        return BODDURCI_OTHERS;
+    if (!is_our_time(noted->written, is->written, latest))
+        return is_local ? BODDURCI_WRITTEN : BODDURCI_TOUCHED;
+    return is_our_time(noted->changed, is->changed, latest) ? BODDURCI_SAME : BODDURCI_TOUCHED;
+}
+
+/* How both files differ, and which of them differs more. */
+static enum boddurci_change change_of_both(const struct boddurci_note noted[2], const struct boddurci_note is[2], struct timespec latest,
+                                           int is_local, enum boddurci_file *which)
+{
+    enum boddurci_change pages = change_of(&noted[BODDURCI_PAGES], &is[BODDURCI_PAGES], latest, is_local);
+    enum boddurci_change directory = change_of(&noted[BODDURCI_DIRECTORY], &is[BODDURCI_DIRECTORY], latest, is_local);
+    *which = directory > pages ? BODDURCI_DIRECTORY : BODDURCI_PAGES;
+    return directory > pages ? directory : pages;
+}
+
+/* ---- notes */
+
+void boddurci_note_opened(struct boddurci_notes *notes, const struct boddurci_disk *disk)
+{
+    notes->is_quick = 0;
+    look_at_both(notes, disk, 0, notes->files);
+}
+
+void boddurci_note_system(struct boddurci_notes *notes, const struct boddurci_place *place)
+{
+    notes->is_local = is_local(place->folder);
+    for (enum boddurci_file file = BODDURCI_PAGES; file <= BODDURCI_DIRECTORY; file++)
+        if (place->seen[file].is_there)
+            notes->is_local = notes->is_local && is_local(place->seen[file].opened);
+}
+
+enum boddurci_change boddurci_look_before(struct boddurci_notes *notes, const struct boddurci_disk *disk, int may_be_quick,
+                                          struct boddurci_note found[2], enum boddurci_file *which)
+{
+    struct timespec tick = clock_of(TICKING);
+    notes->is_quick = may_be_quick && notes->has_our_clock && is_same_time(tick, notes->tick);
+    look_at_both(notes, disk, 0, found);
+    enum boddurci_change change = change_of_both(notes->files, found, notes->latest, notes->is_local, which);
+    if (notes->is_quick && change == BODDURCI_SAME)
+        return change;
+    if (notes->is_quick) {
+        notes->is_quick = 0;
+        look_at_both(notes, disk, 0, found);
+        change = change_of_both(notes->files, found, notes->latest, notes->is_local, which);
+    }
+    notes->tick = change == BODDURCI_SAME ? tick : never;
+    if (change == BODDURCI_SAME)
+        boddurci_note_found(notes, found);
+    return change;
+}
+
+enum boddurci_change boddurci_look_again(const struct boddurci_notes *notes, const struct boddurci_disk *disk,
+                                         const struct boddurci_note found[2], enum boddurci_file *which)
+{
+    struct boddurci_note again[2];
+    look_at_both(notes, disk, 1, again);
+    return change_of_both(found, again, never, notes->is_local, which);
+}
+
+void boddurci_look_meanwhile(struct boddurci_notes *notes, const struct boddurci_disk *disk)
+{
+    enum boddurci_file which;
+    struct boddurci_note now[2];
+    if (disk->has_reserved || is_same_time(clock_of(TICKING), notes->tick))
+        return;
+    notes->is_quick = 0;
+    look_at_both(notes, disk, 1, now);
+    notes->is_overtaken = change_of_both(notes->files, now, notes->latest, notes->is_local, &which) >= BODDURCI_WRITTEN;
+}
+
+void boddurci_note_found(struct boddurci_notes *notes, const struct boddurci_note found[2])
+{
+    memcpy(notes->files, found, sizeof notes->files);
+    notes->latest = never;
+}
+
+void boddurci_note_written(struct boddurci_notes *notes, const struct boddurci_disk *disk)
+{
+    struct timespec tick = clock_of(TICKING);
+    notes->is_quick = notes->has_our_clock && is_same_time(tick, notes->tick);
+    look_at_both(notes, disk, 1, notes->files);
+    notes->latest = notes->is_quick ? clock_of(CLOCK_REALTIME) : never;
+    if (notes->is_quick)
+        return;
+    notes->tick = tick;
+    notes->has_our_clock = notes->is_local && is_near(notes->files[BODDURCI_PAGES].written, tick);
+}

@@ -1,5 +1,7 @@
 //! Lines of a script that ask nothing, found once it was answered.
 
+ghost use Rattle.std.specs.Prelude.{◌≡◌, ◌<◌, ◌≤◌, ◌++◌, length, take, drop};
+
 use dbm_faults::{Sentence, bad_lines_note, half_line_note, line_end_note};
 use dbm_reports::notation_by;
 use dbm_script::{Lines, Notation, TimeOfDay, read_line, spell_out};
@@ -8,10 +10,16 @@ use memchr::memmem;
 use std::alloc::Global;
 use std::io::{self, ErrorKind, Read, Write};
 
+// How many bytes are read ahead at once.
+const PIECE: usize = 65_536;
+
 /// A reader that keeps what it gives, where a note may show it. Where memory runs out it keeps nothing.
 #[derive(Drop)]
 pub struct Kept<R: Read> {
     reader: R,
+    // What was read ahead, and how much of it was given.
+    ahead: Vec<u8>,
+    given: usize,
     text: Vec<u8>,
     keeps: bool,
     has_lost: bool,
@@ -30,6 +38,8 @@ impl<R: Read> Kept<R> {
     pub fn new(alloc: Global, reader: R, keeps: bool) -> Self {
         Kept {
             reader,
+            ahead: Vec::new(alloc),
+            given: 0,
             text: Vec::new(alloc),
             keeps,
             has_lost: false,
@@ -38,6 +48,45 @@ impl<R: Read> Kept<R> {
             has_no_reader: false,
             is_pending: false,
         }
+    }
+
+    /// Reads ahead, about so many bytes at most, which later reads give. What cannot be read, or finds no memory, is left to those.
+    pub fn read_ahead(&mut self, most: usize) {
+        for _ in 0..u64::MAX {
+            if self.ahead.len() >= most || !self.read_piece() {
+                break;
+            }
+        }
+    }
+
+    // Reads a piece ahead, and returns whether more may follow.
+    fn read_piece(&mut self) -> bool {
+        let len = self.ahead.len();
+        if self.ahead.resize(len.saturating_add(PIECE), 0).is_err() {
+            return false;
+        }
+        let (count, more) = match self.reader.read(&mut self.ahead[len..]) {
+            Ok(count) => (count, count > 0),
+            Err(error) => (0, error.kind() == ErrorKind::Interrupted),
+        };
+        self.ahead.truncate(len.saturating_add(count));
+        more
+    }
+
+    // Gives bytes that were read ahead, and returns how many.
+    fn give(&mut self, buf: &mut [u8]) -> usize
+        requires some { self.old.given < length self.old.ahead.items }
+        ensures count { result ≤ length buf.old }
+        ensures none { result ≡ 0 → length buf.old ≡ 0 }
+        ensures long { length buf.new ≡ length buf.old }
+        ensures bytes { drop self.old.given self.old.ahead.items ≡ take result buf.new ++ drop self.new.given self.new.ahead.items }
+        ensures reader { self.new.reader ≡ self.old.reader }
+    {
+        let left = &self.ahead[self.given..];
+        let count = left.len().min(buf.len());
+        buf[..count].copy_from_slice(&left[..count]);
+        self.given += count;
+        count
     }
 
     /// What was kept, and nothing where memory ran out.
@@ -50,10 +99,17 @@ impl<R: Read> Kept<R> {
 }
 
 impl<R: Read> Read for Kept<R> {
-    ghost remaining = { λ kept. R.remaining kept.reader };
+    ghost use Rattle.std.specs.Prelude.{drop};
+    ghost use Rattle.std.specs.Io.KnownBytes.{prepend_known};
+
+    ghost remaining = { λ kept. prepend_known (drop kept.given kept.ahead.items) (R.remaining kept.reader) };
 
     fn read(&mut self, buf: &mut [u8]) -> io::Result<usize> {
-        let count = self.reader.read(buf)?;
+        let count = if self.given < self.ahead.len() {
+            self.give(buf)
+        } else {
+            self.reader.read(buf)?
+        };
         if self.keeps && !self.has_lost {
             self.has_lost = self.text.extend_from_slice(&buf[..count]).is_err();
         }

@@ -93,7 +93,8 @@ impl<'a, R: Runtime<File = File> + Clock + AllocGlobal> Shell<'a, R> {
 
     // Saves a database in the files, and returns the log with that save. No other function logs a save.
     fn save_logged(&mut self, image: &Image<Global>) -> Result<HostLog, FilesFault>
-        ensures { IfOk result (λ log. log.calls ≡ self.old.log.calls ++ DidSave image.now ∷ []) }
+        ensures saved { IfOk result (λ log. log.calls ≡ self.old.log.calls ++ DidSave image.now ∷ []) }
+        ensures same { self.new.log.calls ≡ self.old.log.calls }
     {
         let saves = &mut self.saves;
         let saved = save_session(self.rt, self.place, self.held, &self.seen, saves, image)?;

@@ -19,16 +19,17 @@ use dbm_faults::ServeFault;
 use dbm_files::{LockedFiles, RunFiles, Saved, save_files, take_rest};
 use dbm_places::{RunPlace, has_no_files};
 use dbm_reports::{Given, NOT_RUN, ReportFault};
-use dbm_script::{Lines, read_number};
+use dbm_script::{Lines, SCRIPT_LIMIT, read_number};
 use dbm_shell::serve_session;
 use dbm_telling::{
     Counted, Kept, Told, Watched, advise, has_bad_line, note_absent, note_object,
     note_of_bad_lines, note_of_half_line, note_of_line_end, note_pending, note_refusal, note_that,
     take_and_tell, tell_saving,
 };
+use dbm_words::Access;
 use ending::{Ending, ending_of, exit_status};
 use quick::{may_be_quick, print_quick, refusal_in, serve_quick};
-use request::{given_of, place_asked, told_of, work_asked, work_of};
+use request::{given_of, place_asked, reads_whole, told_of, work_asked, work_of};
 use sdbm_saves::ReadFiles;
 use serve::serve;
 use sizes::{must_be_wide, refuse_small};
@@ -228,9 +229,10 @@ fn serve_request<R: Runtime<File = File> + AllocGlobal + Threads + Wait + Sync, 
         return Err(ServeFault::Write);
     }
     let taking = Taking { place, patience };
-    let peeks = may_be_quick(&ask) && (access.quick || is_quick(rt));
-    let work = work_asked(&ask);
-    let mut taken = take_and_tell(rt, place, peeks, patience, access.verbose, work)?;
+    if place.base.is_some() && reads_whole(&ask) {
+        reader.read_ahead(SCRIPT_LIMIT + 1);
+    }
+    let mut taken = take_asked(rt, &ask, access, taking)?;
     if is_wide {
         taken = refuse_small(rt, place, taken, patience)?;
     }
@@ -248,6 +250,19 @@ fn serve_request<R: Runtime<File = File> + AllocGlobal + Threads + Wait + Sync, 
             Ok(Ending::Served(0))
         }
     }
+}
+
+// Takes the files of a request, but for pages that it may not need.
+fn take_asked<R: Runtime<File = File> + AllocGlobal>(
+    rt: &R,
+    ask: &Ask<'_>,
+    access: Access<'_>,
+    taking: Taking<'_>,
+) -> Result<RunFiles, ServeFault> {
+    let peeks = may_be_quick(ask) && (access.quick || is_quick(rt));
+    let Taking { place, patience } = taking;
+    let work = work_asked(ask);
+    Ok(take_and_tell(rt, place, peeks, patience, access.verbose, work)?)
 }
 
 // How the files of a request are taken.

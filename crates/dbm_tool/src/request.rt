@@ -152,6 +152,16 @@ fn place_of_session<'a>(session: &Session<'a>) -> RunPlace<'a> {
     }
 }
 
+/// Whether a request reads its input whole before it changes anything: the lines of a script or a batch, or a value. It reads that before it
+/// waits for the lock: what writes the input may want the lock too.
+pub fn reads_whole(ask: &Ask<'_>) -> bool {
+    match ask {
+        Ask::Wish(Wish::Script(_) | Wish::Batch(_)) => true,
+        Ask::Wish(Wish::Store(store)) => store.raw_value && store.value == "-",
+        _ => false,
+    }
+}
+
 /// What a request asks that takes its time on a large database.
 pub fn work_asked(ask: &Ask<'_>) -> Option<Work> {
     match ask {

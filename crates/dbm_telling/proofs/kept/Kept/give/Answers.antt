@@ -12,9 +12,9 @@ returns-clause-bytes g c =
     let rest : List ℕ = drop n c.args.buf.now in
     let given : ℕ = c.args.self.now.given in
     let is : copied ≡ take n xs =
-        c.copy_from_slice.ensures.after
-        ∙ ap (λ (l : List ℕ). take n (take (length l - given) (drop given l))) c.deref.ensures.value
-        ∙ ap (λ (l : List ℕ). take n l) (take_all (length ahead - given) xs (omega (arith, length-drop given ahead))) in
+    c.copy_from_slice.ensures.after
+    ∙ ap (λ (l : List ℕ). take n (take (length l - given) (drop given l))) c.deref.ensures.value
+    ∙ ap (λ (l : List ℕ). take n l) (take_all (length ahead - given) xs (omega (arith, length-drop given ahead))) in
     let long : length copied ≡ n = omega (arith, c.copy_from_slice.ensures.len, length-take-le n c.args.buf.now (omega (arith, c.min-count.ensures))) in
     let first : take n (copied ++ rest) ≡ copied = ap (λ (k : ℕ). take k (copied ++ rest)) (sym long) ∙ take-append_seam copied rest in
     sym (take-append-drop n xs)

@@ -75,7 +75,8 @@ pub struct SessionLog<'a, R: Files<File = File>> {
 
 /// Saves a database in a session. The first save opens a log; each later one takes one sync while it stays open, and the lock is kept. If
 /// another program has changed a data file meanwhile, if the log is full, or if the files may want new blocks of the disk, the log is closed,
-/// and the files are read again and saved in a new one. A large database is saved without a log that stays open.
+/// and the files are read again and saved in a new one. A large database is saved without a log that stays open, and so is one if the disk has no
+/// room for that.
 ///
 /// # Errors
 /// Those of `save_held` and `read_again`. Of the saves before nothing is lost.
@@ -90,7 +91,7 @@ pub fn save_session<'a, R: Files<File = File> + AllocGlobal>(
     held.place.must_be_held(rt, &held.lock, seen)?;
     if image.pag_len() > MOST_KEPT {
         close_session(rt, log)?;
-        return save_large(rt, place, held, seen, image);
+        return save_alone(rt, place, held, seen, image);
     }
     let mut new = written_bytes(rt.alloc(), image)?;
     if let Some(open) = log.take()
@@ -105,7 +106,10 @@ pub fn save_session<'a, R: Files<File = File> + AllocGlobal>(
     };
     let saved = save_opening(rt, held, &read.seen, old, new, log);
     forget_failed(rt, &held.place.names, &saved);
-    saved
+    match saved {
+        Err(FilesFault::WriteFile) => save_alone(rt, place, held, seen, image),
+        saved => saved,
+    }
 }
 
 /// Closes the log of a session, if it is open: both data files are whole then, on the disk too.
@@ -130,8 +134,8 @@ fn close_log<R: Files<File = File>>(
     Ok(close_kept(alloc, &mut disk, keeper.log)?)
 }
 
-// Saves a database of which a session keeps no bytes.
-fn save_large<R: Files<File = File> + AllocGlobal>(
+// Saves a database as a command does, in a log for this save alone.
+fn save_alone<R: Files<File = File> + AllocGlobal>(
     rt: &R,
     place: RunPlace<'_>,
     held: &LockedFiles,

@@ -297,21 +297,28 @@ fn patience_of<R: Runtime + AllocGlobal>(
     writes: bool,
 ) -> Result<Option<Duration>, ServeFault> {
     if let Some(word) = timeout {
-        return patience_in(word);
+        return match read_number(word.as_bytes(), u64::MAX) {
+            Some(seconds) => Ok(Some(Duration::from_secs(seconds))),
+            None => Err(ServeFault::Report(ReportFault::BadNumber)),
+        };
     }
-    match env::var(rt, "DBM_TIMEOUT") {
-        Ok(word) => patience_in(word.as_str()),
-        Err(_) if writes => Ok(Some(Duration::from_secs(DEFAULT_PATIENCE))),
-        Err(_) => Ok(None),
-    }
+    Ok(match asked_patience(rt) {
+        Some(patience) => Some(patience),
+        None if writes => Some(Duration::from_secs(DEFAULT_PATIENCE)),
+        None => None,
+    })
 }
 
-// A number of seconds.
-fn patience_in(word: &str) -> Result<Option<Duration>, ServeFault> {
-    match read_number(word.as_bytes(), u64::MAX) {
-        Some(seconds) => Ok(Some(Duration::from_secs(seconds))),
-        None => Err(ServeFault::Report(ReportFault::BadNumber)),
+// What DBM_TIMEOUT asks. If it is no number, a note says so, and it counts as unset.
+fn asked_patience<R: Runtime + AllocGlobal>(rt: &R) -> Option<Duration> {
+    let word = env::var(rt, "DBM_TIMEOUT").ok()?;
+    let seconds = read_number(word.as_bytes(), u64::MAX);
+    if seconds.is_none() {
+        let _ = eprintln!(rt;
+            "dbm: note: DBM_TIMEOUT is no number of seconds, so it counts as unset"
+        );
     }
+    Some(Duration::from_secs(seconds?))
 }
 
 // Serves a wish on its files, which were taken, with the time of day where it asks that: the clock is read once, after the wait for the lock.

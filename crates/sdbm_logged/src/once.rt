@@ -95,8 +95,8 @@ pub fn open_for<D: Disk>(
     ensures cause { HasCause (D.has_failed disk.old) (D.has_failed disk.new) result }
 {
     settle(disk)?;
-    let left = try_room(disk, redo, plan)?;
     let room = plan.len().saturating_add(8).max(least).min(LONGEST);
+    let left = try_room(disk, redo, plan, HEADER + room)?;
     open_rest(alloc, disk, left, room)
 }
 

@@ -13,14 +13,15 @@ const DISK_BLOCK: usize = 4096;
 const MOST: usize = 658_000;
 
 // Tries before a save whether the disk has room for it: a save that is committed and then finds a full disk leaves its files half done for
-// programs that do not know the log. If the changes of the plan may want new blocks, a new redo file gets as many, and those of the plan
-// itself, each with a zero in it, and is removed. So it never has a mark, and the data files are not touched. Another program may take the
+// programs that do not know the log. If the changes of the plan may want new blocks, a new redo file gets as many, and those of a log of this
+// length, each with a zero in it, and is removed. So it never has a mark, and the data files are not touched. Another program may take the
 // room in between. If no change wants a block nothing is done. Returns what the redo file has afterwards. The data files stay as they are,
 // whatever the disk says.
 pub(crate) fn try_room<'a, D: Disk>(
     disk: &mut D,
     redo: &'a [u8],
     plan: &[u8],
+    len: usize,
 ) -> Result<&'a [u8], DiskError>
     requires plan { IsPlan plan.now }
     requires read { redo.now ≡ (D.seen disk.old).redo }
@@ -36,7 +37,7 @@ pub(crate) fn try_room<'a, D: Disk>(
     if blocks == 0 {
         return Ok(redo);
     }
-    try_blocks(disk, blocks.saturating_add(1 + plan.len() / DISK_BLOCK))?;
+    try_blocks(disk, blocks.saturating_add(len.div_ceil(DISK_BLOCK)))?;
     Ok(&[])
 }
 

@@ -39,7 +39,7 @@ LOG_SIGNATURE = b"sdbmlog1"
 ROOM = 1 << 20
 SESSION_ROOM = 258048
 LEAST_ROOM = 28672
-MOST_ROOM = 1 << 20
+MOST_ROOM = 258048
 
 
 def digits(value):

@@ -18,7 +18,7 @@ use std::io::{self, Write};
 use std::rt::Files;
 
 // A save removes a redo file with more bytes than this, and does not use it again.
-const MOST_REDO: u64 = 1_052_672;
+const MOST_REDO: u64 = 262_144;
 
 // The redo file before a save.
 #[derive(Drop)]

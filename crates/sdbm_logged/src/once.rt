@@ -23,7 +23,7 @@ const HEADER: usize = 4096;
 const LEAST_ROOM: usize = 28_672;
 
 // A log with more room than this is removed after the save.
-const MOST_ROOM: usize = 1_048_576;
+const MOST_ROOM: usize = 258_048;
 
 // A log for a longer record is made by the save itself.
 const LONGEST: usize = 1 << 30;

@@ -22,7 +22,7 @@ use dbm_reports::{Given, NOT_RUN, ReportFault};
 use dbm_script::{Lines, SCRIPT_LIMIT, read_number};
 use dbm_shell::serve_session;
 use dbm_telling::{
-    Counted, Kept, Told, Watched, advise, has_bad_line, note_absent, note_object,
+    Counted, Kept, Told, Watched, advise, has_bad_line, is_terminal, note_absent, note_object,
     note_of_bad_lines, note_of_half_line, note_of_line_end, note_pending, note_refusal, note_that,
     take_and_tell, tell_saving,
 };
@@ -229,7 +229,8 @@ fn serve_request<R: Runtime<File = File> + AllocGlobal + Threads + Wait + Sync, 
         return Err(ServeFault::Write);
     }
     let taking = Taking { place, patience };
-    if place.base.is_some() && reads_whole(&ask) {
+    // A terminal tells the end of its input once, to who reads it then.
+    if place.base.is_some() && reads_whole(&ask) && !is_terminal(rt, 0) {
         reader.read_ahead(SCRIPT_LIMIT + 1);
     }
     let mut taken = take_asked(rt, &ask, access, taking)?;

@@ -298,10 +298,10 @@ uint32_t boddurci_changed(boddurci *db, uint32_t *numbers, size_t room, size_t *
  * boddurci_changed tells have to be among them: a page that is not counts as one that stands in the file as it was written last, or opened.
  * Where the files may be others, as after another program, give all pages of the file and of the database.
  *
- * It has the blocks of 1,024 bytes of .dir, and after them those of the pages, that differ; no bytes where nothing does. Once it is DONE no
- * page counts as changed: where the plan is not done, give the numbers to boddurci_mark. STALE where a page that may have changed is not
- * among the numbers, or where the bytes are not those of so many pages; SHORT_ROOM; FILE_TOO_LONG also for more than 2^22 numbers;
- * IS_CLOSED, NO_MEMORY. After each of these the handle is as it was.
+ * It has a change for each block of 1,024 bytes of .dir, and then of the pages, that differs: of the part that differs, outwards to multiples
+ * of 128 bytes. It has no bytes if nothing differs. Once it is DONE no page counts as changed: if the plan is not done, give the numbers to
+ * boddurci_mark. STALE if a page that may have changed is not among the numbers, or the bytes are not those of so many pages; SHORT_ROOM;
+ * FILE_TOO_LONG also for more than 2^22 numbers; IS_CLOSED, NO_MEMORY. After each of these the handle is as it was.
  *
  * A byte 1 and the plan are a redo file, which dbm and boddurci_files.h end: 8 bytes "sdbmred2"; the new lengths of .pag and of .dir, and
  * their lengths as they are; the number of changes; and of each its file (a byte, 0 for .pag and 1 for .dir), its offset, its length, its

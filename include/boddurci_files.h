@@ -21,26 +21,35 @@
  * base recovers it. A program that knows nothing of the log, as Perl's SDBM_File, sees each save at once, but after the loss of power it may
  * see old or mixed pages until this library or dbm has opened the base to write once.
  *
- * The lock is that of the program dbm: an exclusive flock on BASE.lock, from boddurci_open_files to boddurci_close_files. So dbm and
- * other services wait meanwhile; a program that knows nothing of the lock, as Perl, does not. If it has written, the next save is
- * BODDURCI_CHANGED and overwrites nothing, unless it insists. To read only, open with
- * BODDURCI_READ_ONLY: the lock is then shared, and let go as soon as the files are read. Where both files are symbolic links to those of
- * another base, that one's lock is taken.
+ * One process at a time has a base open to be written, this library or the program dbm: it has a flock on BASE.writer. Others wait for it as
+ * long as they like, and are then LOCKED; the text names the process if the system tells it.
+ *
+ * Who opens a base with BODDURCI_READ_ONLY waits for no such process, and reads its last save. Readers and writers share the files by a flock
+ * on BASE.lock: a writer has it while it opens the base, for each save and to close, a reader while it reads. So a save waits for readers that
+ * are under way, but calls in memory do not. A writer keeps BASE.lock from readers if it can give them no whole save: after a save that
+ * could not be written, until the next one succeeds; before the first save of a new database; and if it cannot mark BASE.redo when it opens
+ * the base (no room, no permission), until it can. The mark keeps versions of this library away that know no log.
+ *
+ * A program that knows neither lock, as Perl, does not wait. If it has written, the next save is BODDURCI_CHANGED and overwrites nothing,
+ * unless it insists. If both data files are symbolic links to those of another base, that base's locks are taken.
  *
  * Names are resolved once, by boddurci_open_files, which keeps the folder open. So neither a chdir nor a link in the path that is changed
- * leads a save into other files; and where BASE.lock, .pag or .dir is another file than was opened, a save is BODDURCI_MOVED.
+ * leads a save into other files; and where BASE.lock, .writer, .pag or .dir is another file than was opened, a save is BODDURCI_MOVED.
  *
- * BASE.redo and BASE.lock are taken only where they are files with one name, of yourself, of root or of the owner of BASE.pag, which nobody
- * may write who may not write BASE.pag; else it is BODDURCI_UNSAFE. A lock may also be of one who may write BASE.pag, by its group or as all
- * may. Look then who has made it: take it away where it is a stranger's. A redo file of one whom you trust is recovered by his next run, or is
- * given to the owner of BASE.pag, since the files may hold half of its saves. Closing a base removes a redo file that could not get the owner,
- * the group and the permissions of BASE.pag, so it is left only by a process that was killed.
+ * BASE.redo, BASE.lock and BASE.writer are taken only where they are files with one name, of yourself, of root or of the owner of BASE.pag,
+ * which nobody may write who may not write BASE.pag; else it is BODDURCI_UNSAFE. (A reader does without a BASE.writer that is not taken.) A
+ * lock may also be of one who may write BASE.pag, by its group or as all may. Look then who has made it: take it away where it is a
+ * stranger's. A redo file of one whom you trust is recovered by his next run, or is given to the owner of BASE.pag, since the files may hold
+ * half of its saves. Closing a base removes a redo file that could not get the owner, the group and the permissions of BASE.pag, so it is left
+ * only by a process that was killed.
  *
  * A base is of the process that has opened it. In a child that it forked boddurci_save is BODDURCI_FORKED, boddurci_take returns NULL,
- * boddurci_give does nothing, and boddurci_close_files frees memory alone: the lock stays its parent's.
+ * boddurci_give does nothing, and boddurci_close_files frees memory alone: the locks stay its parent's.
  *
  * A fault may be NULL, and is then not told. A base or a name may be NULL: a save is then BODDURCI_IS_CLOSED, boddurci_take returns NULL,
- * boddurci_give and boddurci_close_files do nothing, and an opening is BODDURCI_BAD_NAME. None of this is proved; tests/c_library, tests/c_crashes and tests/hostile_library run it. */
+ * boddurci_give and boddurci_close_files do nothing, and an opening is BODDURCI_BAD_NAME.
+ *
+ * None of this is proved; tests/c_library, tests/c_crashes and tests/hostile_library run it. */
 #ifndef BODDURCI_FILES_H
 #define BODDURCI_FILES_H
 #include "boddurci.h"
@@ -60,7 +69,7 @@ enum boddurci_flags {
     BODDURCI_WIDE = 1,          /* pages of 8,192 bytes; the files do not say */
     BODDURCI_UNSIGNED_KEYS = 2, /* keys hash by unsigned bytes; the files do not say */
     BODDURCI_READ_ONLY = 4,     /* no lock is kept, and no save is made */
-    BODDURCI_NO_WAIT = 8,       /* where another has the lock, do not wait for it, whatever time is given */
+    BODDURCI_NO_WAIT = 8,       /* do not wait for a lock, whatever time is given; a reader may then meet a save */
     BODDURCI_MUST_EXIST = 16,   /* where there is no BASE.pag, do not begin with an empty database */
     BODDURCI_EMPTY = 32,        /* begin with an empty database, whatever the files have */
     BODDURCI_ANY_SIZE = 64      /* with WIDE: open the files also if they look like those of small pages */
@@ -74,18 +83,18 @@ enum boddurci_save_flags {
 /* Statuses beside those of boddurci.h. */
 enum boddurci_files_status {
     BODDURCI_FILE_FAILED = 32, /* a call of the system failed, and fault.system has its errno; or links lead to two bases, and it is 0 */
-    BODDURCI_LOCKED = 33,      /* another has the lock */
+    BODDURCI_LOCKED = 33,      /* another process has the database open to be written, or a reader or writer uses its files */
     BODDURCI_BAD_REDO = 34,    /* BASE.redo is marked, and is not of these files: no save has left it, an older copy of them was put back,
                                   or another program wrote them. Or a record in the middle of its log is damaged, as the text says then.
                                   Move it away to have the files as they are */
     BODDURCI_NO_SAVE = 35,     /* it was opened to be read only */
     BODDURCI_TOO_LONG = 36,    /* a file has more bytes than dbm takes: 1 GiB of .pag, 256 MiB of .dir */
-    BODDURCI_UNSAFE = 37,      /* BASE.redo or BASE.lock may be a stranger's; the text says why. Control characters, invalid UTF-8 and
+    BODDURCI_UNSAFE = 37,      /* BASE.redo, .lock or .writer may be a stranger's; the text says why. Control characters, invalid UTF-8 and
                                   bidirectional controls in the name are escaped */
-    BODDURCI_MOVED = 38,       /* BASE.lock, .pag, .dir or .redo is another file than was opened, or links lead elsewhere */
+    BODDURCI_MOVED = 38,       /* BASE.lock, .writer, .pag, .dir or .redo is another file than was opened, or links lead elsewhere */
     BODDURCI_FORKED = 39,      /* it was opened by another process, of which this one is a child */
     BODDURCI_BAD_NAME = 40,    /* the name is NULL or empty, . or .., or ends in one of these after a / */
-    BODDURCI_INTERRUPTED = 41, /* a signal was handled while the lock was waited for */
+    BODDURCI_INTERRUPTED = 41, /* a signal was handled while a lock was waited for */
     BODDURCI_OPEN_HERE = 42,   /* this thread has opened it already, and nobody has closed that: it would wait for itself */
     BODDURCI_OTHER_SIZE = 43   /* with WIDE: .pag looks like a file of small pages, which a change would destroy. Open it without WIDE, or
                                   make its pages wide with `dbm widen`; if they are wide all the same, add ANY_SIZE */
@@ -104,15 +113,16 @@ const char *boddurci_files_text(uint32_t status);
 
 /* Opens the database in BASE.dir and BASE.pag, each of which may be missing, or returns NULL and says why. If BASE.redo is marked the files
  * are recovered first, no matter who saved, also by the redo file of a version before the log. A base that is read only writes nothing, and
- * reads what its saves would have left, once BASE.redo is synced. It waits for the lock without an end, also after a signal. Where it returns
- * NULL nothing was changed but that the files were recovered, and that a lock may have been made. Memory: what the open database takes, and
- * the data of .dir and one piece of .pag; of a page with other free bytes than the library writes, also its bytes. An opening that recovers
- * also takes the data of .pag and BASE.redo. Holes take none. Who may not write a .pag that is there makes no lock. FILE_FAILED, LOCKED (by
- * NO_WAIT alone), BAD_REDO, TOO_LONG, UNSAFE, MOVED, BAD_NAME, OPEN_HERE, OTHER_SIZE, and BAD_FILES and NO_MEMORY of boddurci.h. */
+ * reads what its saves would have left, once BASE.redo is synced; while another process has the base open to be written it reads the data
+ * files alone. It waits for the locks without an end, also after a signal. Where it returns NULL nothing was changed but that the files were
+ * recovered, and that locks may have been made. One that may write marks BASE.redo, which takes some syncs. Memory: what the open database
+ * takes, and the data of .dir and one piece of .pag; of a page with other free bytes than the library writes, also its bytes. An opening that
+ * recovers also takes the data of .pag and BASE.redo. Holes take none. Who may not write a .pag that exists makes no lock. FILE_FAILED, LOCKED
+ * (by NO_WAIT alone), BAD_REDO, TOO_LONG, UNSAFE, MOVED, BAD_NAME, OPEN_HERE, OTHER_SIZE, and BAD_FILES and NO_MEMORY of boddurci.h. */
 boddurci_base *boddurci_open_files(const char *base, uint32_t flags, boddurci_fault *fault);
 
-/* The same, which waits for the lock so long: LOCKED where another has it then. 0 tries once, and -1 waits without an end. INTERRUPTED where
- * a signal was handled meanwhile: call it again to go on. */
+/* The same, which waits for the locks at most this long, and is then LOCKED. 0 tries once, and -1 waits without an end. INTERRUPTED if a signal
+ * was handled meanwhile: call it again to go on. */
 boddurci_base *boddurci_open_files_within(const char *base, uint32_t flags, int64_t milliseconds, boddurci_fault *fault);
 
 /* Waits for the mutex, and lends the handle until boddurci_give. Never close it, and never give it to
@@ -127,8 +137,8 @@ void boddurci_give(boddurci_base *base);
  * has returned as the one after it. After a fault it is the one before; but if the text says that BASE.redo cannot be written it may be either:
  * the next save or opening finds out. Then save again: a fault leaves the base open and as it was.
  *
- * A save is one sync and a few writes. The first one after an opening opens the log too, which takes some syncs more and room for 1 MiB, or
- * 64 KiB if the disk or the process has no more; so does a save that finds the log full and empties it.
+ * A save is one sync and a few writes. The opening has opened the log, with room for 1 MiB, or 64 KiB if the disk or the process has no more.
+ * A save takes some syncs more if it finds the log full and empties it, if .pag or .dir gets shorter, or if it is the first of a new database.
  *
  * It reads .dir and the pages that may have changed, and no others: a save costs what changed, and not the base. If a time of a file differs
  * from what this base has left or read, or if it began with BODDURCI_EMPTY, it reads and compares all of both. A page on which a run
@@ -147,9 +157,9 @@ void boddurci_give(boddurci_base *base);
  * are compared and times are not, so a write on a page that this base has changed too is not seen.
  *
  * Threads may save at the same time, each after its own changes. A call returns the outcome of a save that began after the call, so its
- * changes are in that save. Calls that come during a save wait until it has ended. Then one of them saves for all that wait, and all of them
- * return the status and the fault of that save: after a fault each may save again. No thread is served twice while another one waits. A
- * thread that is alone waits for nobody. A thread that is cancelled returns from its call first.
+ * changes are in that save. A save waits for readers that have BASE.lock. Calls that come during a save wait until it has ended. Then one of
+ * them saves for all that wait, and all of them return the status and the fault of that save: after a fault each may save again. No thread is
+ * served twice while another one waits. A thread that is alone waits for nobody. A thread that is cancelled returns from its call first.
  *
  * Both files get the blocks that they want before the save counts, where the file system can give them, so that a full disk is FILE_FAILED
  * with nothing changed. So is a save that would make one of the three files longer than the process may (RLIMIT_FSIZE): no SIGXFSZ comes of it.
@@ -159,7 +169,7 @@ void boddurci_give(boddurci_base *base);
 uint32_t boddurci_save(boddurci_base *base, boddurci_fault *fault) BODDURCI_IS_LOOKED_AT;
 uint32_t boddurci_save_with(boddurci_base *base, uint32_t flags, boddurci_fault *fault) BODDURCI_IS_LOOKED_AT;
 
-/* Closes the log, and lets the lock go, and the memory. Nothing is saved. If it saved anything it syncs both data files first; if that fails
+/* Syncs both data files, closes the log, and releases the locks and the memory. Nothing is saved. If a sync fails
  * the next who opens the base recovers it. base may be NULL. No thread may use the base meanwhile, or later. In a child it frees memory
  * alone. */
 void boddurci_close_files(boddurci_base *base);

@@ -72,6 +72,18 @@ static void delete_one(boddurci_base *base, const char *key)
     boddurci_give(base);
 }
 
+/* Takes the locks of an open base away, or puts them back. */
+static void move_locks(const char *name, int is_back)
+{
+    static const char *const endings[2] = {"lock", "writer"};
+    char path[32], away[32];
+    for (int i = 0; i < 2; i++) {
+        snprintf(path, sizeof path, "%s.%s", name, endings[i]);
+        snprintf(away, sizeof away, "away.%s", endings[i]);
+        EXPECT(is_back ? unlink(path) == 0 && rename(away, path) == 0 : rename(path, away) == 0);
+    }
+}
+
 /* How many pairs a reader finds, who does without the lock that another has. */
 static size_t found_beside(const char *name, const char *lock)
 {
@@ -92,10 +104,11 @@ static int is_untouched(const char *name, const struct stat *before)
            is.st_mtim.tv_nsec == before->st_mtim.tv_nsec && is.st_ctim.tv_sec == before->st_ctim.tv_sec && is.st_ctim.tv_nsec == before->st_ctim.tv_nsec;
 }
 
-/* Changes the files while another has them open, as who knows nothing of the lock, and in another tick of the clock than the other's save. */
-static void change_beside(const char *name, const char *lock)
+/* Changes the files while another has them open, as who knows nothing of the locks, and in another tick of the clock than the other's save. */
+static void change_beside(const char *name)
 {
-    EXPECT(usleep(TICK) == 0 && rename(lock, "away") == 0);
+    EXPECT(usleep(TICK) == 0);
+    move_locks(name, 0);
     boddurci_base *base = opened(name, 0);
     for (int i = 7000; i < 7100; i++)
         store_one(base, i);
@@ -103,7 +116,7 @@ static void change_beside(const char *name, const char *lock)
     delete_one(base, "key2");
     EXPECT(boddurci_save(base, &fault) == BODDURCI_DONE);
     boddurci_close_files(base);
-    EXPECT(unlink(lock) == 0 && rename("away", lock) == 0);
+    move_locks(name, 1);
 }
 
 static size_t value_of(boddurci_base *base, const char *key)
@@ -148,7 +161,7 @@ static void test_written_beside(void)
     boddurci_base *base = opened("visits", 0);
     size_t count = count_of(base);
     for (int changes = 0; changes < 2; changes++) {
-        change_beside("visits", "visits.lock");
+        change_beside("visits");
         EXPECT(found_beside("visits", "visits.lock") == count + 98);
         if (changes)
             store_one(base, 3);
@@ -280,13 +293,13 @@ static void test_not_changed(void)
         EXPECT((unlink("made.pag") == 0 && unlink("made.dir") == 0) || flags == 0);
         base = opened("made", flags);
         store_one(base, 1);
-        EXPECT(rename("made.lock", "away") == 0);
+        move_locks("made", 0);
         boddurci_base *other = opened("made", 0);
         store_one(other, 2);
         EXPECT(boddurci_save(other, &fault) == BODDURCI_DONE);
         boddurci_close_files(other);
         write_text("made.dir", "", 0);
-        EXPECT(unlink("made.lock") == 0 && rename("away", "made.lock") == 0);
+        move_locks("made", 1);
         EXPECT(is_refused(base, "made", "BASE.pag was made, with 1024 bytes") && insists(base) && count_of(base) == 1);
         boddurci_close_files(base);
     }
@@ -301,7 +314,7 @@ static void test_insisting_in_vain(void)
     few.rlim_cur = 1024;
     boddurci_base *base = opened("visits", 0);
     size_t count = count_of(base);
-    change_beside("visits", "visits.lock");
+    change_beside("visits");
     EXPECT(setrlimit(RLIMIT_FSIZE, &few) == 0 && boddurci_save_with(base, BODDURCI_INSIST, &fault) == BODDURCI_FILE_FAILED);
     EXPECT(setrlimit(RLIMIT_FSIZE, &all) == 0 && is_refused(base, "visits", "BASE.pag ") && found_beside("visits", "visits.lock") == count + 98);
     EXPECT(insists(base) && found_beside("visits", "visits.lock") == count);
@@ -373,7 +386,7 @@ static void test_together(void)
     struct saver savers[SAVERS];
     boddurci_base *base = opened("visits", 0);
     size_t count = count_of(base);
-    change_beside("visits", "visits.lock");
+    change_beside("visits");
     for (int insisting = 0; insisting < 2; insisting++) {
         for (int i = 0; i < SAVERS; i++) {
             savers[i] = (struct saver){.base = base, .flags = insisting && i == SAVERS / 2 ? BODDURCI_INSIST : 0};

@@ -88,7 +88,7 @@ static size_t plan_from(boddurci *db, struct files old, size_t page)
 
 void test_plans(uint32_t wide)
 {
-    enum { BLOCK = CHANGE_HEAD + 2 * 1024 };
+    enum { PART = 2 * 128, BLOCK = CHANGE_HEAD + 2 * 1024 };
     boddurci db = BODDURCI_CLOSED;
     size_t page = wide ? 8192 : 1024;
     char key[16];
@@ -103,7 +103,15 @@ void test_plans(uint32_t wide)
     EXPECT(whole > 3000 * 8 && plan_from(&db, full, page) == 0);
     EXPECT(boddurci_store(&db, BYTES("7"), BYTES("another"), 1) == BODDURCI_DONE && changed_in(&db) == 1);
     size_t one = plan_from(&db, full, page) - PLAN_HEAD;
-    EXPECT(one % BLOCK == 0 && one >= BLOCK && one <= BLOCK * page / 1024);
+    EXPECT(one >= CHANGE_HEAD + PART && one <= BLOCK * page / 1024 && (wide || (one - CHANGE_HEAD) % PART == 0));
+    /* A change in place has the parts of 128 bytes in which it lies, old and new. */
+    struct files grown = files_of(&db);
+    EXPECT(boddurci_store(&db, BYTES("7"), BYTES("0ther"), 1) == BODDURCI_DONE && plan_from(&db, grown, page) > 0);
+    free_files(grown);
+    grown = files_of(&db);
+    EXPECT(boddurci_store(&db, BYTES("7"), BYTES("1ther"), 1) == BODDURCI_DONE);
+    EXPECT(plan_from(&db, grown, page) == PLAN_HEAD + CHANGE_HEAD + PART);
+    free_files(grown);
     for (int i = 0; i < 3000; i++)
         EXPECT(boddurci_delete(&db, (const uint8_t *)key, (size_t)snprintf(key, sizeof key, "%d", i)) == BODDURCI_DONE);
     plan_from(&db, full, page);

@@ -2,15 +2,22 @@
 plan of one save, as the head of crates/sdbm_saves/specs/Redo.antt has it. Older versions of `dbm` left such plans."""
 
 SIGNATURE = b"sdbmred2"
-# Both files are planned by blocks of so many bytes, the directory first.
-BLOCK = 1024
+# Both files are planned by blocks of so many bytes, the directory first. A change begins and ends at multiples of PART in its block.
+BLOCK, PART = 1024, 128
 
 
 def number(value):
     return value.to_bytes(4, "little")
 
 
-def plan_of(before, after, signature=SIGNATURE):
+def changed_part(old, new, part):
+    """Where a change of a block begins and ends. It is the whole block if only zeros would be old."""
+    differ = [at for at in range(0, len(new), part) if old[at : at + part] != new[at : at + part]]
+    start, end = differ[0], min(differ[-1] + part, len(new))
+    return (start, end) if any(old[start:end]) else (0, len(new))
+
+
+def plan_of(before, after, signature=SIGNATURE, part=PART):
     """The plan of a save that makes the files of one database, by their endings, those of another."""
     both = [(before.get(f"db.{end}", b""), after.get(f"db.{end}", b"")) for end in ("pag", "dir")]
     changes = []
@@ -20,14 +27,15 @@ def plan_of(before, after, signature=SIGNATURE):
             data = new[at : at + BLOCK]
             was = old[at : at + len(data)].ljust(len(data), b"\0")
             if was != data:
-                changes.append(bytes([which]) + number(at) + number(len(data)) + data + was)
+                start, end = changed_part(was, data, part)
+                changes.append(bytes([which]) + number(at + start) + number(end - start) + data[start:end] + was[start:end])
     lengths = [number(len(new)) for _, new in both] + [number(len(old)) for old, _ in both]
     return signature + b"".join(lengths) + number(len(changes)) + b"".join(changes)
 
 
 def redo_of(before, after, mark=1, signature=SIGNATURE):
-    """The redo file that older versions left of such a save."""
-    return bytes([mark]) + plan_of(before, after, signature)
+    """The redo file that older versions left of such a save: its changes are whole blocks."""
+    return bytes([mark]) + plan_of(before, after, signature, BLOCK)
 
 
 # ---- logs

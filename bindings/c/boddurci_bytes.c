@@ -106,6 +106,16 @@ int boddurci_read_bytes(int file, size_t length, struct boddurci_bytes *bytes)
     return 0;
 }
 
+int boddurci_read_short(int file, size_t length, struct boddurci_bytes *bytes)
+{
+    bytes->at = malloc(length + 1);
+    if (bytes->at == NULL)
+        return -1;
+    off_t found = read_range(file, bytes->at, 0, (off_t)length);
+    bytes->length = found < 0 ? 0 : (size_t)found;
+    return found < 0 ? -1 : 0;
+}
+
 /* ---- whole files */
 
 size_t boddurci_most_bytes(enum boddurci_file file)

@@ -35,9 +35,11 @@ static int is_of_another(const boddurci_base *base)
 
 /* ---- reading */
 
-/* The data that an opening reads: all bytes of .dir, and the pages of .pag without its bytes. */
+/* The data that an opening reads: all bytes of .dir, and the pages of .pag without its bytes. If .pag is short its bytes are read first, and
+ * parsed once other processes may use the files again. */
 struct parts {
     struct boddurci_bytes directory;
+    struct boddurci_bytes unparsed;
     boddurci_reading pages;
     uint32_t is_wide;
     int has_data; /* .pag is not one hole */
@@ -46,19 +48,21 @@ struct parts {
 static void let_parts_go(struct parts *parts)
 {
     boddurci_let_go(&parts->directory);
+    boddurci_let_go(&parts->unparsed);
     boddurci_end_reading(&parts->pages);
 }
 
 static uint32_t read_pieces(int file, struct parts *parts, boddurci_fault *fault)
 {
+    enum { SHORT = 1 << 20 };
     size_t length;
     uint32_t status = boddurci_length_of(file, BODDURCI_PAGES, &length, fault);
     if (status != BODDURCI_DONE)
         return status;
     parts->has_data = boddurci_has_data(file, length);
-    if (boddurci_read_pages(file, length, parts->is_wide, &parts->pages) != 0)
-        return boddurci_fail_by_system(fault, "a file cannot be read");
-    return status;
+    int is_read = length <= SHORT ? boddurci_read_short(file, length, &parts->unparsed)
+                                  : boddurci_read_pages(file, length, parts->is_wide, &parts->pages);
+    return is_read == 0 ? status : boddurci_fail_by_system(fault, "a file cannot be read");
 }
 
 /* Reads both data files; those that are not there have no bytes, unless .pag has to be there. */
@@ -75,20 +79,29 @@ static uint32_t read_parts(struct boddurci_place *place, int must_exist, struct 
     return status;
 }
 
-/* Reads both data files as they are for a database that may not be written; if the redo file has its mark, with its saves done in them. */
+/* Reads both data files as they are for a database that may not be written. If the redo file has its mark, with its saves done in them; but
+ * not beside a writer, who has done them. */
 static uint32_t read_over(struct boddurci_place *place, int must_exist, struct parts *parts, boddurci_fault *fault)
 {
     struct boddurci_bytes files[2];
     int is_marked;
+    if (boddurci_has_writer(place))
+        return read_parts(place, must_exist, parts, fault);
     uint32_t status = boddurci_read_marked(place, &is_marked, files, fault);
     if (status == BODDURCI_DONE && !is_marked)
         return read_parts(place, must_exist, parts, fault);
-    if (status == BODDURCI_DONE && boddurci_move_pages(&files[BODDURCI_PAGES], parts->is_wide, &parts->pages) != 0)
-        status = boddurci_no_memory(fault);
-    boddurci_let_go(&files[BODDURCI_PAGES]);
     parts->has_data = 1;
+    parts->unparsed = files[BODDURCI_PAGES];
     parts->directory = files[BODDURCI_DIRECTORY];
     return status;
+}
+
+/* Parses the bytes of .pag that were read. */
+static uint32_t parse(struct parts *parts, boddurci_fault *fault)
+{
+    if (parts->unparsed.length == 0 || boddurci_move_pages(&parts->unparsed, parts->is_wide, &parts->pages) == 0)
+        return BODDURCI_DONE;
+    return boddurci_no_memory(fault);
 }
 
 /* ---- opening */
@@ -163,8 +176,8 @@ static uint32_t open_parts(boddurci_base *base, struct parts *parts, boddurci_fa
 static uint32_t read_again(boddurci_base *base, struct parts *parts, uint32_t status, int64_t milliseconds, boddurci_fault *fault)
 {
     boddurci_fault second;
-    uint32_t locked = boddurci_take_lock(&base->place, 1, milliseconds, &second);
-    if (locked == BODDURCI_DONE && base->place.lock < 0)
+    uint32_t locked = boddurci_take_shared(&base->place, milliseconds, &second);
+    if (locked == BODDURCI_DONE && base->place.opened[BODDURCI_LOCK] < 0)
         return status;
     let_parts_go(parts);
     if (locked == BODDURCI_DONE)
@@ -173,24 +186,42 @@ static uint32_t read_again(boddurci_base *base, struct parts *parts, uint32_t st
     return locked;
 }
 
+/* Marks the log of a writer whose files are those that were read or saved last, and gives them back to others. Without a mark it keeps them:
+ * older versions, which look at BASE.lock alone, would write. */
+static void mark_and_give(boddurci_base *base)
+{
+    boddurci_fault unsaid;
+    boddurci_hold_signal(&base->logged.disk);
+    (void)!boddurci_logged_mark(&base->logged, &unsaid);
+    boddurci_give_signal(&base->logged.disk);
+    if (boddurci_logged_is_marked(&base->logged))
+        boddurci_give_files(&base->place);
+    else
+        boddurci_keep_files(&base->place);
+}
+
 static uint32_t read_base(boddurci_base *base, const char *name, int64_t milliseconds, boddurci_fault *fault)
 {
-    struct parts parts = {{NULL, 0, 0}, BODDURCI_UNREAD, (base->flags & BODDURCI_WIDE) != 0, 0};
+    struct parts parts = {{NULL, 0, 0}, {NULL, 0, 0}, BODDURCI_UNREAD, (base->flags & BODDURCI_WIDE) != 0, 0};
     int reads = (base->flags & BODDURCI_READ_ONLY) != 0;
     uint32_t status = boddurci_enter(&base->place, name, reads, milliseconds, fault);
     int may_read = status == BODDURCI_DONE;
     if (may_read)
         status = read_files(base, &parts, fault);
-    if (may_read && base->place.lock < 0)
+    if (may_read && base->place.opened[BODDURCI_LOCK] < 0)
         status = read_again(base, &parts, status, milliseconds, fault);
     if (status != BODDURCI_DONE || reads) {
         boddurci_logged_end(&base->logged);
-        boddurci_give_lock(&base->place, 1);
+        boddurci_give_locks(&base->place, 1);
     }
+    if (status == BODDURCI_DONE)
+        status = parse(&parts, fault);
     if (status == BODDURCI_DONE)
         status = look_at_size(base, &parts, fault);
     if (status == BODDURCI_DONE)
         status = open_parts(base, &parts, fault);
+    if (status == BODDURCI_DONE && !reads)
+        mark_and_give(base);
     let_parts_go(&parts);
     return status;
 }
@@ -204,7 +235,7 @@ static boddurci_base *new_base(uint32_t flags)
         return NULL;
     base->flags = flags;
     base->process = getpid();
-    base->place.folder = base->place.lock = -1;
+    boddurci_no_place(&base->place);
     boddurci_logged_of(&base->logged, &base->place, &base->notes);
     if (pthread_mutex_init(&base->mutex, NULL) == 0) {
         if (boddurci_group_init(&base->saves) == 0)
@@ -242,6 +273,14 @@ boddurci_base *boddurci_open_files(const char *name, uint32_t flags, boddurci_fa
     return base;
 }
 
+/* Closes the log, while nobody else uses the files, and then the files. */
+static void end_log(boddurci_base *base)
+{
+    if (base->logged.is_open && boddurci_take_files(&base->place) != 0)
+        base->logged.is_open = 0;
+    boddurci_logged_end(&base->logged);
+}
+
 /* In a child another thread of its parent may have had the database in its hands: then its memory stays. */
 void boddurci_close_files(boddurci_base *base)
 {
@@ -251,10 +290,10 @@ void boddurci_close_files(boddurci_base *base)
     if (is_own || pthread_mutex_trylock(&base->mutex) == 0)
         boddurci_close(&base->db);
     if (is_own)
-        boddurci_logged_end(&base->logged);
+        end_log(base);
     else
         boddurci_disk_close(&base->logged.disk);
-    boddurci_give_lock(&base->place, is_own);
+    boddurci_give_locks(&base->place, is_own);
     boddurci_place_close(&base->place);
     if (is_own) {
         pthread_mutex_destroy(&base->mutex);
@@ -646,12 +685,12 @@ static uint32_t do_plan(boddurci_base *base, const struct saving *saving, boddur
     return status;
 }
 
-/* A lock that was made before there was a .pag becomes like it, once it is there. */
-static void settle_lock(struct boddurci_place *place)
+/* A lock that was made when .pag was missing becomes like it, once it exists. */
+static void settle_locks(struct boddurci_place *place)
 {
-    if (!place->is_lock_early || !place->seen[BODDURCI_PAGES].is_there)
-        return;
-    place->is_lock_early = boddurci_be_like_pages(place, BODDURCI_LOCK, place->lock) != 0;
+    for (enum boddurci_file lock = BODDURCI_LOCK; lock <= BODDURCI_WRITER; lock++)
+        if (place->is_early[lock] && place->seen[BODDURCI_PAGES].is_there)
+            place->is_early[lock] = boddurci_be_like_pages(place, lock, place->opened[lock]) != 0;
 }
 
 /* Whether the data files that are held open are still those under their names. */
@@ -690,10 +729,11 @@ static uint32_t recover(boddurci_base *base, struct saving *saving, boddurci_fau
 /* Looks whether the files are those that were noted, and makes them ready to be saved. */
 static uint32_t prepare(boddurci_base *base, struct saving *saving, boddurci_fault *fault)
 {
-    if (!boddurci_is_held(&base->place))
-        return boddurci_fail(fault, BODDURCI_MOVED, 0, "BASE.lock is another file than is held, and nothing was written");
+    uint32_t status = boddurci_are_held(&base->place, fault);
+    if (status != BODDURCI_DONE)
+        return status;
     saving->change = boddurci_look_before(&base->notes, &base->logged.disk, base->is_noted, saving->found, &saving->which);
-    uint32_t status = are_named(base, saving->found, fault);
+    status = are_named(base, saving->found, fault);
     if (status == BODDURCI_DONE)
         status = must_be_ours(base, saving, fault);
     if (status == BODDURCI_DONE)
@@ -706,7 +746,7 @@ static uint32_t prepare(boddurci_base *base, struct saving *saving, boddurci_fau
 /* Notes the files after a save. If another program has written during the save, that is a change for the next one. */
 static void settle(boddurci_base *base, const struct saving *saving, enum boddurci_change again)
 {
-    settle_lock(&base->place);
+    settle_locks(&base->place);
     base->is_planned = 1;
     base->is_noted = base->is_noted && again == BODDURCI_SAME;
     base->doubt = BODDURCI_SAME;
@@ -735,6 +775,20 @@ static uint32_t save_prepared(boddurci_base *base, struct saving *saving, boddur
     return status;
 }
 
+/* Gives the files back after a save. If the log is given up, others would read files that lack a committed save or have half of one, so they
+ * stay with this base until a later save has recovered them. After CHANGED the log is closed, and others read what was found. */
+static void give_files(boddurci_base *base, uint32_t status, int were_kept)
+{
+    const struct boddurci_logged *logged = &base->logged;
+    int may_be_read = boddurci_logged_is_marked(logged) || base->change[0] != 0;
+    if (status == BODDURCI_DONE && !logged->is_given_up)
+        mark_and_give(base);
+    else if (may_be_read && !were_kept && !logged->is_given_up)
+        boddurci_give_files(&base->place);
+    else if (boddurci_take_files(&base->place) == 0)
+        boddurci_keep_files(&base->place);
+}
+
 static uint32_t save(boddurci_base *base, int insists, boddurci_fault *fault)
 {
     struct saving saving;
@@ -742,6 +796,9 @@ static uint32_t save(boddurci_base *base, int insists, boddurci_fault *fault)
     saving.insists = insists;
     saving.reading.size = base->flags & BODDURCI_WIDE ? 8192 : 1024;
     base->may_have_written = 0;
+    int were_kept = base->place.keeps_files, may_share = base->is_noted && boddurci_logged_is_marked(&base->logged);
+    if ((may_share ? boddurci_share_files(&base->place) : boddurci_take_files(&base->place)) != 0)
+        return boddurci_fail_by_system(fault, "BASE.lock cannot be locked");
     boddurci_hold_signal(&base->logged.disk);
     uint32_t status = prepare(base, &saving, fault);
     if (status == BODDURCI_DONE)
@@ -749,6 +806,7 @@ static uint32_t save(boddurci_base *base, int insists, boddurci_fault *fault)
     if (status != BODDURCI_DONE && base->may_have_written)
         boddurci_note_written(&base->notes, &base->logged.disk);
     boddurci_give_signal(&base->logged.disk);
+    give_files(base, status, were_kept);
     end_reading(&saving.reading);
     boddurci_let_go(&saving.plan);
     return status;

@@ -1,4 +1,4 @@
-/* Which base a name means, and its lock: an exclusive flock on BASE.lock, or a shared one of a process that only reads. */
+/* Which base a name means, and its locks: flocks on BASE.lock and BASE.writer. boddurci_saves.h says what each means. */
 #define _POSIX_C_SOURCE 200809L
 #define _DEFAULT_SOURCE
 #define _XOPEN_SOURCE 700
@@ -6,6 +6,7 @@
 #include <errno.h>
 #include <fcntl.h>
 #include <pthread.h>
+#include <sched.h>
 #include <stdlib.h>
 #include <string.h>
 #include <sys/file.h>
@@ -42,7 +43,7 @@ static int lead_of(const char *base, const char *ending, char **lead)
     return 0;
 }
 
-/* The base to which both data files lead by symbolic links, so that all meet at one lock: it is to be freed, and NULL where that is the name
+/* The base to which both data files lead by symbolic links, so that all meet at the same locks: it is to be freed, and NULL if that is the name
  * itself. */
 static uint32_t resolve(const char *name, char **led, boddurci_fault *fault)
 {
@@ -70,7 +71,7 @@ static int is_name(const char *name)
     return strcmp(last, "") != 0 && strcmp(last, ".") != 0 && strcmp(last, "..") != 0;
 }
 
-/* ---- the lock */
+/* ---- time */
 
 static int64_t now(void)
 {
@@ -79,12 +80,30 @@ static int64_t now(void)
     return (int64_t)time.tv_sec * 1000 + time.tv_nsec / 1000000;
 }
 
-/* When a wait of so long ends; one below 0 has no end. */
+/* The end of a wait; below 0 it has none. */
 static int64_t end_of(int64_t milliseconds)
 {
     int64_t start = now();
     return milliseconds < 0 ? -1 : milliseconds < INT64_MAX - start ? start + milliseconds : INT64_MAX;
 }
+
+/* Rests before the next try: first some 50 times for a moment, as long as a short save takes, then up to 5 milliseconds. EWOULDBLOCK at the end
+ * of the wait, EINTR after a signal. */
+static int rest(int *tries, int64_t end)
+{
+    enum { SHORT = 50, MOMENT = 50000, MILLISECOND = 1000000, LONGEST = 5 };
+    int more = *tries < SHORT ? 0 : *tries - SHORT + 1;
+    int64_t left = end < 0 ? LONGEST : end - now();
+    if (left <= 0) {
+        errno = EWOULDBLOCK;
+        return -1;
+    }
+    struct timespec time = {0, more == 0 ? MOMENT : (more < LONGEST ? more : LONGEST) * MILLISECOND};
+    *tries += *tries < SHORT + LONGEST;
+    return nanosleep(&time, NULL);
+}
+
+/* ---- the places that have locks */
 
 /* The places whose locks this process has. A fork waits until nobody is at them, so that a child finds them whole. */
 static struct boddurci_place *held;
@@ -115,6 +134,7 @@ static void note_held(struct boddurci_place *place)
         this_thread = ++threads;
     place->holder = this_thread;
     place->process = getpid();
+    place->keeps_files = 1;
     place->held = held;
     held = place;
     give_held();
@@ -131,48 +151,42 @@ static void forget_held(const struct boddurci_place *place)
     give_held();
 }
 
-/* Whether this thread has taken the lock already: it would wait for itself. What a parent has is not a child's. */
-static int has_it_here(const struct boddurci_place *place)
+static void set_keeps_files(struct boddurci_place *place, int keeps)
+{
+    take_held();
+    place->keeps_files = keeps;
+    give_held();
+}
+
+/* Whether a place has a lock for longer than a call. */
+static int has_for_long(const struct boddurci_place *place, enum boddurci_file lock)
+{
+    return place->opened[lock] >= 0 && (lock == BODDURCI_WRITER || place->keeps_files);
+}
+
+/* Whether this thread has a lock already: it would wait for itself. What a parent has is not a child's. */
+static int has_it_here(const struct boddurci_place *place, enum boddurci_file lock)
 {
     struct stat wanted, had;
     int is_here = 0;
-    if (fstat(place->lock, &wanted) != 0)
+    if (fstat(place->opened[lock], &wanted) != 0)
         return 0;
     take_held();
     for (const struct boddurci_place *at = held; at != NULL && !is_here; at = at->held)
-        is_here = at->process == getpid() && at->holder == this_thread && fstat(at->lock, &had) == 0 &&
+        is_here = at->process == getpid() && at->holder == this_thread && has_for_long(at, lock) && fstat(at->opened[lock], &had) == 0 &&
                   had.st_dev == wanted.st_dev && had.st_ino == wanted.st_ino;
     give_held();
     return is_here;
 }
 
-/* Waits for a lock. The system has one that is waited for without an end, and one that is tried: between two tries there are rests. */
-static int wait_for(int lock, int how, int64_t end)
+/* ---- the files of the locks */
+
+static int is_named(const struct boddurci_place *place, enum boddurci_file lock)
 {
-    if (end < 0)
-        return flock(lock, how);
-    for (long rest = 1;; rest = rest < 10 ? 2 * rest : 20) {
-        if (flock(lock, how | LOCK_NB) == 0)
-            return 0;
-        if (errno != EWOULDBLOCK)
-            return -1;
-        int64_t left = end - now();
-        if (left <= 0) {
-            errno = EWOULDBLOCK;
-            return -1;
-        }
-        struct timespec time = {0, (left < rest ? (long)left : rest) * 1000000};
-        if (nanosleep(&time, NULL) != 0)
-            return -1;
-    }
+    return boddurci_is_named(place, lock, place->opened[lock]);
 }
 
-int boddurci_is_held(const struct boddurci_place *place)
-{
-    return boddurci_is_named(place, BODDURCI_LOCK, place->lock);
-}
-
-/* Whether this run may write .pag, where that is there: a run that may not makes no lock. */
+/* Whether this process may write .pag if it exists: one that may not makes no lock. */
 static int may_write(const struct boddurci_place *place)
 {
     int opened = openat(place->folder, place->names[BODDURCI_PAGES], O_RDWR | O_NONBLOCK | O_NOCTTY | O_CLOEXEC);
@@ -182,85 +196,284 @@ static int may_write(const struct boddurci_place *place)
     return 1;
 }
 
-/* Makes the file of the lock; where another was faster, none. It may be used by all who may use .pag. */
-static uint32_t make_lock(struct boddurci_place *place, boddurci_fault *fault)
+static uint32_t cannot_be_made(enum boddurci_file lock, boddurci_fault *fault)
+{
+    return boddurci_fail_by_system(fault, lock == BODDURCI_LOCK ? "BASE.lock cannot be made" : "BASE.writer cannot be made");
+}
+
+/* Makes the file of a lock, unless another process was faster. All who may use .pag may use it. */
+static uint32_t make_lock(struct boddurci_place *place, enum boddurci_file lock, boddurci_fault *fault)
 {
     if (!may_write(place))
         return boddurci_fail_by_system(fault, "BASE.pag cannot be written");
     mode_t early = 07777, mode = boddurci_mode_of_pages(place, early);
-    int made = boddurci_make(place, BODDURCI_LOCK, mode & 0644);
+    int made = boddurci_make(place, lock, mode & 0644);
     if (made < 0)
-        return errno == EEXIST ? BODDURCI_DONE : boddurci_fail_by_system(fault, "BASE.lock cannot be made");
-    if (boddurci_be_like_pages(place, BODDURCI_LOCK, made) != 0) {
-        boddurci_fail_by_system(fault, "BASE.lock cannot be made");
-        unlinkat(place->folder, place->names[BODDURCI_LOCK], 0);
+        return errno == EEXIST ? BODDURCI_DONE : cannot_be_made(lock, fault);
+    if (boddurci_be_like_pages(place, lock, made) != 0) {
+        cannot_be_made(lock, fault);
+        unlinkat(place->folder, place->names[lock], 0);
         close(made);
         return fault->status;
     }
-    place->lock = made;
-    place->is_lock_early = mode == early;
+    place->opened[lock] = made;
+    place->is_early[lock] = mode == early;
     return BODDURCI_DONE;
 }
 
-/* Opens the file of the lock: a reader opens one that is there, and a writer makes it. */
-static uint32_t open_lock(struct boddurci_place *place, int reads, boddurci_fault *fault)
+static void close_lock(struct boddurci_place *place, enum boddurci_file lock)
+{
+    if (place->opened[lock] >= 0)
+        close(place->opened[lock]);
+    place->opened[lock] = -1;
+}
+
+/* Opens the file of a lock, anew if another file has its name by now. A writer makes it if it is missing. OPEN_HERE if this thread has the
+ * lock. */
+static uint32_t open_lock(struct boddurci_place *place, enum boddurci_file lock, int reads, boddurci_fault *fault)
 {
     uint32_t status = BODDURCI_DONE;
-    for (int tries = 0; tries < 100 && status == BODDURCI_DONE; tries++) {
-        status = boddurci_open_beside(place, BODDURCI_LOCK, reads ? O_RDONLY : O_RDWR, &place->lock, fault);
-        if (status == BODDURCI_DONE && place->lock < 0 && !reads)
-            status = make_lock(place, fault);
-        if (place->lock >= 0 || reads)
+    if (place->opened[lock] >= 0 && !is_named(place, lock))
+        close_lock(place, lock);
+    for (int tries = 0; tries < 100 && status == BODDURCI_DONE && place->opened[lock] < 0; tries++) {
+        status = boddurci_open_beside(place, lock, reads ? O_RDONLY : O_RDWR, &place->opened[lock], fault);
+        if (reads && place->opened[lock] < 0)
             return status;
+        if (status == BODDURCI_DONE && place->opened[lock] < 0)
+            status = make_lock(place, lock, fault);
     }
-    return status != BODDURCI_DONE ? status : boddurci_fail(fault, BODDURCI_MOVED, 0, "BASE.lock comes and goes");
+    if (status == BODDURCI_DONE && place->opened[lock] < 0)
+        return boddurci_fail(fault, BODDURCI_MOVED, 0, "BASE.lock or BASE.writer comes and goes");
+    if (status == BODDURCI_DONE && has_it_here(place, lock))
+        return boddurci_fail(fault, BODDURCI_OPEN_HERE, 0, boddurci_files_text(BODDURCI_OPEN_HERE));
+    return status;
 }
 
-void boddurci_give_lock(struct boddurci_place *place, int is_own)
+/* ---- taking them */
+
+/* Waits for a lock. A wait without an end is the system's; one that has an end tries again after rests. */
+static int wait_for(int lock, int how, int64_t end)
 {
-    if (place->lock < 0)
-        return;
-    forget_held(place);
-    if (is_own)
-        flock(place->lock, LOCK_UN);
-    close(place->lock);
-    place->lock = -1;
+    if (end < 0)
+        return flock(lock, how);
+    for (int tries = 0;;) {
+        if (flock(lock, how | LOCK_NB) == 0)
+            return 0;
+        if (errno != EWOULDBLOCK || rest(&tries, end) != 0)
+            return -1;
+    }
 }
 
-static uint32_t no_lock(boddurci_fault *fault)
+static int wait_through(int lock, int how)
+{
+    int status;
+    do
+        status = flock(lock, how);
+    while (status != 0 && errno == EINTR);
+    return status;
+}
+
+/* Why a reader or a writer has not got its lock or locks, by errno. */
+static uint32_t not_taken(const struct boddurci_place *place, int reads, boddurci_fault *fault)
 {
     if (errno == EWOULDBLOCK)
-        return boddurci_fail(fault, BODDURCI_LOCKED, 0, boddurci_files_text(BODDURCI_LOCKED));
+        return boddurci_fail_locked(place, reads, fault);
     if (errno == EINTR)
         return boddurci_fail(fault, BODDURCI_INTERRUPTED, 0, boddurci_files_text(BODDURCI_INTERRUPTED));
-    return boddurci_fail_by_system(fault, "BASE.lock cannot be locked");
+    return boddurci_fail_by_system(fault, reads ? "BASE.lock cannot be locked" : "BASE.lock or BASE.writer cannot be locked");
 }
 
-uint32_t boddurci_take_lock(struct boddurci_place *place, int reads, int64_t milliseconds, boddurci_fault *fault)
+static uint32_t share_lock(struct boddurci_place *place, int64_t end, boddurci_fault *fault)
 {
-    int64_t end = end_of(milliseconds);
-    pthread_once(&held_once, guard_forks);
     for (;;) {
-        uint32_t status = open_lock(place, reads, fault);
-        if (status != BODDURCI_DONE || place->lock < 0)
+        uint32_t status = open_lock(place, BODDURCI_LOCK, 1, fault);
+        if (status == BODDURCI_DONE && place->opened[BODDURCI_LOCK] < 0)
             return status;
-        if (has_it_here(place)) {
-            boddurci_give_lock(place, 0);
-            return boddurci_fail(fault, BODDURCI_OPEN_HERE, 0, boddurci_files_text(BODDURCI_OPEN_HERE));
-        }
-        if (wait_for(place->lock, reads ? LOCK_SH : LOCK_EX, end) != 0) {
-            status = no_lock(fault);
-            boddurci_give_lock(place, 0);
+        if (status == BODDURCI_DONE && wait_for(place->opened[BODDURCI_LOCK], LOCK_SH, end) != 0)
+            status = not_taken(place, 1, fault);
+        if (status != BODDURCI_DONE) {
+            close_lock(place, BODDURCI_LOCK);
             return status;
         }
-        if (boddurci_is_held(place)) {
+        if (is_named(place, BODDURCI_LOCK)) {
             note_held(place);
             return BODDURCI_DONE;
         }
-        /* Another lock has its name by now. */
-        boddurci_give_lock(place, 1);
     }
 }
+
+/* Whether somebody else has a lock exclusively. It is tried shared, so that others who look at the same time do not find each other. */
+static int is_busy(int lock)
+{
+    if (flock(lock, LOCK_SH | LOCK_NB) == 0) {
+        flock(lock, LOCK_UN);
+        return 0;
+    }
+    return errno == EWOULDBLOCK;
+}
+
+int boddurci_has_writer(const struct boddurci_place *place)
+{
+    boddurci_fault fault;
+    int opened;
+    if (place->opened[BODDURCI_LOCK] < 0)
+        return 0;
+    if (boddurci_open_beside(place, BODDURCI_WRITER, O_RDONLY, &opened, &fault) != BODDURCI_DONE || opened < 0)
+        return 0;
+    int has_writer = is_busy(opened);
+    close(opened);
+    return has_writer;
+}
+
+/* Whether a save waits for the files: the log has records, and its writer has BASE.writer shared. A writer who was killed has it no more. */
+static int is_waited_for(const struct boddurci_place *place)
+{
+    if (place->opened[BODDURCI_LOCK] < 0 || !boddurci_is_marked(place) || boddurci_has_writer(place))
+        return 0;
+    return boddurci_holder_of(place, BODDURCI_WRITER) != 0;
+}
+
+/* The system lets readers in before a writer who waits. So a reader leaves the files for a moment if a save waits for them; not without an end,
+ * since a writer may be stopped. */
+uint32_t boddurci_take_shared(struct boddurci_place *place, int64_t milliseconds, boddurci_fault *fault)
+{
+    enum { MOST = 100 };
+    static const struct timespec moment = {0, 1000000};
+    int64_t end = end_of(milliseconds);
+    uint32_t status = share_lock(place, end, fault);
+    for (int times = 0; times < MOST && milliseconds != 0 && status == BODDURCI_DONE && is_waited_for(place); times++) {
+        boddurci_give_locks(place, 1);
+        nanosleep(&moment, NULL);
+        status = share_lock(place, end, fault);
+    }
+    return status;
+}
+
+enum outcome { TAKEN, IS_BUSY, TRY_AGAIN, HAS_FAILED };
+
+/* Takes BASE.lock, and then BASE.writer without waiting; or neither of them. */
+static enum outcome lock_both(struct boddurci_place *place, int64_t end, boddurci_fault *fault)
+{
+    int files = place->opened[BODDURCI_LOCK], writer = place->opened[BODDURCI_WRITER];
+    if (wait_for(files, LOCK_EX, end) != 0) {
+        not_taken(place, 0, fault);
+        return HAS_FAILED;
+    }
+    enum outcome outcome = TRY_AGAIN;
+    if (is_named(place, BODDURCI_LOCK))
+        outcome = flock(writer, LOCK_EX | LOCK_NB) == 0 ? TAKEN : errno == EWOULDBLOCK ? IS_BUSY : HAS_FAILED;
+    if (outcome == HAS_FAILED)
+        not_taken(place, 0, fault);
+    if (outcome == TAKEN && is_named(place, BODDURCI_WRITER))
+        return TAKEN;
+    if (outcome == TAKEN)
+        flock(writer, LOCK_UN);
+    flock(files, LOCK_UN);
+    return outcome == TAKEN ? TRY_AGAIN : outcome;
+}
+
+/* The same. It leaves BASE.lock alone as long as BASE.writer is busy, but not if this is the only try: then another process that only looks
+ * might be found. */
+static enum outcome try_both(struct boddurci_place *place, int64_t end, int is_only, boddurci_fault *fault)
+{
+    for (enum boddurci_file lock = BODDURCI_LOCK; lock <= BODDURCI_WRITER; lock++)
+        if (open_lock(place, lock, 0, fault) != BODDURCI_DONE)
+            return HAS_FAILED;
+    if (!is_only && is_busy(place->opened[BODDURCI_WRITER]))
+        return IS_BUSY;
+    return lock_both(place, end, fault);
+}
+
+/* Takes both locks of a writer. */
+static uint32_t take_both(struct boddurci_place *place, int64_t milliseconds, boddurci_fault *fault)
+{
+    int64_t end = end_of(milliseconds);
+    enum outcome outcome = TRY_AGAIN;
+    for (int tries = 0; outcome == TRY_AGAIN || outcome == IS_BUSY;) {
+        outcome = try_both(place, end, milliseconds == 0, fault);
+        if (outcome != IS_BUSY || rest(&tries, end) == 0)
+            continue;
+        not_taken(place, 0, fault);
+        outcome = HAS_FAILED;
+    }
+    if (outcome == TAKEN) {
+        flock(place->opened[BODDURCI_WRITER], LOCK_SH);
+        note_held(place);
+        return BODDURCI_DONE;
+    }
+    close_lock(place, BODDURCI_LOCK);
+    close_lock(place, BODDURCI_WRITER);
+    return fault->status;
+}
+
+/* ---- while a base is open */
+
+/* Tries for a moment to have a lock alone, with no sleep in between, and at first without leaving the processor: a reader of few pages is done
+ * sooner than a thread is woken. After a failure the lock is not even shared. */
+static int take_soon(int lock)
+{
+    enum { TRIES = 1000, QUICK = 100 };
+    for (int i = 0; i < TRIES; i++) {
+        if (flock(lock, LOCK_EX | LOCK_NB) == 0)
+            return 0;
+        if (i >= QUICK)
+            sched_yield();
+    }
+    return -1;
+}
+
+int boddurci_take_files(struct boddurci_place *place)
+{
+    int files = place->opened[BODDURCI_LOCK], writer = place->opened[BODDURCI_WRITER];
+    if (place->keeps_files)
+        return 0;
+    if (take_soon(files) == 0)
+        return wait_through(writer, LOCK_SH);
+    /* BASE.writer is shared first, by which readers who come now see that a save waits (is_waited_for). */
+    return wait_through(writer, LOCK_SH) != 0 || wait_through(files, LOCK_EX) != 0 ? -1 : 0;
+}
+
+int boddurci_share_files(struct boddurci_place *place)
+{
+    return place->keeps_files ? 0 : wait_through(place->opened[BODDURCI_LOCK], LOCK_SH);
+}
+
+/* Only processes that look have BASE.writer too, for a moment: to write they would need BASE.lock. If one of them is stopped then, BASE.writer
+ * stays shared, and readers use the log until the next save. */
+void boddurci_give_files(struct boddurci_place *place)
+{
+    set_keeps_files(place, 0);
+    if (take_soon(place->opened[BODDURCI_WRITER]) != 0)
+        (void)!wait_through(place->opened[BODDURCI_WRITER], LOCK_SH);
+    flock(place->opened[BODDURCI_LOCK], LOCK_UN);
+}
+
+void boddurci_keep_files(struct boddurci_place *place)
+{
+    set_keeps_files(place, 1);
+}
+
+uint32_t boddurci_are_held(const struct boddurci_place *place, boddurci_fault *fault)
+{
+    if (place->opened[BODDURCI_LOCK] < 0 || !is_named(place, BODDURCI_LOCK))
+        return boddurci_fail(fault, BODDURCI_MOVED, 0, "BASE.lock is another file than is held, and nothing was written");
+    if (place->opened[BODDURCI_WRITER] < 0 || !is_named(place, BODDURCI_WRITER))
+        return boddurci_fail(fault, BODDURCI_MOVED, 0, "BASE.writer is another file than is held, and nothing was written");
+    return BODDURCI_DONE;
+}
+
+/* BASE.writer goes first: who has BASE.lock then finds it free. */
+void boddurci_give_locks(struct boddurci_place *place, int is_own)
+{
+    forget_held(place);
+    for (enum boddurci_file lock = BODDURCI_WRITER; lock >= BODDURCI_LOCK; lock--) {
+        if (is_own && place->opened[lock] >= 0)
+            flock(place->opened[lock], LOCK_UN);
+        close_lock(place, lock);
+    }
+}
+
+/* ---- entering */
 
 /* Whether the name leads where it led before it was waited for. */
 static uint32_t leads_there(const char *base, boddurci_fault *fault)
@@ -282,8 +495,9 @@ uint32_t boddurci_enter(struct boddurci_place *place, const char *name, int read
     const char *base = led != NULL ? led : name;
     if (status == BODDURCI_DONE)
         status = boddurci_place_of(place, base, fault);
+    pthread_once(&held_once, guard_forks);
     if (status == BODDURCI_DONE)
-        status = boddurci_take_lock(place, reads, milliseconds, fault);
+        status = reads ? boddurci_take_shared(place, milliseconds, fault) : take_both(place, milliseconds, fault);
     if (status == BODDURCI_DONE)
         status = leads_there(base, fault);
     free(led);

@@ -6,12 +6,13 @@
 #include <fcntl.h>
 #include <pthread.h>
 #include <stdlib.h>
+#include <string.h>
 #include <sys/stat.h>
 #include <unistd.h>
 
 /* The room that is asked for, and the room if the disk has not that much. A redo file without a mark that is longer than the last one is
- * removed. */
-static const size_t ROOM = 1 << 20, LEAST_ROOM = 1 << 16, MOST_UNUSED = 1 << 28;
+ * removed: each opening that may write reads it. */
+static const size_t ROOM = 1 << 20, LEAST_ROOM = 1 << 16, MOST_UNUSED = 1 << 24;
 
 static uint32_t cannot_be_written(const struct boddurci_disk *disk, boddurci_fault *fault)
 {
@@ -100,10 +101,10 @@ static uint32_t ask(const struct boddurci_bytes files[3], size_t room, boddurci_
     return boddurci_is_within_limits(steps) ? status : too_long(fault);
 }
 
-/* Asks for the steps of a save. A change has a block of 1,024 bytes twice, as a rule. */
+/* Asks for the steps of a save. A change has 128 bytes of a block twice, or more. */
 static uint32_t ask_save(struct boddurci_bytes bytes, boddurci_log *log, struct boddurci_steps *steps, boddurci_fault *fault)
 {
-    size_t words = (bytes.length / 2048 + 32) * WORDS, room, committed = 0;
+    size_t words = (bytes.length / 256 + 32) * WORDS, room, committed = 0;
     uint32_t status = BODDURCI_SHORT_ROOM;
     while (status == BODDURCI_SHORT_ROOM) {
         room = words;
@@ -145,6 +146,16 @@ static uint32_t look(const struct boddurci_place *place, int *opened, int *is_ma
     return *is_marked < 0 ? boddurci_fail_by_system(fault, "BASE.redo cannot be read") : status;
 }
 
+int boddurci_is_marked(const struct boddurci_place *place)
+{
+    boddurci_fault fault;
+    int opened = -1, is_marked;
+    uint32_t status = look(place, &opened, &is_marked, &fault);
+    if (opened >= 0)
+        close(opened);
+    return status == BODDURCI_DONE && is_marked;
+}
+
 static uint32_t look_only(const struct boddurci_place *place, int *is_marked, boddurci_fault *fault)
 {
     int opened = -1;
@@ -160,7 +171,7 @@ void boddurci_logged_of(struct boddurci_logged *logged, struct boddurci_place *p
 {
     boddurci_disk_of(&logged->disk, place);
     logged->notes = notes;
-    logged->is_open = logged->is_doubtful = 0;
+    logged->is_open = logged->is_doubtful = logged->is_given_up = 0;
 }
 
 /* Leaves the log after a call that failed: whoever opens it next recovers it. Without its mark it is of no use, and it is removed, since the
@@ -170,8 +181,10 @@ static void give_up(struct boddurci_logged *logged)
     struct boddurci_disk *disk = &logged->disk;
     int system = errno, last = (int)disk->last, redo = disk->files[BODDURCI_REDO];
     logged->is_open = 0;
+    logged->is_given_up = 1;
     if (redo >= 0 && has_mark(redo) == 0) {
-        boddurci_release_room(disk);
+        if (disk->has_reserved)
+            boddurci_release_room(disk);
         logged->is_doubtful = !boddurci_is_named(disk->place, BODDURCI_REDO, redo) || boddurci_disk_remove_redo(disk) != 0;
     }
     boddurci_disk_drop(disk, BODDURCI_REDO);
@@ -250,6 +263,7 @@ static uint32_t do_open(struct boddurci_logged *logged, struct boddurci_bytes re
     int is_written = redo.length == 0 || boddurci_disk_write(disk, BODDURCI_REDO, 0, redo.at, redo.length) == 0;
     if (is_written && boddurci_do_steps(disk, steps->at, steps->count, steps->bytes) == 0) {
         logged->is_open = 1;
+        logged->is_given_up = 0;
         return BODDURCI_DONE;
     }
     give_up(logged);
@@ -282,6 +296,8 @@ static int is_full(const boddurci_fault *fault)
 
 static uint32_t open_log(struct boddurci_logged *logged, boddurci_fault *fault)
 {
+    if (boddurci_take_files(logged->disk.place) != 0)
+        return boddurci_fail_by_system(fault, "BASE.lock cannot be locked");
     uint32_t status = try_open(logged, ROOM, fault);
     if (status == BODDURCI_DONE || !is_full(fault))
         return status;
@@ -299,6 +315,8 @@ uint32_t boddurci_logged_recover(struct boddurci_logged *logged, int *is_ended, 
     logged->is_open = 0;
     boddurci_disk_drop(disk, BODDURCI_REDO);
     uint32_t status = look_only(disk->place, is_ended, fault);
+    if (status == BODDURCI_DONE && !*is_ended)
+        logged->is_given_up = 0;
     if (status != BODDURCI_DONE || !*is_ended)
         return status;
     status = open_log(logged, fault);
@@ -306,10 +324,41 @@ uint32_t boddurci_logged_recover(struct boddurci_logged *logged, int *is_ended, 
     if (status != BODDURCI_FILE_FAILED || look_only(disk->place, &is_marked, &second) != BODDURCI_DONE || is_marked)
         return status;
     /* The data files are recovered, and there is no room for a log yet. */
+    logged->is_given_up = 0;
     return boddurci_no_fault(fault);
 }
 
 /* ---- saving */
+
+/* Whether the steps that commit a save only append its record to the log. The others empty the log first. */
+static int only_append(const struct boddurci_steps *steps)
+{
+    for (size_t i = 0; i < steps->committed; i++)
+        if (steps->at[i].file < 2 || (steps->at[i].kind != BODDURCI_WRITE && steps->at[i].kind != BODDURCI_SYNC))
+            return 0;
+    return 1;
+}
+
+/* Commits a save. Readers may read the data files meanwhile, but not the log while it is emptied. */
+static int commit(struct boddurci_logged *logged, const struct boddurci_steps *steps)
+{
+    if (!only_append(steps) && boddurci_take_files(logged->disk.place) != 0)
+        return -1;
+    if (boddurci_do_steps(&logged->disk, steps->at, steps->committed, steps->bytes) == 0)
+        return 0;
+    give_up(logged);
+    return -1;
+}
+
+/* Does a committed save in the data files. */
+static int apply(struct boddurci_logged *logged, const struct boddurci_steps *steps)
+{
+    struct boddurci_disk *disk = &logged->disk;
+    if (boddurci_take_files(disk->place) != 0)
+        return -1;
+    boddurci_look_meanwhile(logged->notes, disk);
+    return boddurci_do_steps(disk, steps->at + steps->committed, steps->count - steps->committed, steps->bytes);
+}
 
 /* Commits a save, and does it in the data files. */
 static uint32_t do_save(struct boddurci_logged *logged, const struct boddurci_steps *steps, int *is_left, boddurci_fault *fault)
@@ -317,12 +366,9 @@ static uint32_t do_save(struct boddurci_logged *logged, const struct boddurci_st
     struct boddurci_disk *disk = &logged->disk;
     if (boddurci_may_write(disk, steps) != 0 || boddurci_take_room(disk, steps) != 0)
         return cannot_be_written(disk, fault);
-    if (boddurci_do_steps(disk, steps->at, steps->committed, steps->bytes) != 0) {
-        give_up(logged);
+    if (commit(logged, steps) != 0)
         return cannot_be_written(disk, fault);
-    }
-    boddurci_look_meanwhile(logged->notes, disk);
-    *is_left = boddurci_do_steps(disk, steps->at + steps->committed, steps->count - steps->committed, steps->bytes) != 0;
+    *is_left = apply(logged, steps) != 0;
     if (!*is_left)
         return BODDURCI_DONE;
     give_up(logged);
@@ -343,6 +389,59 @@ uint32_t boddurci_logged_save(struct boddurci_logged *logged, struct boddurci_by
         logged->next = next;
     free_steps(&steps);
     return status;
+}
+
+/* ---- the mark of an open base */
+
+int boddurci_logged_is_marked(const struct boddurci_logged *logged)
+{
+    return logged->is_open && logged->next.end != 0;
+}
+
+static void put_number(uint8_t *at, uint64_t number)
+{
+    for (int i = 0; i < 4; i++)
+        at[i] = (uint8_t)(number >> 8 * i);
+}
+
+/* Commits a plan that changes nothing: boddurci.h has its form. The steps after the commit are left out, since each file has its length. */
+static uint32_t commit_nothing(struct boddurci_logged *logged, const uint64_t lengths[2], boddurci_fault *fault)
+{
+    uint8_t record[BODDURCI_PLAN_AT + 28] = {0}, *plan = record + BODDURCI_PLAN_AT;
+    struct boddurci_bytes bytes = {record, sizeof record, 0};
+    struct boddurci_steps steps = {NULL, 0, 0, NULL, 0, NULL};
+    boddurci_log next = logged->next;
+    memcpy(plan, "sdbmred2", 8);
+    for (int i = 0; i < 4; i++)
+        put_number(plan + 8 + 4 * i, lengths[i % 2]);
+    uint32_t status = ask_save(bytes, &next, &steps, fault);
+    if (status == BODDURCI_DONE && boddurci_do_steps(&logged->disk, steps.at, steps.committed, steps.bytes) != 0) {
+        give_up(logged);
+        status = cannot_be_written(&logged->disk, fault);
+    }
+    if (status == BODDURCI_DONE)
+        logged->next = next;
+    free_steps(&steps);
+    return status;
+}
+
+uint32_t boddurci_logged_mark(struct boddurci_logged *logged, boddurci_fault *fault)
+{
+    struct boddurci_disk *disk = &logged->disk;
+    uint64_t lengths[2];
+    if (boddurci_logged_is_marked(logged))
+        return BODDURCI_DONE;
+    for (enum boddurci_file file = BODDURCI_PAGES; file <= BODDURCI_DIRECTORY; file++)
+        if (boddurci_disk_length(disk, file, &lengths[file]) != 0)
+            return cannot_be_written(disk, fault);
+    if (disk->files[BODDURCI_PAGES] < 0)
+        return BODDURCI_DONE;
+    if (boddurci_take_files(disk->place) != 0)
+        return boddurci_fail_by_system(fault, "BASE.lock cannot be locked");
+    /* A mark that fails leaves the times of the data files as they are: the next save would take them for another program's. */
+    disk->has_reserved = 0;
+    uint32_t status = logged->is_open ? BODDURCI_DONE : open_log(logged, fault);
+    return status == BODDURCI_DONE ? commit_nothing(logged, lengths, fault) : status;
 }
 
 /* ---- closing */
@@ -380,9 +479,10 @@ static int is_of_use(struct boddurci_disk *disk)
 void boddurci_logged_end(struct boddurci_logged *logged)
 {
     struct boddurci_disk *disk = &logged->disk;
+    boddurci_fault lost;
     int could_be_cancelled;
     pthread_setcancelstate(PTHREAD_CANCEL_DISABLE, &could_be_cancelled);
-    logged->is_open = logged->is_open && boddurci_is_held(disk->place);
+    logged->is_open = logged->is_open && boddurci_are_held(disk->place, &lost) == BODDURCI_DONE;
     boddurci_hold_signal(disk);
     if (logged->is_open && logged->next.end != 0 && close_log(logged) != 0)
         give_up(logged);
@@ -396,7 +496,7 @@ void boddurci_logged_end(struct boddurci_logged *logged)
 
 /* ---- reading only */
 
-/* Syncs a marked redo file that a reader is to use: else what is read might not be so once the machine stops. If nothing may be written
+/* Syncs a marked redo file that a reader has read: else what is read might not be so once the machine stops. If nothing may be written
  * nothing is to be synced. */
 static uint32_t keep_marked(struct boddurci_place *place, int redo, boddurci_fault *fault)
 {
@@ -409,9 +509,9 @@ static uint32_t keep_marked(struct boddurci_place *place, int redo, boddurci_fau
 static uint32_t read_done(struct boddurci_place *place, int redo, struct boddurci_bytes files[3], boddurci_fault *fault)
 {
     struct boddurci_steps steps = {NULL, 0, 0, NULL, 0, NULL};
-    uint32_t status = keep_marked(place, redo, fault);
+    uint32_t status = boddurci_read_all(redo, BODDURCI_REDO, &files[BODDURCI_REDO], fault);
     if (status == BODDURCI_DONE)
-        status = boddurci_read_all(redo, BODDURCI_REDO, &files[BODDURCI_REDO], fault);
+        status = keep_marked(place, redo, fault);
     for (enum boddurci_file file = BODDURCI_PAGES; status == BODDURCI_DONE && file <= BODDURCI_DIRECTORY; file++)
         status = boddurci_read_data(place, file, &files[file], fault);
     if (status == BODDURCI_DONE)

@@ -1,4 +1,4 @@
-/* The folder of a database, and its files, by their names in it. A file beside the database, its redo file or its lock, is taken only where
+/* The folder of a database, and its files, by their names in it. A file beside the database, its redo file or a lock, is taken only where
  * nobody has made it who may not write .pag; docs/DECISIONS.md says why under "Calls from C". */
 #define _GNU_SOURCE
 #include "boddurci_saves.h"
@@ -42,13 +42,20 @@ static int open_folder(const char *base)
     return opened;
 }
 
+void boddurci_no_place(struct boddurci_place *place)
+{
+    static const struct boddurci_place none = {.folder = -1};
+    *place = none;
+    for (enum boddurci_file file = BODDURCI_PAGES; file < BODDURCI_FILES; file++)
+        place->opened[file] = -1;
+}
+
 uint32_t boddurci_place_of(struct boddurci_place *place, const char *base, boddurci_fault *fault)
 {
-    static const char *const endings[4] = {".pag", ".dir", ".redo", ".lock"};
-    static const struct boddurci_place none = {.folder = -1, .lock = -1};
+    static const char *const endings[BODDURCI_FILES] = {".pag", ".dir", ".redo", ".lock", ".writer"};
     const char *end = strrchr(base, '/');
-    *place = none;
-    for (enum boddurci_file file = BODDURCI_PAGES; file <= BODDURCI_LOCK; file++) {
+    boddurci_no_place(place);
+    for (enum boddurci_file file = BODDURCI_PAGES; file < BODDURCI_FILES; file++) {
         place->names[file] = joined(end != NULL ? end + 1 : base, endings[file]);
         if (place->names[file] == NULL)
             return boddurci_no_memory(fault);
@@ -59,13 +66,14 @@ uint32_t boddurci_place_of(struct boddurci_place *place, const char *base, boddu
 
 void boddurci_place_close(struct boddurci_place *place)
 {
-    for (enum boddurci_file file = BODDURCI_PAGES; file <= BODDURCI_LOCK; file++)
-        free(place->names[file]);
     boddurci_see_none(place);
+    for (enum boddurci_file file = BODDURCI_PAGES; file < BODDURCI_FILES; file++) {
+        free(place->names[file]);
+        if (place->opened[file] >= 0)
+            close(place->opened[file]);
+    }
     if (place->folder >= 0)
         close(place->folder);
-    if (place->lock >= 0)
-        close(place->lock);
 }
 
 /* Closes a file that is not taken, for this reason. */
@@ -95,7 +103,7 @@ int boddurci_see(struct boddurci_place *place, enum boddurci_file file, int open
 {
     struct stat found;
     struct boddurci_seen *seen = &place->seen[file];
-    if (fstat(opened, &found) != 0)
+    if (boddurci_look_at(opened, &found) != 0)
         return -1;
     if (seen->is_there && (seen->device != found.st_dev || seen->number != found.st_ino)) {
         errno = ESTALE;
@@ -148,11 +156,16 @@ static uint32_t not_taken(boddurci_fault *fault, const char *name, const char *w
     return fault->status;
 }
 
+static int is_lock(enum boddurci_file file)
+{
+    return file >= BODDURCI_LOCK;
+}
+
 /* Whether all who may write a file may write .pag; .pag is NULL where it is not there, and a lock, which has no bytes, may be written then. */
 static int is_writing_safe(enum boddurci_file file, const struct stat *found, const struct stat *pages)
 {
     if (pages == NULL)
-        return file == BODDURCI_LOCK || (found->st_mode & (S_IWGRP | S_IWOTH)) == 0;
+        return is_lock(file) || (found->st_mode & (S_IWGRP | S_IWOTH)) == 0;
     if (pages->st_mode & S_IWOTH)
         return 1;
     int is_group_safe = (pages->st_mode & S_IWGRP) != 0 && pages->st_gid == found->st_gid;
@@ -165,7 +178,7 @@ static int is_owner_safe(enum boddurci_file file, const struct stat *found, cons
 {
     if (found->st_uid == geteuid() || found->st_uid == 0 || (pages != NULL && found->st_uid == pages->st_uid))
         return 1;
-    if (file != BODDURCI_LOCK || pages == NULL)
+    if (!is_lock(file) || pages == NULL)
         return 0;
     return (pages->st_mode & S_IWOTH) != 0 || ((pages->st_mode & S_IWGRP) != 0 && found->st_gid == pages->st_gid);
 }
@@ -180,7 +193,7 @@ static uint32_t look(const struct boddurci_place *place, enum boddurci_file file
         return not_taken(fault, name, kind);
     if (found->st_nlink > 1)
         return not_taken(fault, name, "has another name beside this one");
-    int is_there = fstatat(place->folder, place->names[BODDURCI_PAGES], &pages, 0) == 0;
+    int is_there = boddurci_look(place->folder, place->names[BODDURCI_PAGES], 0, &pages) == 0;
     if (!is_there && errno != ENOENT)
         return boddurci_fail_by_system(fault, "BASE.pag cannot be looked at");
     const struct stat *beside = is_there ? &pages : NULL;
@@ -192,14 +205,15 @@ static uint32_t look(const struct boddurci_place *place, enum boddurci_file file
 
 static uint32_t cannot_be_opened(enum boddurci_file file, boddurci_fault *fault)
 {
-    return boddurci_fail_by_system(fault, file == BODDURCI_REDO ? "BASE.redo cannot be opened" : "BASE.lock cannot be opened");
+    const char *lock = file == BODDURCI_LOCK ? "BASE.lock cannot be opened" : "BASE.writer cannot be opened";
+    return boddurci_fail_by_system(fault, file == BODDURCI_REDO ? "BASE.redo cannot be opened" : lock);
 }
 
 /* Opens it; a lock that may only be read serves too. */
 static int open_found(const struct boddurci_place *place, enum boddurci_file file, int how)
 {
     int more = O_NOFOLLOW | O_NONBLOCK | O_NOCTTY | O_CLOEXEC, opened = openat(place->folder, place->names[file], how | more);
-    if (opened < 0 && file == BODDURCI_LOCK && errno != ENOENT)
+    if (opened < 0 && is_lock(file) && errno != ENOENT)
         opened = openat(place->folder, place->names[file], O_RDONLY | more);
     return opened;
 }
@@ -208,7 +222,7 @@ uint32_t boddurci_open_beside(const struct boddurci_place *place, enum boddurci_
 {
     struct stat found;
     *opened = -1;
-    if (fstatat(place->folder, place->names[file], &found, AT_SYMLINK_NOFOLLOW) != 0)
+    if (boddurci_look(place->folder, place->names[file], AT_SYMLINK_NOFOLLOW, &found) != 0)
         return errno == ENOENT ? BODDURCI_DONE : cannot_be_opened(file, fault);
     uint32_t status = look(place, file, &found, fault);
     if (status != BODDURCI_DONE)
@@ -217,7 +231,7 @@ uint32_t boddurci_open_beside(const struct boddurci_place *place, enum boddurci_
     if (there < 0)
         return errno == ENOENT ? BODDURCI_DONE : cannot_be_opened(file, fault);
     /* It may be another by now. */
-    status = fstat(there, &found) == 0 ? look(place, file, &found, fault) : cannot_be_opened(file, fault);
+    status = boddurci_look_at(there, &found) == 0 ? look(place, file, &found, fault) : cannot_be_opened(file, fault);
     if (status == BODDURCI_DONE)
         *opened = there;
     else
@@ -233,7 +247,7 @@ int boddurci_make(const struct boddurci_place *place, enum boddurci_file file, m
 mode_t boddurci_mode_of_pages(const struct boddurci_place *place, mode_t otherwise)
 {
     struct stat pages;
-    return fstatat(place->folder, place->names[BODDURCI_PAGES], &pages, 0) == 0 ? pages.st_mode & 0666 : otherwise;
+    return boddurci_look(place->folder, place->names[BODDURCI_PAGES], 0, &pages) == 0 ? pages.st_mode & 0666 : otherwise;
 }
 
 /* Gives a file an owner and a group, each alone. Where the system does not let it be given away, it stays the user's own. */
@@ -251,7 +265,7 @@ static int give(int opened, const struct stat *pages, struct stat *own)
 int boddurci_be_like_pages(const struct boddurci_place *place, enum boddurci_file file, int opened)
 {
     struct stat own, pages;
-    if (fstatat(place->folder, place->names[BODDURCI_PAGES], &pages, 0) != 0)
+    if (boddurci_look(place->folder, place->names[BODDURCI_PAGES], 0, &pages) != 0)
         return errno == ENOENT ? 0 : -1;
     if (give(opened, &pages, &own) != 0)
         return -1;
@@ -259,7 +273,7 @@ int boddurci_be_like_pages(const struct boddurci_place *place, enum boddurci_fil
     int has_owner = own.st_uid == pages.st_uid, has_group = own.st_gid == pages.st_gid;
     if (!has_group)
         mode &= ~(mode_t)S_IRWXG;
-    if (file == BODDURCI_LOCK && !(has_owner && has_group))
+    if (is_lock(file) && !(has_owner && has_group))
         mode |= S_IROTH;
     return fchmod(opened, mode);
 }
@@ -267,7 +281,7 @@ int boddurci_be_like_pages(const struct boddurci_place *place, enum boddurci_fil
 int boddurci_is_like_pages(const struct boddurci_place *place, int opened)
 {
     struct stat own, pages;
-    if (fstatat(place->folder, place->names[BODDURCI_PAGES], &pages, 0) != 0 || fstat(opened, &own) != 0)
+    if (boddurci_look(place->folder, place->names[BODDURCI_PAGES], 0, &pages) != 0 || boddurci_look_at(opened, &own) != 0)
         return 0;
     return own.st_uid == pages.st_uid && own.st_gid == pages.st_gid && (own.st_mode & 07777) == (pages.st_mode & 0666);
 }
@@ -276,11 +290,15 @@ int boddurci_look(int folder, const char *name, int how, struct stat *found)
 {
 #ifdef STATX_INO
     struct statx is;
-    if (statx(folder, name, how, STATX_INO | STATX_SIZE, &is) == 0) {
+    if (statx(folder, name, how, STATX_INO | STATX_SIZE | STATX_TYPE | STATX_MODE | STATX_NLINK | STATX_UID | STATX_GID, &is) == 0) {
         memset(found, 0, sizeof *found);
         found->st_dev = makedev(is.stx_dev_major, is.stx_dev_minor);
         found->st_ino = is.stx_ino;
         found->st_size = (off_t)is.stx_size;
+        found->st_mode = is.stx_mode;
+        found->st_nlink = is.stx_nlink;
+        found->st_uid = is.stx_uid;
+        found->st_gid = is.stx_gid;
         return 0;
     }
     if (errno != ENOSYS && errno != EPERM)

@@ -14,7 +14,8 @@
 
 #pragma GCC visibility push(hidden)
 
-enum boddurci_file { BODDURCI_PAGES, BODDURCI_DIRECTORY, BODDURCI_REDO, BODDURCI_LOCK };
+/* BASE.pag, .dir, .redo, .lock and .writer. The last two are locks: they have no bytes. */
+enum boddurci_file { BODDURCI_PAGES, BODDURCI_DIRECTORY, BODDURCI_REDO, BODDURCI_LOCK, BODDURCI_WRITER, BODDURCI_FILES };
 
 /* The bytes of a file. `boddurci_let_go` frees them: a mapping of `room` bytes, or memory of malloc if `room` is 0. */
 struct boddurci_bytes {
@@ -46,6 +47,10 @@ int boddurci_set_length(struct boddurci_bytes *bytes, size_t length);
 /* Reads the first bytes of an opened file, of which there were none before. Its holes take no memory. */
 int boddurci_read_bytes(int file, size_t length, struct boddurci_bytes *bytes);
 
+/* Reads the first bytes of an opened file into memory of malloc, holes as zeros. A process that does so again has that memory still, without a
+ * fault for each of its pages. */
+int boddurci_read_short(int file, size_t length, struct boddurci_bytes *bytes);
+
 /* Whether the first bytes of an opened file have data, or are one hole. */
 int boddurci_has_data(int file, size_t length);
 
@@ -73,19 +78,22 @@ struct boddurci_seen {
     ino_t number;
 };
 
-/* The folder is kept open, so that the names in it lead where they led, whatever becomes of the path. */
+/* The folder is kept open, so that the names in it lead where they led, whatever becomes of the path. `opened` and `is_early` are of the locks
+ * alone. */
 struct boddurci_place {
     int folder;                   /* or -1 */
-    char *names[4];               /* of the files, in the folder */
+    char *names[BODDURCI_FILES];  /* of the files, in the folder */
     struct boddurci_seen seen[2]; /* the data files that were there when they were last opened */
-    int lock;                     /* the file of the lock, or -1 */
+    int opened[BODDURCI_FILES];   /* the file of a lock, or -1 */
+    int is_early[BODDURCI_FILES]; /* this process has made the lock when .pag was missing */
+    int keeps_files;              /* BASE.lock stays locked between the calls of the base */
     struct boddurci_place *held;  /* the next of those whose locks this process has */
-    unsigned long holder;         /* the thread that has taken the lock, by a number of its own */
+    unsigned long holder;         /* the thread that has taken the locks, by a number of its own */
     pid_t process;                /* and its process */
-    int is_lock_early;            /* this run has made it, and there was no .pag yet */
 };
 
-/* The place of a base; and what is to be called in any case. */
+/* No place, and the place of a base; and what is to be called in any case. */
+void boddurci_no_place(struct boddurci_place *place);
 uint32_t boddurci_place_of(struct boddurci_place *place, const char *base, boddurci_fault *fault);
 void boddurci_place_close(struct boddurci_place *place);
 
@@ -101,7 +109,7 @@ void boddurci_see_none(struct boddurci_place *place);
 uint32_t boddurci_open_to_read(struct boddurci_place *place, enum boddurci_file file, int must_exist, int *opened, boddurci_fault *fault);
 uint32_t boddurci_read_data(struct boddurci_place *place, enum boddurci_file file, struct boddurci_bytes *bytes, boddurci_fault *fault);
 
-/* Opens the redo file or the lock where it is there, and else tells -1: UNSAFE where a stranger may have made it. */
+/* Opens the redo file or a lock if it exists; *opened is -1 if not. UNSAFE if a stranger may have made it. */
 uint32_t boddurci_open_beside(const struct boddurci_place *place, enum boddurci_file file, int how, int *opened, boddurci_fault *fault);
 
 /* Makes one of the files, which is not there. */
@@ -113,8 +121,8 @@ int boddurci_be_like_pages(const struct boddurci_place *place, enum boddurci_fil
 /* Whether an opened file has the owner, the group and the permissions of .pag. */
 int boddurci_is_like_pages(const struct boddurci_place *place, int opened);
 
-/* Which file it is, and how long, of a name in a folder or of an opened file; nothing else is told. To ask for the times of a file has the
- * system give it new ones at its next write, and those are a second write for a sync on some file systems. */
+/* Which file it is, of what kind and length, and who may use it, of a name in a folder or of an opened file; but not its times. To ask for the
+ * times of a file has the system give it new ones at its next write, and those are a second write for a sync on some file systems. */
 struct stat;
 int boddurci_look(int folder, const char *name, int how, struct stat *found);
 int boddurci_look_at(int opened, struct stat *found);
@@ -131,20 +139,50 @@ int boddurci_keep_folder(const struct boddurci_place *place);
 /* Keeps what stands in an opened file. */
 int boddurci_keep_opened(int opened);
 
-/* ---- boddurci_lock.c: which base a name means, and its lock */
+/* ---- boddurci_lock.c: which base a name means, and its locks
+ *
+ * BASE.lock says who uses the files now: a writer locks it exclusively while it opens the base, during each save and when it closes, and a
+ * reader shared while it reads. BASE.writer says who may change the database: a writer locks it for as long as it has the base open. A writer
+ * gets BASE.writer only while it has BASE.lock, and gives BASE.lock back once the files are recovered and read. So if somebody has BASE.writer
+ * exclusively while a reader has BASE.lock, the data files are those of the last save.
+ *
+ * While a writer has BASE.lock exclusively, it has BASE.writer shared. If it is killed then, the data files may have half of a save, and the
+ * system may give BASE.lock back before BASE.writer: a reader who gets it must not take the files for whole.
+ *
+ * A save shares BASE.lock with readers while it plans, appends its record and syncs it, which takes most of its time: the data files stay as
+ * they are. It has BASE.lock alone while it writes them, and while it opens the log or empties it. If it kept readers out for all of its time,
+ * one that tries again and again would hardly ever find BASE.lock free beside a service that saves without a pause. */
 
-/* The place of the base to which a name leads, under the lock. A reader does without where its file is not there, and then there is none.
- * No end of the waiting is a time below 0. The place is to be closed in any case. */
+/* Sets the place of the base to which a name leads, and takes its locks: both for a writer; for a reader only BASE.lock, and none if that is
+ * missing. A wait has no end if `milliseconds` is below 0, and there is one try if it is 0. Close the place in any case. */
 uint32_t boddurci_enter(struct boddurci_place *place, const char *name, int reads, int64_t milliseconds, boddurci_fault *fault);
 
-/* Takes the lock of a place that is entered without. OPEN_HERE where this thread has it already, and would wait for itself. */
-uint32_t boddurci_take_lock(struct boddurci_place *place, int reads, int64_t milliseconds, boddurci_fault *fault);
+/* Takes BASE.lock for a reader that has none, if it exists by now. OPEN_HERE if this thread has it: it would wait for itself. */
+uint32_t boddurci_take_shared(struct boddurci_place *place, int64_t milliseconds, boddurci_fault *fault);
 
-/* Whether the name of the lock leads to the file that is held. */
-int boddurci_is_held(const struct boddurci_place *place);
+/* Whether another process, or another base of this one, may change the database. Call it while BASE.lock is held. */
+int boddurci_has_writer(const struct boddurci_place *place);
 
-/* Lets the lock go: for all who have the descriptor, or, in a child, for nobody else. */
-void boddurci_give_lock(struct boddurci_place *place, int is_own);
+/* Takes BASE.lock for a writer that is open, exclusively or shared with readers, and waits without an end; does nothing if the place keeps it.
+ * Each call turns the lock of the other into its own. The third gives it back, and the fourth keeps it until a later call of the third. */
+int boddurci_take_files(struct boddurci_place *place);
+int boddurci_share_files(struct boddurci_place *place);
+void boddurci_give_files(struct boddurci_place *place);
+void boddurci_keep_files(struct boddurci_place *place);
+
+/* MOVED if the name of a lock of a writer leads to another file than is held. */
+uint32_t boddurci_are_held(const struct boddurci_place *place, boddurci_fault *fault);
+
+/* Gives both locks back. In a child that closes their files alone: they stay its parent's. */
+void boddurci_give_locks(struct boddurci_place *place, int is_own);
+
+/* ---- boddurci_holder.c: which process has a lock */
+
+/* The process that has one of the locks, exclusively or shared, or 0 if the system does not tell it. */
+long boddurci_holder_of(const struct boddurci_place *place, enum boddurci_file lock);
+
+/* Sets the fault LOCKED, with the process that keeps a reader or a writer out, if the system tells it. */
+uint32_t boddurci_fail_locked(const struct boddurci_place *place, int reads, boddurci_fault *fault);
 
 /* ---- crates/boddurci_logs: the steps of a log. docs/DESIGN.md says what they promise, and they are proved. */
 
@@ -264,6 +302,7 @@ struct boddurci_logged {
     boddurci_log next; /* if it is open, the place of the next record */
     int is_open;
     int is_doubtful;   /* a call on the redo file failed, and it could not be removed: it is to be made anew if it has no mark */
+    int is_given_up;   /* a call failed, and nobody has recovered the files since: the data files may lack a save, or have half of it */
 };
 
 void boddurci_logged_of(struct boddurci_logged *logged, struct boddurci_place *place, struct boddurci_notes *notes);
@@ -276,11 +315,19 @@ uint32_t boddurci_logged_recover(struct boddurci_logged *logged, int *is_ended, 
  * it is DONE, *is_left is 1 and the fault says what failed. */
 uint32_t boddurci_logged_save(struct boddurci_logged *logged, struct boddurci_bytes bytes, int *is_left, boddurci_fault *fault);
 
+/* Gives the redo file its mark if it has none and .pag exists, by the record of a plan that changes nothing: older versions, which know
+ * BASE.lock alone, write nothing beside a marked file. The second call says whether it has its mark. */
+uint32_t boddurci_logged_mark(struct boddurci_logged *logged, boddurci_fault *fault);
+int boddurci_logged_is_marked(const struct boddurci_logged *logged);
+
 /* Closes the log, so that the next save opens it anew. */
 uint32_t boddurci_logged_renew(struct boddurci_logged *logged, boddurci_fault *fault);
 
-/* Closes the log and the files. If that fails the next who opens the base recovers it. It makes no step if the lock is lost. */
+/* Closes the log and the files. If that fails the next who opens the base recovers it. It makes no step if a lock is lost. */
 void boddurci_logged_end(struct boddurci_logged *logged);
+
+/* Whether the redo file exists and has its mark. */
+int boddurci_is_marked(const struct boddurci_place *place);
 
 /* Says whether the redo file has its mark; if so, reads both data files with its saves done in them. The bytes are to be freed in any case. */
 uint32_t boddurci_read_marked(struct boddurci_place *place, int *is_marked, struct boddurci_bytes files[2], boddurci_fault *fault);

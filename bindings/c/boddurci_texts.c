@@ -19,7 +19,7 @@ const char *boddurci_files_text(uint32_t status)
 {
     switch (status) {
     case BODDURCI_FILE_FAILED: return "a call of the system failed";
-    case BODDURCI_LOCKED: return "another has the lock";
+    case BODDURCI_LOCKED: return "another process has the database open to be written, or uses its files";
     case BODDURCI_BAD_REDO: return "the redo file is marked, and is not of these files";
     case BODDURCI_NO_SAVE: return "it was opened to be read only";
     case BODDURCI_TOO_LONG: return "a file is too long";

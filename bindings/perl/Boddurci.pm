@@ -12,24 +12,25 @@
 #
 # The methods `counter`, `lease`, `fenced_lease`, `semaphore` and `rate_limit` run stock programs, as the POD below the code says.
 #
-# Keys and values are bytes. A database is in memory while it is tied, under an exclusive lock on BASE.lock unless it is only read ("r");
-# `sync` and `untie` write its files, and a crash in between leaves the database before or after. If a tied hash ends without `untie`, or
-# is still tied when the program ends, it is saved then; a warning names the base and the fault if that fails, and the lock is released in
-# any case. If another program has changed the files meanwhile, as Perl's SDBM_File does without the lock, `sync` and `untie` die with a
-# Boddurci::Changed and write nothing; tied(%db)->sync(insist => 1) overwrites them. In a child of the process that tied the hash every call
-# but `untie` dies, and nothing is saved. A handler of a signal may die while a hash is tied: the lock is released with it. Every failure
-# dies.
+# Keys and values are bytes. A database is in memory while it is tied; `sync` and `untie` write its files, and a crash in between leaves the
+# database before or after. One process at a time has it tied to write ("w", "c" and "n"), and others wait for it; one that only reads ("r")
+# does not, and has its last save. If a tied hash ends without `untie`, or is still tied when the program ends, it is saved then; a warning
+# names the base and the fault if that fails, and the locks are released in any case. If another program has changed the files meanwhile, as
+# Perl's SDBM_File does without the locks, `sync` and `untie` die with a Boddurci::Changed and write nothing; tied(%db)->sync(insist => 1)
+# overwrites them. In a child of the process that tied the hash every call but `untie` dies, and nothing is saved. A handler of a signal may
+# die while a hash is tied: the locks are released with it. Every failure dies.
 #
-# Options follow the mode: wide => 1, unsigned_keys => 1, no_wait => 1, timeout => SECONDS, after which a lock that another process holds is
-# an error, any_size => 1, without which files that look like those of small pages are not opened as wide, and limit => BYTES: a change that
-# would make BASE.pag longer dies and is not made, and pages that exist stay. 1 GiB is the default and the most. Set a limit if others choose
-# your keys: they can make BASE.pag as long as it allows.
+# Options follow the mode: wide => 1, unsigned_keys => 1, timeout => SECONDS, after which a database that another process has tied to write
+# is an error, which names the process (without it a tie waits without an end), no_wait => 1, which tries once, any_size => 1, without which
+# files that look like those of small pages are not opened as wide, and limit => BYTES: a change that would make BASE.pag longer dies and is
+# not made, and pages that exist stay. 1 GiB is the default and the most. Set a limit if others choose your keys: they can make BASE.pag as
+# long as it allows.
 #
 # It needs FFI::Platypus (Debian: libffi-platypus-perl) and the shared object that `./dbm --build-library` makes. It takes the file that
 # BODDURCI_LIBRARY names by its absolute path, else the one beside this module, else the one in out/boddurci of the repository, else the
 # system's. It ignores BODDURCI_LIBRARY under `perl -T`, and if the effective user or group is not the real one.
 #
-# The store behind the calls is proved. This module, the files, the lock and the order of a save are tested and not proved.
+# The store behind the calls is proved. This module, the files, the locks and the order of a save are tested and not proved.
 package Boddurci;
 use strict;
 use warnings;
@@ -146,7 +147,7 @@ sub _die_of {
     die bless { text => Carp::shortmess($text) }, "Boddurci::Changed";
 }
 
-# Opens the base once its lock is free. After a signal it runs the handler, and then waits on.
+# Opens the base once its locks are free. After a signal it runs the handler, and then waits on.
 #
 # Perl runs handlers of signals between statements. So the statement that opens the base also leaves it in the object, and that object
 # closes it if a handler dies; and the mutex is taken and given back in one statement.
@@ -356,8 +357,8 @@ sub sync {
     carp $text if $system;
 }
 
-# Writes both files, unless the database is only read, and releases the lock. A fault of the files leaves the database open. In a child of
-# the process that opened it nothing is written, and the lock stays.
+# Writes both files, unless the database is only read, and releases the locks. A fault of the files leaves the database open. In a child of
+# the process that opened it nothing is written, and the locks stay.
 sub close {
     my ($self) = @_;
     return unless $$self->{base};
@@ -383,7 +384,7 @@ sub _shown {
     return $text;
 }
 
-# Saves and closes a database that nobody has closed. Changes that cannot be saved are lost, with a warning, and the lock is released.
+# Saves and closes a database that nobody has closed. Changes that cannot be saved are lost, with a warning, and the locks are released.
 sub _end {
     my ($self) = @_;
     return $self->_release unless $$self->{base};

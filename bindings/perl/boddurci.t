@@ -67,7 +67,7 @@ dies_with(sub { tie my %other, "Boddurci", $base, "w" }, qr/this thread has it o
     untie %held;
     open(my $lock, "<", "$base.held.lock") or die;
     flock($lock, LOCK_EX) or die;
-    dies_with(sub { tie my %other, "Boddurci", "$base.held", "w", timeout => 0.1 }, qr/another has the lock/);
+    dies_with(sub { tie my %other, "Boddurci", "$base.held", "w", timeout => 0.1 }, qr/process \d+ \(.*\) uses the files/);
     for my $timeout (undef, 60) {
         local $SIG{ALRM} = sub { die "a signal" };
         alarm 1;
@@ -92,7 +92,7 @@ waitpid $child, 0;
 sysread $reading, my $refused, 10;
 is($refused, 7);
 is(delete $db{child}, "parent");
-open(my $kept, "<", "$base.lock") or die;
+open(my $kept, "<", "$base.writer") or die;
 ok(!flock($kept, LOCK_EX | LOCK_NB), "the child has let no lock go");
 close $kept;
 $db{$_} = $_ x 3 for 1 .. 2000;

@@ -12,19 +12,20 @@ records.
 The methods `counter`, `lease`, `fenced_lease`, `semaphore` and `rate_limit` of a database run stock programs. What these do is proved
 (docs/PROGRAMS.md), if one of them alone changes a key.
 
-`open` can replace `dbm.open`: keys and values are bytes, a str counts as its UTF-8. A database is in memory while it is open, under an
-exclusive lock on BASE.lock unless it is only read; `sync` and `close` write its files, and a crash in between leaves the database before or
-after. If a program that ignores the lock, as Perl's SDBM_File, has changed the files meanwhile, they raise ChangedError and write nothing. A
-database that nobody closes is saved and closed when its object ends, or at the latest when the interpreter exits; if that fails, a
-RuntimeWarning names it. Threads may share a database. A signal handler that interrupts a call may not use it, but may raise. In a child of
-the process that opened it every call but `close` is an error, and nothing is saved.
+`open` can replace `dbm.open`: keys and values are bytes, a str counts as its UTF-8. A database is in memory while it is open; `sync` and
+`close` write its files, and a crash in between leaves the database before or after. One process at a time has it open to write: `open` waits
+for it, 5 seconds if the caller gives no timeout, and then raises Locked. An `open` that only reads does not wait for it, and has its last
+save. If a program that ignores the locks, as Perl's SDBM_File, has changed the files meanwhile, `sync` and `close` raise ChangedError and
+write nothing. A database that nobody closes is saved and closed when its object ends, or at the latest when the interpreter exits; if that
+fails, a RuntimeWarning names it. Threads may share a database. A signal handler that interrupts a call may not use it, but may raise. In a
+child of the process that opened it every call but `close` is an error, and nothing is saved.
 
 The module needs the shared object that `./dbm --build-library` makes. It takes the file that BODDURCI_LIBRARY names by its absolute path,
 else libboddurci.so beside this file, else the one in out/boddurci of the repository, else the system's. It ignores BODDURCI_LIBRARY in
 `python -I` and `python -E`, and if the effective user or group is not the real one. It calls the library by ctypes; if the extension
 `_boddurci` is built (`pip install bindings/python`), fetch, store, delete and run use it, several times as fast and with the same results.
 
-The store behind the calls is proved. This module, the files, the lock and the order of a save are tested and not proved.
+The store behind the calls is proved. This module, the files, the locks and the order of a save are tested and not proved.
 """
 
 import atexit
@@ -43,11 +44,11 @@ from collections import deque
 from collections.abc import MutableMapping
 from typing import NamedTuple
 
-__all__ = ["ChangedError", "Counter", "Database", "FencedLease", "Grant", "Lease", "Program", "ProgramError", "Ran", "RateLimit", "RecordError"]
-__all__ += ["Semaphore", "error", "open"]
+__all__ = ["ChangedError", "Counter", "Database", "FencedLease", "Grant", "Lease", "Locked", "Program", "ProgramError", "Ran", "RateLimit"]
+__all__ += ["RecordError", "Semaphore", "error", "open"]
 
 # Statuses, and what some are called here: boddurci.h, boddurci_files.h. The library has words for the others.
-_DONE, _MISSING, _REFUSED, _BAD_TEXT, _CHANGED, _IS_CLOSED, _NO_STOCK, _FORKED, _INTERRUPTED = 0, 1, 5, 6, 8, 16, 24, 39, 41
+_DONE, _MISSING, _REFUSED, _BAD_TEXT, _CHANGED, _IS_CLOSED, _NO_STOCK, _LOCKED, _FORKED, _INTERRUPTED = 0, 1, 5, 6, 8, 16, 24, 33, 39, 41
 _WORDS = {
     2: "the key is there",
     3: "crowded: no room for the pair, however often its page is split",
@@ -83,6 +84,11 @@ class ProgramError(error, ValueError):
     def __init__(self, text, at):
         super().__init__(text)
         self.at = at
+
+
+class Locked(error):
+    """Another process has the database open to write, or uses its files, for longer than `open` was to wait. The text names the process if the
+    system tells it."""
 
 
 class ChangedError(error):
@@ -245,7 +251,7 @@ class _Taken:
 
 
 def _open_base(held, name, flags, timeout):
-    """Adds a base to the list `held` once its lock is free. After a signal it runs the handler, and then waits on."""
+    """Adds a base to the list `held` once its locks are free. After a signal it runs the handler, and then waits on."""
     fault, end = _Fault(), None if timeout is None else time.monotonic() + timeout
     while True:
         left = -1 if end is None else int(min(max(0.0, (end - time.monotonic()) * 1000), 2.0**52))
@@ -534,8 +540,8 @@ class _Database(MutableMapping):
                 warnings.warn(str(_of_fault(fault, self._name)), RuntimeWarning, stacklevel=2)
 
     def close(self):
-        """Writes both files, unless the database is only read, and releases the lock. A fault of the files leaves the database open. In a
-        child of the process that opened it nothing is written, and the lock stays."""
+        """Writes both files, unless the database is only read, and releases the locks. A fault of the files leaves the database open. In a
+        child of the process that opened it nothing is written, and the locks stay."""
         if not self._held:
             return
         if self._process != os.getpid():
@@ -558,7 +564,7 @@ class _Database(MutableMapping):
             deque(map(_call.close_files, map(self._held.pop, (0,))), maxlen=0)
 
     def _finish(self):
-        """Closes a database that nobody has closed. Changes that cannot be saved are lost, with a warning, and the lock is released."""
+        """Closes a database that nobody has closed. Changes that cannot be saved are lost, with a warning, and the locks are released."""
         try:
             self.close()
         except RuntimeWarning:
@@ -809,18 +815,22 @@ def _of_fault(fault, name):
     text, name = fault.text.decode("utf-8", "replace"), os.fsdecode(name)
     if fault.system:
         return error(fault.system, text, name)
-    told = (ChangedError if fault.status == _CHANGED else error)(f"{text}: {name!r}")
+    told = {_CHANGED: ChangedError, _LOCKED: Locked}.get(fault.status, error)(f"{text}: {name!r}")
     told.filename = name
     return told
 
 
-def open(file, flag="r", mode=0o666, *, wide=False, unsigned_keys=False, any_size=False, wait=True, timeout=None, limit=None):
+def open(file, flag="r", mode=0o666, *, wide=False, unsigned_keys=False, any_size=False, wait=True, timeout=5, limit=None):
     """Opens FILE.dir and FILE.pag, as dbm.open does: 'r' reads only, 'w' writes too, 'c' makes missing files, 'n' begins with an empty
     database. `wide` is for pages of 8,192 bytes, `unsigned_keys` for keys that hash by unsigned bytes; the files do not say which. With
-    `wide`, files that look like those of small pages are an error, unless `any_size` is given. Without `wait` a lock that another process
-    holds is an error; with a `timeout` it is one after that many seconds. A change that would make FILE.pag longer than `limit` bytes is an
-    error and is not made; pages that exist stay. 1 GiB is the default and the most. Set a limit if others choose your keys: they can make
-    FILE.pag as long as it allows."""
+    `wide`, files that look like those of small pages are an error, unless `any_size` is given.
+
+    One process at a time has a database open to write. While another one has it, `open` waits for `timeout` seconds, or without an end if that
+    is None, and then raises Locked; with `wait` false it tries once. 'r' does not wait for that process, and reads its last save: it waits, at
+    most as long, for a save that is under way.
+
+    A change that would make FILE.pag longer than `limit` bytes is an error and is not made; pages that exist stay. 1 GiB is the default and
+    the most. Set a limit if others choose your keys: they can make FILE.pag as long as it allows."""
     if flag not in ("r", "w", "c", "n"):
         raise ValueError("flag must be 'r', 'w', 'c' or 'n'")
     name = os.fsencode(file)

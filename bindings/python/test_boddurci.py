@@ -175,7 +175,7 @@ class Mapping(InFolder):
         with open(self.base + ".lock", "rb") as lock:
             fcntl.flock(lock, fcntl.LOCK_EX)
             start = time.monotonic()
-            with self.assertRaisesRegex(boddurci.error, "another has the lock"):
+            with self.assertRaisesRegex(boddurci.Locked, "uses the files"):
                 boddurci.open(self.base, "w", timeout=0.2)
             self.assertGreaterEqual(time.monotonic() - start, 0.19)
             with self.assertRaises(ValueError):
@@ -190,18 +190,27 @@ class Mapping(InFolder):
     def test_a_thread_that_opens_twice_is_told_so(self):
         with boddurci.open(self.base, "c") as db:
             db[b"a"] = b"1"
-            for flag in "r", "w":
+            for flag in "w", "c":
                 for more in {}, {"wait": False}, {"timeout": 60}:
                     with self.assertRaisesRegex(boddurci.error, "this thread has it open already"):
                         boddurci.open(self.base, flag, **more)
             # Another thread waits, as another process does.
             seen = []
-            other = threading.Thread(target=lambda: seen.append(boddurci.open(self.base, "r")[b"a"]))
+            other = threading.Thread(target=lambda: seen.append(boddurci.open(self.base, "w")[b"a"]))
             other.start()
             time.sleep(0.1)
             self.assertEqual(seen, [])
         other.join()
         self.assertEqual(seen, [b"1"])
+
+    def test_a_thread_reads_beside_its_own_database(self):
+        with boddurci.open(self.base, "c") as db:
+            for value in b"1", b"2", b"3":
+                db[b"a"] = value
+                db.sync()
+                db[b"a"] = b"not saved"
+                with boddurci.open(self.base, "r", wait=False) as reader:
+                    self.assertEqual(reader.items(), [(b"a", value)])
 
     def test_a_handler_that_raises_as_it_opens_leaves_no_lock(self):
         """The signal goes to another thread, so the wait for the lock goes on, and its handler runs once the base is open."""
@@ -243,6 +252,53 @@ class Mapping(InFolder):
                     pass
                 fcntl.flock(lock, fcntl.LOCK_EX | fcntl.LOCK_NB)
                 fcntl.flock(lock, fcntl.LOCK_UN)
+
+    def worker(self, script):
+        """A process that runs these lines."""
+        env = {**os.environ, "PYTHONPATH": os.pathsep.join(sys.path)}
+        words = [sys.executable, "-c", "import boddurci, sys, time\n" + script, self.base]
+        return subprocess.Popen(words, env=env, stdin=subprocess.PIPE, stdout=subprocess.PIPE, text=True)
+
+    def test_four_workers(self):
+        """One of four workers has the database, and the others are told after 5 seconds which process that is."""
+        script = """
+start = time.monotonic()
+try:
+    db = boddurci.open(sys.argv[1], "c")
+except boddurci.Locked as fault:
+    print(time.monotonic() - start, fault, flush=True)
+else:
+    print("open", flush=True)
+    sys.stdin.read()
+"""
+        workers = [self.worker(script) for _ in range(4)]
+        told = {worker.pid: worker.stdout.readline() for worker in workers}
+        working = [pid for pid, line in told.items() if line == "open\n"]
+        for worker in workers:
+            worker.communicate()
+        self.assertEqual(len(working), 1)
+        for pid, line in told.items():
+            if pid not in working:
+                seconds, _, text = line.partition(" ")
+                self.assertRegex(text, rf"^process {working[0]} \(.*\) has the database open to be written: '{self.base}'$")
+                self.assertTrue(4.9 < float(seconds) < 15, seconds)
+
+    def test_a_reader_has_each_save_of_a_service_at_once(self):
+        script = """
+db = boddurci.open(sys.argv[1], "c")
+for line in iter(sys.stdin.readline, ""):
+    db[b"a"] = line.strip()
+    db.sync()
+    print("saved", flush=True)
+"""
+        with self.worker(script) as service:
+            for value in range(20):
+                service.stdin.write(f"{value}\n")
+                service.stdin.flush()
+                self.assertEqual(service.stdout.readline(), "saved\n")
+                with boddurci.open(self.base, wait=False) as db:
+                    self.assertEqual(db[b"a"], str(value).encode())
+            service.stdin.close()
 
     def heard(self, *_):
         """A signal: the second one ends the wait."""
@@ -712,7 +768,7 @@ class Children(InFolder):
             db[b"a"] = b"1"
             program = db.program((TOP / "examples/counter.s").read_text())
             self.assertEqual(self.in_child(lambda: self.refused(db, program)), "9")
-            with open(self.base + ".lock", "rb") as lock, self.assertRaises(BlockingIOError):
+            with open(self.base + ".writer", "rb") as lock, self.assertRaises(BlockingIOError):
                 fcntl.flock(lock, fcntl.LOCK_EX | fcntl.LOCK_NB)
             db[b"a"] = b"2"
         with boddurci.open(self.base, wait=False) as db:

@@ -18,7 +18,7 @@ use Rattle.worker_pool.specs.declared.task.PoolFault.TheVariants as jobs
 use Rattle.worker_pool.specs.declared.task.Task.{Task}
 use Rattle.dbm_batches.specs.declared.batch.Batch.{Batch}
 use Rattle.dbm_faults.specs.declared.fault.ServeFault.{ServeFault}
-use Rattle.dbm_faults.specs.declared.fault.ServeFault.TheVariants.{NotText, ReadFile, FileTooLong, WriteFile, BadRedo, Unsafe, OtherSize, ReadClock, BadBase, Absent, NoStock, Locked, Moved, Report, Dump, Submit, BadLine, CutLine, Pool, Close, Write, Saved, NoMemory}
+use Rattle.dbm_faults.specs.declared.fault.ServeFault.TheVariants.{NotText, ReadFile, FileTooLong, WriteFile, BadRedo, Unsafe, OtherSize, ReadClock, BadBase, Absent, NoStock, Locked, Moved, Changed, Report, Dump, Submit, BadLine, CutLine, Pool, Close, Write, Saved, NoMemory}
 use Rattle.dbm_script.specs.declared.notations.Notation.{Notation}
 use Rattle.dbm_script.specs.declared.run_words.RunWords.{RunWords}
 use Rattle.dbm_script.specs.declared.shorthand.TimeOfDay.{TimeOfDay}
@@ -118,6 +118,7 @@ submitted_fault form given workers is_image image Absent number opens is h = h
 submitted_fault form given workers is_image image NoStock number opens is h = h
 submitted_fault form given workers is_image image Locked number opens is h = h
 submitted_fault form given workers is_image image (Moved moved) number opens is h = h
+submitted_fault form given workers is_image image Changed number opens is h = h
 submitted_fault form given workers is_image image (Report fault) number opens is h = no_report (ready_causes form given workers is_image).report fault h
 submitted_fault form given workers is_image image (Dump fault) number opens is h = absurd h
 submitted_fault form given workers is_image image (Submit fault) number opens is h = (number, (opens, (image, (is, h))))
@@ -145,6 +146,7 @@ unready_fault n form given workers is_image time input Absent h = h
 unready_fault n form given workers is_image time input NoStock h = h
 unready_fault n form given workers is_image time input Locked h = h
 unready_fault n form given workers is_image time input (Moved moved) h = h
+unready_fault n form given workers is_image time input Changed h = h
 unready_fault n form given workers is_image time input (Report reports.BadHex) h = h
 unready_fault n form given workers is_image time input (Report reports.BadText) h = h
 unready_fault n form given workers is_image time input (Report reports.BadLayout) h = h
@@ -186,6 +188,7 @@ doing_fault n time batch input words tasks fault are is h = go fault (subst (λ 
     go NoStock h = absurd h
     go Locked h = absurd h
     go (Moved moved) h = absurd h
+    go Changed h = absurd h
     go (Report fault) h = no_report (task_causes n time batch (Some input)).report fault h
     go (Dump fault) h = absurd h
     go (Submit fault) h = absurd h
@@ -235,6 +238,7 @@ ran_fault n form given workers is_image time known read batch Absent is ready h 
 ran_fault n form given workers is_image time known read batch NoStock is ready h = absurd h
 ran_fault n form given workers is_image time known read batch Locked is ready h = absurd h
 ran_fault n form given workers is_image time known read batch (Moved moved) is ready h = absurd h
+ran_fault n form given workers is_image time known read batch Changed is ready h = absurd h
 ran_fault n form given workers is_image time known read batch (Report fault) is ready h = no_report (batch_causes n form given workers is_image time known).report fault h
 ran_fault n form given workers is_image time known read batch (Dump fault) is ready h = absurd h
 ran_fault n form given workers is_image time known read batch (Submit fault) is ready h = absurd h

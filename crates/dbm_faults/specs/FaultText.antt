@@ -6,7 +6,7 @@ use Rattle.worker_pool.specs.FaultText as pool
 use Rattle.dbm_dump.specs.FaultText as dumping
 use Rattle.dbm_reports.specs.FaultText as reports
 use Rattle.dbm_faults.specs.declared.fault.ServeFault.{ServeFault}
-use Rattle.dbm_faults.specs.declared.fault.ServeFault.TheVariants.{NotText, ReadFile, FileTooLong, WriteFile, BadRedo, Unsafe, OtherSize, ReadClock, BadBase, Absent, NoStock, Locked, Moved, Report, Dump, Submit, BadLine, CutLine, Pool, Close, Write, Saved, NoMemory}
+use Rattle.dbm_faults.specs.declared.fault.ServeFault.TheVariants.{NotText, ReadFile, FileTooLong, WriteFile, BadRedo, Unsafe, OtherSize, ReadClock, BadBase, Absent, NoStock, Locked, Moved, Changed, Report, Dump, Submit, BadLine, CutLine, Pool, Close, Write, Saved, NoMemory}
 
 abbrev pub fault_text : ServeFault → List ℕ
 fault_text NotText = codes "NotText"
@@ -22,6 +22,7 @@ fault_text Absent = codes "Absent"
 fault_text NoStock = codes "NoStock"
 fault_text Locked = codes "Locked"
 fault_text (Moved _) = codes "Moved"
+fault_text Changed = codes "Changed"
 fault_text (Report fault) = reports.fault_text fault
 fault_text (Dump fault) = dumping.fault_text fault
 fault_text (Submit fault) = registry.fault_text fault

@@ -12,7 +12,7 @@ use Rattle.dbm_dumps.specs.declared.fault.DumpsFault.TheVariants as dumps
 use Rattle.dbm_reports.specs.declared.fault.ReportFault.{ReportFault}
 use Rattle.dbm_reports.specs.declared.fault.ReportFault.TheVariants as reports
 use Rattle.dbm_faults.specs.declared.fault.ServeFault.{ServeFault}
-use Rattle.dbm_faults.specs.declared.fault.ServeFault.TheVariants.{ReadFile, FileTooLong, WriteFile, BadRedo, Unsafe, Locked, Moved, Report, Dump, Submit, BadLine, Pool, Saved, NoMemory}
+use Rattle.dbm_faults.specs.declared.fault.ServeFault.TheVariants.{ReadFile, FileTooLong, WriteFile, BadRedo, Unsafe, Locked, Moved, Changed, Report, Dump, Submit, BadLine, Pool, Saved, NoMemory}
 
 -- the fault of what comes of a wish
 abbrev pub report_fault : ReportFault → ServeFault
@@ -54,5 +54,6 @@ files_fault files.BadRedo = BadRedo
 files_fault files.Unsafe = Unsafe
 files_fault files.Locked = Locked
 files_fault (files.Moved file) = Moved file
+files_fault files.Changed = Changed
 files_fault files.Write = Saved
 files_fault files.NoMemory = NoMemory

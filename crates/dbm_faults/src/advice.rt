@@ -3,8 +3,9 @@
 use crate::dumps::dump_sentence;
 use crate::fault::ServeFault;
 use crate::files::{
-    absent_sentence, base_sentence, lock_sentence, moved_sentence, open_sentence, redo_sentence,
-    small_sentence, too_long_sentence, unread_sentence, untaken_sentence, unwritten_sentence,
+    absent_sentence, base_sentence, changed_sentence, lock_sentence, moved_sentence, open_sentence,
+    redo_sentence, small_sentence, too_long_sentence, unread_sentence, untaken_sentence,
+    unwritten_sentence,
 };
 use crate::programs::{
     assemble_sentence, decode_sentence, no_text_sentence, pool_sentence, stock_sentence,
@@ -94,6 +95,7 @@ fn rest_sentence<'a>(words: &Words<'a>, fault: ServeFault) -> Sentence<'a> {
         ServeFault::NoStock => stock_sentence(words.file),
         ServeFault::Locked => lock_sentence(words.base, words.numbers.timeout),
         ServeFault::Moved(file) => moved_sentence(words.base, file),
+        ServeFault::Changed => changed_sentence(words.base),
         ServeFault::ReadClock => {
             plain("The system does not tell the time of day: give NOW as a number.")
         }

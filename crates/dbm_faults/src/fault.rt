@@ -41,8 +41,10 @@ pub enum ServeFault {
     NoStock,
     /// Another run has had the lock for as long as this one was to wait.
     Locked,
-    /// The lock that the run holds, or a data file that it has read, has lost its name to another file. Nothing was saved.
+    /// A lock that the run holds, or a data file that it has read, has lost its name to another file. Nothing was saved.
     Moved(MovedFile),
+    /// Another program has written a data file since a session read or saved it. Nothing was saved.
+    Changed,
     /// Nothing comes of the words, the files and standard input. The fault within is never `NoMemory`.
     Report(ReportFault),
     /// A dump was not written or not loaded. The fault within is never `Read` or `NoMemory`.
@@ -86,6 +88,7 @@ impl fmt::Display for ServeFault {
             ServeFault::NoStock => f.write_str("NoStock"),
             ServeFault::Locked => f.write_str("Locked"),
             ServeFault::Moved(_) => f.write_str("Moved"),
+            ServeFault::Changed => f.write_str("Changed"),
             ServeFault::Report(fault) => fmt::Display::fmt(fault, f),
             ServeFault::Dump(fault) => fmt::Display::fmt(fault, f),
             ServeFault::Submit(fault) => fmt::Display::fmt(fault, f),
@@ -200,6 +203,7 @@ impl From<FilesFault> for ServeFault {
             FilesFault::Unsafe => ServeFault::Unsafe,
             FilesFault::Locked => ServeFault::Locked,
             FilesFault::Moved(file) => ServeFault::Moved(file),
+            FilesFault::Changed => ServeFault::Changed,
             FilesFault::Write => ServeFault::Saved,
             FilesFault::NoMemory => ServeFault::NoMemory,
         }

@@ -64,7 +64,7 @@ pub fn unread_sentence<'a>(base: Option<&'a str>) -> Sentence<'a> {
 /// Of files that could not be written, where none is found that the system refuses.
 pub fn unwritten_sentence<'a>(base: &'a str) -> Sentence<'a> {
     with_two(
-        "{}.lock, .redo, .dir or .pag could not be made or written: see that you may write into the folder {}, that its disk has room, and that ulimit -f allows files so long.",
+        "{}.lock, .writer, .redo, .dir or .pag could not be made or written: see that you may write into the folder {}, that its disk has room, and that ulimit -f allows files so long.",
         Part::Name(base),
         Part::Name(folder_of(base)),
     )
@@ -91,8 +91,9 @@ pub fn redo_sentence<'a>(base: Option<&'a str>) -> Sentence<'a> {
 /// Of a file beside a database that is not taken, where a second look finds none.
 pub fn untaken_sentence<'a>(base: Option<&'a str>) -> Sentence<'a> {
     let base = base_part(base);
-    with_two(
-        "{}.lock or {}.redo was one that others could have planted, and is so no more: try again.",
+    with_three(
+        "{}.lock, {}.writer or {}.redo was one that others could have planted, and is so no more: try again.",
+        base,
         base,
         base,
     )
@@ -132,11 +133,11 @@ pub fn lock_sentence<'a>(base: Option<&'a str>, timeout: Option<&str>) -> Senten
     let base = base_part(base);
     match timeout {
         Some("0") => with_one(
-            "Another run holds {}.lock. Without --timeout 0 this one waits for it.",
+            "Another run has {} open. Without --timeout 0 this one waits for it.",
             base,
         ),
         _ => with_one(
-            "Another run has held {}.lock all the time. --timeout SECONDS waits longer.",
+            "Another run has had {} open all the time. --timeout SECONDS waits longer.",
             base,
         ),
     }
@@ -160,6 +161,10 @@ pub fn moved_sentence<'a>(base: Option<&'a str>, file: MovedFile) -> Sentence<'a
             "{}.lock was taken away or made anew while this run held it, and another may write by now. Nothing was saved: leave the lock where it is, and run the command again.",
             base,
         ),
+        MovedFile::Writer => with_one(
+            "{}.writer was taken away or made anew while this run held it, and another may write by now. Nothing was saved: leave it where it is, and run the command again.",
+            base,
+        ),
         MovedFile::Pages => with_one(
             "{}.pag is another file than this run has read: it was renamed, removed or replaced. Nothing was saved: run the command again on the files as they are now.",
             base,
@@ -169,6 +174,16 @@ pub fn moved_sentence<'a>(base: Option<&'a str>, file: MovedFile) -> Sentence<'a
             base,
         ),
     }
+}
+
+/// Of a session whose files another program has written.
+pub fn changed_sentence(base: Option<&str>) -> Sentence<'_> {
+    let base = base_part(base);
+    with_two(
+        "Another program has written {}.pag or {}.dir since this session read or saved them. Nothing was saved, so that its changes stay: begin a new session.",
+        base,
+        base,
+    )
 }
 
 /// Of files that are no database. `None` where memory ran out.

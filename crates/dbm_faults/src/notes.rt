@@ -58,7 +58,7 @@ pub fn wait_note<'a>(base: &'a str, holder: Option<u64>, name: Option<&'a String
     let base = Part::Name(base);
     let Some(process) = holder else {
         return with_one(
-            "waiting for {}.lock, which another run has; --timeout SECONDS ends the wait",
+            "waiting for {}, which another run has open; --timeout SECONDS ends the wait",
             base,
         );
     };
@@ -67,7 +67,7 @@ pub fn wait_note<'a>(base: &'a str, holder: Option<u64>, name: Option<&'a String
         None => Part::Text("?"),
     };
     with_three(
-        "waiting for {}.lock, which process {} ({}) has; --timeout SECONDS ends the wait",
+        "waiting for {}, which process {} ({}) has open; --timeout SECONDS ends the wait",
         base,
         Part::Number(process),
         name,
@@ -81,7 +81,7 @@ pub fn holder_note<'a>(base: &'a str, process: u64, name: Option<&'a String>) ->
         None => Part::Text("?"),
     };
     with_three(
-        "process {} ({}) has {}.lock",
+        "process {} ({}) has {} open",
         Part::Number(process),
         name,
         Part::Name(base),

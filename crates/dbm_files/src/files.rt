@@ -6,26 +6,30 @@ ghost use Rattle.sdbm_saves.specs.Redo.{IsPlan};
 
 use crate::host::RealFiles;
 use crate::peeking::{Guard, UnreadPages};
+use crate::states::DataStates;
 use dbm_places::{
     DIR_LIMIT, FileBytes, FileId, FilesFault, Names, PROGRAM_LIMIT, Place, RunPlace, SeenFiles,
-    Side, SideFault, SourceKind, folder_of, is_special, lock_to_read, lock_to_write, open_beside,
-    side_fault, sources,
+    Side, SideFault, SourceKind, WriteLocks, folder_of, has_writer, is_special, lock_to_read,
+    lock_to_write, open_beside, side_fault, sources,
 };
 use sdbm_addr::PageSize;
 use sdbm_files::ReadPages;
 use sdbm_log::{LogFault, LogFiles, make_steps, plan_of, recover_steps};
 use sdbm_saves::{CallLog, Disk, File as Part, Found, Recorded, Unknown, number, plan_in};
 use std::alloc::Global;
-use std::fs;
 use std::fs::{File, OpenFile};
 use std::io::{self, ErrorKind, Read};
 use std::marker::Brand;
 use std::rt::Files;
 use std::time::{Clock, Duration};
+use std::{fs, thread};
 
 /// A redo file has at most this many bytes: the plan of the largest save has those of both files at their limits, new and old, in blocks of
 /// 1,024 with nine bytes before each, and twenty-nine at the start; a log has a header before it and may have 1 MiB of zeros after it.
 const REDO_LIMIT: u64 = 2_697_203_749;
+
+/// A run that writes reads its files so many times more if they change meanwhile.
+const MOST_READS: usize = 2;
 
 /// How many bytes of BASE.pag are read at once: whole pages of either size.
 const PIECE: usize = 262_144;
@@ -39,15 +43,17 @@ pub struct RunFiles {
     pub unread: Option<UnreadPages>,
 }
 
-/// A database that a run may change: its files, which of them were read, and its lock. Others wait until that is dropped.
+/// A database that a run may change: its files, which of them were read, and its locks. Others wait until these are dropped.
 #[derive(Drop)]
 pub struct LockedFiles {
     pub place: Place,
     pub seen: SeenFiles,
-    pub lock: File,
+    pub locks: WriteLocks,
+    // The data files as they were when they were read.
+    pub(crate) states: DataStates,
 }
 
-/// Reads the files of a run, once no other has a lock that keeps it off. A save that was cut off is ended first by a run that writes;
+/// Reads the files of a run, once no other has a lock that keeps it off: a run that reads waits only for one that is at the files. A save that was cut off is ended first by a run that writes;
 /// one that reads lays its redo file over what it reads. A run that writes keeps its lock, since its files are those that were read
 /// until it has written them. The lock and the redo file lie beside the files themselves, whatever links lead there, and all of them in
 /// the folder that the base named first. A run that peeks gets `.pag` unread, unless there is a save to end or something is wrong with a
@@ -104,24 +110,26 @@ fn take_to_write<R: Files<File = File> + Clock + AllocGlobal>(
     peeks: bool,
     patience: Option<Duration>,
 ) -> Result<RunFiles, FilesFault> {
-    let lock = lock_to_write(rt, &files.names, patience)?;
+    let locks = lock_to_write(rt, &files.names, patience)?;
     files.must_not_lead(rt)?;
     let mut files = files;
     files.hold_data(rt);
-    if peeks && let Some((bytes, unread)) = peek(rt, place, &files) {
+    if peeks && let Some((bytes, unread)) = peek(rt, place, &files, true) {
         let seen = bytes.seen;
+        let states = DataStates::look(rt, &files.names);
         files.must_be_open(&seen)?;
         return Ok(RunFiles {
             bytes,
             held: Some(LockedFiles {
                 place: files,
                 seen,
-                lock,
+                locks,
+                states,
             }),
             unread: Some(unread),
         });
     }
-    let bytes = read_database(rt, place, &files, None)?;
+    let (bytes, states) = read_still(rt, place, &files)?;
     let seen = bytes.seen;
     // A save that was cut off may have been ended, and may have made a file.
     files.hold_data(rt);
@@ -129,7 +137,8 @@ fn take_to_write<R: Files<File = File> + Clock + AllocGlobal>(
     let held = LockedFiles {
         place: files,
         seen,
-        lock,
+        locks,
+        states,
     };
     Ok(read_whole(bytes, Some(held)))
 }
@@ -142,7 +151,7 @@ fn peek_to_read<R: Files<File = File> + Clock + AllocGlobal>(
     patience: Option<Duration>,
 ) -> Result<RunFiles, FilesFault> {
     let lock = read_lock(rt, &files, patience)?;
-    let Some((bytes, unread)) = peek(rt, place, &files) else {
+    let Some((bytes, unread)) = peek(rt, place, &files, lock.is_some()) else {
         let bytes = read_locked(rt, place, &files, lock, patience)?;
         return Ok(read_whole(bytes, None));
     };
@@ -158,6 +167,7 @@ fn peek<R: Files<File = File> + AllocGlobal>(
     rt: &R,
     place: RunPlace<'_>,
     files: &Place,
+    is_locked: bool,
 ) -> Option<(FileBytes, UnreadPages)> {
     // What a pipe gives could not be read once more.
     if let Some(file) = place.file
@@ -165,7 +175,7 @@ fn peek<R: Files<File = File> + AllocGlobal>(
     {
         return None;
     }
-    if !read_redo(rt, &files.names).ok()?.is_empty() {
+    if !redo_of(rt, place, files, is_locked).ok()?.is_empty() {
         return None;
     }
     let unread = UnreadPages::open(rt, files.names.pages.as_str(), place.pages_limit)?;
@@ -201,15 +211,16 @@ pub fn take_rest<R: Files<File = File> + Clock + AllocGlobal>(
     if let Some(held) = held {
         let LockedFiles {
             place: files,
-            lock,
+            locks,
             ..
         } = held;
-        let read = read_database(rt, place, &files, None)?;
+        let (read, states) = read_still(rt, place, &files)?;
         files.must_be_open(&read.seen)?;
         let held = LockedFiles {
             place: files,
             seen: read.seen,
-            lock,
+            locks,
+            states,
         };
         return Ok(read_whole(FileBytes { program, ..read }, Some(held)));
     }
@@ -243,8 +254,8 @@ pub fn read_again<R: Files<File = File> + AllocGlobal>(
     held: &LockedFiles,
     seen: &SeenFiles,
 ) -> Result<FileBytes, FilesFault> {
-    held.place.must_be_held(rt, &held.lock, seen)?;
-    read_database(rt, place, &held.place, Some(*seen))
+    held.place.must_be_held(rt, &held.locks, seen)?;
+    read_database(rt, place, &held.place, true, Some(*seen))
 }
 
 // Reads the files of a run that changes nothing, under a lock where there is one.
@@ -287,14 +298,33 @@ fn read_lock<R: Files<File = File> + Clock + AllocGlobal>(
     Ok(lock)
 }
 
+// Reads the database of a run that writes. If a file was changed meanwhile, or recovered, it is read again.
+fn read_still<R: Files<File = File> + AllocGlobal>(
+    rt: &R,
+    place: RunPlace<'_>,
+    files: &Place,
+) -> Result<(FileBytes, DataStates), FilesFault> {
+    let mut states = DataStates::look(rt, &files.names);
+    let mut read = read_database(rt, place, files, true, None)?;
+    for _ in 0..MOST_READS {
+        let now = DataStates::look(rt, &files.names);
+        if now == states {
+            break;
+        }
+        states = now;
+        read = read_database(rt, place, files, true, None)?;
+    }
+    Ok((read, states))
+}
+
 // Reads the files of a run that changes nothing, and then lets its lock go.
 fn read_held<R: Files<File = File> + AllocGlobal>(
     rt: &R,
     place: RunPlace<'_>,
     files: &Place,
-    _lock: Option<File>,
+    lock: Option<File>,
 ) -> Result<FileBytes, FilesFault> {
-    read_database(rt, place, files, None)
+    read_database(rt, place, files, lock.is_some(), None)
 }
 
 // The database of a run. Where its files were known before, they have to be those.
@@ -302,10 +332,11 @@ fn read_database<R: Files<File = File> + AllocGlobal>(
     rt: &R,
     place: RunPlace<'_>,
     files: &Place,
+    is_locked: bool,
     known: Option<SeenFiles>,
 ) -> Result<FileBytes, FilesFault> {
     let place = inside(place, files);
-    let redo = read_redo(rt, &files.names)?;
+    let redo = redo_of(rt, place, files, is_locked)?;
     if redo.is_empty() {
         let read = read_files(rt, place, false)?;
         known.unwrap_or(read.seen).must_be(&read.seen)?;
@@ -455,6 +486,20 @@ fn recover_files<R: Files<File = File> + AllocGlobal>(
     let bytes = made.bytes.as_slice();
     make_steps(rt.alloc(), &mut disk, bytes, made.steps.as_slice())?;
     Ok(disk.clear()?)
+}
+
+// The bytes of a redo file that is marked, for a run that has BASE.lock or not. A run that reads under that lock needs none while another has
+// the database open to change it: the data files have all that is saved.
+fn redo_of<R: Files<File = File> + AllocGlobal>(
+    rt: &R,
+    place: RunPlace<'_>,
+    files: &Place,
+    is_locked: bool,
+) -> Result<Vec<u8>, FilesFault> {
+    if !place.writes && is_locked && has_writer(rt, &files.names) {
+        return Ok(Vec::new(rt.alloc()));
+    }
+    read_redo(rt, &files.names)
 }
 
 // The bytes of a redo file that is marked. One that is not marked has nothing that is to be done: it counts as no bytes, and no more than its

@@ -7,11 +7,12 @@ mod limit;
 mod peeking;
 mod saving;
 mod session_log;
+mod states;
 mod writing;
 
 pub use files::{LockedFiles, RunFiles, read_again, read_program, take_files, take_rest};
 pub use host::RealFiles;
 pub use peeking::UnreadPages;
 pub use saving::{Change, Planned, Saved, save_change, save_plan};
-pub use session_log::{SessionLog, close_session, save_session};
+pub use session_log::{SessionSaves, close_session, save_session};
 pub use writing::{PlannedPart, save_files, save_part};

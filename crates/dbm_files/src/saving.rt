@@ -12,13 +12,10 @@ ghost use Rattle.dbm_files.specs.declared.saving.Saved.TheVariants as saved;
 use byte_text::write_all;
 use dbm_places::FilesFault;
 use sdbm_files::Image;
-use sdbm_logged::{Saved as Outcome, save_once};
+use sdbm_logged::{PLAN_LIMIT, Saved as Outcome, save_once};
 use sdbm_saves::{Disk, ReadFiles, plan_read};
 use std::alloc::Global;
 use std::io::Write;
-
-// A plan has fewer bytes than this.
-const PLAN_LIMIT: usize = 3_000_000_000;
 
 /// What has become of a save that is no fault.
 #[derive(Clone, Copy, Debug, PartialEq, Eq)]

@@ -1,22 +1,24 @@
 //! The saves of a session, whose log stays open from one to the next.
-ghost use Rattle.std.specs.Prelude.{◌≡◌, ◌≢◌, ◌<◌, [], length, get_or, IfOk};
+ghost use Rattle.std.specs.Prelude.{◌≡◌, ◌≢◌, ◌<◌, [], length, get_or};
 ghost use Rattle.sdbm_saves.specs.CallLog.{acts};
-ghost use Rattle.sdbm_saves.specs.Saves.{AreFilesFor, Replaces};
+ghost use Rattle.sdbm_saves.specs.Redo.{renewed, IsPlan, Knows};
+ghost use Rattle.sdbm_saves.specs.declared.disk.File.TheVariants.{Pages, Directory};
 ghost use Rattle.sdbm_logged.specs.Keeping.{bytes_of};
 
 use crate::files::{LockedFiles, read_again};
-use crate::host::RealFiles;
+use crate::host::{RealFiles, forget_redo};
 use crate::saving::Saved;
-use crate::writing::{find_redo, forget_failed, save_held};
-use dbm_places::{FileId, FilesFault, Names, RunPlace, SeenFiles};
+use crate::states::DataStates;
+use crate::writing::{find_redo, save_held};
+use dbm_places::{FilesFault, RunPlace, SeenFiles};
 use sdbm_files::Image;
 use sdbm_logged::{
-    DataBytes, Keeper, KeptDisk, NextSave, Saved as Outcome, close_kept, save_first, save_next,
+    DataBytes, Keeper, KeptDisk, NextSave, PLAN_LIMIT, Saved as Outcome, close_kept, save_first,
+    save_next,
 };
-use sdbm_saves::{CallLog, Found, Noted, ReadFiles, Recorded, Unknown, plan_between};
+use sdbm_saves::{CallLog, Found, Noted, ReadFiles, Recorded, Unknown, plan_kept};
 use std::alloc::Global;
-use std::fs::{self, File};
-use std::os::unix::fs::MetadataExt;
+use std::fs::File;
 use std::rt::Files;
 
 // The log stays open for a `.pag` of at most this many bytes, since a session has those of both files in memory meanwhile.
@@ -25,77 +27,77 @@ const MOST_KEPT: u64 = 16_777_216;
 // The room of the log of a session, for some hundred small saves.
 const ROOM: usize = 258_048;
 
-// A plan has fewer bytes than this.
-const PLAN_LIMIT: usize = 3_000_000_000;
-
 // The disk of a session, which has the files open.
 type SessionDisk<'a, R> = Recorded<RealFiles<'a, R>, Unknown, Noted>;
 
-// Which file one is, how long, and when it was changed last.
-#[derive(Clone, Copy, PartialEq, Eq)]
-struct FileState {
-    id: FileId,
-    len: u64,
-    seconds: i64,
-    nanoseconds: i64,
+/// What a session has of its database between two saves.
+#[derive(Drop)]
+pub struct SessionSaves<'a, R: Files<File = File>> {
+    // The log, with the files open, from the first save on.
+    log: Option<KeptDisk<SessionDisk<'a, R>>>,
+    // The data files as the session read or saved them last.
+    states: DataStates,
 }
 
-// The data files as they are now, which another program may change.
-#[derive(Clone, Copy, PartialEq, Eq)]
-struct DataStates {
-    pages: Option<FileState>,
-    directory: Option<FileState>,
-}
-
-impl DataStates {
-    fn look<R: Files>(rt: &R, names: &Names) -> DataStates {
-        DataStates {
-            pages: state_of(rt, names.pages.as_str()),
-            directory: state_of(rt, names.directory.as_str()),
+impl<'a, R: Files<File = File>> SessionSaves<'a, R> {
+    /// Of a session that has read its files and saved nothing. It gives BASE.lock back.
+    pub fn begin(held: &LockedFiles) -> Self {
+        held.locks.leave_files();
+        SessionSaves {
+            log: None,
+            states: held.states,
         }
     }
 }
 
-fn state_of<R: Files>(rt: &R, name: &str) -> Option<FileState> {
-    let found = fs::metadata(rt, name).ok()?;
-    Some(FileState {
-        id: FileId::of(&found),
-        len: found.len(),
-        seconds: found.ctime(),
-        nanoseconds: found.ctime_nsec(),
-    })
-}
-
-/// The log of a session that has saved, with the files open.
-#[derive(Drop)]
-pub struct SessionLog<'a, R: Files<File = File>> {
-    kept: KeptDisk<SessionDisk<'a, R>>,
-    states: DataStates,
-}
-
-/// Saves a database in a session. The first save opens a log; each later one takes one sync while it stays open, and the lock is kept. If
-/// another program has changed a data file meanwhile, if the log is full, or if the files may want new blocks of the disk, the log is closed,
-/// and the files are read again and saved in a new one. A large database is saved without a log that stays open, and so is one if the disk has no
-/// room for that.
+/// Saves a database in a session, under BASE.lock, which is given back once the save is done in the data files. The first save opens a log; each
+/// later one takes one sync while it stays open. If the log is full, or the files may want new blocks of the disk, the log is closed, and the
+/// files are read again and saved in a new one. A large database is saved without a log that stays open, and so is one if the disk has no room
+/// for that.
 ///
 /// # Errors
-/// Those of `save_held` and `read_again`. Of the saves before nothing is lost.
+/// `Changed` if another program has written a data file since the session read or saved it: nothing is saved then. Those of `save_held` and
+/// `read_again`. Of the saves before nothing is lost. After each of them BASE.lock is kept.
 pub fn save_session<'a, R: Files<File = File> + AllocGlobal>(
     rt: &'a R,
     place: RunPlace<'_>,
     held: &'a LockedFiles,
     seen: &SeenFiles,
-    log: &mut Option<SessionLog<'a, R>>,
+    saves: &mut SessionSaves<'a, R>,
     image: &Image<Global>,
 ) -> Result<Saved, FilesFault> {
-    held.place.must_be_held(rt, &held.lock, seen)?;
+    held.locks.enter_files()?;
+    held.place.must_be_held(rt, &held.locks, seen)?;
+    let found = DataStates::look(rt, &held.place.names);
+    if found.are_written_since(saves.states) {
+        let _ = close_log(rt.alloc(), saves.log.take());
+        return Err(FilesFault::Changed);
+    }
+    if found != saves.states || image.pag_len() > MOST_KEPT {
+        close_log(rt.alloc(), saves.log.take())?;
+    }
+    let saved = save_locked(rt, place, held, seen, &mut saves.log, image);
+    saves.states = DataStates::look(rt, &held.place.names);
+    if let Ok(Saved::Whole | Saved::Unchanged) = saved {
+        held.locks.leave_files();
+    }
+    saved
+}
+
+// Saves under BASE.lock, in the log if it is open.
+fn save_locked<'a, R: Files<File = File> + AllocGlobal>(
+    rt: &'a R,
+    place: RunPlace<'_>,
+    held: &'a LockedFiles,
+    seen: &SeenFiles,
+    log: &mut Option<KeptDisk<SessionDisk<'a, R>>>,
+    image: &Image<Global>,
+) -> Result<Saved, FilesFault> {
     if image.pag_len() > MOST_KEPT {
-        close_session(rt, log)?;
         return save_alone(rt, place, held, seen, image);
     }
-    let mut new = written_bytes(rt.alloc(), image)?;
-    if let Some(open) = log.take()
-        && let Some(saved) = save_more(rt, held, open, &mut new, log)?
+    if let Some(kept) = log.take()
+        && let Some(saved) = save_more(rt.alloc(), kept, image, log)?
     {
         return Ok(saved);
     }
@@ -104,32 +106,38 @@ pub fn save_session<'a, R: Files<File = File> + AllocGlobal>(
         pages: read.pages.to_vec(rt.alloc())?,
         directory: read.directory,
     };
-    let saved = save_opening(rt, held, &read.seen, old, new, log);
-    forget_failed(rt, &held.place.names, &saved);
-    match saved {
+    match save_opening(rt, held, &read.seen, old, image, log) {
         Err(FilesFault::WriteFile) => save_alone(rt, place, held, seen, image),
         saved => saved,
     }
 }
 
-/// Closes the log of a session, if it is open: both data files are whole then, on the disk too.
+/// Closes the log of a session, if it is open, under BASE.lock: both data files are whole then, on the disk too.
 ///
 /// # Errors
-/// `NoMemory`, and `WriteFile` if the disk has failed. No save is lost: the next run that writes does the rest.
+/// `NoMemory`, `WriteFile` if the disk has failed or BASE.lock cannot be had, and `Moved` if a lock has lost its name: another run may have a
+/// log open in the same file by then. No save is lost: the next run that writes does the rest.
 pub fn close_session<R: Files<File = File> + AllocGlobal>(
     rt: &R,
-    log: &mut Option<SessionLog<'_, R>>,
+    held: &LockedFiles,
+    saves: &mut SessionSaves<'_, R>,
 ) -> Result<(), FilesFault> {
-    match log.take() {
-        Some(open) => close_log(rt.alloc(), open.kept),
-        None => Ok(()),
+    if saves.log.is_none() {
+        return Ok(());
     }
+    held.locks.enter_files()?;
+    held.place.must_be_locked(rt, &held.locks)?;
+    close_log(rt.alloc(), saves.log.take())
 }
 
+// Closes a log that is open.
 fn close_log<R: Files<File = File>>(
     alloc: Global,
-    kept: KeptDisk<SessionDisk<'_, R>>,
+    log: Option<KeptDisk<SessionDisk<'_, R>>>,
 ) -> Result<(), FilesFault> {
+    let Some(kept) = log else {
+        return Ok(());
+    };
     let (mut disk, keeper) = kept.into_parts();
     Ok(close_kept(alloc, &mut disk, keeper.log)?)
 }
@@ -150,56 +158,67 @@ fn save_alone<R: Files<File = File> + AllocGlobal>(
     save_held(rt, held, &read.seen, old, image)
 }
 
-// Saves in a log that is open, and keeps it. `None` if it had to be closed instead.
-fn save_more<'a, R: Files<File = File> + AllocGlobal>(
-    rt: &R,
-    held: &LockedFiles,
-    open: SessionLog<'a, R>,
-    new: &mut DataBytes,
-    log: &mut Option<SessionLog<'a, R>>,
+// Saves in a log that is open, and keeps it. `None` if it had to be closed instead. If there is no plan the log stays open.
+fn save_more<'a, R: Files<File = File>>(
+    alloc: Global,
+    kept: KeptDisk<SessionDisk<'a, R>>,
+    image: &Image<Global>,
+    log: &mut Option<KeptDisk<SessionDisk<'a, R>>>,
 ) -> Result<Option<Saved>, FilesFault> {
-    let SessionLog { kept, states } = open;
-    if DataStates::look(rt, &held.place.names) != states {
-        close_log(rt.alloc(), kept)?;
-        return Ok(None);
+    match plan_kept(alloc, kept.contents(), image) {
+        Ok(Some(plan)) => save_planned(alloc, kept, plan.as_slice(), log),
+        Ok(None) => {
+            *log = Some(kept);
+            Ok(Some(Saved::Unchanged))
+        }
+        Err(fault) => {
+            *log = Some(kept);
+            Err(fault.into())
+        }
     }
+}
+
+// Saves by a plan in a log that is open, and keeps it. `None` if it had to be closed instead.
+fn save_planned<'a, R: Files<File = File>>(
+    alloc: Global,
+    kept: KeptDisk<SessionDisk<'a, R>>,
+    plan: &[u8],
+    log: &mut Option<KeptDisk<SessionDisk<'a, R>>>,
+) -> Result<Option<Saved>, FilesFault>
+    requires plan { IsPlan plan.now }
+    requires knows { Knows plan.now (bytes_of kept.1.files) }
+{
     let (mut disk, mut keeper) = kept.into_parts();
-    match save_next(rt.alloc(), &mut disk, &mut keeper, new)? {
+    match save_next(alloc, &mut disk, &mut keeper, plan)? {
         NextSave::Full => {
-            close_kept(rt.alloc(), &mut disk, keeper.log)?;
+            close_kept(alloc, &mut disk, keeper.log)?;
             Ok(None)
         }
         NextSave::Pending(_) => Ok(Some(Saved::Pending)),
-        NextSave::Same => {
-            let kept = KeptDisk::new(disk, keeper);
-            *log = Some(SessionLog { kept, states });
-            Ok(Some(Saved::Unchanged))
-        }
         NextSave::Done => {
-            let kept = KeptDisk::new(disk, keeper);
-            let states = DataStates::look(rt, &held.place.names);
-            *log = Some(SessionLog { kept, states });
+            *log = Some(KeptDisk::new(disk, keeper));
             Ok(Some(Saved::Whole))
         }
     }
 }
 
-// Saves in a new log, which stays open.
+// Saves in a new log, which stays open. If nothing was committed the redo file is removed.
 fn save_opening<'a, R: Files<File = File> + AllocGlobal>(
     rt: &'a R,
     held: &'a LockedFiles,
     seen: &SeenFiles,
     old: DataBytes,
-    new: DataBytes,
-    log: &mut Option<SessionLog<'a, R>>,
+    image: &Image<Global>,
+    log: &mut Option<KeptDisk<SessionDisk<'a, R>>>,
 ) -> Result<Saved, FilesFault> {
     let names = &held.place.names;
-    let Some(plan) = plan_between(rt.alloc(), old.contents(), new.contents())? else {
+    let Some(plan) = plan_kept(rt.alloc(), old.contents(), image)? else {
         return Ok(Saved::Unchanged);
     };
     if plan.len() >= PLAN_LIMIT {
         return Err(FilesFault::FileTooLong);
     }
+    let new = old.renewed(rt.alloc(), plan.as_slice())?;
     let redo = find_redo(rt, names)?;
     let files = RealFiles::new(rt, names, *seen, redo.is_stale, CallLog::new(rt.alloc())?);
     let found = Found {
@@ -207,17 +226,20 @@ fn save_opening<'a, R: Files<File = File> + AllocGlobal>(
         directory: old.directory,
         redo: redo.bytes,
     };
-    match save_found(rt.alloc(), files, found, plan.as_slice(), new)? {
+    let saved = save_found(rt.alloc(), files, found, plan.as_slice(), new);
+    if saved.is_err() {
+        forget_redo(rt, names);
+    }
+    match saved? {
         Some(kept) => {
-            let states = DataStates::look(rt, names);
-            *log = Some(SessionLog { kept, states });
+            *log = Some(kept);
             Ok(Saved::Whole)
         }
         None => Ok(Saved::Pending),
     }
 }
 
-// Saves files that were read by a plan that replaces them, in a new log. `None` if something failed after the commit.
+// Saves files that were read by a plan, in a new log. `None` if something failed after the commit.
 fn save_found<'a, R: Files<File = File>>(
     alloc: Global,
     files: RealFiles<'a, R>,
@@ -228,24 +250,14 @@ fn save_found<'a, R: Files<File = File>>(
     requires fresh { acts files.log ≡ [] }
     requires unmarked { get_or found.redo.items 0 0 ≢ 1 }
     requires short { length plan.now < 3000000000 }
-    requires replaces { Replaces plan.now (found.pages.items, found.directory.items) (bytes_of new) }
+    requires plan { IsPlan plan.now }
+    requires knows { Knows plan.now (found.pages.items, found.directory.items) }
+    requires pages { new.pages.items ≡ renewed Pages plan.now found.pages.items }
+    requires directory { new.directory.items ≡ renewed Directory plan.now found.directory.items }
 {
     let mut disk = Recorded::<RealFiles<'a, R>, Unknown, Noted>::new(files, Noted::of(&found));
     match save_first(alloc, &mut disk, found.redo.as_slice(), plan, ROOM)? {
         (Outcome::Done, log) => Ok(Some(KeptDisk::new(disk, Keeper { log, files: new }))),
         (Outcome::Pending(_), _) => Ok(None),
     }
-}
-
-// The bytes of both files of a database, as they are written.
-fn written_bytes(alloc: Global, image: &Image<Global>) -> Result<DataBytes, FilesFault>
-    ensures { IfOk result (λ both. AreFilesFor image.now both.pages.items both.directory.items) }
-{
-    let count = image.page_count();
-    let mut pages = Vec::new(alloc);
-    for number in 0..count {
-        pages.extend_from_slice(image.page_bytes(number as u32))?;
-    }
-    let directory = Vec::from_slice(alloc, image.directory_bytes())?;
-    Ok(DataBytes { pages, directory })
 }

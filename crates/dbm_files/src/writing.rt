@@ -29,12 +29,12 @@ pub(crate) struct OldRedo {
     pub(crate) is_stale: bool,
 }
 
-/// Saves what a run has made of a database, releases its lock, and then prints its lines. The files are written in place, by a log: a crash at
+/// Saves what a run has made of a database, releases its locks, and then prints its lines. The files are written in place, by a log: a crash at
 /// any moment leaves files from which the next run gets the database before the save or after it. If nothing changed no file is written, made
 /// or touched. If a save failed before it was committed, its redo file is removed.
 ///
 /// # Errors
-/// Those of `save_change`, `BadRedo` if the redo file is marked, and before all else `Moved` if the lock or a data file has lost its name to
+/// Those of `save_change`, `BadRedo` if the redo file is marked, and before all else `Moved` if a lock or a data file has lost its name to
 /// another file.
 pub fn save_files<R: Files<File = File> + AllocGlobal, W: Write>(
     rt: &R,
@@ -44,21 +44,26 @@ pub fn save_files<R: Files<File = File> + AllocGlobal, W: Write>(
     lines: &[u8],
     writer: &mut W,
 ) -> Result<Saved, FilesFault> {
-    let LockedFiles { place, seen, lock } = held;
-    place.must_be_held(rt, &lock, &seen)?;
+    let LockedFiles {
+        place,
+        seen,
+        locks,
+        ..
+    } = held;
+    place.must_be_held(rt, &locks, &seen)?;
     let redo = find_redo(rt, &place.names)?;
     let change = change_of(old, &redo, new);
-    let mut lock = Some(lock);
+    let mut locks = Some(locks);
     let found = found_of(old, &redo);
     let log = CallLog::new(rt.alloc())?;
     let files = RealFiles::new(rt, &place.names, seen, redo.is_stale, log);
     let mut disk = Recorded::<RealFiles<'_, R>, Unknown, FoundRead<'_>>::new(files, found);
-    let saved = save_change(rt.alloc(), &mut disk, change, lines, writer, &mut lock);
+    let saved = save_change(rt.alloc(), &mut disk, change, lines, writer, &mut locks);
     forget_failed(rt, &place.names, &saved);
     saved
 }
 
-/// The same, but the lock is kept, and nothing is printed. The files are those that were seen when they were read last.
+/// The same, but the locks are kept, and nothing is printed. The files are those that were seen when they were read last.
 ///
 /// # Errors
 /// As `save_files`.
@@ -69,8 +74,8 @@ pub fn save_held<R: Files<File = File> + AllocGlobal>(
     old: ReadFiles<'_, Global>,
     new: &Image<Global>,
 ) -> Result<Saved, FilesFault> {
-    let LockedFiles { place, lock, .. } = held;
-    place.must_be_held(rt, lock, seen)?;
+    let LockedFiles { place, locks, .. } = held;
+    place.must_be_held(rt, locks, seen)?;
     let redo = find_redo(rt, &place.names)?;
     let change = change_of(old, &redo, new);
     let mut kept: Option<File> = None;
@@ -113,8 +118,13 @@ pub fn save_part<R: Files<File = File> + AllocGlobal, W: Write>(
     requires plan { IsPlan planned.plan.now }
     requires knows { Knows planned.plan.now (part_pages planned.part planned.size, planned.part.directory.now) }
 {
-    let LockedFiles { place, seen, lock } = held;
-    place.must_be_held(rt, &lock, &seen)?;
+    let LockedFiles {
+        place,
+        seen,
+        locks,
+        ..
+    } = held;
+    place.must_be_held(rt, &locks, &seen)?;
     let redo = find_redo(rt, &place.names)?;
     let found = FoundPart {
         part: planned.part,
@@ -125,11 +135,11 @@ pub fn save_part<R: Files<File = File> + AllocGlobal, W: Write>(
         redo: redo.bytes.as_slice(),
         plan: planned.plan,
     };
-    let mut lock = Some(lock);
+    let mut locks = Some(locks);
     let log = CallLog::new(rt.alloc())?;
     let files = RealFiles::new(rt, &place.names, seen, redo.is_stale, log);
     let mut disk = Recorded::<RealFiles<'_, R>, Unknown, FoundPart<'_>>::new(files, found);
-    let saved = save_plan(rt.alloc(), &mut disk, plan, lines, writer, &mut lock);
+    let saved = save_plan(rt.alloc(), &mut disk, plan, lines, writer, &mut locks);
     forget_failed(rt, &place.names, &saved);
     saved
 }
@@ -199,11 +209,7 @@ fn read_redo<R: Files<File = File> + AllocGlobal>(
 }
 
 // Removes the redo file of a save that has failed before it was committed. The lock is held still.
-pub(crate) fn forget_failed<R: Files<File = File>>(
-    rt: &R,
-    names: &Names,
-    saved: &Result<Saved, FilesFault>,
-) {
+fn forget_failed<R: Files<File = File>>(rt: &R, names: &Names, saved: &Result<Saved, FilesFault>) {
     match saved {
         Ok(_) | Err(FilesFault::Write) => (),
         Err(_) => forget_redo(rt, names),

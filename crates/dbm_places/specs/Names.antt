@@ -42,9 +42,10 @@ named_files limit None None = []
 abbrev pub files_read : RunPlace → List FileRead
 files_read place = named_files place.pages_limit (option_map (λ text. text.now) place.base) (option_map (λ text. text.now) place.file)
 
--- the names of the files of a base that are written, and of the one on which its runs wait for each other
+-- the names of the files of a base that are written, and of those on which its runs wait for each other
 pub record AreNames (base : List ℕ) (names : Names) : Type 0 where
   pub pages : string_bytes names.pages ≡ base ++ codes ".pag"
   pub directory : string_bytes names.directory ≡ base ++ codes ".dir"
   pub redo : string_bytes names.redo ≡ base ++ codes ".redo"
   pub lock : string_bytes names.lock ≡ base ++ codes ".lock"
+  pub writer : string_bytes names.writer ≡ base ++ codes ".writer"

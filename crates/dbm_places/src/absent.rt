@@ -34,7 +34,10 @@ fn may_be_marked<R: Files<File = File>>(rt: &R, names: &Names) -> bool {
     let (name, pages) = (names.redo.as_str(), names.pages.as_str());
     let mut first = [0u8];
     match open_beside(rt, Side::Redo, name, pages, false) {
-        Ok(mut file) => file.read_exact(&mut first).is_ok() && first == [1],
+        Ok(mut file) => match file.read_exact(&mut first) {
+            Ok(()) => first == [1],
+            Err(error) => error.kind() != ErrorKind::UnexpectedEof,
+        },
         Err(SideFault::Absent) => false,
         Err(_) => true,
     }

@@ -10,6 +10,8 @@ use std::alloc::{AllocError, AllocFailed};
 pub enum MovedFile {
     /// BASE.lock, which the run holds.
     Lock,
+    /// BASE.writer, which the run holds.
+    Writer,
     /// BASE.pag, which the run has read.
     Pages,
     /// BASE.dir, which the run has read.
@@ -27,12 +29,14 @@ pub enum FilesFault {
     WriteFile,
     /// The redo file is marked, and is not of these files, or none that a save has left.
     BadRedo,
-    /// The redo file or the lock is one that others could have planted.
+    /// The redo file or a lock is one that others could have planted.
     Unsafe,
     /// Another run has had the lock for as long as this one was to wait.
     Locked,
-    /// `BASE.lock`, `.pag` or `.dir` is no longer the file that this run locked or read. Nothing was saved.
+    /// `BASE.lock`, `.writer`, `.pag` or `.dir` is no longer the file that this run locked or read. Nothing was saved.
     Moved(MovedFile),
+    /// Another program has written `BASE.pag` or `.dir` since this run read or saved it. Nothing was saved.
+    Changed,
     /// The lines that tell of a save could not be written. The save stands.
     Write,
     /// No memory is left.

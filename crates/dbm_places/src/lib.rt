@@ -13,7 +13,7 @@ mod side;
 pub use absent::{has_no_files, is_absent, is_special};
 pub use fault::{FilesFault, MovedFile};
 pub use links::resolve;
-pub use lock::{lock_to_read, lock_to_write};
+pub use lock::{WriteLocks, has_writer, lock_to_read, lock_to_write};
 pub use names::{
     DIR_LIMIT, FileBytes, Names, PROGRAM_LIMIT, RunPlace, Source, SourceKind, folder_of, names_of,
     sources,

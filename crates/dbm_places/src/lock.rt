@@ -1,4 +1,4 @@
-//! The lock of a database, which keeps runs of the program apart.
+//! The two locks of a database: BASE.lock says who is at the files right now, and BASE.writer who may change the database.
 use crate::fault::{FilesFault, MovedFile};
 use crate::names::Names;
 use crate::place::is_named;
@@ -10,55 +10,158 @@ use std::thread;
 use std::time::{Clock, Duration, Instant};
 
 /// A run rests for at most so many milliseconds between two looks whether it can have the lock.
-const LONGEST_REST: u64 = 20;
+const LONGEST_REST: u64 = 5;
 
 /// A run takes at most so many locks in turn, of which each has lost its name to the next by then.
 const MOST_LOCKS: usize = 100;
 
-/// How a run takes its lock: shared or for itself alone, and how long it waits.
+/// The locks of a run that may change a database. Others wait until they are dropped.
+#[derive(Drop)]
+pub struct WriteLocks {
+    /// BASE.writer: for this run alone while it is not at the files, and else shared. So if it is killed at the files, in whatever order the
+    /// system releases both, nobody takes the data files for whole.
+    pub writer: File,
+    /// BASE.lock, which is locked while the run is at the files.
+    pub files: File,
+}
+
+impl WriteLocks {
+    /// Gives BASE.lock back: the data files have all that is saved. If BASE.writer cannot be had alone at once, since a process that looks at it
+    /// was stopped, it stays shared, and readers use the redo file.
+    pub fn leave_files(&self) {
+        if self.writer.try_lock().is_err() {
+            let _ = self.writer.lock_shared();
+        }
+        let _ = self.files.unlock();
+    }
+
+    /// Waits for BASE.lock, if it was given back. BASE.writer is shared before the wait, by which readers of the library see that a save waits.
+    ///
+    /// # Errors
+    /// `WriteFile` if a lock cannot be had.
+    pub fn enter_files(&self) -> Result<(), FilesFault> {
+        if self.files.try_lock().is_ok() {
+            return share(&self.writer);
+        }
+        share(&self.writer)?;
+        match self.files.lock() {
+            Ok(()) => Ok(()),
+            Err(_) => Err(FilesFault::WriteFile),
+        }
+    }
+}
+
+// Has BASE.writer shared.
+fn share(writer: &File) -> Result<(), FilesFault> {
+    match writer.lock_shared() {
+        Ok(()) => Ok(()),
+        Err(_) => Err(FilesFault::WriteFile),
+    }
+}
+
+/// How a run takes a lock: shared or for itself alone, and how long it waits.
 #[derive(Clone, Copy)]
 struct Take {
     shared: bool,
     patience: Option<Duration>,
 }
 
-/// Waits for the lock of a run that writes, and takes it. It is held until the file that is handed out is dropped. Where its file is
-/// missing it is made, so that all who may use the pages can lock it; but a run that may not write the pages makes none. With a patience
-/// it waits no longer than that. If the name refers to another file by then, it waits for that file's lock.
+/// Waits for both locks of a run that writes, and takes them. Their files are made if they are missing, so that all who may use the pages can
+/// lock them; but a run that may not write the pages makes none. With a patience it waits no longer than that. If another run has BASE.writer
+/// this one has no lock between two tries, so that readers do not wait for it.
 ///
 /// # Errors
-/// `Unsafe` where the file of the lock is one that others could have planted, `WriteFile` where it cannot be made, or cannot be locked,
-/// `Locked` where another run has had it for as long as this one waits, and `Moved` where the name goes from file to file. A call that a
-/// signal interrupts is made again.
+/// `Unsafe` if a lock is a file that others could have planted, `WriteFile` if it cannot be made or locked, `Locked` if another run has had
+/// one for as long as this one waits, and `Moved` if a name goes from file to file. A call that a signal interrupts is made again.
 pub fn lock_to_write<R: Files<File = File> + Clock>(
     rt: &R,
     names: &Names,
     patience: Option<Duration>,
-) -> Result<File, FilesFault> {
+) -> Result<WriteLocks, FilesFault> {
+    let mut patience = patience;
+    for _ in 0..u64::MAX {
+        let (files, left) = lock_files(rt, names, patience)?;
+        let writer = open_to_lock(rt, names, names.writer.as_str())?;
+        if is_locked_now(rt, names, &writer)? {
+            share(&writer)?;
+            return Ok(WriteLocks { writer, files });
+        }
+        drop(files);
+        patience = rest_within(rt, left)?;
+    }
+    Err(FilesFault::Locked)
+}
+
+// Rests for a while, and returns what is left of the patience after that.
+fn rest_within<C: Clock>(
+    clock: &C,
+    patience: Option<Duration>,
+) -> Result<Option<Duration>, FilesFault> {
+    let longest = Duration::from_millis(LONGEST_REST);
+    let Some(left) = patience else {
+        thread::sleep(clock, longest);
+        return Ok(None);
+    };
+    if left.is_zero() {
+        return Err(FilesFault::Locked);
+    }
+    let rest = longest.min(left);
+    thread::sleep(clock, rest);
+    Ok(Some(left.saturating_sub(rest)))
+}
+
+// Takes BASE.writer, if no other run has it, and says whether it did. It does not if its name has another file by now.
+fn is_locked_now<R: Files<File = File>>(
+    rt: &R,
+    names: &Names,
+    writer: &File,
+) -> Result<bool, FilesFault> {
+    match writer.try_lock() {
+        Ok(()) => Ok(is_named(rt, names.writer.as_str(), writer)),
+        Err(TryLockError::WouldBlock) => Ok(false),
+        Err(TryLockError::Error(_)) => Err(FilesFault::WriteFile),
+    }
+}
+
+// Waits for BASE.lock, and takes it for this run alone. It returns what is left of the patience too.
+fn lock_files<R: Files<File = File> + Clock>(
+    rt: &R,
+    names: &Names,
+    patience: Option<Duration>,
+) -> Result<(File, Option<Duration>), FilesFault> {
     let mut patience = patience;
     for _ in 0..MOST_LOCKS {
-        let file = match open_lock(rt, names.lock.as_str(), names.pages.as_str()) {
-            Ok(file) => file,
-            Err(fault) => return Err(side_fault(&fault, FilesFault::WriteFile)),
-        };
+        let file = open_to_lock(rt, names, names.lock.as_str())?;
         let take = Take {
             shared: false,
             patience,
         };
         patience = take_named(rt, &file, take, FilesFault::WriteFile)?;
         if is_named(rt, names.lock.as_str(), &file) {
-            return Ok(file);
+            return Ok((file, patience));
         }
     }
     Err(FilesFault::Moved(MovedFile::Lock))
 }
 
-/// Waits for the lock of a run that reads, and takes it. `None` where its file is missing: then no run of the program has written.
+// Opens the file of a lock, which is made if it is missing.
+fn open_to_lock<R: Files<File = File>>(
+    rt: &R,
+    names: &Names,
+    name: &str,
+) -> Result<File, FilesFault> {
+    match open_lock(rt, name, names.pages.as_str()) {
+        Ok(file) => Ok(file),
+        Err(fault) => Err(side_fault(&fault, FilesFault::WriteFile)),
+    }
+}
+
+/// Waits for BASE.lock as a run that reads, and takes it. `None` if its file is missing: then no run of the program has written.
 /// With a patience it waits no longer than that. If the name refers to another file by then, it waits for that file's lock.
 ///
 /// # Errors
-/// `Unsafe` where the file is one that others could have planted, `ReadFile` where it cannot be opened or locked, `Locked` where a run
-/// that writes has had it for as long as this one waits, and `Moved` where the name goes from file to file.
+/// `Unsafe` if the file is one that others could have planted, `ReadFile` if it cannot be opened or locked, `Locked` if a run
+/// that writes has had it for as long as this one waits, and `Moved` if the name goes from file to file.
 pub fn lock_to_read<R: Files<File = File> + Clock>(
     rt: &R,
     names: &Names,
@@ -82,6 +185,19 @@ pub fn lock_to_read<R: Files<File = File> + Clock>(
         }
     }
     Err(FilesFault::Moved(MovedFile::Lock))
+}
+
+/// Whether another run has the database open to change it. To one that has BASE.lock it says that the data files have all that is saved,
+/// whatever the redo file has. It says no if that cannot be found out.
+pub fn has_writer<R: Files<File = File>>(rt: &R, names: &Names) -> bool {
+    let (name, pages) = (names.writer.as_str(), names.pages.as_str());
+    let Ok(file) = open_beside(rt, Side::Lock, name, pages, false) else {
+        return false;
+    };
+    match file.try_lock_shared() {
+        Err(TryLockError::WouldBlock) => is_named(rt, name, &file),
+        _ => false,
+    }
 }
 
 // Takes a lock, and tells what is left of the patience. A lock that cannot be had is `Locked`, or this fault.

@@ -61,17 +61,19 @@ pub struct Source {
     pub may_be_absent: bool,
 }
 
-/// The names of the files of a database that are written, and of its lock.
+/// The names of the files of a database that are written, and of its locks.
 #[derive(Drop)]
 pub struct Names {
     /// BASE.pag, the pages.
     pub pages: String,
     /// BASE.dir, the directory.
     pub directory: String,
-    /// BASE.redo, which is there while a save is under way.
+    /// BASE.redo, the log of saves.
     pub redo: String,
-    /// BASE.lock, on which a run waits for others on the same database.
+    /// BASE.lock, which a run has while it is at the files.
     pub lock: String,
+    /// BASE.writer, which a run has as long as it may change the database.
+    pub writer: String,
 }
 
 /// The files that are read for a run, in this order: BASE.dir and BASE.pag, each of which may be missing, and the program's file.
@@ -127,7 +129,7 @@ fn program_source(alloc: Global, file: &str) -> Result<Source, AllocError>
     })
 }
 
-/// The names of the files of a base: BASE.pag, BASE.dir, BASE.redo and BASE.lock. The error is `AllocError`.
+/// The names of the files of a base: BASE.pag, BASE.dir, BASE.redo, BASE.lock and BASE.writer. The error is `AllocError`.
 pub fn names_of(alloc: Global, base: &str) -> Result<Names, AllocError>
     ensures { IfOk result (AreNames base.now) }
 {
@@ -136,6 +138,7 @@ pub fn names_of(alloc: Global, base: &str) -> Result<Names, AllocError>
         directory: joined(alloc, base, ".dir")?,
         redo: joined(alloc, base, ".redo")?,
         lock: joined(alloc, base, ".lock")?,
+        writer: joined(alloc, base, ".writer")?,
     })
 }
 

@@ -3,6 +3,7 @@
 use crate::absent::is_special;
 use crate::fault::{FilesFault, MovedFile};
 use crate::links::resolve;
+use crate::lock::WriteLocks;
 use crate::names::{Names, folder_of, names_of};
 use std::alloc::AllocError;
 use std::fs::{self, File, Metadata};
@@ -212,20 +213,36 @@ impl Place {
         }
     }
 
-    /// Looks whether the lock that is held and the data files that were read are still those of the names.
+    /// Looks whether the locks that are held and the data files that were read are still those of the names.
     ///
     /// # Errors
     /// `Moved` with the first that is not.
     pub fn must_be_held<R: Files<File = File>>(
         &self,
         rt: &R,
-        lock: &File,
+        locks: &WriteLocks,
         seen: &SeenFiles,
     ) -> Result<(), FilesFault> {
-        if !is_named(rt, self.names.lock.as_str(), lock) {
+        self.must_be_locked(rt, locks)?;
+        seen.must_be(&SeenFiles::look(rt, &self.names)?)
+    }
+
+    /// Looks whether the locks that are held are still those of the names: if not, another run may write.
+    ///
+    /// # Errors
+    /// `Moved` with the first that is not.
+    pub fn must_be_locked<R: Files<File = File>>(
+        &self,
+        rt: &R,
+        locks: &WriteLocks,
+    ) -> Result<(), FilesFault> {
+        if !is_named(rt, self.names.lock.as_str(), &locks.files) {
             return Err(FilesFault::Moved(MovedFile::Lock));
         }
-        seen.must_be(&SeenFiles::look(rt, &self.names)?)
+        if !is_named(rt, self.names.writer.as_str(), &locks.writer) {
+            return Err(FilesFault::Moved(MovedFile::Writer));
+        }
+        Ok(())
     }
 }
 

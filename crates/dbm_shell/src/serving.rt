@@ -1,8 +1,8 @@
 //! A session on the files of its database.
 
-use crate::shell::Shell;
+use crate::shell::{Options, Shell};
 use dbm_faults::ServeFault;
-use dbm_files::RunFiles;
+use dbm_files::{RunFiles, SessionSaves};
 use dbm_places::{FileBytes, FilesFault, RunPlace};
 use dbm_reports::{Given, ReportFault, notation_by, open};
 use dbm_script::Notation;
@@ -15,7 +15,8 @@ use std::io::{self, Read};
 use std::rt::Runtime;
 use std::time::Clock;
 
-/// Answers the lines of a reader on the database of files that were taken, and saves it there. The lock is held to the end.
+/// Answers the lines of a reader on the database of files that were taken, and saves it there. No other run may change the database until
+/// the end; others may read it between two saves.
 ///
 /// # Errors
 /// `Report` with `BadLayout` if the layout of values is invalid, with `BadNumber` if `--save-every` is, and with `Open` if the files do not
@@ -38,7 +39,13 @@ pub fn serve_session<R: Runtime<File = File> + Clock + AllocGlobal, I: Read>(
         return Err(ServeFault::WriteFile);
     };
     let image = opened(rt.alloc(), session, bytes)?;
-    let mut shell = Shell::new(rt, place, &held, &notation, every, session.clock);
+    let saves = SessionSaves::begin(&held);
+    let options = Options {
+        notation: &notation,
+        every,
+        clock: session.clock,
+    };
+    let mut shell = Shell::new(rt, place, &held, saves, options);
     answer_lines(rt, &notation, image, reader, &mut shell)
 }
 

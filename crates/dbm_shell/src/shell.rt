@@ -5,7 +5,7 @@ ghost use Rattle.dbm_session.specs.HostCalls.{DidSave};
 
 use crate::host_log::HostLog;
 use dbm_faults::ServeFault;
-use dbm_files::{LockedFiles, Saved, SessionLog, close_session, read_program, save_session};
+use dbm_files::{LockedFiles, Saved, SessionSaves, close_session, read_program, save_session};
 use dbm_places::{DataFiles, FilesFault, RunPlace, SeenFiles};
 use dbm_reports::is_too_long;
 use dbm_script::{Notation, TimeOfDay};
@@ -19,6 +19,14 @@ use std::rt::Runtime;
 use std::time::{Clock, Duration, SystemTime, UNIX_EPOCH};
 use stock_names::{NAMES, ProgramWord, read_word};
 
+/// What the words ask of a session: the notation of its lines, when it saves by itself, and whether its lines may ask for the time of day.
+#[derive(Clone, Copy)]
+pub struct Options<'a> {
+    pub notation: &'a Notation<Global>,
+    pub every: Every,
+    pub clock: bool,
+}
+
 /// The files of a session's database, the clock, and the terminal at which its lines are typed, if there is one. Its saves share a log, which is
 /// open from the first one on. It keeps which files they are, since a save is into these alone. Clauses see its saves and the times that it
 /// gave by a log of its own.
@@ -30,10 +38,8 @@ pub struct Shell<'a, R: Runtime<File = File>> {
     seen: SeenFiles,
     // The data files that its saves have made, held open.
     made: DataFiles,
-    saves: Option<SessionLog<'a, R>>,
-    notation: &'a Notation<Global>,
-    every: Every,
-    clock: bool,
+    saves: SessionSaves<'a, R>,
+    options: Options<'a>,
     is_prompted: bool,
     // How many lines have asked for changes since the last save.
     changes: u64,
@@ -43,14 +49,13 @@ pub struct Shell<'a, R: Runtime<File = File>> {
 }
 
 impl<'a, R: Runtime<File = File> + Clock + AllocGlobal> Shell<'a, R> {
-    /// The host of a session of which no line was read. With `clock` its lines may ask for the time of day.
+    /// The host of a session of which no line was read.
     pub fn new(
         rt: &'a R,
         place: RunPlace<'a>,
         held: &'a LockedFiles,
-        notation: &'a Notation<Global>,
-        every: Every,
-        clock: bool,
+        saves: SessionSaves<'a, R>,
+        options: Options<'a>,
     ) -> Self {
         Shell {
             rt,
@@ -58,10 +63,8 @@ impl<'a, R: Runtime<File = File> + Clock + AllocGlobal> Shell<'a, R> {
             held,
             seen: held.seen,
             made: DataFiles::none(),
-            saves: None,
-            notation,
-            every,
-            clock,
+            saves,
+            options,
             is_prompted: is_terminal(rt, 0) && is_terminal(rt, 2),
             changes: 0,
             saved_at: rt.monotonic().ok(),
@@ -78,7 +81,7 @@ impl<'a, R: Runtime<File = File> + Clock + AllocGlobal> Shell<'a, R> {
 
     // The time of day. `None` if lines may not ask for it, or the system does not tell it.
     fn clock_time(&self) -> Option<TimeOfDay> {
-        if !self.clock {
+        if !self.options.clock {
             return None;
         }
         let since = SystemTime::now(self.rt)
@@ -107,7 +110,7 @@ impl<'a, R: Runtime<File = File> + Clock + AllocGlobal> Shell<'a, R> {
     /// Ends the saves of the session: both data files are whole then. If a file cannot be written, it reports that the next run that writes does
     /// the rest.
     pub fn end_saves(&mut self) {
-        if close_session(self.rt, &mut self.saves).is_err() {
+        if close_session(self.rt, self.held, &mut self.saves).is_err() {
             note_waiting_save(self.rt, self.place.base);
         }
     }
@@ -187,7 +190,8 @@ impl<R: Runtime<File = File> + Clock + AllocGlobal> Host for Shell<'_, R> {
         if asks_change {
             self.changes = self.changes.saturating_add(1);
         }
-        self.every != Every::Never && self.every.is_due(self.changes, self.seconds())
+        let every = self.options.every;
+        every != Every::Never && every.is_due(self.changes, self.seconds())
     }
 
     fn answer_own(
@@ -204,7 +208,7 @@ impl<R: Runtime<File = File> + Clock + AllocGlobal> Host for Shell<'_, R> {
                 None => Ok(Own::Shown),
             };
         }
-        show_own(alloc, self.notation, image, asked, text)?;
+        show_own(alloc, self.options.notation, image, asked, text)?;
         Ok(Own::Shown)
     }
 

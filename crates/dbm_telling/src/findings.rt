@@ -6,7 +6,7 @@ use std::fs::{self, File, OpenOptions};
 use std::io::{self, ErrorKind, Read};
 use std::rt::Files;
 
-/// The first of the files of a run that cannot be read, if there is one: the lock, the redo file, the directory and the pages of its
+/// The first of the files of a run that cannot be read, if there is one: the lock of the files, the redo file, the directory and the pages of its
 /// database, where it has one, and the program's file. Those of a database may be missing.
 pub fn find_unread<'a, R: Files<File = File>>(
     rt: &R,
@@ -75,17 +75,18 @@ fn is_link<R: Files<File = File>>(rt: &R, name: &str) -> bool {
 }
 
 /// Why the files of a database cannot be written, if that is to be seen: their folder is none, or one that is there is refused, the
-/// lock, the redo file, the directory and the pages in turn. A lock that may only be read serves too.
+/// locks, the redo file, the directory and the pages in turn. A lock that may only be read serves too.
 pub fn find_unwritten<'a, R: Files<File = File>>(rt: &R, names: &'a Names) -> Option<Finding<'a>> {
     let name = folder_of(names.lock.as_str());
     if let Some(matter) = lost(rt, name) {
         return Some(Finding { name, matter });
     }
-    let lock = names.lock.as_str();
-    if read_error(rt, lock).is_some()
-        && let Some(matter) = unwritten(rt, lock)
-    {
-        return Some(Finding { name: lock, matter });
+    for lock in [names.lock.as_str(), names.writer.as_str()] {
+        if read_error(rt, lock).is_some()
+            && let Some(matter) = unwritten(rt, lock)
+        {
+            return Some(Finding { name: lock, matter });
+        }
     }
     for name in [
         names.redo.as_str(),
@@ -99,10 +100,11 @@ pub fn find_unwritten<'a, R: Files<File = File>>(rt: &R, names: &'a Names) -> Op
     None
 }
 
-/// The first of the files beside a database that is not taken, the lock and the redo file in turn: others could have planted it.
+/// The first of the files beside a database that is not taken, the locks and the redo file in turn: others could have planted it.
 pub fn find_unsafe<'a, R: Files<File = File>>(rt: &R, names: &'a Names) -> Option<Finding<'a>> {
     for (side, name) in [
         (Side::Lock, names.lock.as_str()),
+        (Side::Lock, names.writer.as_str()),
         (Side::Redo, names.redo.as_str()),
     ] {
         if let Some(found) = doubt_of(rt, side, name, names.pages.as_str()) {

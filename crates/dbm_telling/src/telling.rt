@@ -43,7 +43,7 @@ fn advise_on<R: Runtime<File = File> + AllocGlobal>(
 ) -> Result<(), AllocError> {
     // Where a name leads elsewhere by now, its files are those that the words named.
     let base = match fault {
-        ServeFault::Moved(_) => None,
+        ServeFault::Moved(_) | ServeFault::Changed => None,
         _ => base_behind(rt, told.words.base),
     };
     let words = &with_base(told.words, base.as_ref());

@@ -95,10 +95,19 @@ fn tell_holder<R: Runtime<File = File> + AllocGlobal>(rt: &R, base: Option<&str>
     let _ = eprintln!(rt; "dbm: note: {note}");
 }
 
-// The number of the process that has the lock of a base, where the system tells it.
+// The number of the process that has a base open to change it, or else is at its files, if the system tells it.
 fn holder_of<R: Runtime<File = File> + AllocGlobal>(rt: &R, base: &str) -> Option<u64> {
     let names = names_of(rt.alloc(), base).ok()?;
-    let number = fs::metadata(rt, names.lock.as_str()).ok()?.ino();
+    let writer = locker_of(rt, names.writer.as_str());
+    if writer.is_some() {
+        return writer;
+    }
+    locker_of(rt, names.lock.as_str())
+}
+
+// The number of the process that has the lock on a file.
+fn locker_of<R: Runtime<File = File> + AllocGlobal>(rt: &R, name: &str) -> Option<u64> {
+    let number = fs::metadata(rt, name).ok()?.ino();
     let locks = fs::read_to_string(rt, "/proc/locks").ok()?;
     let mut holder = None;
     for line in locks.as_str().lines() {

@@ -1,24 +1,21 @@
 // A log that stays open from one save to the next.
-ghost use Rattle.std.specs.Prelude.{get_or, ◌≢◌, ◌≡◌, ◌⊎◌, ◌↔◌, ◌<◌, ◌≤◌, ◌+◌, length, IsTrue, OnOk, IfOk};
+ghost use Rattle.std.specs.Prelude.{get_or, ◌≢◌, ◌≡◌, ◌⊎◌, ◌<◌, length, IsTrue, OnOk, IfOk};
 ghost use Rattle.sdbm_saves.specs.Disk.{Image, LeavesOnly, HasCause};
-ghost use Rattle.sdbm_saves.specs.Redo.{files, renewed_files, IsPlan, Knows};
+ghost use Rattle.sdbm_saves.specs.Redo.{files, renewed, renewed_files, new_length, IsPlan, Knows};
+ghost use Rattle.sdbm_saves.specs.declared.disk.File.TheVariants.{Pages, Directory};
 ghost use Rattle.sdbm_saves.specs.declared.disk.DiskError.TheVariants.{Failed};
 ghost use Rattle.sdbm_log.specs.Log.{Holds, IsReady};
 ghost use Rattle.sdbm_logged.specs.Keeping.{bytes_of, IsKept};
-ghost use Rattle.sdbm_logged.specs.declared.keeping.NextSave.TheVariants.{Same, Full, Done, Pending};
+ghost use Rattle.sdbm_logged.specs.declared.keeping.NextSave.TheVariants.{Full, Done, Pending};
 ghost use Rattle.sdbm_logged.specs.declared.saving.Saved.TheVariants as saved;
 
 use crate::once::open_for;
 use crate::room::wants_blocks;
-use crate::saving::{Saved, save_by};
+use crate::saving::{PLAN_LIMIT, Saved, save_by};
 use sdbm_log::Log;
-use sdbm_saves::{Contents, Disk, DiskError, SavePlanFault, plan_between};
-use std::alloc::Global;
+use sdbm_saves::{Contents, Disk, DiskError, File, lay_in, lay_over, number};
+use std::alloc::{AllocError, Global};
 use std::marker::Model;
-use std::mem;
-
-// A plan has fewer bytes than this.
-const PLAN_LIMIT: usize = 3_000_000_000;
 
 /// The bytes of both data files.
 #[derive(Drop)]
@@ -40,6 +37,42 @@ impl DataBytes {
             directory: self.directory.as_slice(),
         }
     }
+
+    /// The bytes after a plan.
+    ///
+    /// # Errors
+    ///
+    /// `AllocError` if there is no memory for them.
+    pub fn renewed(&self, alloc: Global, plan: &[u8]) -> Result<DataBytes, AllocError>
+        requires plan { IsPlan plan.now }
+        ensures pages { IfOk result (λ new. new.pages.items ≡ renewed Pages plan.now self.now.pages.items) }
+        ensures directory { IfOk result (λ new. new.directory.items ≡ renewed Directory plan.now self.now.directory.items) }
+    {
+        let pages = lay_over(alloc, plan, File::Pages, self.pages.as_slice())?;
+        let directory = lay_over(alloc, plan, File::Directory, self.directory.as_slice())?;
+        Ok(DataBytes { pages, directory })
+    }
+
+    // Does a plan in the bytes, which keep their lengths.
+    fn renew(&mut self, plan: &[u8])
+        requires plan { IsPlan plan.now }
+        requires pages_long { length self.old.pages.items ≡ new_length Pages plan.now }
+        requires directory_long { length self.old.directory.items ≡ new_length Directory plan.now }
+        ensures pages { self.new.pages.items ≡ renewed Pages plan.now self.old.pages.items }
+        ensures directory { self.new.directory.items ≡ renewed Directory plan.now self.old.directory.items }
+    {
+        lay_in(self.pages.as_mut_slice(), File::Pages, plan);
+        lay_in(self.directory.as_mut_slice(), File::Directory, plan);
+    }
+
+    // Whether a plan gives the files the lengths that they have.
+    fn keeps_lengths(&self, plan: &[u8]) -> bool
+        requires plan { IsPlan plan.now }
+        ensures pages { IsTrue result → length self.now.pages.items ≡ new_length Pages plan.now }
+        ensures directory { IsTrue result → length self.now.directory.items ≡ new_length Directory plan.now }
+    {
+        number(plan, 8) == self.pages.len() && number(plan, 12) == self.directory.len()
+    }
 }
 
 /// What is known of a database between two saves: the place of the next record in its log, and the bytes of its data files.
@@ -52,9 +85,8 @@ pub struct Keeper {
 /// What has become of a save in a log that stays open.
 #[derive(Clone, Copy, Debug, PartialEq, Eq)]
 pub enum NextSave {
-    /// The files have these bytes already. Nothing was done.
-    Same,
-    /// The log has no room for the record, or the files may want new blocks of the disk. Nothing was done: close the log, and open it anew.
+    /// The log has no room for the record, or the files get other lengths, or may want new blocks of the disk. Nothing was done: close the log,
+    /// and open it anew.
     Full,
     /// The save is durable, and the log can take the next one.
     Done,
@@ -100,8 +132,7 @@ pub fn save_first<D: Disk>(
     Ok((saved, log))
 }
 
-/// Saves these bytes of both data files in a log that is open. It takes one sync. If it returns `Done`, the old bytes of the files are
-/// lent in their place.
+/// Saves by a plan that knows the data files, in a log that is open. It takes one sync.
 ///
 /// # Errors
 ///
@@ -110,38 +141,34 @@ pub fn save_next<D: Disk>(
     alloc: Global,
     disk: &mut D,
     keeper: &mut Keeper,
-    new: &mut DataBytes,
+    plan: &[u8],
 ) -> Result<NextSave, DiskError>
     requires kept { IsKept keeper.old (D.seen disk.old) (D.may_leave disk.old) }
+    requires plan { IsPlan plan.now }
+    requires knows { Knows plan.now (bytes_of keeper.old.files) }
 
-    ensures same { IfOk result (λ how. how ≡ Same → (bytes_of new.old ≡ bytes_of keeper.old.files) × ((disk.new ≡ disk.old) × (keeper.new ≡ keeper.old))) }
     ensures full { IfOk result (λ how. how ≡ Full → (disk.new ≡ disk.old) × (keeper.new ≡ keeper.old)) }
     ensures kept { IfOk result (λ how. how ≡ Done → IsKept keeper.new (D.seen disk.new) (D.may_leave disk.new)) }
-    ensures done { IfOk result (λ how. how ≡ Done → bytes_of keeper.new.files ≡ bytes_of new.old) }
+    ensures done { IfOk result (λ how. how ≡ Done → bytes_of keeper.new.files ≡ renewed_files plan.now (D.seen disk.old)) }
 
-    // Once it returns `Done` or `Pending`, a crash leaves these bytes.
-    ensures durable { IfOk result (λ how. how ≡ Done → (c : Image) → D.may_leave disk.new c → Holds (bytes_of new.old) c) }
-    ensures durable_pending { IfOk result (λ how. (fault : DiskError) → how ≡ Pending fault → (c : Image) → D.may_leave disk.new c → Holds (bytes_of new.old) c) }
+    // Once it returns `Done` or `Pending`, a crash leaves the files with the plan done.
+    ensures durable { IfOk result (λ how. how ≡ Done → (c : Image) → D.may_leave disk.new c → Holds (renewed_files plan.now (D.seen disk.old)) c) }
+    ensures durable_pending { IfOk result (λ how. (fault : DiskError) → how ≡ Pending fault → (c : Image) → D.may_leave disk.new c → Holds (renewed_files plan.now (D.seen disk.old)) c) }
 
-    // A crash at any moment of the call leaves the files as they were, or these bytes.
-    ensures any_moment { LeavesOnly D.moment D.left_since disk.old disk.new (λ c. Holds (files (D.seen disk.old)) c ⊎ Holds (bytes_of new.old) c) }
+    // A crash at any moment of the call leaves the files as they were, or with the plan done.
+    ensures any_moment { LeavesOnly D.moment D.left_since disk.old disk.new
+        (λ c. Holds (files (D.seen disk.old)) c ⊎ Holds (renewed_files plan.now (D.seen disk.old)) c) }
 
     // `Failed`, alone or in `Pending`, comes only if the disk has failed.
     ensures cause { HasCause (D.has_failed disk.old) (D.has_failed disk.new) result }
     ensures pending { IfOk result (λ how. how ≡ Pending Failed → D.has_failed disk.new) }
 {
-    let plan = match plan_between(alloc, keeper.files.contents(), new.contents()) {
-        Ok(Some(plan)) => plan,
-        Ok(None) => return Ok(NextSave::Same),
-        Err(SavePlanFault::NoMemory) => return Err(DiskError::Memory),
-        Err(SavePlanFault::TooLong) => return Ok(NextSave::Full),
-    };
-    if !can_take(keeper.log, plan.as_slice()) {
+    if !can_take(keeper.log, plan) || !keeper.files.keeps_lengths(plan) {
         return Ok(NextSave::Full);
     }
-    match save_by(alloc, disk, &mut keeper.log, plan.as_slice())? {
+    match save_by(alloc, disk, &mut keeper.log, plan)? {
         Saved::Done => {
-            mem::swap(&mut keeper.files, new);
+            keeper.files.renew(plan);
             Ok(NextSave::Done)
         }
         Saved::Pending(fault) => Ok(NextSave::Pending(fault)),
@@ -185,6 +212,14 @@ impl<D: Disk> KeptDisk<D> {
         ensures { result ≡ (disk, keeper) }
     {
         KeptDisk { disk, keeper }
+    }
+
+    /// The bytes of the data files, lent.
+    pub fn contents(&self) -> Contents<'_>
+        ensures pages { result.pages.now ≡ self.now.1.files.pages.items }
+        ensures directory { result.directory.now ≡ self.now.1.files.directory.items }
+    {
+        self.keeper.files.contents()
     }
 
     /// The disk and the keeper.

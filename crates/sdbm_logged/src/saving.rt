@@ -11,6 +11,9 @@ use sdbm_saves::{Disk, DiskError};
 use std::alloc::Global;
 use std::marker::Brand;
 
+/// A save is by a plan of fewer bytes than this.
+pub const PLAN_LIMIT: usize = 3_000_000_000;
+
 /// The outcome of a save that is committed.
 #[derive(Clone, Copy, Debug, PartialEq, Eq)]
 pub enum Saved {

@@ -1,14 +1,15 @@
 -- Bytes that a draft puts into a file, one part after the other.
 use Rattle.std.proofs.Common.{◌≡◌, ◌≢◌, ⊎_elim, inl, inr, ℕ, ◌+◌, ◌-◌, ◌<◌, ◌≤◌, ◌^◌, min, List, [], ◌++◌, length, take, drop, get_or, refl, sym, ◌∙◌, ap, subst, arith, length-append}
-use Rattle.std.proofs.lemmas.List.{ext_get_or, get_or_append_left, get_or-append_right, get_or-take, get_or-drop, get_or_past, length-take, drop_all, append-nil}
+use Rattle.std.proofs.Math.Seq.{take-add}
+use Rattle.std.proofs.lemmas.List.{ext_get_or, get_or_append_left, get_or-append_right, get_or-take, get_or-drop, get_or_past, length-take, length-take-le, take_all, drop_all, append-nil}
 use Rattle.std.proofs.lemmas.Bool.{cases_lt}
 use Rattle.sdbm_saves.specs.declared.disk.File.{File}
 use Rattle.sdbm_saves.specs.declared.disk.File.TheVariants.{Pages, Directory, Redo}
 use Rattle.sdbm_saves.specs.Disk.{written, resized}
 use Rattle.sdbm_saves.specs.Redo.{file_of, offset_of, size_of, replayed, data_in}
-use Rattle.sdbm_saves.specs.Drafts.{change_bytes, length_in, FitsIn, AreChanges, Puts, ReadsAt, HasPut}
+use Rattle.sdbm_saves.specs.Drafts.{change_bytes, part_of, length_in, FitsIn, AreChanges, Puts, ReadsAt, HasPut}
 use Rattle.sdbm_saves.proofs.Lists.{length-written, written_before, written_inside, written_after, length-resized, read_resized}
-use Rattle.sdbm_saves.proofs.Drafts.{written_same, one_more, replayed_one_more, offset_spelled, size_spelled, was_spelled, length_spelled, file_spelled, effect_own, effect_other}
+use Rattle.sdbm_saves.proofs.Drafts.{part_read, length_part, block_reads, written_same, one_more, replayed_one_more, offset_spelled, size_spelled, was_spelled, length_spelled, file_spelled, effect_own, effect_other}
 
 -- bytes written after others are both written at once
 module _ (at : ℕ) (front back x : List ℕ) (room : at + length (front ++ back) ≤ length x) where
@@ -137,6 +138,70 @@ put_same pages directory both file at known block n xs same are = record {
   put = λ x room each. written_same at block (replayed file n xs x) room (λ i lt. ⊎_elim (λ is. same i lt ∙ sym is) (λ is. sym is) (each i lt));
   others = λ g other x. refl;
 }
+
+-- a block is put by one change of a part of it, if the rest stands there already
+module _ (pages directory : ℕ) (both : List ℕ × List ℕ) (file : File) (at : ℕ) (known block : List ℕ) (start end : ℕ) (n : ℕ) (xs : List ℕ)
+    (order : start ≤ end) (inside : end ≤ length block) (near : at + length block < 2 ^ 32) (is_data : file ≢ Redo) (fits : at + length block ≤ length_in pages directory file)
+    (reads : ReadsAt at known (length block) (data_in both file))
+    (before : (i : ℕ) → i < start → get_or block i 0 ≡ get_or known i 0) (after : (i : ℕ) → end ≤ i → i < length block → get_or block i 0 ≡ get_or known i 0)
+    (are : AreChanges pages directory both n xs) where
+  abbrev rest : ℕ
+  rest = length block - end
+
+  abbrev front : List ℕ
+  front = take start block
+
+  abbrev part : List ℕ
+  part = take (end - start) (drop start block)
+
+  abbrev was : List ℕ
+  was = part_of known start (end - start)
+
+  abbrev back : List ℕ
+  back = take rest (drop end block)
+
+  abbrev more : List ℕ
+  more = xs ++ change_bytes file (at + start) part was
+
+  front_long : length front ≡ start
+  front_long = length-take-le start block (omega (arith, order, inside))
+
+  part_long : length part ≡ end - start
+  part_long = length_part start (end - start) block (omega (arith, order, inside))
+
+  back_long : length back ≡ rest
+  back_long = length_part end rest block (omega (arith, inside))
+
+  two_long : length (front ++ part) ≡ end
+  two_long = length-append front part ∙ omega (arith, front_long, part_long, order)
+
+  put_front : HasPut pages directory both file at known front n xs n xs
+  put_front = put_same pages directory both file at known front n xs
+      (λ i lt. get_or-take start block i 0 (omega (arith, lt, front_long)) ∙ before i (omega (arith, lt, front_long))) are
+
+  put_part : HasPut pages directory both file (at + start) was part n xs (n + 1) more
+  put_part = put_one pages directory both file (at + start) was part was n xs (omega (arith, near, order, inside)) (omega (arith, near, part_long, inside)) (length-resized (end - start) _ ∙ sym part_long) is_data (omega (arith, fits, part_long, order, inside))
+      (λ i lt. part_read known start (end - start) i (omega (arith, lt, part_long)) ∙ reads (start + i) (omega (arith, lt, part_long, order, inside)) ∙ ap (λ k. get_or (data_in both file) k 0) (omega arith)) are
+
+  put_two : HasPut pages directory both file at known (front ++ part) n xs (n + 1) more
+  put_two = put_more pages directory both file at known front was part n xs n xs (n + 1) more
+      (λ i lt. part_read known start (end - start) i (omega (arith, lt, part_long)) ∙ ap (λ k. get_or known (k + i) 0) (sym front_long)) put_front
+      (subst (λ k. HasPut pages directory both file (at + k) was part n xs (n + 1) more) (sym front_long) put_part)
+
+  put_back : HasPut pages directory both file (at + length (front ++ part)) (drop end known) back (n + 1) more (n + 1) more
+  put_back = put_same pages directory both file (at + length (front ++ part)) (drop end known) back (n + 1) more
+      (λ i lt. block_reads end rest block (omega (arith, inside)) back back_long refl i lt ∙ after (end + i) (omega arith) (omega (arith, lt, back_long, inside)) ∙ sym (get_or-drop end known i 0)) put_two.changes
+
+  pub put_inside : HasPut pages directory both file at known block n xs (n + 1) more
+  put_inside = subst (λ (l : List ℕ). HasPut pages directory both file at known l n xs (n + 1) more) whole
+      (put_more pages directory both file at known (front ++ part) (drop end known) back n xs (n + 1) more (n + 1) more
+      (λ i lt. get_or-drop end known i 0 ∙ ap (λ k. get_or known (k + i) 0) (sym two_long)) put_two put_back)
+    where
+      whole : front ++ part ++ back ≡ block
+      whole =
+          ap (λ (l : List ℕ). l ++ back) (sym (take-add start (end - start) block) ∙ ap (λ k. take k block) (omega (arith, order)))
+          ∙ sym (take-add end rest block)
+          ∙ take_all (end + rest) block (omega (arith, inside))
 
 -- a part of bytes that may be fewer reads as they do
 pub part_known : (old : List ℕ) (at end start stop i : ℕ) → start ≡ min at (length old) → stop ≡ min end (length old) → i < end - at → get_or (take (stop - start) (drop start old)) i 0 ≡ get_or old (at + i) 0

@@ -59,3 +59,9 @@ pub record HasPut (pages directory : ℕ) (both : List ℕ × List ℕ) (file : 
   pub changes : AreChanges pages directory both many after
   pub put : (x : List ℕ) → Puts at old new (replayed file few before x) (replayed file many after x)
   pub others : (g : File) → g ≢ file → (x : List ℕ) → replayed g many after x ≡ replayed g few before x
+
+-- the bytes of a block outside a part of it are those that stood there, as far as so many of its first bytes go
+pub record AreOutside (known block : List ℕ) (start end upto : ℕ) : Type 0 where
+  pub before : (i : ℕ) → i < start → get_or block i 0 ≡ get_or known i 0
+  pub after : (i : ℕ) → end ≤ i → i < upto → i < length block → get_or block i 0 ≡ get_or known i 0
+  pub inside : end ≤ length block

@@ -3,6 +3,7 @@ pub mod CallLog
 pub mod Disk
 pub mod Drafts
 pub mod Recording
+pub mod OldPages
 pub mod Parts
 pub mod Redo
 pub mod Saves

@@ -1,5 +1,5 @@
 -- What a save makes of the files of a database.
-use Rattle.std.specs.Prelude.{◌≡◌, ◌⊎◌, ◌≤◌, ◌^◌, ℕ, List, length}
+use Rattle.std.specs.Prelude.{◌⊎◌, ◌≤◌, ◌^◌, ℕ, List, length}
 use Rattle.sdbm_addr.specs.Database.{Database}
 use Rattle.sdbm_addr.specs.Files.{AreFiles, SpellsDatabase}
 use Rattle.sdbm_saves.specs.declared.disk.File.TheVariants.{Pages, Directory}
@@ -26,10 +26,3 @@ pub record HasLongFile (db : Database) : Type 0 where
 -- a file of a database has 2^32 bytes or more, or an old one has
 abbrev pub IsTooLong : Database → List ℕ → List ℕ → Type 0
 IsTooLong db old_pages old_directory = HasLongFile db ⊎ ((2 ^ 32 ≤ length old_pages) ⊎ (2 ^ 32 ≤ length old_directory))
-
--- a plan makes the old files these, and knows them
-pub record Replaces (plan : List ℕ) (old new : List ℕ × List ℕ) : Type 0 where
-  pub whole : IsPlan plan
-  pub knows : Knows plan old
-  pub pages : renewed Pages plan old.0 ≡ new.0
-  pub directory : renewed Directory plan old.1 ≡ new.1

@@ -6,6 +6,7 @@ ghost use Rattle.sdbm_saves.specs.Drafts.{AreChanges, HasPut, ReadsAt, length_in
 
 use crate::File;
 use crate::drafting::{Draft, part_of, push};
+use crate::spans::changed_span;
 use sdbm_files::BLOCK;
 use std::alloc::{AllocError, Allocator};
 
@@ -47,7 +48,8 @@ pub(crate) fn draft_bytes<A: Allocator + Copy>(
     Ok(())
 }
 
-// The change that makes one block of a file the new one, where it does not read so. Its first bytes are known, and the others are zeros.
+// The change that makes one block of a file the new one, if it does not read so: of the part in which they differ. Its first bytes are known,
+// and the others are zeros.
 pub(crate) fn draft_block<A: Allocator>(
     alloc: A,
     draft: &mut Draft<A>,
@@ -70,13 +72,20 @@ pub(crate) fn draft_block<A: Allocator>(
     if reads_as(known, 0, block) {
         return Ok(());
     }
-    let was = part_of(alloc, known, 0, block.len())?;
-    push(draft, file, at, block, was.as_slice())?;
+    let span = changed_span(known, block);
+    let was = part_of(alloc, known, span.start, span.end - span.start)?;
+    push(
+        draft,
+        file,
+        at + span.start,
+        &block[span.start..span.end],
+        was.as_slice(),
+    )?;
     Ok(())
 }
 
 // Whether a file reads so from an offset on. A byte past its end counts as zero.
-fn reads_as(old: &[u8], at: usize, block: &[u8]) -> bool
+pub(crate) fn reads_as(old: &[u8], at: usize, block: &[u8]) -> bool
     requires { at + length block.now < 2 ^ 63 }
     ensures { IsTrue result ↔ ((i : ℕ) → i < length block.now → get_or block.now i 0 ≡ get_or old.now (at + i) 0) }
 {

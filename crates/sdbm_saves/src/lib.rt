@@ -2,7 +2,6 @@
 //! the files. A crate above commits plans in a log (a redo log: Gray and Reuter, Transaction Processing 1993, chapter 9).
 #![tactic(auto)]
 
-mod between;
 mod blocks;
 mod call_log;
 mod disk;
@@ -16,17 +15,17 @@ mod plan;
 mod planning;
 mod reading;
 mod recorded;
+mod spans;
 
-pub use between::plan_between;
 pub use call_log::CallLog;
 pub use disk::{Disk, DiskError, File};
 pub use drafting::spelled;
 pub use known::{Contents, byte_at, was_of};
 pub use marked::{Marked, plan_marked};
 pub use noted::Noted;
-pub use overlay::{lay_over, write_in};
+pub use overlay::{lay_in, lay_over, write_in};
 pub use part::{Part, plan_part};
 pub use plan::{file_of, is_plan, number, plan_in, rest_of};
 pub use planning::SavePlanFault;
-pub use reading::{ReadFiles, plan_read};
+pub use reading::{ReadFiles, plan_kept, plan_read};
 pub use recorded::{Before, Found, FoundPart, FoundRead, Host, Past, Recorded, Unknown};

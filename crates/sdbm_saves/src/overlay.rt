@@ -1,7 +1,7 @@
-// A plan done in memory, for a reader that may not write the files.
+// A plan done in memory.
 ghost use Rattle.std.specs.Prelude.{◌≡◌, ◌≢◌, ◌≤◌, ◌+◌, length, IfOk};
 ghost use Rattle.sdbm_saves.specs.Disk.{resized, written};
-ghost use Rattle.sdbm_saves.specs.Redo.{file_of, offset_of, size_of, span_of, effect, renewed, IsPlan};
+ghost use Rattle.sdbm_saves.specs.Redo.{file_of, offset_of, size_of, span_of, effect, new_length, renewed, IsPlan};
 ghost use Rattle.sdbm_saves.specs.declared.disk.File.TheVariants.{Redo};
 
 use crate::File;
@@ -28,27 +28,37 @@ pub fn lay_over<A: Allocator>(
         File::Directory | File::Redo => number(plan, 12),
     };
     let mut laid = resized(alloc, old, len)?;
-    let count = number(plan, 24);
-    let mut rest = &plan[28..];
-    for index in 0..count {
-        lay_change(&mut laid, file, rest);
-        rest = rest_of(rest);
-    }
+    lay_in(laid.as_mut_slice(), file, plan);
     Ok(laid)
 }
 
+/// Does a plan in the bytes of a data file, in memory, if they are as many as the plan gives the file.
+pub fn lay_in(laid: &mut [u8], file: File, plan: &[u8])
+    requires plan { IsPlan plan.now }
+    requires data { file ≢ Redo }
+    requires long { length laid.old ≡ new_length file plan.now }
+    ensures { laid.new ≡ renewed file plan.now laid.old }
+{
+    let count = number(plan, 24);
+    let mut rest = &plan[28..];
+    for index in 0..count {
+        lay_change(laid, file, rest);
+        rest = rest_of(rest);
+    }
+}
+
 // Does a change, where it is one of this file.
-fn lay_change<A: Allocator>(laid: &mut Vec<u8, A>, file: File, change: &[u8])
+fn lay_change(laid: &mut [u8], file: File, change: &[u8])
     requires data { file ≢ Redo }
     requires whole { span_of change.now ≤ length change.now }
-    requires inside { file_of change.now ≡ file → offset_of change.now + size_of change.now ≤ length laid.old.items }
+    requires inside { file_of change.now ≡ file → offset_of change.now + size_of change.now ≤ length laid.old }
 
-    ensures { laid.new.items ≡ effect (file_of change.now) file change.now laid.old.items }
+    ensures { laid.new ≡ effect (file_of change.now) file change.now laid.old }
 {
     if file_of(change) == file {
         let at = number(change, 1);
         let size = number(change, 5);
-        write_in(laid.as_mut_slice(), at, &change[9..9 + size]);
+        write_in(laid, at, &change[9..9 + size]);
     }
 }
 

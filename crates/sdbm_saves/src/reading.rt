@@ -1,4 +1,4 @@
-// The plan of a save whose pages were read piece by piece.
+// The plan of a save whose files were read whole.
 ghost use Rattle.std.specs.Prelude.{◌≡◌, ◌<◌, ◌≤◌, ◌^◌, ◌+◌, ◌*◌, ◌↔◌, ℕ, List, length, IsTrue, IfOk, IfErr, IfSome, IsNone, OnOk};
 ghost use Rattle.sdbm_saves.specs.declared.disk.File.TheVariants.{Pages};
 ghost use Rattle.sdbm_saves.specs.declared.planning.SavePlanFault.TheVariants.{TooLong};
@@ -7,11 +7,13 @@ ghost use Rattle.sdbm_saves.specs.Saves.{AreFilesFor, IsSaving, IsTooLong};
 ghost use Rattle.sdbm_addr.specs.Pairs.{page_bytes};
 ghost use Rattle.sdbm_addr.specs.Database.{IsDatabase};
 ghost use Rattle.sdbm_addr.specs.Files.{first_pages};
+ghost use Rattle.sdbm_files.specs.Reading.{IsBlock};
+ghost use Rattle.sdbm_saves.specs.OldPages.{bytes_in};
 
 use crate::blocks::{draft_block, draft_bytes};
 use crate::drafting::{Draft, assemble};
 use crate::planning::LIMIT;
-use crate::{File, SavePlanFault};
+use crate::{Contents, File, SavePlanFault};
 use sdbm_files::{BLOCK, Image, ReadPages};
 use std::alloc::{AllocError, Allocator};
 
@@ -41,10 +43,79 @@ pub fn plan_read<A: Allocator + Copy>(
     ensures none { IfOk result (λ plan. IsNone plan → AreFilesFor image.now old.entry.pages.now.bytes old.entry.directory.now) }
     ensures too_long { IfErr result (λ fault. fault ≡ TooLong → IsTooLong image.now old.entry.pages.now.bytes old.entry.directory.now) }
 {
+    plan_pages(alloc, OldPages::Read(old.pages), old.directory, image)
+}
+
+/// The same plan, if the bytes of both old files are in memory.
+///
+/// # Errors
+///
+/// As `plan_read`.
+pub fn plan_kept<A: Allocator + Copy>(
+    alloc: A,
+    old: Contents<'_>,
+    image: &Image<A>,
+) -> Result<Option<Vec<u8, A>>, SavePlanFault>
+    ensures plan { IfOk result (λ plan. IfSome plan (λ plan. IsSaving image.now plan.items old.entry.pages.now old.entry.directory.now)) }
+    ensures none { IfOk result (λ plan. IsNone plan → AreFilesFor image.now old.entry.pages.now old.entry.directory.now) }
+    ensures too_long { IfErr result (λ fault. fault ≡ TooLong → IsTooLong image.now old.entry.pages.now old.entry.directory.now) }
+{
+    plan_pages(alloc, OldPages::Kept(old.pages), old.directory, image)
+}
+
+// The old bytes of `.pag`: read piece by piece, or all of them in memory.
+#[derive(Clone, Copy)]
+enum OldPages<'a, A: Allocator> {
+    Read(&'a ReadPages<A>),
+    Kept(&'a [u8]),
+}
+
+impl<'a, A: Allocator + Copy> OldPages<'a, A> {
+    fn len(self) -> usize
+        ensures { result ≡ length (bytes_in self.entry) }
+    {
+        match self {
+            OldPages::Read(pages) => pages.len(),
+            OldPages::Kept(bytes) => bytes.len(),
+        }
+    }
+
+    // A block, as `ReadPages::block` has it.
+    fn block(self, index: usize) -> &'a [u8]
+        requires { index ≤ 2 ^ 22 }
+        ensures { IsBlock (bytes_in self.entry) index result.now }
+    {
+        match self {
+            OldPages::Read(pages) => pages.block(index),
+            OldPages::Kept(bytes) => block_in(bytes, index),
+        }
+    }
+}
+
+// The same of bytes in memory.
+fn block_in(bytes: &[u8], index: usize) -> &[u8]
+    requires { index ≤ 2 ^ 22 }
+    ensures { IsBlock bytes.now index result.now }
+{
+    let tail = &bytes[(index * BLOCK).min(bytes.len())..];
+    &tail[..tail.len().min(BLOCK)]
+}
+
+// The plan of both.
+fn plan_pages<A: Allocator + Copy>(
+    alloc: A,
+    old: OldPages<'_, A>,
+    old_directory: &[u8],
+    image: &Image<A>,
+) -> Result<Option<Vec<u8, A>>, SavePlanFault>
+    ensures plan { IfOk result (λ plan. IfSome plan (λ plan. IsSaving image.now plan.items (bytes_in old.entry) old_directory.now)) }
+    ensures none { IfOk result (λ plan. IsNone plan → AreFilesFor image.now (bytes_in old.entry) old_directory.now) }
+    ensures too_long { IfErr result (λ fault. fault ≡ TooLong → IsTooLong image.now (bytes_in old.entry) old_directory.now) }
+{
     let count = image.page_count();
     let pages = count as usize * image.page_size().bytes();
     let directory = image.directory_bytes();
-    if old.pages.len() >= LIMIT || old.directory.len() >= LIMIT {
+    if old.len() >= LIMIT || old_directory.len() >= LIMIT {
         return Err(SavePlanFault::TooLong);
     }
     if pages >= LIMIT || directory.len() >= LIMIT {
@@ -61,28 +132,33 @@ pub fn plan_read<A: Allocator + Copy>(
         &mut draft,
         File::Directory,
         0,
-        old.directory,
+        old_directory,
         directory,
     )?;
-    draft_pages(alloc, &mut draft, old.pages, image, count)?;
-    if draft.count == 0 && are_long(old, pages, directory.len()) {
+    draft_pages(alloc, &mut draft, old, image, count)?;
+    if draft.count == 0 && are_long(old, old_directory, pages, directory.len()) {
         return Ok(None);
     }
-    Ok(Some(assemble(alloc, &draft, old.pages.len(), old.directory.len())?))
+    Ok(Some(assemble(alloc, &draft, old.len(), old_directory.len())?))
 }
 
 // Whether both files have these lengths.
-fn are_long<A: Allocator + Copy>(files: ReadFiles<'_, A>, pages: usize, directory: usize) -> bool
-    ensures { IsTrue result ↔ (pages ≡ length files.entry.pages.now.bytes) × (directory ≡ length files.entry.directory.now) }
+fn are_long<A: Allocator + Copy>(
+    old: OldPages<'_, A>,
+    old_directory: &[u8],
+    pages: usize,
+    directory: usize,
+) -> bool
+    ensures { IsTrue result ↔ (pages ≡ length (bytes_in old.entry)) × (directory ≡ length old_directory.now) }
 {
-    files.pages.len() == pages && files.directory.len() == directory
+    old.len() == pages && old_directory.len() == directory
 }
 
 // The changes that make the pages those of a database, so many.
 fn draft_pages<A: Allocator + Copy>(
     alloc: A,
     draft: &mut Draft<A>,
-    old: &ReadPages<A>,
+    old: OldPages<'_, A>,
     image: &Image<A>,
     count: u64,
 ) -> Result<(), AllocError>
@@ -91,8 +167,8 @@ fn draft_pages<A: Allocator + Copy>(
     requires short { draft.old.pages < 2 ^ 32 }
     requires few { draft.old.count ≤ 2 ^ 23 }
 
-    ensures put { OnOk result ((both : List ℕ × List ℕ) → both.0 ≡ old.now.bytes → AreChanges draft.old.pages draft.old.directory both draft.old.count draft.old.changes.items
-        → HasPut draft.old.pages draft.old.directory both Pages 0 old.now.bytes (first_pages image.now count) draft.old.count draft.old.changes.items draft.new.count draft.new.changes.items) }
+    ensures put { OnOk result ((both : List ℕ × List ℕ) → both.0 ≡ bytes_in old.entry → AreChanges draft.old.pages draft.old.directory both draft.old.count draft.old.changes.items
+        → HasPut draft.old.pages draft.old.directory both Pages 0 (bytes_in old.entry) (first_pages image.now count) draft.old.count draft.old.changes.items draft.new.count draft.new.changes.items) }
     ensures few { OnOk result (draft.new.count ≤ draft.old.count + 2 ^ 22) }
     ensures pages { OnOk result (draft.new.pages ≡ draft.old.pages) }
     ensures directory { OnOk result (draft.new.directory ≡ draft.old.directory) }

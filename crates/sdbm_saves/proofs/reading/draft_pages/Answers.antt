@@ -7,6 +7,7 @@ use Rattle.sdbm_addr.specs.Pairs.{page_bytes}
 use Rattle.sdbm_addr.specs.Files.{first_pages}
 use Rattle.sdbm_files.proofs.WriteLemmas.{length-first_pages}
 use Rattle.sdbm_saves.specs.declared.disk.File.TheVariants.{Pages}
+use Rattle.sdbm_saves.specs.OldPages.{bytes_in}
 use Rattle.sdbm_saves.specs.Drafts.{AreChanges, HasPut}
 use Rattle.sdbm_saves.proofs.Drafts.{block_read}
 use Rattle.sdbm_saves.proofs.PageDrafts.{in_page, blocks_are, block_reads_so, part_inside, part_long, part_reads_so}
@@ -29,7 +30,7 @@ ends_in Wide index count below = omega (arith, below)
 
 pub loop-index-init : goal.loop-index-init
 loop-index-init g c = let draft = c.args.draft.now in record {
-  put = λ both is are. put_none draft.pages draft.directory both Pages 0 c.args.old.now.bytes _ draft.count draft.changes.items (omega (arith, length-take (0 * 1024) (first_pages c.args.image.now c.args.count))) are;
+  put = λ both is are. put_none draft.pages draft.directory both Pages 0 (bytes_in c.args.old) _ draft.count draft.changes.items (omega (arith, length-take (0 * 1024) (first_pages c.args.image.now c.args.count))) are;
   few = omega arith;
   pages = refl;
   directory = refl;
@@ -79,7 +80,7 @@ pub loop-index-preserved : goal.loop-index-preserved
 loop-index-preserved g c =
     let db = c.args.image.now in
     let draft = c.args.draft.now in
-    let old = c.args.old.now.bytes in
+    let old = (bytes_in c.args.old) in
     let new = first_pages db c.args.count in
     let index = c.loop-index.index in
     let at = index * 1024 in
@@ -129,7 +130,7 @@ returns-clause-put g c = λ both is are.
     let end : c.loop-index.index ≡ c.args.count * (c.bytes-in_page.result / 1024) = omega (arith, c.loop-index.auto.index-end, c.loop-index-test.false) in
     let all : c.loop-index.index * 1024 ≡ length new =
     ap (λ (k : ℕ). k * 1024) end ∙ ap (λ (k : ℕ). c.args.count * k * 1024) per_is ∙ blocks_are db.size c.args.count ∙ sym (length-first_pages db c.requires.database c.args.count) in
-    subst (λ (l : List ℕ). HasPut draft.pages draft.directory both Pages 0 c.args.old.now.bytes l draft.count draft.changes.items c.loop-index.draft.count c.loop-index.draft.changes.items) (take_all (c.loop-index.index * 1024) new (omega (arith, all)))
+    subst (λ (l : List ℕ). HasPut draft.pages draft.directory both Pages 0 (bytes_in c.args.old) l draft.count draft.changes.items c.loop-index.draft.count c.loop-index.draft.changes.items) (take_all (c.loop-index.index * 1024) new (omega (arith, all)))
     (c.loop-index.invariant.put both is are)
 
 pub returns-clause-few : goal.returns-clause-few

@@ -2,6 +2,7 @@ use Rattle.std.proofs.Common.{◌≡◌, ◌<◌, ◌^◌, ◌*◌, ℕ, List, l
 use Rattle.sdbm_saves.specs.declared.disk.File.TheVariants.{Pages, Directory}
 use Rattle.sdbm_saves.specs.Disk.{resized}
 use Rattle.sdbm_saves.specs.Redo.{replayed, renewed, IsPlan, Knows}
+use Rattle.sdbm_saves.specs.OldPages.{bytes_in}
 use Rattle.sdbm_saves.specs.Drafts.{plan_bytes}
 use Rattle.sdbm_addr.specs.Pairs.{page_bytes}
 use Rattle.sdbm_addr.specs.Files.{first_pages}
@@ -9,8 +10,8 @@ use Rattle.sdbm_files.proofs.WriteLemmas.{length-first_pages}
 use Rattle.sdbm_saves.proofs.Drafts.{is_planned, knows_planned, renewed_planned}
 use Rattle.sdbm_saves.proofs.PageDrafts.{are_files, resized_own}
 use Rattle.sdbm_saves.proofs.Puts.{both_put}
-use Rattle.sdbm_saves.proofs.reading.plan_read.Goals as goal
-use Rattle.sdbm_saves.proofs.reading.plan_read.Goals.{then-pages-ge-LIMIT-via-then-pages-ge-LIMIT, then-pages-ge-LIMIT-via-else-pages-ge-LIMIT+then-directory-ge-LIMIT}
+use Rattle.sdbm_saves.proofs.reading.plan_pages.Goals as goal
+use Rattle.sdbm_saves.proofs.reading.plan_pages.Goals.{then-pages-ge-LIMIT-via-then-pages-ge-LIMIT, then-pages-ge-LIMIT-via-else-pages-ge-LIMIT+then-directory-ge-LIMIT}
 
 pub returns-then-pages-ge-LIMIT-clause-too_long : goal.returns-then-pages-ge-LIMIT-clause-too_long
 returns-then-pages-ge-LIMIT-clause-too_long g c = λ is.
@@ -40,7 +41,7 @@ returns-then-are_long-clause-none g c = λ is.
     let draft = c.draft_pages.new.draft in
     let first = c.in_ok-draft_bytes.ensures in
     let second = c.in_ok-draft_pages.ensures in
-    let both : List ℕ × List ℕ = (c.args.old.pages.now.bytes, c.args.old.directory.now) in
+    let both : List ℕ × List ℕ = (bytes_in c.args.old, c.args.old_directory.now) in
     let whole = both_put (count * c.bytes.result) (length own) both new own c.new.result.items _ _ _ _ draft.pages draft.directory draft.count draft.changes.items c.new.ensures.items first.pages first.directory second.pages second.directory
     (first.put both) (second.put both refl) in
     let new_long : length new ≡ count * c.bytes.result = length-first_pages db c.page_count-count.ensures.database count ∙ ap (λ z. count * z) (sym (c.bytes.ensures ∙ ap page_bytes c.page_size.ensures)) in
@@ -59,7 +60,7 @@ returns-clause-plan g c =
     let draft = c.draft_pages.new.draft in
     let first = c.in_ok-draft_bytes.ensures in
     let second = c.in_ok-draft_pages.ensures in
-    let both : List ℕ × List ℕ = (c.args.old.pages.now.bytes, c.args.old.directory.now) in
+    let both : List ℕ × List ℕ = (bytes_in c.args.old, c.args.old_directory.now) in
     let whole = both_put (count * c.bytes.result) (length own) both new own c.new.result.items _ _ _ _ draft.pages draft.directory draft.count draft.changes.items c.new.ensures.items first.pages first.directory second.pages second.directory
     (first.put both) (second.put both refl) in
     let new_long : length new ≡ count * c.bytes.result = length-first_pages db c.page_count-count.ensures.database count ∙ ap (λ z. count * z) (sym (c.bytes.ensures ∙ ap page_bytes c.page_size.ensures)) in
@@ -69,7 +70,7 @@ returns-clause-plan g c =
     let directory_small : draft.directory < 2 ^ 32 = omega (arith, directory_is, c.if-directory-ge-LIMIT.false) in
     let few : draft.count < 2 ^ 32 = omega (arith, second.few, first.few, c.if-directory-ge-LIMIT.false) in
     let old_small : length both.0 < 2 ^ 32 = omega (arith, c.len.ensures, c.if-len-ge-LIMIT.false) in
-    let old_directory_small : length both.1 < 2 ^ 32 = omega (arith, c.if-old-ge-LIMIT.false) in
+    let old_directory_small : length both.1 < 2 ^ 32 = omega (arith, c.if-old_directory-ge-LIMIT.false) in
     let items = c.in_ok-assemble.ensures ∙ ap (λ n. plan_bytes draft.pages draft.directory n (length both.1) draft.count draft.changes.items) c.len-2.ensures in
     record {
       whole = subst (λ (l : List ℕ). IsPlan l) (sym items) (is_planned draft.pages draft.directory both draft.count draft.changes.items pages_small directory_small few old_small old_directory_small whole.changes);

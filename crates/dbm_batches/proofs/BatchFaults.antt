@@ -18,7 +18,7 @@ use Rattle.worker_pool.specs.declared.task.PoolFault.TheVariants as jobs
 use Rattle.worker_pool.specs.declared.task.Task.{Task}
 use Rattle.dbm_batches.specs.declared.batch.Batch.{Batch}
 use Rattle.dbm_faults.specs.declared.fault.ServeFault.{ServeFault}
-use Rattle.dbm_faults.specs.declared.fault.ServeFault.TheVariants.{NotText, ReadFile, FileTooLong, WriteFile, BadRedo, Unsafe, OtherSize, ReadClock, BadBase, Absent, NoStock, Locked, Moved, Changed, Report, Dump, Submit, BadLine, CutLine, Pool, Close, Write, Saved, NoMemory}
+use Rattle.dbm_faults.specs.declared.fault.ServeFault.TheVariants.{NotText, ReadFile, FileTooLong, WriteFile, BadRedo, Unsafe, OtherSize, ReadClock, BadBase, Absent, Exists, NoStock, Locked, Moved, Changed, Report, Dump, Submit, BadLine, CutLine, Pool, Close, Write, Saved, NoMemory}
 use Rattle.dbm_script.specs.declared.notations.Notation.{Notation}
 use Rattle.dbm_script.specs.declared.run_words.RunWords.{RunWords}
 use Rattle.dbm_script.specs.declared.shorthand.TimeOfDay.{TimeOfDay}
@@ -115,6 +115,7 @@ submitted_fault form given workers is_image image ReadClock number opens is h = 
 submitted_fault form given workers is_image image BadBase number opens is h = h
 submitted_fault form given workers is_image image (CutLine line) number opens is h = h
 submitted_fault form given workers is_image image Absent number opens is h = h
+submitted_fault form given workers is_image image Exists number opens is h = h
 submitted_fault form given workers is_image image NoStock number opens is h = h
 submitted_fault form given workers is_image image Locked number opens is h = h
 submitted_fault form given workers is_image image (Moved moved) number opens is h = h
@@ -143,6 +144,7 @@ unready_fault n form given workers is_image time input ReadClock h = h
 unready_fault n form given workers is_image time input BadBase h = h
 unready_fault n form given workers is_image time input (CutLine line) h = h
 unready_fault n form given workers is_image time input Absent h = h
+unready_fault n form given workers is_image time input Exists h = h
 unready_fault n form given workers is_image time input NoStock h = h
 unready_fault n form given workers is_image time input Locked h = h
 unready_fault n form given workers is_image time input (Moved moved) h = h
@@ -185,6 +187,7 @@ doing_fault n time batch input words tasks fault are is h = go fault (subst (λ 
     go BadBase h = absurd h
     go (CutLine line) h = absurd h
     go Absent h = absurd h
+    go Exists h = absurd h
     go NoStock h = absurd h
     go Locked h = absurd h
     go (Moved moved) h = absurd h
@@ -235,6 +238,7 @@ ran_fault n form given workers is_image time known read batch ReadClock is ready
 ran_fault n form given workers is_image time known read batch BadBase is ready h = absurd h
 ran_fault n form given workers is_image time known read batch (CutLine line) is ready h = absurd h
 ran_fault n form given workers is_image time known read batch Absent is ready h = absurd h
+ran_fault n form given workers is_image time known read batch Exists is ready h = absurd h
 ran_fault n form given workers is_image time known read batch NoStock is ready h = absurd h
 ran_fault n form given workers is_image time known read batch Locked is ready h = absurd h
 ran_fault n form given workers is_image time known read batch (Moved moved) is ready h = absurd h

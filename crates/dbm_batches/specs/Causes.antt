@@ -8,7 +8,7 @@ use Rattle.dbm_reports.specs.Causes.{Causes, IsCaused, no_causes}
 use Rattle.dbm_reports.specs.declared.fault.ReportFault.{ReportFault}
 use Rattle.dbm_reports.specs.declared.fault.ReportFault.TheVariants as reports
 use Rattle.dbm_faults.specs.declared.fault.ServeFault.{ServeFault}
-use Rattle.dbm_faults.specs.declared.fault.ServeFault.TheVariants.{NotText, ReadFile, FileTooLong, WriteFile, BadRedo, Unsafe, OtherSize, ReadClock, BadBase, Absent, NoStock, Locked, Moved, Changed, Report, Dump, Submit, BadLine, CutLine, Pool, Close, Write, Saved, NoMemory}
+use Rattle.dbm_faults.specs.declared.fault.ServeFault.TheVariants.{NotText, ReadFile, FileTooLong, WriteFile, BadRedo, Unsafe, OtherSize, ReadClock, BadBase, Absent, Exists, NoStock, Locked, Moved, Changed, Report, Dump, Submit, BadLine, CutLine, Pool, Close, Write, Saved, NoMemory}
 
 -- the causes for which nothing comes of a wish: those of its words, its files and standard input, those of a dump, and those of a batch
 pub record WishCauses : Type 1 where
@@ -54,6 +54,7 @@ HasCause causes OtherSize = ⊥
 HasCause causes ReadClock = ⊥
 HasCause causes BadBase = ⊥
 HasCause causes Absent = ⊥
+HasCause causes Exists = ⊥
 HasCause causes NoStock = ⊥
 HasCause causes Locked = ⊥
 HasCause causes (Moved file) = ⊥

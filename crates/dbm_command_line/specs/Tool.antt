@@ -15,6 +15,7 @@ use Rattle.dbm_listings.specs.Stats.{stats}
 use Rattle.dbm_scripts.specs.Script.{script}
 use Rattle.dbm_scripts.specs.Widen.{widen}
 use Rattle.dbm_sessions.specs.Session.{session}
+use Rattle.dbm_dumps.specs.Backup.{backup}
 use Rattle.dbm_dumps.specs.Dump.{dump}
 use Rattle.dbm_dumps.specs.Load.{load}
 use Rattle.dbm_programs.specs.Asm.{asm}
@@ -38,5 +39,5 @@ bare = record titled {
 abbrev pub tool : App
 tool = record {
   top = record bare { is_leaf = false };
-  subs = fetch ∷ store ∷ delete ∷ rename ∷ list ∷ keys ∷ check ∷ stats ∷ script ∷ session ∷ widen ∷ dump ∷ load ∷ asm ∷ disasm ∷ verify ∷ programs ∷ run ∷ batch ∷ [];
+  subs = fetch ∷ store ∷ delete ∷ rename ∷ list ∷ keys ∷ check ∷ stats ∷ script ∷ session ∷ widen ∷ backup ∷ dump ∷ load ∷ asm ∷ disasm ∷ verify ∷ programs ∷ run ∷ batch ∷ [];
 }

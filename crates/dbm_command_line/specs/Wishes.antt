@@ -8,6 +8,7 @@ use Rattle.clap.specs.declared.error.kind.ErrorKind.TheVariants.{DisplayHelp, Di
 use Rattle.clap.specs.declared.error.Error.{Error}
 use Rattle.dbm_command_line.specs.Tool.{tool}
 use Rattle.dbm_words.specs.Given.{IsAccess, has_words}
+use Rattle.dbm_dumps.specs.Backup.{BackupAsks}
 use Rattle.dbm_dumps.specs.Dump.{DumpAsks}
 use Rattle.dbm_dumps.specs.Load.{LoadAsks}
 use Rattle.dbm_listings.specs.Check.{CheckAsks}
@@ -179,6 +180,7 @@ WishAsks name rows (wish.Verify verify) = (name ≡ codes "verify") × VerifyAsk
 abbrev pub SubcommandAsks : Text → List Row → Ask → Type 0
 SubcommandAsks name rows (ask.Wish wish) = WishAsks name rows wish
 SubcommandAsks name rows (ask.Session session) = (name ≡ codes "session") × SessionAsks rows session
+SubcommandAsks name rows (ask.Backup backup) = (name ≡ codes "backup") × BackupAsks rows backup
 SubcommandAsks name rows (ask.Programs programs) = (name ≡ codes "programs") × ProgramsAsks rows programs
 
 -- the matches name a subcommand, and this is what it asks

@@ -5,7 +5,7 @@ ghost use Rattle.dbm_command_line.specs.Wishes.{SubcommandAsks, WishAsks, lacks_
 
 use crate::wish::{Ask, Wish};
 use clap::ArgMatches;
-use dbm_dumps::{Dump, Load};
+use dbm_dumps::{Backup, Dump, Load};
 use dbm_listings::{Check, Keys, List, Stats};
 use dbm_pairs::{Delete, Fetch, Rename, Store};
 use dbm_programs::{Asm, Disasm, Programs, Verify};
@@ -21,6 +21,7 @@ pub fn asked<'a>(name: &str, matches: &ArgMatches<'a>) -> Option<Ask<'a>>
 {
     match name {
         "session" => Some(Ask::Session(Session::matched(matches)?)),
+        "backup" => Some(Ask::Backup(Backup::matched(matches)?)),
         "programs" => Some(Ask::Programs(Programs::matched(matches))),
         _ => Some(Ask::Wish(wished(name, matches)?)),
     }
@@ -29,6 +30,7 @@ pub fn asked<'a>(name: &str, matches: &ArgMatches<'a>) -> Option<Ask<'a>>
 // What any other subcommand asks.
 fn wished<'a>(name: &str, matches: &ArgMatches<'a>) -> Option<Wish<'a>>
     requires session { name.now ≢ codes "session" }
+    requires backup { name.now ≢ codes "backup" }
     requires programs { name.now ≢ codes "programs" }
     ensures some { IfSome result (WishAsks name.now (rows_of (found_of matches.now))) }
     ensures none { IsNone result → lacks_word (Some (name.now, rows_of (found_of matches.now))) ≡ true }

@@ -7,7 +7,7 @@ ghost use Rattle.dbm_command_line.specs.Tool.{tool};
 ghost use Rattle.dbm_command_line.specs.Tool as spec;
 
 use clap::Command;
-use dbm_dumps::{dump_command, load_command};
+use dbm_dumps::{backup_command, dump_command, load_command};
 use dbm_listings::{check_command, keys_command, list_command, stats_command};
 use dbm_pairs::{delete_command, fetch_command, rename_command, store_command};
 use dbm_programs::{asm_command, disasm_command, programs_command, verify_command};
@@ -32,6 +32,7 @@ pub fn tool_command<'a>(alloc: Global) -> Result<Command<'a>, AllocError>
     let command = with_subcommand(command, script_command(alloc));
     let command = with_subcommand(command, session_command(alloc));
     let command = with_subcommand(command, widen_command(alloc));
+    let command = with_subcommand(command, backup_command(alloc));
     let command = with_subcommand(command, dump_command(alloc));
     let command = with_subcommand(command, load_command(alloc));
     let command = with_subcommand(command, asm_command(alloc));

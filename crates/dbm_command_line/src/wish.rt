@@ -2,7 +2,7 @@
 ghost use Rattle.std.specs.Prelude.{◌≡◌, option_map};
 ghost use Rattle.dbm_command_line.specs.Wishes.{asks_clock, asks_cores, base_of, file_of, notation_of, takes_image, time_asked, with_clock, with_time, with_workers, writes_files};
 
-use dbm_dumps::{Dump, Load};
+use dbm_dumps::{Backup, Dump, Load};
 use dbm_listings::{Check, Keys, List, Stats};
 use dbm_pairs::{Delete, Fetch, Rename, Store};
 use dbm_programs::{Asm, Disasm, Programs, Verify};
@@ -42,6 +42,8 @@ pub enum Ask<'a> {
     Wish(Wish<'a>),
     /// Lines that are answered one by one.
     Session(Session<'a>),
+    /// A copy of the database in new files.
+    Backup(Backup<'a>),
     /// The stock programs.
     Programs(Programs<'a>),
 }

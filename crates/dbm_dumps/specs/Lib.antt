@@ -1,3 +1,4 @@
+pub mod Backup
 pub mod Causes
 pub mod Dump
 pub mod Load

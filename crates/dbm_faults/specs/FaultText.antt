@@ -6,7 +6,7 @@ use Rattle.worker_pool.specs.FaultText as pool
 use Rattle.dbm_dump.specs.FaultText as dumping
 use Rattle.dbm_reports.specs.FaultText as reports
 use Rattle.dbm_faults.specs.declared.fault.ServeFault.{ServeFault}
-use Rattle.dbm_faults.specs.declared.fault.ServeFault.TheVariants.{NotText, ReadFile, FileTooLong, WriteFile, BadRedo, Unsafe, OtherSize, ReadClock, BadBase, Absent, NoStock, Locked, Moved, Changed, Report, Dump, Submit, BadLine, CutLine, Pool, Close, Write, Saved, NoMemory}
+use Rattle.dbm_faults.specs.declared.fault.ServeFault.TheVariants.{NotText, ReadFile, FileTooLong, WriteFile, BadRedo, Unsafe, OtherSize, ReadClock, BadBase, Absent, Exists, NoStock, Locked, Moved, Changed, Report, Dump, Submit, BadLine, CutLine, Pool, Close, Write, Saved, NoMemory}
 
 abbrev pub fault_text : ServeFault → List ℕ
 fault_text NotText = codes "NotText"
@@ -19,6 +19,7 @@ fault_text OtherSize = codes "OtherSize"
 fault_text ReadClock = codes "ReadClock"
 fault_text BadBase = codes "BadBase"
 fault_text Absent = codes "Absent"
+fault_text Exists = codes "Exists"
 fault_text NoStock = codes "NoStock"
 fault_text Locked = codes "Locked"
 fault_text (Moved _) = codes "Moved"

@@ -3,9 +3,9 @@
 use crate::dumps::dump_sentence;
 use crate::fault::ServeFault;
 use crate::files::{
-    absent_sentence, base_sentence, changed_sentence, lock_sentence, moved_sentence, open_sentence,
-    redo_sentence, small_sentence, too_long_sentence, unread_sentence, untaken_sentence,
-    unwritten_sentence,
+    absent_sentence, base_sentence, changed_sentence, exists_sentence, lock_sentence,
+    moved_sentence, open_sentence, redo_sentence, small_sentence, too_long_sentence,
+    unread_sentence, untaken_sentence, unwritten_sentence,
 };
 use crate::programs::{
     assemble_sentence, decode_sentence, no_text_sentence, pool_sentence, stock_sentence,
@@ -92,6 +92,7 @@ fn rest_sentence<'a>(words: &Words<'a>, fault: ServeFault) -> Sentence<'a> {
         ServeFault::OtherSize => small_sentence(words.base),
         ServeFault::BadBase => base_sentence(words.base),
         ServeFault::Absent => absent_sentence(words.base),
+        ServeFault::Exists => exists_sentence(words.base),
         ServeFault::NoStock => stock_sentence(words.file),
         ServeFault::Locked => lock_sentence(words.base, words.numbers.timeout),
         ServeFault::Moved(file) => moved_sentence(words.base, file),

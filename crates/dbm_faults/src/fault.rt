@@ -37,6 +37,8 @@ pub enum ServeFault {
     BadBase,
     /// Neither file of the database is there, which has to be.
     Absent,
+    /// A file of the copy that is to be made is there already.
+    Exists,
     /// No stock program has the name that is given.
     NoStock,
     /// Another run has had the lock for as long as this one was to wait.
@@ -85,6 +87,7 @@ impl fmt::Display for ServeFault {
             ServeFault::ReadClock => f.write_str("ReadClock"),
             ServeFault::BadBase => f.write_str("BadBase"),
             ServeFault::Absent => f.write_str("Absent"),
+            ServeFault::Exists => f.write_str("Exists"),
             ServeFault::NoStock => f.write_str("NoStock"),
             ServeFault::Locked => f.write_str("Locked"),
             ServeFault::Moved(_) => f.write_str("Moved"),

@@ -122,7 +122,17 @@ pub fn base_sentence<'a>(base: Option<&'a str>) -> Sentence<'a> {
 pub fn absent_sentence<'a>(base: Option<&'a str>) -> Sentence<'a> {
     let base = base_part(base);
     with_two(
-        "Neither {}.dir nor {}.pag is there. Leave --must-exist out to make the database.",
+        "Neither {}.dir nor {}.pag is there. A command without --must-exist makes them.",
+        base,
+        base,
+    )
+}
+
+/// Of a copy whose files are there already.
+pub fn exists_sentence<'a>(base: Option<&'a str>) -> Sentence<'a> {
+    let base = base_part(base);
+    with_two(
+        "{}.dir or {}.pag is there already. Nothing was changed: give the copy another name, or take its files away first.",
         base,
         base,
     )

@@ -1,6 +1,7 @@
 //! What is read of the files of a database, and a save that a crash cannot break.
 #![tactic(auto)]
 
+mod copying;
 mod files;
 mod host;
 mod limit;
@@ -10,6 +11,7 @@ mod session_log;
 mod states;
 mod writing;
 
+pub use copying::save_new;
 pub use files::{LockedFiles, RunFiles, read_again, read_program, take_files, take_rest};
 pub use host::RealFiles;
 pub use peeking::UnreadPages;

@@ -4,6 +4,7 @@
 
 mod absent;
 mod fault;
+mod holder;
 mod links;
 mod lock;
 mod names;
@@ -12,6 +13,7 @@ mod side;
 
 pub use absent::{has_no_files, is_absent, is_special};
 pub use fault::{FilesFault, MovedFile};
+pub use holder::locker_of;
 pub use links::resolve;
 pub use lock::{WriteLocks, has_writer, lock_to_read, lock_to_write};
 pub use names::{

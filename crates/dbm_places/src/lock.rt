@@ -1,5 +1,7 @@
 //! The two locks of a database: BASE.lock says who is at the files right now, and BASE.writer who may change the database.
+use crate::absent::may_be_marked;
 use crate::fault::{FilesFault, MovedFile};
+use crate::holder::locker_of;
 use crate::names::Names;
 use crate::place::is_named;
 use crate::side::{Side, SideFault, make_lock, open_beside, side_fault};
@@ -14,6 +16,9 @@ const LONGEST_REST: u64 = 5;
 
 /// A run takes at most so many locks in turn, of which each has lost its name to the next by then.
 const MOST_LOCKS: usize = 100;
+
+/// A run that reads leaves the files at most so many times to a save that waits for them: the process that saves may be stopped.
+const MOST_YIELDS: usize = 20;
 
 /// The locks of a run that may change a database. Others wait until they are dropped.
 #[derive(Drop)]
@@ -157,16 +162,40 @@ fn open_to_lock<R: Files<File = File>>(
 }
 
 /// Waits for BASE.lock as a run that reads, and takes it. `None` if its file is missing: then no run of the program has written.
-/// With a patience it waits no longer than that. If the name refers to another file by then, it waits for that file's lock.
+/// With a patience it waits no longer than that. If the name refers to another file by then, it waits for that file's lock. The system lets
+/// readers in before a writer that waits, so the run gives the lock back for a while if a save waits for it.
 ///
 /// # Errors
 /// `Unsafe` if the file is one that others could have planted, `ReadFile` if it cannot be opened or locked, `Locked` if a run
 /// that writes has had it for as long as this one waits, and `Moved` if the name goes from file to file.
-pub fn lock_to_read<R: Files<File = File> + Clock>(
+pub fn lock_to_read<R: Files<File = File> + Clock + AllocGlobal>(
     rt: &R,
     names: &Names,
     patience: Option<Duration>,
 ) -> Result<Option<File>, FilesFault> {
+    let mut patience = patience;
+    for _ in 0..MOST_YIELDS {
+        let Some((file, left)) = share_files(rt, names, patience)? else {
+            return Ok(None);
+        };
+        if left == Some(Duration::ZERO) || !is_waited_for(rt, names) {
+            return Ok(Some(file));
+        }
+        drop(file);
+        patience = rest_within(rt, left)?;
+    }
+    match share_files(rt, names, patience)? {
+        Some((file, _)) => Ok(Some(file)),
+        None => Ok(None),
+    }
+}
+
+// Waits for BASE.lock, and shares it. It returns what is left of the patience too.
+fn share_files<R: Files<File = File> + Clock>(
+    rt: &R,
+    names: &Names,
+    patience: Option<Duration>,
+) -> Result<Option<(File, Option<Duration>)>, FilesFault> {
     let (name, pages) = (names.lock.as_str(), names.pages.as_str());
     let mut patience = patience;
     for _ in 0..MOST_LOCKS {
@@ -181,10 +210,18 @@ pub fn lock_to_read<R: Files<File = File> + Clock>(
         };
         patience = take_named(rt, &file, take, FilesFault::ReadFile)?;
         if is_named(rt, name, &file) {
-            return Ok(Some(file));
+            return Ok(Some((file, patience)));
         }
     }
     Err(FilesFault::Moved(MovedFile::Lock))
+}
+
+// Whether a save waits for BASE.lock, which this run shares: the log has records, and a process has BASE.writer, but not alone. One that was
+// killed has it no more.
+fn is_waited_for<R: Files<File = File> + AllocGlobal>(rt: &R, names: &Names) -> bool {
+    may_be_marked(rt, names)
+        && !has_writer(rt, names)
+        && locker_of(rt, names.writer.as_str()).is_some()
 }
 
 /// Whether another run has the database open to change it. To one that has BASE.lock it says that the data files have all that is saved,

@@ -13,6 +13,7 @@ const LONG_FILE: u64 = 67_108_864;
 /// A command that takes its time on a large database.
 #[derive(Clone, Copy)]
 pub enum Work {
+    Backup,
     Check,
     Dump,
     Load,
@@ -23,7 +24,7 @@ impl Work {
     // What the command does once it has read the files.
     fn doing(self) -> &'static str {
         match self {
-            Work::Check => "checking",
+            Work::Backup | Work::Check => "checking",
             Work::Dump => "dumping",
             Work::Load => "loading into",
             Work::Widen => "widening",

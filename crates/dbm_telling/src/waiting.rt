@@ -4,9 +4,8 @@ use crate::progress::{Work, tell_reading, tell_work};
 use crate::terminal::is_at_terminal;
 use dbm_faults::{holder_note, wait_note};
 use dbm_files::{RunFiles, take_files};
-use dbm_places::{FilesFault, RunPlace, names_of, resolve};
+use dbm_places::{FilesFault, RunPlace, locker_of, names_of, resolve};
 use std::fs::{self, File};
-use std::os::unix::fs::MetadataExt;
 use std::rt::Runtime;
 use std::time::{Clock, Duration};
 
@@ -49,13 +48,13 @@ fn take_patiently<R: Runtime<File = File> + Clock + AllocGlobal>(
     if !verbose && !is_at_terminal(rt) {
         let taken = take_files(rt, place, peeks, patience);
         if let Err(FilesFault::Locked) = &taken {
-            tell_holder(rt, place.base);
+            tell_holder(rt, place);
         }
         return taken;
     }
     match take_files(rt, place, peeks, Some(silent)) {
         Err(FilesFault::Locked) => {
-            tell_wait(rt, place.base);
+            tell_wait(rt, place);
             take_files(rt, place, peeks, rest)
         }
         taken => taken,
@@ -63,14 +62,14 @@ fn take_patiently<R: Runtime<File = File> + Clock + AllocGlobal>(
 }
 
 // Says who has the lock. Where standard error fails, nobody is told.
-fn tell_wait<R: Runtime<File = File> + AllocGlobal>(rt: &R, base: Option<&str>) {
-    let Some(base) = base else {
+fn tell_wait<R: Runtime<File = File> + AllocGlobal>(rt: &R, place: RunPlace<'_>) {
+    let Some(base) = place.base else {
         return;
     };
     let Ok(base) = resolve(rt, base) else {
         return;
     };
-    let holder = holder_of(rt, base.as_str());
+    let holder = holder_of(rt, base.as_str(), place.writes);
     let name = match holder {
         Some(process) => name_of(rt, process),
         None => None,
@@ -80,14 +79,14 @@ fn tell_wait<R: Runtime<File = File> + AllocGlobal>(rt: &R, base: Option<&str>) 
 }
 
 // Says who has the lock at the end of a wait of which nothing was said.
-fn tell_holder<R: Runtime<File = File> + AllocGlobal>(rt: &R, base: Option<&str>) {
-    let Some(base) = base else {
+fn tell_holder<R: Runtime<File = File> + AllocGlobal>(rt: &R, place: RunPlace<'_>) {
+    let Some(base) = place.base else {
         return;
     };
     let Ok(base) = resolve(rt, base) else {
         return;
     };
-    let Some(process) = holder_of(rt, base.as_str()) else {
+    let Some(process) = holder_of(rt, base.as_str(), place.writes) else {
         return;
     };
     let name = name_of(rt, process);
@@ -95,43 +94,18 @@ fn tell_holder<R: Runtime<File = File> + AllocGlobal>(rt: &R, base: Option<&str>
     let _ = eprintln!(rt; "dbm: note: {note}");
 }
 
-// The number of the process that has a base open to change it, or else is at its files, if the system tells it.
-fn holder_of<R: Runtime<File = File> + AllocGlobal>(rt: &R, base: &str) -> Option<u64> {
+// The number of the process that a run waits for, if the system tells it: one that is at the files, or, if the run may write, first one
+// that has the base open to change it.
+fn holder_of<R: Runtime<File = File> + AllocGlobal>(
+    rt: &R,
+    base: &str,
+    writes: bool,
+) -> Option<u64> {
     let names = names_of(rt.alloc(), base).ok()?;
-    let writer = locker_of(rt, names.writer.as_str());
-    if writer.is_some() {
-        return writer;
+    if writes && let Some(writer) = locker_of(rt, names.writer.as_str()) {
+        return Some(writer);
     }
     locker_of(rt, names.lock.as_str())
-}
-
-// The number of the process that has the lock on a file.
-fn locker_of<R: Runtime<File = File> + AllocGlobal>(rt: &R, name: &str) -> Option<u64> {
-    let number = fs::metadata(rt, name).ok()?.ino();
-    let locks = fs::read_to_string(rt, "/proc/locks").ok()?;
-    let mut holder = None;
-    for line in locks.as_str().lines() {
-        if holder.is_none() {
-            holder = holder_in(line, number);
-        }
-    }
-    holder
-}
-
-// The process of a line of /proc/locks, where the line is of a lock that a process has on the file with this number: the line's number, the
-// kind of the lock, two words on how it is held, the process, and the file as two numbers of its device and its own. Who waits has an arrow
-// before the kind. A process that cannot be seen from here has no number.
-fn holder_in(line: &str, number: u64) -> Option<u64> {
-    let mut words = line.split_whitespace().skip(1);
-    if words.next()? != "FLOCK" {
-        return None;
-    }
-    let process = words.nth(2)?.parse::<u64>().ok()?;
-    let (_, own) = words.next()?.rsplit_once(':')?;
-    if own.parse::<u64>() != Ok(number) || process == 0 {
-        return None;
-    }
-    Some(process)
 }
 
 // What a process is called.

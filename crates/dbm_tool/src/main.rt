@@ -3,6 +3,7 @@
 
 ghost use Rattle.dbm_tool.specs.Endings.{IsTold};
 
+mod backup;
 mod clock;
 mod dispatch;
 mod ending;
@@ -13,6 +14,7 @@ mod serve;
 mod sizes;
 mod stock;
 
+use backup::{Waits, refuse_copy, serve_backup};
 use clock::{read_clock, read_time};
 use dbm_command_line::{Ask, Request, ToolFault, Wish, read_words};
 use dbm_faults::ServeFault;
@@ -221,11 +223,18 @@ fn serve_request<R: Runtime<File = File> + AllocGlobal + Threads + Wait + Sync, 
     {
         return Err(ServeFault::BadBase);
     }
-    let patience = patience_of(rt, access.timeout, place.writes)?;
-    if access.must_exist && has_no_files(rt, place.base) {
+    if let Ask::Backup(backup) = &ask
+        && !is_name(backup.to)
+    {
+        return Ok(refuse_copy(rt, backup, ServeFault::BadBase));
+    }
+    let copies = matches!(ask, Ask::Backup(_));
+    let writes = place.writes || copies;
+    let patience = patience_of(rt, access.timeout, writes)?;
+    if (access.must_exist || copies) && has_no_files(rt, place.base) {
         return Err(ServeFault::Absent);
     }
-    if place.writes && io::writer(rt).write(&[]).is_err() {
+    if writes && io::writer(rt).write(&[]).is_err() {
         return Err(ServeFault::Write);
     }
     let taking = Taking { place, patience };
@@ -245,6 +254,13 @@ fn serve_request<R: Runtime<File = File> + AllocGlobal + Threads + Wait + Sync, 
         Ask::Session(session) => {
             serve_session(rt, session, place, taken, reader)?;
             Ok(Ending::Served(0))
+        }
+        Ask::Backup(backup) => {
+            let waits = Waits {
+                patience,
+                verbose: access.verbose,
+            };
+            serve_backup(rt, &backup, taken.bytes, waits)
         }
         Ask::Programs(programs) => {
             print_programs(rt, &programs, reader)?;

@@ -6,6 +6,7 @@ ghost use Rattle.sdbm_files.specs.Limits.{pag_limit};
 
 use crate::stock::{file_in, file_or_unknown};
 use dbm_command_line::{Ask, Request, Wish};
+use dbm_dumps::Backup;
 use dbm_places::{FileBytes, RunPlace};
 use dbm_programs::Programs;
 use dbm_reports::Given;
@@ -57,6 +58,7 @@ pub fn told_of<'a>(request: &Request<'a>) -> Told<'a> {
     let told = match &request.ask {
         Ask::Wish(wish) => told_of_wish(wish),
         Ask::Session(session) => told_of_session(session),
+        Ask::Backup(backup) => told_of_backup(backup),
         Ask::Programs(programs) => told_of_programs(programs),
     };
     let numbers = Numbers {
@@ -107,10 +109,19 @@ fn told_of_session<'a>(session: &Session<'a>) -> Told<'a> {
     }
 }
 
+fn told_of_backup<'a>(backup: &Backup<'a>) -> Told<'a> {
+    told_without_bytes(place_of_backup(backup), backup.words())
+}
+
 fn told_of_programs<'a>(programs: &Programs<'a>) -> Told<'a> {
+    told_without_bytes(no_place(), programs.words())
+}
+
+/// What the sentences take of a request whose words and lines have no bytes.
+pub fn told_without_bytes<'a>(place: RunPlace<'a>, words: Words<'a>) -> Told<'a> {
     Told {
-        place: no_place(),
-        words: programs.words(),
+        place,
+        words,
         notation: NotationOptions {
             text: false,
             layout: None,
@@ -137,7 +148,19 @@ pub fn place_asked<'a>(ask: &Ask<'a>) -> RunPlace<'a> {
     match ask {
         Ask::Wish(wish) => place_of(wish),
         Ask::Session(session) => place_of_session(session),
+        Ask::Backup(backup) => place_of_backup(backup),
         Ask::Programs(_) => no_place(),
+    }
+}
+
+// What a backup says of the files that it reads.
+fn place_of_backup<'a>(backup: &Backup<'a>) -> RunPlace<'a> {
+    RunPlace {
+        base: Some(backup.base),
+        file: None,
+        writes: false,
+        pages_limit: PAG_LIMIT,
+        page_size: size_of(&backup.words()),
     }
 }
 
@@ -166,6 +189,7 @@ pub fn reads_whole(ask: &Ask<'_>) -> bool {
 pub fn work_asked(ask: &Ask<'_>) -> Option<Work> {
     match ask {
         Ask::Wish(wish) => work_of(wish),
+        Ask::Backup(_) => Some(Work::Backup),
         Ask::Session(_) | Ask::Programs(_) => None,
     }
 }

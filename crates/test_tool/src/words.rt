@@ -69,6 +69,7 @@ fn request_text(global: Global, request: &Request<'_>) -> Option<String> {
     let mut out = match &request.ask {
         Ask::Wish(wish) => wish_text(global, wish)?,
         Ask::Session(session) => format!(in global; "{session:?}").ok()?,
+        Ask::Backup(backup) => format!(in global; "{backup:?}").ok()?,
         Ask::Programs(programs) => format!(in global; "{programs:?}").ok()?,
     };
     let Access {

@@ -9,6 +9,7 @@ use Rattle.dbm_listings.specs.Stats.{stats}
 use Rattle.dbm_scripts.specs.Script.{script}
 use Rattle.dbm_scripts.specs.Widen.{widen}
 use Rattle.dbm_sessions.specs.Session.{session}
+use Rattle.dbm_dumps.specs.Backup.{backup}
 use Rattle.dbm_dumps.specs.Dump.{dump}
 use Rattle.dbm_dumps.specs.Load.{load}
 use Rattle.dbm_programs.specs.Asm.{asm}
@@ -32,11 +33,12 @@ returns c =
     let scripted = c.with_subcommand-command-9.ensures _ script counted c.script_command.ensures in
     let lasting = c.with_subcommand-command-10.ensures _ session scripted c.session_command.ensures in
     let widened = c.with_subcommand-command-11.ensures _ widen lasting c.widen_command.ensures in
-    let dumped = c.with_subcommand-command-12.ensures _ dump widened c.dump_command.ensures in
-    let loaded = c.with_subcommand-command-13.ensures _ load dumped c.load_command.ensures in
-    let assembled = c.with_subcommand-command-14.ensures _ asm loaded c.asm_command.ensures in
-    let disassembled = c.with_subcommand-command-15.ensures _ disasm assembled c.disasm_command.ensures in
-    let verified = c.with_subcommand-command-16.ensures _ verify disassembled c.verify_command.ensures in
-    let shown = c.with_subcommand-command-17.ensures _ programs verified c.programs_command.ensures in
-    let ran = c.with_subcommand-command-18.ensures _ run shown c.run_command.ensures in
+    let copied = c.with_subcommand-command-12.ensures _ backup widened c.backup_command.ensures in
+    let dumped = c.with_subcommand-command-13.ensures _ dump copied c.dump_command.ensures in
+    let loaded = c.with_subcommand-command-14.ensures _ load dumped c.load_command.ensures in
+    let assembled = c.with_subcommand-command-15.ensures _ asm loaded c.asm_command.ensures in
+    let disassembled = c.with_subcommand-command-16.ensures _ disasm assembled c.disasm_command.ensures in
+    let verified = c.with_subcommand-command-17.ensures _ verify disassembled c.verify_command.ensures in
+    let shown = c.with_subcommand-command-18.ensures _ programs verified c.programs_command.ensures in
+    let ran = c.with_subcommand-command-19.ensures _ run shown c.run_command.ensures in
     c.with_subcommand.ensures _ batch ran c.batch_command.ensures

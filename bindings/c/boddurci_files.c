@@ -5,6 +5,7 @@
 #include <errno.h>
 #include <fcntl.h>
 #include <pthread.h>
+#include <sched.h>
 #include <stdio.h>
 #include <stdlib.h>
 #include <string.h>
@@ -302,11 +303,24 @@ void boddurci_close_files(boddurci_base *base)
     free(base);
 }
 
+/* Takes the mutex. A call has it for a microsecond or two, so that to try again takes less time than to sleep, above all if many threads come
+ * at once after a save that was for all of them. */
+static void take_mutex(boddurci_base *base)
+{
+    enum { TRIES = 100 };
+    for (int tries = 0; tries < TRIES; tries++) {
+        if (pthread_mutex_trylock(&base->mutex) == 0)
+            return;
+        sched_yield();
+    }
+    pthread_mutex_lock(&base->mutex);
+}
+
 boddurci *boddurci_take(boddurci_base *base)
 {
     if (base == NULL || is_of_another(base))
         return NULL;
-    pthread_mutex_lock(&base->mutex);
+    take_mutex(base);
     return &base->db;
 }
 

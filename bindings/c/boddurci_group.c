@@ -1,24 +1,38 @@
-/* Saves that threads share: each save is for all calls that wait when it begins. include/boddurci_files.h says what the threads may rely
- * on. */
+/* Saves that threads share: each save is for all calls that wait when it begins. include/boddurci_files.h says what the threads may rely on. */
 #define _POSIX_C_SOURCE 200809L
 #include "boddurci_saves.h"
+#include <sched.h>
 #include <semaphore.h>
 
-/* A call of boddurci_save. It is on the stack of its thread, which waits until the call has its turn. */
+/* What a call waits for. */
+enum state { WAITS, SLEEPS, HAS_TURN, IS_SERVED };
+
+/* A call of boddurci_save. It is on the stack of its thread, which waits until the call has its turn or is served. */
 struct boddurci_call {
     struct boddurci_call *next;
     boddurci_fault *fault;
     uint32_t status;
     int insists;
-    int is_served; /* a save for this call has ended; if not, its turn is to save */
-    sem_t turn;
+    enum state state; /* atomic; after HAS_TURN and IS_SERVED the thread goes on */
+    sem_t turn;       /* posted if the thread sleeps */
 };
+
+/* A save that takes longer than this is waited for asleep. */
+static const int64_t LONG_SAVE = 400000, MOMENT = 40000;
+
+static int64_t now(void)
+{
+    struct timespec time;
+    clock_gettime(CLOCK_MONOTONIC, &time);
+    return (int64_t)time.tv_sec * 1000000000 + time.tv_nsec;
+}
 
 int boddurci_group_init(struct boddurci_group *group)
 {
     group->first = NULL;
     group->last = &group->first;
-    group->is_saving = 0;
+    group->is_saving = group->waiting = group->served[0] = group->served[1] = 0;
+    group->took = LONG_SAVE;
     if (pthread_mutex_init(&group->mutex, NULL) != 0)
         return -1;
     if (pthread_mutex_init(&group->serving, NULL) == 0)
@@ -41,8 +55,19 @@ static int has_to_wait(struct boddurci_group *group, struct boddurci_call *call)
     group->is_saving = 1;
     *group->last = call;
     group->last = &call->next;
+    __atomic_add_fetch(&group->waiting, 1, __ATOMIC_RELAXED);
     pthread_mutex_unlock(&group->mutex);
     return waits;
+}
+
+/* Waits for a moment for threads whose calls the last two saves have served: if they save again, one save is for all. Alone nobody waits. */
+static void await_others(struct boddurci_group *group)
+{
+    int others = group->served[0] + group->served[1];
+    if (others < 3 || __atomic_load_n(&group->took, __ATOMIC_RELAXED) >= LONG_SAVE)
+        return;
+    for (int64_t end = now() + MOMENT; __atomic_load_n(&group->waiting, __ATOMIC_RELAXED) < others && now() < end;)
+        sched_yield();
 }
 
 /* Empties the list of the calls that wait. The first of them is to save, and leads to the others by its `next`. */
@@ -51,6 +76,8 @@ static void take_all(struct boddurci_group *group)
     pthread_mutex_lock(&group->mutex);
     group->first = NULL;
     group->last = &group->first;
+    group->served[1] = group->served[0];
+    group->served[0] = __atomic_exchange_n(&group->waiting, 0, __ATOMIC_RELAXED);
     pthread_mutex_unlock(&group->mutex);
 }
 
@@ -62,6 +89,13 @@ static int has_one_that_insists(const struct boddurci_call *call)
     return call != NULL;
 }
 
+/* Has a call go on. It may be gone as soon as it has the state, unless it sleeps. */
+static void wake(struct boddurci_call *call, enum state state)
+{
+    if (__atomic_exchange_n(&call->state, state, __ATOMIC_ACQ_REL) == SLEEPS)
+        sem_post(&call->turn);
+}
+
 /* Gives the turn to save to the first call that waits. It stays where it is until it has its turn, since nobody else takes the list. */
 static void pass_on(struct boddurci_group *group)
 {
@@ -70,41 +104,60 @@ static void pass_on(struct boddurci_group *group)
     group->is_saving = next != NULL;
     pthread_mutex_unlock(&group->mutex);
     if (next != NULL)
-        sem_post(&next->turn);
+        wake(next, HAS_TURN);
 }
 
-/* Copies the outcome of a save to each of these calls. A call may be gone as soon as it has its turn. */
+/* Copies the outcome of a save to each of these calls. */
 static void serve(struct boddurci_call *call, uint32_t status, const boddurci_fault *fault)
 {
     while (call != NULL) {
         struct boddurci_call *next = call->next;
         call->status = status;
         *call->fault = *fault;
-        call->is_served = 1;
-        sem_post(&call->turn);
+        wake(call, IS_SERVED);
         call = next;
     }
+}
+
+/* Waits until a call has its turn or is served. To be woken takes longer than a short save, so its end is watched for as long as two saves took;
+ * other threads go first meanwhile. */
+static enum state wait_for(struct boddurci_call *call, int64_t took)
+{
+    enum state state = WAITS;
+    int64_t end = took < LONG_SAVE ? now() + 2 * took + MOMENT : 0;
+    while (state == WAITS && (state = __atomic_load_n(&call->state, __ATOMIC_ACQUIRE)) == WAITS && now() < end)
+        sched_yield();
+    if (state != WAITS || !__atomic_compare_exchange_n(&call->state, &state, SLEEPS, 0, __ATOMIC_ACQ_REL, __ATOMIC_ACQUIRE))
+        return state;
+    while (sem_wait(&call->turn) != 0) /* a signal was handled */
+        continue;
+    return __atomic_load_n(&call->state, __ATOMIC_ACQUIRE);
+}
+
+/* Saves for all calls that wait, of which this is the first. */
+static void save_for_all(struct boddurci_group *group, struct boddurci_call *call, boddurci_saving *save, boddurci_base *base)
+{
+    await_others(group);
+    int64_t begun = now();
+    take_all(group);
+    call->status = save(base, has_one_that_insists(call), call->fault);
+    __atomic_store_n(&group->took, now() - begun, __ATOMIC_RELAXED);
+    pthread_mutex_lock(&group->serving);
+    pass_on(group);
+    serve(call->next, call->status, call->fault);
+    pthread_mutex_unlock(&group->serving);
 }
 
 /* No thread is cancelled in here: its call is in the list, or others wait for its save. */
 uint32_t boddurci_group_save(struct boddurci_group *group, boddurci_saving *save, boddurci_base *base, int insists, boddurci_fault *fault)
 {
-    struct boddurci_call call = {.fault = fault, .insists = insists};
+    struct boddurci_call call = {.fault = fault, .insists = insists, .state = WAITS};
     int could_be_cancelled;
     if (sem_init(&call.turn, 0, 0) != 0)
         return boddurci_fail_by_system(fault, "a thread cannot wait for its save");
     pthread_setcancelstate(PTHREAD_CANCEL_DISABLE, &could_be_cancelled);
-    if (has_to_wait(group, &call))
-        while (sem_wait(&call.turn) != 0) /* a signal was handled */
-            continue;
-    if (!call.is_served) {
-        take_all(group);
-        call.status = save(base, has_one_that_insists(&call), fault);
-        pthread_mutex_lock(&group->serving);
-        pass_on(group);
-        serve(call.next, call.status, fault);
-        pthread_mutex_unlock(&group->serving);
-    }
+    if (!has_to_wait(group, &call) || wait_for(&call, __atomic_load_n(&group->took, __ATOMIC_RELAXED)) == HAS_TURN)
+        save_for_all(group, &call, save, base);
     pthread_setcancelstate(could_be_cancelled, NULL);
     sem_destroy(&call.turn);
     return call.status;

@@ -387,11 +387,14 @@ struct boddurci_call;
 
 /* The calls that wait for the next save, in the order in which they came. */
 struct boddurci_group {
-    pthread_mutex_t mutex;       /* of the list; not held during a save */
+    pthread_mutex_t mutex;       /* of the list and the numbers; not held during a save */
     pthread_mutex_t serving;     /* held while the calls of a save get its outcome; the next save may have begun, and serves after it */
     struct boddurci_call *first; /* or NULL */
     struct boddurci_call **last; /* where the next one is added */
     int is_saving;               /* a thread saves, or has been given the turn to */
+    int waiting;                 /* the number of calls in the list; atomic */
+    int served[2];               /* the number of calls of the last save, and of the one before */
+    int64_t took;                /* how long the last save took, in nanoseconds; atomic */
 };
 
 int boddurci_group_init(struct boddurci_group *group);

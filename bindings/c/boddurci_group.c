@@ -13,12 +13,18 @@ struct boddurci_call {
     boddurci_fault *fault;
     uint32_t status;
     int insists;
-    enum state state; /* atomic; after HAS_TURN and IS_SERVED the thread goes on */
-    sem_t turn;       /* posted if the thread sleeps */
+    int state;  /* one of enum state, atomic; after HAS_TURN and IS_SERVED the thread goes on */
+    sem_t turn; /* posted if the thread sleeps */
 };
 
-/* A save that takes longer than this is waited for asleep. */
-static const int64_t LONG_SAVE = 400000, MOMENT = 40000;
+/* The end of a save is watched for if the last one took less than this, in nanoseconds. Tests set it. */
+#ifndef BODDURCI_LONG_SAVE
+#define BODDURCI_LONG_SAVE 200000
+#endif
+static const int64_t LONG_SAVE = BODDURCI_LONG_SAVE;
+
+/* About as long as it takes to wake a thread. */
+static const int64_t MOMENT = 40000;
 
 static int64_t now(void)
 {
@@ -90,7 +96,7 @@ static int has_one_that_insists(const struct boddurci_call *call)
 }
 
 /* Has a call go on. It may be gone as soon as it has the state, unless it sleeps. */
-static void wake(struct boddurci_call *call, enum state state)
+static void wake(struct boddurci_call *call, int state)
 {
     if (__atomic_exchange_n(&call->state, state, __ATOMIC_ACQ_REL) == SLEEPS)
         sem_post(&call->turn);
@@ -121,9 +127,9 @@ static void serve(struct boddurci_call *call, uint32_t status, const boddurci_fa
 
 /* Waits until a call has its turn or is served. To be woken takes longer than a short save, so its end is watched for as long as two saves took;
  * other threads go first meanwhile. */
-static enum state wait_for(struct boddurci_call *call, int64_t took)
+static int wait_for(struct boddurci_call *call, int64_t took)
 {
-    enum state state = WAITS;
+    int state = WAITS;
     int64_t end = took < LONG_SAVE ? now() + 2 * took + MOMENT : 0;
     while (state == WAITS && (state = __atomic_load_n(&call->state, __ATOMIC_ACQUIRE)) == WAITS && now() < end)
         sched_yield();

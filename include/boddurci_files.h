@@ -11,45 +11,45 @@
  *         fprintf(stderr, "visits: %s\n", fault.text);
  *     boddurci_close_files(base);
  *
- * What is opened is in memory. It is in the files once boddurci_save has returned, and not before: you choose when. Threads share a base:
- * boddurci_take waits for its mutex, boddurci_give lets it go, and boddurci_save takes it by itself. Threads that save at the same time
- * share saves.
+ * An open database is in memory. Its changes are in the files once boddurci_save has returned, and not before: the caller chooses when.
+ * Threads share a base: boddurci_take waits for its mutex, boddurci_give releases it, and boddurci_save takes it by itself. Threads that
+ * save at the same time share saves.
  *
  * A save appends a record to the log in BASE.redo and syncs that file once, which makes the save durable. Then it writes BASE.pag and
- * BASE.dir without a sync. BASE.redo stays beside them, and belongs to them. Its first byte, the mark, is 1 while it has saves that may not be
- * on the disk in both files; closing the base syncs the files and clears the mark. After a kill or the loss of power the next who opens the
- * base recovers it. A program that knows nothing of the log, as Perl's SDBM_File, sees each save at once, but after the loss of power it may
- * see old or mixed pages until this library or dbm has opened the base to write once.
+ * BASE.dir without a sync. BASE.redo belongs to these two files and stays next to them. Its first byte, the mark, is 1 while BASE.redo has
+ * saves that may not be on the disk in both files; closing the base syncs the files and clears the mark. After a kill or the loss of power
+ * the next opening of the base recovers it. A program that does not know the log, such as Perl's SDBM_File, sees each save at once, but
+ * after the loss of power it may see old or mixed pages until this library or dbm has opened the base for writing once.
  *
- * One process at a time has a base open to be written, this library or the program dbm: it has a flock on BASE.writer. Others wait for it as
- * long as they like, and are then LOCKED; the text names the process if the system tells it.
+ * One process at a time has a base open for writing, with this library or the program dbm: it holds a flock on BASE.writer. Other processes
+ * wait for it as long as they request, and then get LOCKED; the text names the process if the system reports it.
  *
- * Who opens a base with BODDURCI_READ_ONLY waits for no such process, and reads its last save. Readers and writers share the files by a flock
- * on BASE.lock: a writer has it while it opens the base, for each save and to close, a reader while it reads. So a save waits for readers that
- * are under way, but calls in memory do not. A writer keeps BASE.lock from readers if it can give them no whole save: after a save that
+ * An opening with BODDURCI_READ_ONLY does not wait for that process, and reads its last save. Readers and writers share the files by a
+ * flock on BASE.lock: a writer holds it while it opens the base, for each save and to close, a reader while it reads. So a save waits for
+ * active readers, but calls in memory do not. A writer keeps BASE.lock if it has no whole save that readers could read: after a save that
  * could not be written, until the next one succeeds; before the first save of a new database; and if it cannot mark BASE.redo when it opens
- * the base (no room, no permission), until it can. The mark keeps versions of this library away that know no log.
+ * the base (no room, no permission), until it can. The mark stops versions of this library that do not know the log.
  *
- * A program that knows neither lock, as Perl, does not wait. If it has written, the next save is BODDURCI_CHANGED and overwrites nothing,
- * unless it insists. If both data files are symbolic links to those of another base, that base's locks are taken.
+ * A program that knows neither lock, such as Perl, does not wait. If it has written, the next save is BODDURCI_CHANGED and overwrites
+ * nothing, unless the save insists. If both data files are symbolic links to those of another base, the locks are those of that base.
  *
- * Names are resolved once, by boddurci_open_files, which keeps the folder open. So neither a chdir nor a link in the path that is changed
- * leads a save into other files; and where BASE.lock, .writer, .pag or .dir is another file than was opened, a save is BODDURCI_MOVED.
+ * boddurci_open_files resolves the names once, and keeps the folder open. So neither a chdir nor a changed link in the path leads a save
+ * into other files. If BASE.lock, .writer, .pag or .dir is no longer the file that was opened, a save is BODDURCI_MOVED.
  *
- * BASE.redo, BASE.lock and BASE.writer are taken only where they are files with one name, of yourself, of root or of the owner of BASE.pag,
- * which nobody may write who may not write BASE.pag; else it is BODDURCI_UNSAFE. (A reader does without a BASE.writer that is not taken.) A
- * lock may also be of one who may write BASE.pag, by its group or as all may. Look then who has made it: take it away where it is a
- * stranger's. A redo file of one whom you trust is recovered by his next run, or is given to the owner of BASE.pag, since the files may hold
- * half of its saves. Closing a base removes a redo file that could not get the owner, the group and the permissions of BASE.pag, so it is left
- * only by a process that was killed.
+ * BASE.redo, BASE.lock and BASE.writer must be files with one name, owned by you, by root or by the owner of BASE.pag, and writable only
+ * for users who may write BASE.pag; otherwise the result is BODDURCI_UNSAFE. (A reader ignores a BASE.writer that is not such a file.) A
+ * lock may also belong to a user who may write BASE.pag, by its group or because all may. Then look who has made it, and remove it if you
+ * do not trust that user. If a redo file belongs to a user you trust, let that user's next command recover it, or give it to the owner of
+ * BASE.pag: the data files may hold half of its saves. Closing a base removes a redo file that could not get the owner, the group and the
+ * permissions of BASE.pag, so only a killed process leaves one.
  *
- * A base is of the process that has opened it. In a child that it forked boddurci_save is BODDURCI_FORKED, boddurci_take returns NULL,
- * boddurci_give does nothing, and boddurci_close_files frees memory alone: the locks stay its parent's.
+ * A base belongs to the process that has opened it. In a child that this process forks, boddurci_save is BODDURCI_FORKED, boddurci_take
+ * returns NULL, boddurci_give does nothing, and boddurci_close_files only frees memory: the locks stay with the parent.
  *
- * A fault may be NULL, and is then not told. A base or a name may be NULL: a save is then BODDURCI_IS_CLOSED, boddurci_take returns NULL,
- * boddurci_give and boddurci_close_files do nothing, and an opening is BODDURCI_BAD_NAME.
+ * A fault may be NULL, if the caller does not need it. A base or a name may be NULL: a save is then BODDURCI_IS_CLOSED, boddurci_take
+ * returns NULL, boddurci_give and boddurci_close_files do nothing, and an opening is BODDURCI_BAD_NAME.
  *
- * None of this is proved; tests/c_library, tests/c_crashes and tests/hostile_library run it. */
+ * None of this is proved; tests/c_library, tests/c_crashes and tests/hostile_library test it. */
 #ifndef BODDURCI_FILES_H
 #define BODDURCI_FILES_H
 #include "boddurci.h"
@@ -68,110 +68,113 @@ typedef struct boddurci_base boddurci_base;
 enum boddurci_flags {
     BODDURCI_WIDE = 1,          /* pages of 8,192 bytes; the files do not say */
     BODDURCI_UNSIGNED_KEYS = 2, /* keys hash by unsigned bytes; the files do not say */
-    BODDURCI_READ_ONLY = 4,     /* no lock is kept, and no save is made */
-    BODDURCI_NO_WAIT = 8,       /* do not wait for a lock, whatever time is given; a reader may then meet a save */
-    BODDURCI_MUST_EXIST = 16,   /* where there is no BASE.pag, do not begin with an empty database */
-    BODDURCI_EMPTY = 32,        /* begin with an empty database, whatever the files have */
-    BODDURCI_ANY_SIZE = 64      /* with WIDE: open the files also if they look like those of small pages */
+    BODDURCI_READ_ONLY = 4,     /* hold no lock after the opening, and make no save */
+    BODDURCI_NO_WAIT = 8,       /* do not wait for a lock, not even for the given time; a reader may then meet a save */
+    BODDURCI_MUST_EXIST = 16,   /* if BASE.pag is missing, fail instead of beginning with an empty database */
+    BODDURCI_EMPTY = 32,        /* begin with an empty database, and ignore the contents of the files */
+    BODDURCI_ANY_SIZE = 64      /* with WIDE: open the files even if they look like those of small pages */
 };
 
 /* Flags of boddurci_save_with. */
 enum boddurci_save_flags {
-    BODDURCI_INSIST = 128 /* overwrite what another program has changed in the files. If threads share a save, one that insists is enough */
+    BODDURCI_INSIST = 128 /* overwrite the changes of another program in the files. If threads share a save, one that insists is enough */
 };
 
-/* Statuses beside those of boddurci.h. */
+/* Statuses in addition to those of boddurci.h. */
 enum boddurci_files_status {
-    BODDURCI_FILE_FAILED = 32, /* a call of the system failed, and fault.system has its errno; or links lead to two bases, and it is 0 */
-    BODDURCI_LOCKED = 33,      /* another process has the database open to be written, or a reader or writer uses its files */
-    BODDURCI_BAD_REDO = 34,    /* BASE.redo is marked, and is not of these files: no save has left it, an older copy of them was put back,
-                                  or another program wrote them. Or a record in the middle of its log is damaged, as the text says then.
-                                  Move it away to have the files as they are */
-    BODDURCI_NO_SAVE = 35,     /* it was opened to be read only */
-    BODDURCI_TOO_LONG = 36,    /* a file has more bytes than dbm takes: 1 GiB of .pag, 256 MiB of .dir */
-    BODDURCI_UNSAFE = 37,      /* BASE.redo, .lock or .writer may be a stranger's; the text says why. Control characters, invalid UTF-8 and
-                                  bidirectional controls in the name are escaped */
-    BODDURCI_MOVED = 38,       /* BASE.lock, .writer, .pag, .dir or .redo is another file than was opened, or links lead elsewhere */
-    BODDURCI_FORKED = 39,      /* it was opened by another process, of which this one is a child */
+    BODDURCI_FILE_FAILED = 32, /* a system call failed, and fault.system is its errno; or links lead to two bases, and it is 0 */
+    BODDURCI_LOCKED = 33,      /* another process has the database open for writing, or a reader or writer uses its files */
+    BODDURCI_BAD_REDO = 34,    /* BASE.redo is marked, and does not belong to these files: no save has left it, an older copy of them was
+                                  put back, or another program wrote them. Or a record in the middle of its log is damaged, as the text
+                                  says then. To use the files unchanged, move it away */
+    BODDURCI_NO_SAVE = 35,     /* the base was opened for reading only */
+    BODDURCI_TOO_LONG = 36,    /* a file is longer than dbm takes: 1 GiB of .pag, 256 MiB of .dir */
+    BODDURCI_UNSAFE = 37,      /* BASE.redo, .lock or .writer may belong to a user who may not write the base; the text says why. Control
+                                  characters, invalid UTF-8 and bidirectional controls in the name are escaped */
+    BODDURCI_MOVED = 38,       /* BASE.lock, .writer, .pag, .dir or .redo is no longer the file that was opened, or links lead elsewhere */
+    BODDURCI_FORKED = 39,      /* a parent of this process has opened the base */
     BODDURCI_BAD_NAME = 40,    /* the name is NULL or empty, . or .., or ends in one of these after a / */
-    BODDURCI_INTERRUPTED = 41, /* a signal was handled while a lock was waited for */
-    BODDURCI_OPEN_HERE = 42,   /* this thread has opened it already, and nobody has closed that: it would wait for itself */
+    BODDURCI_INTERRUPTED = 41, /* a signal was handled during the wait for a lock */
+    BODDURCI_OPEN_HERE = 42,   /* this thread has the base open already: it would wait for itself */
     BODDURCI_OTHER_SIZE = 43   /* with WIDE: .pag looks like a file of small pages, which a change would destroy. Open it without WIDE, or
-                                  make its pages wide with `dbm widen`; if they are wide all the same, add ANY_SIZE */
+                                  make its pages wide with `dbm widen`; if they are wide nevertheless, add ANY_SIZE */
 };
 
-/* Why a call failed: its status, errno where a call of the system did, and words, ended by a zero. A save that is DONE may tell of a call
- * that failed too. */
+/* A failure: its status, the errno of the system call that failed or 0, and a text that ends in a zero. A save that is DONE may also report
+ * a failed system call. */
 typedef struct boddurci_fault {
     uint32_t status;
     int system;
     char text[200];
 } boddurci_fault;
 
-/* The name of a status of either header, in words. */
+/* The text of a status of either header. */
 const char *boddurci_files_text(uint32_t status);
 
-/* Opens the database in BASE.dir and BASE.pag, each of which may be missing, or returns NULL and says why. If BASE.redo is marked the files
- * are recovered first, no matter who saved, also by the redo file of a version before the log. A base that is read only writes nothing, and
- * reads what its saves would have left, once BASE.redo is synced; while another process has the base open to be written it reads the data
- * files alone. It waits for the locks without an end, also after a signal. Where it returns NULL nothing was changed but that the files were
- * recovered, and that locks may have been made. One that may write marks BASE.redo, which takes some syncs. Memory: what the open database
- * takes, and the data of .dir and one piece of .pag; of a page with other free bytes than the library writes, also its bytes. An opening that
- * recovers also takes the data of .pag and BASE.redo. Holes take none. Who may not write a .pag that exists makes no lock. FILE_FAILED, LOCKED
- * (by NO_WAIT alone), BAD_REDO, TOO_LONG, UNSAFE, MOVED, BAD_NAME, OPEN_HERE, OTHER_SIZE, and BAD_FILES and NO_MEMORY of boddurci.h. */
+/* Opens the database in BASE.dir and BASE.pag, each of which may be missing. Returns NULL and sets *fault if that fails: nothing has
+ * changed then, except that the files may be recovered and locks may exist. FILE_FAILED, LOCKED (by NO_WAIT only), BAD_REDO, TOO_LONG,
+ * UNSAFE, MOVED, BAD_NAME, OPEN_HERE, OTHER_SIZE, and BAD_FILES and NO_MEMORY of boddurci.h.
+ *
+ * If BASE.redo is marked the files are recovered first, no matter who saved, also from the redo file of a version without the log. A
+ * read-only opening writes nothing: it syncs BASE.redo and reads what its saves would have left. While another process has the base open
+ * for writing it reads only the data files. An opening for writing marks BASE.redo, which takes some syncs. It waits for the locks without
+ * a limit, also after a signal. A user who may not write an existing .pag makes no lock.
+ *
+ * Memory: that of the open database, the data of .dir and one piece of .pag, and the bytes of each page whose free bytes differ from those
+ * that the library writes. An opening that recovers also needs the data of .pag and BASE.redo. Holes take no memory. */
 boddurci_base *boddurci_open_files(const char *base, uint32_t flags, boddurci_fault *fault);
 
-/* The same, which waits for the locks at most this long, and is then LOCKED. 0 tries once, and -1 waits without an end. INTERRUPTED if a signal
- * was handled meanwhile: call it again to go on. */
+/* Like boddurci_open_files, but waits for the locks at most `milliseconds`, and is then LOCKED. 0 tries once, and -1 waits without a limit.
+ * INTERRUPTED if a signal was handled meanwhile: call it again to continue. */
 boddurci_base *boddurci_open_files_within(const char *base, uint32_t flags, int64_t milliseconds, boddurci_fault *fault);
 
-/* Waits for the mutex, and lends the handle until boddurci_give. Never close it, and never give it to
- * boddurci_plan, which takes the changes for saved. NULL in a child of the process that has opened the base, and
- * of a base that is NULL: each call with it is IS_CLOSED then, and boddurci_give does nothing. */
+/* Waits for the mutex and borrows the handle until boddurci_give. Never close the handle, and never pass it to boddurci_plan, which takes
+ * the changes for saved. Returns NULL if base is NULL, and in a child of the process that has opened the base. Each call with that NULL
+ * returns IS_CLOSED, and boddurci_give does nothing. */
 boddurci *boddurci_take(boddurci_base *base);
 void boddurci_give(boddurci_base *base);
 
-/* Makes the files those of the database in memory. What changed is appended to the log in BASE.redo, which is synced, and is then written in
- * place, so that the files keep their owner, permissions and links. A .dir that is new gets those of .pag. Where nothing changed nothing is
- * written or made. A crash at any moment leaves what the next opening reads as the database before the save or the one after it, and once it
- * has returned as the one after it. After a fault it is the one before; but if the text says that BASE.redo cannot be written it may be either:
- * the next save or opening finds out. Then save again: a fault leaves the base open and as it was.
+/* Saves: makes the files equal to the database in memory. boddurci_save is boddurci_save_with without flags. The save appends the changes
+ * to the log in BASE.redo, syncs it, and then writes them in place, so the files keep their owner, permissions and links. A new .dir gets
+ * those of .pag. If nothing changed the save writes and makes nothing. IS_CLOSED if base is NULL; FORKED, NO_SAVE, MOVED, UNSAFE, BAD_REDO,
+ * TOO_LONG, FILE_FAILED, and CHANGED, FILE_TOO_LONG and NO_MEMORY of boddurci.h.
  *
- * A save is one sync and a few writes. The opening has opened the log, with room for 1 MiB, or 64 KiB if the disk or the process has no more.
- * A save takes some syncs more if it finds the log full and empties it, if .pag or .dir gets shorter, or if it is the first of a new database.
+ * Crashes. After a crash at any time the next opening reads the database before the save or after it, and after it once the save has
+ * returned. After a fault it reads the database before the save; but if the text says that BASE.redo cannot be written it may read either,
+ * and the next save or opening finds out. A fault leaves the base open and unchanged, so you can save again.
  *
- * It reads .dir and the pages that may have changed, and no others: a save costs what changed, and not the base. If a time of a file differs
- * from what this base has left or read, or if it began with BODDURCI_EMPTY, it reads and compares all of both. A page on which a run
- * has saved nothing counts as one that may have changed. The mutex is held while pages are compared, and not
- * while they are read and written (but where others change more pages than it can follow, three times over, it reads once under the mutex):
- * what other threads do meanwhile is in the next save.
- * IS_CLOSED of a base that is NULL; FORKED, NO_SAVE, MOVED, UNSAFE, BAD_REDO, TOO_LONG, FILE_FAILED, and CHANGED, FILE_TOO_LONG and NO_MEMORY
- * of boddurci.h.
+ * Costs. A save is one sync and a few writes. The opening has opened the log, with room for 1 MiB, or 64 KiB if the disk or the process has
+ * no more. A save takes some more syncs if it finds the log full and empties it, if .pag or .dir gets shorter, or if it is the first of a
+ * new database. It reads .dir and the pages that may have changed: the cost depends on the changes, not on the size of the base. But if a
+ * time of a file differs from the one that this base has left or read, or if the base began with BODDURCI_EMPTY, it reads and compares both
+ * files whole. A page on which a run has saved nothing counts as one that may have changed. The save holds the mutex while it compares
+ * pages, and not while it reads and writes them. (If other threads change more pages than it can follow, three times in succession, it
+ * reads once under the mutex.) Changes that other threads make meanwhile are in the next save.
  *
  * CHANGED: another program has changed a data file since this base read or saved it. Neither file is written, and the base does not change.
  * The text says what was found: another length, a file that was made, a later write, or a page with other bytes. Each later save is CHANGED
- * too, until boddurci_save_with overwrites the files by BODDURCI_INSIST. To have what the other program wrote, close the base and open it anew.
- * Nothing is merged. A file that was made without bytes is no change, nor are another owner, mode or link, nor a new time alone (touch) if this
- * base has changed no page. A write during the sync of a save is a change for the next one. A write within the same tick of the clock (some
- * milliseconds) as a save of this base may not be seen. On a file system that takes its times from elsewhere, as NFS, SMB and FUSE do, pages
- * are compared and times are not, so a write on a page that this base has changed too is not seen.
+ * too, until boddurci_save_with overwrites the files by BODDURCI_INSIST. To keep the data of the other program, close the base and open it
+ * again. Nothing is merged. A new file without bytes is no change, nor are another owner, mode or link, nor a new time alone (touch) if
+ * this base has changed no page. A write during the sync of a save is a change for the next one. A write within the same tick of the clock
+ * (some milliseconds) as a save of this base may not be seen. On a file system that takes its times from elsewhere, such as NFS, SMB and
+ * FUSE, saves compare pages and not times, so a write on a page that this base has changed too is not seen.
  *
  * Threads may save at the same time, each after its own changes. A call returns the outcome of a save that began after the call, so its
- * changes are in that save. A save waits for readers that have BASE.lock. Calls that come during a save wait until it has ended. Then one of
- * them saves for all that wait, and all of them return the status and the fault of that save: after a fault each may save again. No thread is
- * served twice while another one waits. A thread that is alone waits for nobody. A thread that is cancelled returns from its call first.
+ * changes are in that save. A save waits for readers that have BASE.lock. Calls that come during a save wait until it has ended. Then one
+ * of them saves for all that wait, and all of them return the status and the fault of that save: after a fault each may save again. No
+ * thread is served twice while another one waits. A single thread waits for nobody. A thread that is cancelled returns from its call first.
  *
- * Both files get the blocks that they want before the save counts, where the file system can give them, so that a full disk is FILE_FAILED
- * with nothing changed. So is a save that would make one of the three files longer than the process may (RLIMIT_FSIZE): no SIGXFSZ comes of it.
- * Where a file cannot be written all the same, it is DONE, fault->system is not 0, and the text says which file: the
- * save is kept in BASE.redo, and the next who saves or opens to write brings it into both files. Until then a program that knows nothing of
- * BASE.redo, as Perl's SDBM_File, may see half of it. */
+ * Full disks. Both files get the blocks that they need before the save counts, if the file system can allocate them. So a full disk is
+ * FILE_FAILED with nothing changed. So is a save that would make one of the three files longer than the process may (RLIMIT_FSIZE), and it
+ * raises no SIGXFSZ. If a file cannot be written nevertheless, the save is DONE, fault->system is not 0, and the text says which file: the
+ * save is durable in BASE.redo, and the next save or opening for writing brings it into both files. Until then a program that does not know
+ * BASE.redo, such as Perl's SDBM_File, may see half of it. */
 uint32_t boddurci_save(boddurci_base *base, boddurci_fault *fault) BODDURCI_IS_LOOKED_AT;
 uint32_t boddurci_save_with(boddurci_base *base, uint32_t flags, boddurci_fault *fault) BODDURCI_IS_LOOKED_AT;
 
-/* Syncs both data files, closes the log, and releases the locks and the memory. Nothing is saved. If a sync fails
- * the next who opens the base recovers it. base may be NULL. No thread may use the base meanwhile, or later. In a child it frees memory
- * alone. */
+/* Syncs both data files, closes the log, and releases the locks and the memory. It saves nothing. If a sync fails the next opening recovers
+ * the base. base may be NULL. No thread may use the base meanwhile, or later. In a child of the process that has opened the base it only
+ * frees memory. */
 void boddurci_close_files(boddurci_base *base);
 
 #ifdef __cplusplus

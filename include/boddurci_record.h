@@ -1,4 +1,4 @@
-/* For programs in C that run on one record; docs/PROGRAMS.md says how to write one, under "From C".
+/* For programs in C that run on one record. docs/PROGRAMS.md says how to write one, under "From C".
  *
  *     #include "boddurci_record.h"
  *
@@ -13,8 +13,7 @@
  *     }
  *
  * `tools/bpfcc counter.c` makes its image, counter.bin. A compiler for the host takes the same file: a test includes it, sets
- * boddurci_host, calls program, and looks at the record and at boddurci_host.word. Nothing else is needed, neither a library nor
- * another header. */
+ * boddurci_host, calls program, and checks the record and boddurci_host.word. It needs neither a library nor another header. */
 #ifndef BODDURCI_RECORD_H
 #define BODDURCI_RECORD_H
 
@@ -26,7 +25,7 @@
 #include <string.h>
 #endif
 
-/* Before a loop that may be left early, with the most turns that it takes, a plain number: it is written out, turn by turn. */
+/* Unrolls the next loop, which may end early. `turns` is the greatest number of its turns, a plain number. */
 #ifdef __clang__
 #define UNROLL(turns) BODDURCI_PRAGMA(unroll(turns))
 #define BODDURCI_PRAGMA(words) _Pragma(#words)
@@ -34,18 +33,18 @@
 #define UNROLL(turns)
 #endif
 
-/* What a program returns: what becomes of the record. Any other number is as KEEP. */
+/* The result of a program, which decides about the record. Any other number is the same as KEEP. */
 enum {
-    KEEP = 0,  /* it stays as it was, whatever the program wrote; that of a new key is not stored */
-    SAVE = 1,  /* it is stored as the program left it */
-    DELETE = 2 /* its pair is deleted; that of a new key is not stored */
+    KEEP = 0,  /* the record is unchanged, even if the program wrote to it; a new record is not stored */
+    SAVE = 1,  /* the record is stored as the program left it */
+    DELETE = 2 /* the pair is deleted; a new record is not stored */
 };
 
-/* The program. The record has 0 to 8,008 bytes, the zeros of a new one too, and may be written; the argument has 0 to 1,024, and
- * may not. Numbers have the lowest byte first. No length may be trusted before it is tested. */
+/* The program. The record has 0 to 8,008 bytes, which are zeros if it is new, and may be written. The argument has 0 to 1,024 bytes, and
+ * may not be written. Numbers have the lowest byte first. Test each length before you rely on it. */
 uint64_t program(void *record, uint64_t record_length, const void *argument, uint64_t argument_length);
 
-/* What is inlined has no lines of its own, so that a refusal names the line that calls it. */
+/* Inlined code has no line numbers, so a refusal names the line of the call. */
 #ifdef __clang__
 #define BODDURCI_HELPER static inline __attribute__((always_inline, nodebug))
 #else
@@ -54,8 +53,7 @@ uint64_t program(void *record, uint64_t record_length, const void *argument, uin
 
 #ifdef __bpf__
 
-/* The reply word, which goes to the caller beside the number that the program returns; the last call counts, and without one the
- * word is 0. */
+/* Sets the reply word, which the caller gets together with the program's result. The last call counts; without a call the word is 0. */
 BODDURCI_HELPER void boddurci_reply(uint64_t word)
 {
     ((uint64_t(*)(uint64_t))1)(word);
@@ -67,7 +65,7 @@ BODDURCI_HELPER uint64_t boddurci_now(void)
     return ((uint64_t(*)(void))2)();
 }
 
-/* 1 where the key is there; 0 where it is not, and the record is the zeros of a new pair. */
+/* 1 if the key exists; 0 if it does not, and the record is the zeros of a new pair. */
 BODDURCI_HELPER uint64_t boddurci_present(void)
 {
     return ((uint64_t(*)(void))3)();
@@ -79,8 +77,8 @@ BODDURCI_HELPER uint64_t boddurci_who(void)
     return ((uint64_t(*)(void))4)();
 }
 
-/* Copies bytes, at most 1,024, as memmove does: to the record or a local variable, from either of them or the argument. The
- * verifier has to see the greatest number that `count` may be, and that both places have so many bytes; a constant is best. */
+/* Copies bytes, at most 1,024, as memmove does: to the record or a local variable, from either of them or the argument. The verifier must
+ * be able to see the greatest value of `count`, and that both places have that number of bytes; a constant is best. */
 BODDURCI_HELPER void boddurci_copy(void *to, const void *from, uint64_t count)
 {
     ((uint64_t(*)(void *, const void *, uint64_t))5)(to, from, count);
@@ -88,7 +86,7 @@ BODDURCI_HELPER void boddurci_copy(void *to, const void *from, uint64_t count)
 
 #else
 
-/* On the host: what the helpers give, and the word that boddurci_reply has set, which a test sets to 0 before it calls program. */
+/* On the host: the results of the helpers, and the word that boddurci_reply has set. A test sets it to 0 before it calls program. */
 struct boddurci_host {
     uint64_t now, present, who, word;
 };

@@ -1,5 +1,5 @@
-/* The bytes of a file in memory, or its pages, which are read piece by piece. Only its data is read, and the rest of the memory is never
- * written, so a hole takes no memory: a sparse file takes what it has on the disk. */
+/* Reads a file into memory, whole or as pages in pieces. Only its data is read, and the rest of the memory is never written, so a hole
+ * takes no memory: a sparse file takes as much as it has on the disk. */
 #define _GNU_SOURCE
 #include "boddurci_saves.h"
 #include <errno.h>
@@ -44,7 +44,7 @@ int boddurci_set_length(struct boddurci_bytes *bytes, size_t length)
     return 0;
 }
 
-/* Reads a range of a file, as far as there is one, into a room, and returns where it has ended, or -1. */
+/* Reads a range of a file into a room, up to the end of the file. Returns the offset after the bytes that were read, or -1. */
 static off_t read_range(int file, uint8_t *room, off_t from, off_t to)
 {
     for (off_t start = from; from < to;) {
@@ -58,7 +58,7 @@ static off_t read_range(int file, uint8_t *room, off_t from, off_t to)
     return from;
 }
 
-/* Where a file ends that ended at `end` before, and had no data from a place on: it may have become shorter meanwhile. */
+/* Returns the present end of a file that ended at `end` before and had no data after some offset: it may be shorter by now. */
 static off_t end_after(int file, off_t at, off_t end)
 {
     struct stat now;
@@ -67,7 +67,7 @@ static off_t end_after(int file, off_t at, off_t end)
     return now.st_size > at ? now.st_size : at;
 }
 
-/* Finds the next data from a place on, which ends at `*to`. Where the system cannot tell, all is data. */
+/* Finds the next data at or after an offset, up to `*to`. If the system cannot say, all is data. */
 static off_t find_data(int file, off_t at, off_t end, off_t *to)
 {
     *to = end;
@@ -98,7 +98,7 @@ int boddurci_read_bytes(int file, size_t length, struct boddurci_bytes *bytes)
         if (found < 0)
             return -1;
         if (found < to) {
-            /* It became shorter meanwhile. */
+            /* The file has become shorter. */
             bytes->length = (size_t)found;
             return 0;
         }
@@ -163,12 +163,13 @@ uint32_t boddurci_read_data(struct boddurci_place *place, enum boddurci_file fil
     return status;
 }
 
-/* ---- pages, piece by piece */
+/* ---- pages, in pieces */
 
 /* Whole pages of either size. */
 enum { PIECE = 262144 };
 
-/* Hands the next piece over. Each piece but the last has whole pages, and all of them have 1 GiB at most, so only memory can be lacking. */
+/* Passes the next piece. Each piece except the last has whole pages, and together they have 1 GiB at most, so it can only fail for memory.
+ * */
 static int push(boddurci_reading *pages, uint32_t is_wide, const uint8_t *piece, size_t length)
 {
     if (boddurci_read(pages, is_wide, piece, length) == BODDURCI_DONE)
@@ -177,7 +178,7 @@ static int push(boddurci_reading *pages, uint32_t is_wide, const uint8_t *piece,
     return -1;
 }
 
-/* Hands zeros over. They lie in the cache. */
+/* Passes zeros. They are in the cache of the processor. */
 static int push_zeros(boddurci_reading *pages, uint32_t is_wide, size_t length)
 {
     static const uint8_t zeros[32768];
@@ -189,7 +190,7 @@ static int push_zeros(boddurci_reading *pages, uint32_t is_wide, size_t length)
     return 0;
 }
 
-/* Reads a file to its end, which may have come nearer meanwhile: then what there is of it is read. */
+/* Reads a file to its end. If it has become shorter meanwhile the rest is left out. */
 static int read_pieces(int file, off_t end, uint32_t is_wide, boddurci_reading *pages, uint8_t *room)
 {
     off_t next, found, to;

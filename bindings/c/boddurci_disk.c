@@ -1,4 +1,4 @@
-/* The three files of a base, held open to be written, and the calls on them. boddurci_steps.c says which calls a save makes. */
+/* The three files of a base, open for writing, and the calls on them. boddurci_steps.c has the calls that a save makes. */
 #define _GNU_SOURCE
 #include "boddurci_saves.h"
 #include <errno.h>
@@ -67,8 +67,8 @@ void boddurci_disk_close(struct boddurci_disk *disk)
         boddurci_disk_drop(disk, file);
 }
 
-/* The permissions with which a file is made, less those that the umask takes. A redo file has records in it, so nobody else may read it
- * before it is like the pages. If there are no pages yet, all may read it who will read those. */
+/* The permissions with which a file is made, before the umask. A redo file has records in it, so nobody else may read it before it has the
+ * permissions of .pag. If there is no .pag yet, the users who will be able to read .pag may read it. */
 static mode_t mode_of(const struct boddurci_disk *disk, enum boddurci_file file)
 {
     if (file == BODDURCI_REDO)
@@ -76,7 +76,7 @@ static mode_t mode_of(const struct boddurci_disk *disk, enum boddurci_file file)
     return file == BODDURCI_PAGES ? 0666 : boddurci_mode_of_pages(disk->place, 0666);
 }
 
-/* Makes a file. A redo file that was made before the pages becomes like them. */
+/* Makes a file. A redo file that was made before .pag gets the owner, the group and the permissions of .pag. */
 static int make(struct boddurci_disk *disk, enum boddurci_file file)
 {
     int *opened = &disk->files[file];
@@ -91,7 +91,7 @@ static int make(struct boddurci_disk *disk, enum boddurci_file file)
     return redo < 0 ? 0 : boddurci_be_like_pages(disk->place, BODDURCI_REDO, redo);
 }
 
-/* Opens a data file that exists. The redo file is opened by boddurci_log.c. */
+/* Opens a data file that exists. boddurci_log.c opens the redo file. */
 static int open_found(struct boddurci_disk *disk, enum boddurci_file file)
 {
     if (disk->files[file] < 0 && file != BODDURCI_REDO)

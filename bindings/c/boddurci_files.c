@@ -1,4 +1,4 @@
-/* A database in its files: include/boddurci_files.h says what each call does. */
+/* The calls of include/boddurci_files.h, which says what each does. */
 #define _GNU_SOURCE
 #include "boddurci_files.h"
 #include "boddurci_saves.h"
@@ -18,15 +18,15 @@ struct boddurci_base {
     struct boddurci_place place;
     struct boddurci_logged logged;
     uint32_t flags;
-    pid_t process;               /* which has opened it */
+    pid_t process;               /* that has opened the base */
     struct boddurci_notes notes; /* of the data files, when the base last read or wrote them */
-    int is_noted;                /* the data files, while they stay so, are those of the base but on its changed pages */
+    int is_noted;                /* the notes describe files that equal the database except on its changed pages */
     int is_planned;              /* a save has compared their lengths and the directory */
     int may_have_written;        /* this save has made calls that may change the times of the data files */
-    enum boddurci_change doubt;  /* how times differed when all pages were known, if those are not compared yet */
-    char change[100];            /* how another program has changed the data files, which no save has overwritten; else empty */
+    enum boddurci_change doubt;  /* how the times differed, if a comparison of all pages is still due */
+    char change[100];            /* how another program has changed the data files, until a save overwrites that; else empty */
     pthread_mutex_t mutex;       /* of db */
-    struct boddurci_group saves; /* of the files; a call that wants both has its turn to save before it takes the mutex */
+    struct boddurci_group saves; /* of the files; a call that needs both waits for its turn to save before it takes the mutex */
 };
 
 static int is_of_another(const boddurci_base *base)
@@ -36,14 +36,14 @@ static int is_of_another(const boddurci_base *base)
 
 /* ---- reading */
 
-/* The data that an opening reads: all bytes of .dir, and the pages of .pag without its bytes. If .pag is short its bytes are read first, and
- * parsed once other processes may use the files again. */
+/* The data that an opening reads: all bytes of .dir, and the pages of .pag without its bytes. If .pag is short its bytes are read first,
+ * and parsed after the locks are released. */
 struct parts {
     struct boddurci_bytes directory;
     struct boddurci_bytes unparsed;
     boddurci_reading pages;
     uint32_t is_wide;
-    int has_data; /* .pag is not one hole */
+    int has_data; /* .pag is more than one hole */
 };
 
 static void let_parts_go(struct parts *parts)
@@ -66,7 +66,7 @@ static uint32_t read_pieces(int file, struct parts *parts, boddurci_fault *fault
     return is_read == 0 ? status : boddurci_fail_by_system(fault, "a file cannot be read");
 }
 
-/* Reads both data files; those that are not there have no bytes, unless .pag has to be there. */
+/* Reads both data files. A missing file has no bytes, but .pag may be required to exist. */
 static uint32_t read_parts(struct boddurci_place *place, int must_exist, struct parts *parts, boddurci_fault *fault)
 {
     int file;
@@ -80,8 +80,8 @@ static uint32_t read_parts(struct boddurci_place *place, int must_exist, struct 
     return status;
 }
 
-/* Reads both data files as they are for a database that may not be written. If the redo file has its mark, with its saves done in them; but
- * not beside a writer, who has done them. */
+/* Reads both data files for a read-only database. If the redo file has its mark, the result includes its saves; but not while a writer
+ * has the base open, since that writer has written them. */
 static uint32_t read_over(struct boddurci_place *place, int must_exist, struct parts *parts, boddurci_fault *fault)
 {
     struct boddurci_bytes files[2];
@@ -107,7 +107,7 @@ static uint32_t parse(struct parts *parts, boddurci_fault *fault)
 
 /* ---- opening */
 
-/* Sees which files there are that are not read. */
+/* Notes which files exist, without reading them. */
 static void see_files(struct boddurci_place *place)
 {
     for (enum boddurci_file file = BODDURCI_PAGES; file <= BODDURCI_DIRECTORY; file++) {
@@ -117,7 +117,7 @@ static void see_files(struct boddurci_place *place)
     }
 }
 
-/* Reads both data files, once they are recovered. */
+/* Recovers both data files, then reads them. */
 static uint32_t read_files(boddurci_base *base, struct parts *parts, boddurci_fault *fault)
 {
     struct boddurci_disk *disk = &base->logged.disk;
@@ -146,12 +146,12 @@ static const uint8_t *or_none(struct boddurci_bytes bytes)
     return bytes.at != NULL ? bytes.at : none;
 }
 
-/* Looks whether a base that is to be opened with wide pages has small ones, which may read as wide ones by chance. */
+/* Checks whether a base that is opened with wide pages looks like one with small ones, which may read as wide ones by chance. */
 static uint32_t look_at_size(const boddurci_base *base, struct parts *parts, boddurci_fault *fault)
 {
     uint32_t looks_small = 0, status = BODDURCI_DONE;
     int is_tested = parts->is_wide && parts->has_data && !(base->flags & BODDURCI_ANY_SIZE);
-    /* The keys may hash in the other way than the caller says. */
+    /* The keys may hash the other way than the caller says. */
     for (uint32_t is_unsigned = 0; is_tested && status == BODDURCI_DONE && !looks_small && is_unsigned < 2; is_unsigned++)
         status = boddurci_reading_looks_small(&parts->pages, or_none(parts->directory), parts->directory.length, is_unsigned, &looks_small);
     if (status == BODDURCI_DONE && looks_small)
@@ -173,7 +173,7 @@ static uint32_t open_parts(boddurci_base *base, struct parts *parts, boddurci_fa
     return status;
 }
 
-/* For a reader without a lock, whose reading has come to a status: the first who writes may have come in between, and made the lock. */
+/* Tries once more for a reader without a lock, after its reading: the first writer may have made the lock meanwhile. */
 static uint32_t read_again(boddurci_base *base, struct parts *parts, uint32_t status, int64_t milliseconds, boddurci_fault *fault)
 {
     boddurci_fault second;
@@ -187,8 +187,8 @@ static uint32_t read_again(boddurci_base *base, struct parts *parts, uint32_t st
     return locked;
 }
 
-/* Marks the log of a writer whose files are those that were read or saved last, and gives them back to others. Without a mark it keeps them:
- * older versions, which look at BASE.lock alone, would write. */
+/* Marks the log of a writer whose files are those that were read or saved last, then releases BASE.lock. Without a mark it keeps the lock:
+ * older versions, which know only BASE.lock, would write. */
 static void mark_and_give(boddurci_base *base)
 {
     boddurci_fault unsaid;
@@ -274,7 +274,7 @@ boddurci_base *boddurci_open_files(const char *name, uint32_t flags, boddurci_fa
     return base;
 }
 
-/* Closes the log, while nobody else uses the files, and then the files. */
+/* Closes the log, under the exclusive lock, and then the files. */
 static void end_log(boddurci_base *base)
 {
     if (base->logged.is_open && boddurci_take_files(&base->place) != 0)
@@ -282,7 +282,7 @@ static void end_log(boddurci_base *base)
     boddurci_logged_end(&base->logged);
 }
 
-/* In a child another thread of its parent may have had the database in its hands: then its memory stays. */
+/* In a forked child another thread of the parent may have held the mutex: then the memory of the database is not freed. */
 void boddurci_close_files(boddurci_base *base)
 {
     if (base == NULL)
@@ -303,8 +303,8 @@ void boddurci_close_files(boddurci_base *base)
     free(base);
 }
 
-/* Takes the mutex. A call has it for a microsecond or two, so that to try again takes less time than to sleep, above all if many threads come
- * at once after a save that was for all of them. */
+/* Takes the mutex. A call holds it for a microsecond or two, so trying again takes less time than sleeping, above all if many threads come
+ * at once after a save that served all of them. */
 static void take_mutex(boddurci_base *base)
 {
     enum { TRIES = 100 };
@@ -330,15 +330,15 @@ void boddurci_give(boddurci_base *base)
         pthread_mutex_unlock(&base->mutex);
 }
 
-/* ---- what a save reads */
+/* ---- reading for a save */
 
-/* Numbers of pages, in their order. */
+/* Numbers of pages, sorted. */
 struct numbers {
     uint32_t *at; /* or NULL, if the list is empty */
     size_t count;
 };
 
-/* What was read of the files for a plan: all of .dir, and of .pag its length and the pages that are listed. */
+/* The contents of the files for a plan: all of .dir, and of .pag its length and the listed pages. */
 struct reading {
     struct boddurci_bytes directory;
     size_t length;
@@ -370,7 +370,7 @@ static int by_number(const void *one, const void *other)
     return (a > b) - (a < b);
 }
 
-/* The numbers of the pages that may have changed. */
+/* Lists the pages that may have changed. */
 static uint32_t list_changed(boddurci *db, struct numbers *numbers)
 {
     uint32_t none, status = boddurci_changed(db, &none, 0, &numbers->count);
@@ -385,7 +385,7 @@ static uint32_t list_changed(boddurci *db, struct numbers *numbers)
     return status;
 }
 
-/* The numbers of all pages of the file and of the database, and of those that may have changed, which may lie further on. */
+/* Lists all pages of the file and of the database, and those that may have changed, which may be past both ends. */
 static uint32_t list_all(boddurci *db, struct reading *reading)
 {
     boddurci_cursor cursor;
@@ -410,7 +410,7 @@ static uint32_t list_all(boddurci *db, struct reading *reading)
     return status;
 }
 
-/* Reads bytes of a file into a room of zeros, where a byte past its end is zero. */
+/* Reads bytes of a file into a room of zeros; bytes past its end stay zeros. */
 static int read_at(int file, uint64_t at, uint8_t *room, size_t size)
 {
     for (size_t done = 0; done < size;) {
@@ -424,7 +424,7 @@ static int read_at(int file, uint64_t at, uint8_t *room, size_t size)
     return 0;
 }
 
-/* How many of the pages that are listed stand side by side in the file, from one of them on. */
+/* The number of listed pages, from one of them on, that are adjacent in the file. */
 static size_t side_by_side(const struct reading *reading, size_t first)
 {
     size_t count = 1;
@@ -434,7 +434,7 @@ static size_t side_by_side(const struct reading *reading, size_t first)
     return count;
 }
 
-/* Reads the pages that are listed. */
+/* Reads the listed pages. */
 static uint32_t read_pages(int file, struct reading *reading, boddurci_fault *fault)
 {
     for (size_t i = 0, count; i < reading->listed.count; i += count) {
@@ -445,7 +445,7 @@ static uint32_t read_pages(int file, struct reading *reading, boddurci_fault *fa
     return BODDURCI_DONE;
 }
 
-/* Reads all of .dir. If it is short it is not mapped, which would take longer than to read it. */
+/* Reads all of .dir. A short one is not mapped: that takes longer than reading it. */
 static uint32_t read_directory(int file, struct boddurci_bytes *directory, boddurci_fault *fault)
 {
     enum { SHORT = 65536 };
@@ -460,7 +460,7 @@ static uint32_t read_directory(int file, struct boddurci_bytes *directory, boddu
     return read_at(file, 0, directory->at, length) == 0 ? status : boddurci_fail_by_system(fault, "a file cannot be read");
 }
 
-/* Reads the directory, or the pages that are listed. The files of a base that was saved are open. A file that is missing has no bytes. */
+/* Reads the directory, or the listed pages. The files of a base that was saved are open. A missing file has no bytes. */
 static uint32_t read_part(boddurci_base *base, enum boddurci_file which, struct reading *reading, boddurci_fault *fault)
 {
     int held = base->logged.disk.files[which], file = held;
@@ -476,7 +476,7 @@ static uint32_t read_part(boddurci_base *base, enum boddurci_file which, struct 
     return status;
 }
 
-/* Reads the directory, and the pages that are listed. */
+/* Reads the directory and the listed pages. */
 static uint32_t read_listed(boddurci_base *base, struct reading *reading, boddurci_fault *fault)
 {
     uint32_t status = read_part(base, BODDURCI_DIRECTORY, reading, fault);
@@ -490,23 +490,23 @@ static uint32_t read_listed(boddurci_base *base, struct reading *reading, boddur
 
 /* One save. */
 struct saving {
-    int insists;                   /* it overwrites what another program has changed */
-    int compares;                  /* the pages that the base has not changed have to be those of the file */
-    enum boddurci_change change;   /* how the files differ from what was noted */
-    enum boddurci_file which;      /* and which of them */
-    struct boddurci_note found[2]; /* what they are */
+    int insists;                   /* it overwrites the changes of another program */
+    int compares;                  /* the pages that the base has not changed must equal those of the file */
+    enum boddurci_change change;   /* how the files differ from the notes */
+    enum boddurci_file which;      /* and which file */
+    struct boddurci_note found[2]; /* the present state of both */
     struct reading reading;
     struct boddurci_bytes plan;
 };
 
-/* The numbers of a list, for a call: never NULL, even if the list is empty. */
+/* The numbers of a list as an argument: never NULL, even if the list is empty. */
 static const uint32_t *numbers_of(const struct numbers *numbers)
 {
     static const uint32_t none;
     return numbers->at != NULL ? numbers->at : &none;
 }
 
-/* Room for a plan of which each block of the pages changes, as far as they are not too many, so that it is made once as a rule. */
+/* Room for a plan that changes each block of the pages, up to a limit, so that a plan is usually made once. */
 static size_t room_of(const struct reading *reading)
 {
     enum { BLOCK = 1024, CHANGE = 9 + 2 * BLOCK, MOST = 8192, LEAST = 65536 };
@@ -514,8 +514,8 @@ static size_t room_of(const struct reading *reading)
     return LEAST + (blocks < MOST ? blocks : MOST) * CHANGE;
 }
 
-/* The plan that makes the files those of the database, after the room that its record needs; it is empty if they are that already. It is to
- * be freed in any case. */
+/* Makes the plan of a save, after the room that its record needs. It is empty if the files equal the database already. Free it in any
+ * case. */
 static uint32_t plan_of(boddurci *db, const struct reading *reading, struct boddurci_bytes *plan)
 {
     const uint8_t *directory = or_none(reading->directory);
@@ -536,7 +536,7 @@ static uint32_t plan_of(boddurci *db, const struct reading *reading, struct bodd
     return status;
 }
 
-/* Lists the pages that are to be read, reads them, and plans; under the mutex, but not while it reads, unless it is to hold it then too. */
+/* Lists the pages to read, reads them, and plans. It holds the mutex, but not while it reads, unless the caller requests that. */
 static uint32_t try_plan(boddurci_base *base, struct saving *saving, int holds, boddurci_fault *fault)
 {
     boddurci *db = boddurci_take(base);
@@ -562,7 +562,7 @@ static uint32_t try_plan(boddurci_base *base, struct saving *saving, int holds, 
 
 enum { TRIES = 3 };
 
-/* Plans, once more where others have changed more pages meanwhile. */
+/* Plans, and again if other threads have changed more pages meanwhile. */
 static uint32_t plan_now(boddurci_base *base, struct saving *saving, boddurci_fault *fault)
 {
     uint32_t status = BODDURCI_STALE;
@@ -573,7 +573,7 @@ static uint32_t plan_now(boddurci_base *base, struct saving *saving, boddurci_fa
     return status;
 }
 
-/* Counts the pages as changed again whose plan is not done; if that fails the next save reads all. */
+/* Marks the pages of a plan that is not carried out as changed; if that fails the next save reads all pages. */
 static void mark_again(boddurci_base *base, const struct saving *saving)
 {
     const struct numbers *numbers = saving->compares ? &saving->reading.own : &saving->reading.listed;
@@ -584,7 +584,7 @@ static void mark_again(boddurci_base *base, const struct saving *saving)
 
 /* ---- files that another program has changed */
 
-/* Keeps how a file was found. */
+/* Stores how a file was found. */
 static void note_change(boddurci_base *base, const struct saving *saving)
 {
     static const char *const names[2] = {"BASE.pag", "BASE.dir"};
@@ -598,8 +598,8 @@ static void note_change(boddurci_base *base, const struct saving *saving)
         snprintf(base->change, sizeof base->change, "%s has %llu bytes, and had %llu", names[saving->which], length, before);
 }
 
-/* The fault of a save that would overwrite what another program has changed. The log is closed, as far as that can be: its records are not of
- * these files, and the next who opens the base must not change them by it. */
+/* The fault of a save that would overwrite the changes of another program. It closes the log if it can: the records do not belong to
+ * these files, and the next opening must not apply them. */
 static uint32_t is_changed(boddurci_base *base, boddurci_fault *fault)
 {
     boddurci_fault second;
@@ -621,8 +621,8 @@ static int has_own_changes(boddurci_base *base)
     return status != BODDURCI_DONE || count != 0;
 }
 
-/* Before anything is written: whether another program has changed the files, as far as lengths and times tell. If only times differ all pages
- * are compared, unless the other program may have written one that the base has changed. */
+/* Before any write: checks by lengths and times whether another program has changed the files. If only times differ all pages are compared,
+ * unless the other program may have written one that the base has changed. */
 static uint32_t must_be_ours(boddurci_base *base, struct saving *saving, boddurci_fault *fault)
 {
     int is_known = base->is_noted || base->doubt != BODDURCI_SAME, is_other = saving->change == BODDURCI_OTHERS;
@@ -641,7 +641,8 @@ static uint32_t number_at(const uint8_t *at)
     return (uint32_t)at[0] | (uint32_t)at[1] << 8 | (uint32_t)at[2] << 16 | (uint32_t)at[3] << 24;
 }
 
-/* Looks in a plan for a page that the base has not changed, or if it has changed none, for any difference. boddurci.h has the form of a plan. */
+/* Searches a plan for a page that the base has not changed. If the base has changed none, any difference counts. boddurci.h has the form of
+ * a plan. */
 static void compare(boddurci_base *base, const struct saving *saving)
 {
     enum { HEADER = 28, CHANGE = 9 };
@@ -660,7 +661,7 @@ static void compare(boddurci_base *base, const struct saving *saving)
     }
 }
 
-/* After the plan: whether another program has changed pages, or writes now. If so the plan is not done. */
+/* After the plan: checks whether another program has changed pages, or is writing. If so the plan is not carried out. */
 static uint32_t must_stay_ours(boddurci_base *base, const struct saving *saving, enum boddurci_change again, enum boddurci_file which,
                                boddurci_fault *fault)
 {
@@ -680,7 +681,7 @@ static uint32_t must_stay_ours(boddurci_base *base, const struct saving *saving,
 
 /* ---- saving */
 
-/* Does what was planned. If that fails the pages count as changed again. */
+/* Carries out the plan. If that fails its pages count as changed again. */
 static uint32_t do_plan(boddurci_base *base, const struct saving *saving, boddurci_fault *fault)
 {
     int is_left = 0;
@@ -699,7 +700,7 @@ static uint32_t do_plan(boddurci_base *base, const struct saving *saving, boddur
     return status;
 }
 
-/* A lock that was made when .pag was missing becomes like it, once it exists. */
+/* A lock that was made before .pag gets its owner, group and permissions, once .pag exists. */
 static void settle_locks(struct boddurci_place *place)
 {
     for (enum boddurci_file lock = BODDURCI_LOCK; lock <= BODDURCI_WRITER; lock++)
@@ -707,7 +708,7 @@ static void settle_locks(struct boddurci_place *place)
             place->is_early[lock] = boddurci_be_like_pages(place, lock, place->opened[lock]) != 0;
 }
 
-/* Whether the data files that are held open are still those under their names. */
+/* Checks that the names of the data files still lead to the open files. */
 static uint32_t are_named(const boddurci_base *base, const struct boddurci_note found[2], boddurci_fault *fault)
 {
     for (enum boddurci_file file = BODDURCI_PAGES; file <= BODDURCI_DIRECTORY; file++) {
@@ -721,8 +722,8 @@ static uint32_t are_named(const boddurci_base *base, const struct boddurci_note 
     return BODDURCI_DONE;
 }
 
-/* Recovers the files after a save that failed. If another program has written them, the log begins anew, since its records are not of these
- * files. */
+/* Recovers the files after a failed save. If another program has written them, the log begins anew, since its records do not belong to
+ * these files. */
 static uint32_t recover(boddurci_base *base, struct saving *saving, boddurci_fault *fault)
 {
     int is_ended = 0;
@@ -740,7 +741,7 @@ static uint32_t recover(boddurci_base *base, struct saving *saving, boddurci_fau
     return boddurci_logged_renew(&base->logged, fault);
 }
 
-/* Looks whether the files are those that were noted, and makes them ready to be saved. */
+/* Compares the files with the notes, and prepares them for a save. */
 static uint32_t prepare(boddurci_base *base, struct saving *saving, boddurci_fault *fault)
 {
     uint32_t status = boddurci_are_held(&base->place, fault);
@@ -771,9 +772,9 @@ static void settle(boddurci_base *base, const struct saving *saving, enum boddur
         boddurci_note_written(&base->notes, &base->logged.disk);
 }
 
-/* The whole save. If no page has changed and the files are those that were noted, nothing is read, unless it is the first save, which looks
- * at the lengths of the files and at the directory; and if the files are those of the database nothing is written. If another program writes
- * them while they are read, and the save insists, the next save reads all. */
+/* The whole save. If no page has changed and the files match the notes, it reads nothing; only the first save compares the lengths of the
+ * files and the directory. If the files equal the database it writes nothing. If another program writes them during the reading, and the
+ * save insists, the next save reads all. */
 static uint32_t save_prepared(boddurci_base *base, struct saving *saving, boddurci_fault *fault)
 {
     enum boddurci_file which;
@@ -789,8 +790,8 @@ static uint32_t save_prepared(boddurci_base *base, struct saving *saving, boddur
     return status;
 }
 
-/* Gives the files back after a save. If the log is given up, others would read files that lack a committed save or have half of one, so they
- * stay with this base until a later save has recovered them. After CHANGED the log is closed, and others read what was found. */
+/* Releases BASE.lock after a save. If the log has failed, readers would see files that lack a committed save or have half of one, so the
+ * lock stays until a later save has recovered them. After CHANGED the log is closed, and readers see the files that were found. */
 static void give_files(boddurci_base *base, uint32_t status, int were_kept)
 {
     const struct boddurci_logged *logged = &base->logged;

@@ -1,10 +1,10 @@
-/* Saves that threads share: each save is for all calls that wait when it begins. include/boddurci_files.h says what the threads may rely on. */
+/* Saves that threads share: each save serves all calls that wait when it begins. include/boddurci_files.h has the guarantees. */
 #define _POSIX_C_SOURCE 200809L
 #include "boddurci_saves.h"
 #include <sched.h>
 #include <semaphore.h>
 
-/* What a call waits for. */
+/* The state of a call that waits. */
 enum state { WAITS, SLEEPS, HAS_TURN, IS_SERVED };
 
 /* A call of boddurci_save. It is on the stack of its thread, which waits until the call has its turn or is served. */
@@ -13,17 +13,17 @@ struct boddurci_call {
     boddurci_fault *fault;
     uint32_t status;
     int insists;
-    int state;  /* one of enum state, atomic; after HAS_TURN and IS_SERVED the thread goes on */
+    int state;  /* one of enum state, atomic; after HAS_TURN and IS_SERVED the thread continues */
     sem_t turn; /* posted if the thread sleeps */
 };
 
-/* The end of a save is watched for if the last one took less than this, in nanoseconds. Tests set it. */
+/* Nanoseconds. If the last save took less, waiting calls spin until the end of the next one. Tests set it. */
 #ifndef BODDURCI_LONG_SAVE
 #define BODDURCI_LONG_SAVE 200000
 #endif
 static const int64_t LONG_SAVE = BODDURCI_LONG_SAVE;
 
-/* About as long as it takes to wake a thread. */
+/* Nanoseconds, about the time to wake a thread. */
 static const int64_t MOMENT = 40000;
 
 static int64_t now(void)
@@ -53,7 +53,7 @@ void boddurci_group_destroy(struct boddurci_group *group)
     pthread_mutex_destroy(&group->serving);
 }
 
-/* Adds a call to those that wait. Returns whether it has to wait for its turn; if not, it saves. */
+/* Adds a call to those that wait. Returns 1 if it has to wait for its turn, and 0 if it is to save now. */
 static int has_to_wait(struct boddurci_group *group, struct boddurci_call *call)
 {
     pthread_mutex_lock(&group->mutex);
@@ -66,7 +66,8 @@ static int has_to_wait(struct boddurci_group *group, struct boddurci_call *call)
     return waits;
 }
 
-/* Waits for a moment for threads whose calls the last two saves have served: if they save again, one save is for all. Alone nobody waits. */
+/* Waits a moment for the threads that the last two saves have served: if they save again, one save serves all. A single thread does not
+ * wait. */
 static void await_others(struct boddurci_group *group)
 {
     int others = group->served[0] + group->served[1];
@@ -76,7 +77,7 @@ static void await_others(struct boddurci_group *group)
         sched_yield();
 }
 
-/* Empties the list of the calls that wait. The first of them is to save, and leads to the others by its `next`. */
+/* Empties the list of waiting calls. The first of them saves, and leads to the rest by its `next`. */
 static void take_all(struct boddurci_group *group)
 {
     pthread_mutex_lock(&group->mutex);
@@ -87,7 +88,6 @@ static void take_all(struct boddurci_group *group)
     pthread_mutex_unlock(&group->mutex);
 }
 
-/* Whether one of these calls insists. */
 static int has_one_that_insists(const struct boddurci_call *call)
 {
     while (call != NULL && !call->insists)
@@ -95,14 +95,14 @@ static int has_one_that_insists(const struct boddurci_call *call)
     return call != NULL;
 }
 
-/* Has a call go on. It may be gone as soon as it has the state, unless it sleeps. */
+/* Lets a call continue. Unless it sleeps, it may be gone as soon as it has the state. */
 static void wake(struct boddurci_call *call, int state)
 {
     if (__atomic_exchange_n(&call->state, state, __ATOMIC_ACQ_REL) == SLEEPS)
         sem_post(&call->turn);
 }
 
-/* Gives the turn to save to the first call that waits. It stays where it is until it has its turn, since nobody else takes the list. */
+/* Gives the turn to save to the first waiting call. That call exists until it has its turn, since nobody else takes the list. */
 static void pass_on(struct boddurci_group *group)
 {
     pthread_mutex_lock(&group->mutex);
@@ -125,8 +125,8 @@ static void serve(struct boddurci_call *call, uint32_t status, const boddurci_fa
     }
 }
 
-/* Waits until a call has its turn or is served. To be woken takes longer than a short save, so its end is watched for as long as two saves took;
- * other threads go first meanwhile. */
+/* Waits until a call has its turn or is served. Waking a thread takes longer than a short save, so it spins as long as two saves took, and
+ * yields to other threads meanwhile. */
 static int wait_for(struct boddurci_call *call, int64_t took)
 {
     int state = WAITS;
@@ -140,7 +140,7 @@ static int wait_for(struct boddurci_call *call, int64_t took)
     return __atomic_load_n(&call->state, __ATOMIC_ACQUIRE);
 }
 
-/* Saves for all calls that wait, of which this is the first. */
+/* Saves for all waiting calls. This call is the first of them. */
 static void save_for_all(struct boddurci_group *group, struct boddurci_call *call, boddurci_saving *save, boddurci_base *base)
 {
     await_others(group);
@@ -154,7 +154,7 @@ static void save_for_all(struct boddurci_group *group, struct boddurci_call *cal
     pthread_mutex_unlock(&group->serving);
 }
 
-/* No thread is cancelled in here: its call is in the list, or others wait for its save. */
+/* Cancellation is disabled: the call is in the list, or other threads wait for its save. */
 uint32_t boddurci_group_save(struct boddurci_group *group, boddurci_saving *save, boddurci_base *base, int insists, boddurci_fault *fault)
 {
     struct boddurci_call call = {.fault = fault, .insists = insists, .state = WAITS};

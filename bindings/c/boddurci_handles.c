@@ -1,5 +1,5 @@
-/* The calls of boddurci.h that take a handle, a ticket or a reading: each tests for NULL and makes the proved call, whose references are never
- * NULL. ./dbm --build-library gives each export of crates/boddurci_c that is called here the name boddurci_proved_NAME. */
+/* The calls of boddurci.h that take a handle, a ticket or a reading. Each checks for NULL, and then makes the proved call, whose references
+ * are never NULL. ./dbm --build-library renames each export of crates/boddurci_c that is called here to boddurci_proved_NAME. */
 #include "boddurci.h"
 
 #pragma GCC visibility push(hidden)

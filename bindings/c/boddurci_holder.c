@@ -1,4 +1,4 @@
-/* Which process has a lock of a base, as Linux tells it in /proc/locks. */
+/* Finds the process that has a lock of a base, in /proc/locks of Linux. */
 #define _POSIX_C_SOURCE 200809L
 #include "boddurci_saves.h"
 #include <fcntl.h>
@@ -6,9 +6,9 @@
 #include <string.h>
 #include <sys/stat.h>
 
-/* The process of a line of /proc/locks if the line is of a flock on the file with this number, or 0. The line has its own number, the kind of
- * the lock, two words on how it is held, the process, and the file as its device and its number. A process that waits has an arrow before the
- * kind, and one that cannot be seen from here has the number 0 or less. */
+/* Parses a line of /proc/locks. Returns the process if the line is a flock on the inode, and 0 otherwise. A line has its number, the kind
+ * of the lock, two words on how it is held, the process, and the file as its device and inode. A waiting process has an arrow before the
+ * kind. A process of another namespace has the number 0 or less. */
 static long process_in(const char *line, unsigned long long number)
 {
     long process;
@@ -33,7 +33,7 @@ long boddurci_holder_of(const struct boddurci_place *place, enum boddurci_file l
     return process;
 }
 
-/* The name of a process, as a fault tells it. */
+/* Writes the name of a process for the text of a fault. */
 static void name_of(long process, char *shown, size_t size)
 {
     char path[40], name[40] = "";

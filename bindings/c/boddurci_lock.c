@@ -1,4 +1,4 @@
-/* Which base a name means, and its locks: flocks on BASE.lock and BASE.writer. boddurci_saves.h says what each means. */
+/* The base of a name, and its locks: flocks on BASE.lock and BASE.writer. boddurci_saves.h says what each means. */
 #define _POSIX_C_SOURCE 200809L
 #define _DEFAULT_SOURCE
 #define _XOPEN_SOURCE 700
@@ -16,8 +16,8 @@
 
 /* ---- names */
 
-/* What the name of a file leads to: where it is a symbolic link to a file that another base has under this ending, that base, which is to
- * be freed; else NULL. */
+/* If the name of a file is a symbolic link to a file of another base with this ending, returns the name of that base, which the caller
+ * frees; otherwise NULL. */
 static int lead_of(const char *base, const char *ending, char **lead)
 {
     struct stat found;
@@ -43,8 +43,8 @@ static int lead_of(const char *base, const char *ending, char **lead)
     return 0;
 }
 
-/* The base to which both data files lead by symbolic links, so that all meet at the same locks: it is to be freed, and NULL if that is the name
- * itself. */
+/* If both data files are symbolic links to those of another base, sets *led to its name, so that all processes use the same locks, and to
+ * NULL otherwise. The caller frees it. */
 static uint32_t resolve(const char *name, char **led, boddurci_fault *fault)
 {
     char *pages = NULL, *directory = NULL;
@@ -64,7 +64,7 @@ static uint32_t resolve(const char *name, char **led, boddurci_fault *fault)
     return boddurci_fail(fault, BODDURCI_FILE_FAILED, 0, "BASE.pag and BASE.dir are links to two bases");
 }
 
-/* Whether the files of a name have names of their own: those of a folder, as of users/, would be users/.dir and users/.pag. */
+/* Whether the last part of a name can be the name of a base: the files of users/ would be users/.dir and users/.pag. */
 static int is_name(const char *name)
 {
     const char *end = strrchr(name, '/'), *last = end != NULL ? end + 1 : name;
@@ -80,15 +80,15 @@ static int64_t now(void)
     return (int64_t)time.tv_sec * 1000 + time.tv_nsec / 1000000;
 }
 
-/* The end of a wait; below 0 it has none. */
+/* The end of a wait. If it is below 0 the wait has no limit. */
 static int64_t end_of(int64_t milliseconds)
 {
     int64_t start = now();
     return milliseconds < 0 ? -1 : milliseconds < INT64_MAX - start ? start + milliseconds : INT64_MAX;
 }
 
-/* Rests before the next try: first some 50 times for a moment, as long as a short save takes, then up to 5 milliseconds. EWOULDBLOCK at the end
- * of the wait, EINTR after a signal. */
+/* Sleeps before the next try: some 50 times as long as a short save takes, then up to 5 milliseconds. EWOULDBLOCK at the end of the wait,
+ * EINTR after a signal. */
 static int rest(int *tries, int64_t end)
 {
     enum { SHORT = 50, MOMENT = 50000, MILLISECOND = 1000000, LONGEST = 5 };
@@ -103,12 +103,12 @@ static int rest(int *tries, int64_t end)
     return nanosleep(&time, NULL);
 }
 
-/* ---- the places that have locks */
+/* ---- places with locks */
 
-/* The places whose locks this process has. A fork waits until nobody is at them, so that a child finds them whole. */
+/* The places whose locks this process has. A fork takes the mutex first, so a child finds a consistent list. */
 static struct boddurci_place *held;
-static unsigned long threads; /* which have taken a lock so far */
-static __thread unsigned long this_thread; /* its number among these, from 1 on: the system gives its own numbers out again */
+static unsigned long threads; /* the number of threads that have taken a lock so far */
+static __thread unsigned long this_thread; /* its number among these, from 1: the system reuses its own numbers */
 static pthread_mutex_t held_mutex = PTHREAD_MUTEX_INITIALIZER;
 static pthread_once_t held_once = PTHREAD_ONCE_INIT;
 
@@ -158,13 +158,13 @@ static void set_keeps_files(struct boddurci_place *place, int keeps)
     give_held();
 }
 
-/* Whether a place has a lock for longer than a call. */
+/* Whether a place holds a lock for longer than a call. */
 static int has_for_long(const struct boddurci_place *place, enum boddurci_file lock)
 {
     return place->opened[lock] >= 0 && (lock == BODDURCI_WRITER || place->keeps_files);
 }
 
-/* Whether this thread has a lock already: it would wait for itself. What a parent has is not a child's. */
+/* Whether this thread has a lock already: it would wait for itself. A child does not have the locks of its parent. */
 static int has_it_here(const struct boddurci_place *place, enum boddurci_file lock)
 {
     struct stat wanted, had;
@@ -186,7 +186,7 @@ static int is_named(const struct boddurci_place *place, enum boddurci_file lock)
     return boddurci_is_named(place, lock, place->opened[lock]);
 }
 
-/* Whether this process may write .pag if it exists: one that may not makes no lock. */
+/* Whether .pag is missing or this process may write it. Otherwise the process makes no lock. */
 static int may_write(const struct boddurci_place *place)
 {
     int opened = openat(place->folder, place->names[BODDURCI_PAGES], O_RDWR | O_NONBLOCK | O_NOCTTY | O_CLOEXEC);
@@ -228,7 +228,7 @@ static void close_lock(struct boddurci_place *place, enum boddurci_file lock)
     place->opened[lock] = -1;
 }
 
-/* Opens the file of a lock, anew if another file has its name by now. A writer makes it if it is missing. OPEN_HERE if this thread has the
+/* Opens the file of a lock, again if another file has its name by now. A writer makes it if it is missing. OPEN_HERE if this thread has the
  * lock. */
 static uint32_t open_lock(struct boddurci_place *place, enum boddurci_file lock, int reads, boddurci_fault *fault)
 {
@@ -251,7 +251,7 @@ static uint32_t open_lock(struct boddurci_place *place, enum boddurci_file lock,
 
 /* ---- taking them */
 
-/* Waits for a lock. A wait without an end is the system's; one that has an end tries again after rests. */
+/* Waits for a lock. A wait without a limit blocks in the system call; one with a limit tries and sleeps by turns. */
 static int wait_for(int lock, int how, int64_t end)
 {
     if (end < 0)
@@ -273,7 +273,7 @@ static int wait_through(int lock, int how)
     return status;
 }
 
-/* Why a reader or a writer has not got its lock or locks, by errno. */
+/* Sets the fault of a reader or writer that did not get its locks, by errno. */
 static uint32_t not_taken(const struct boddurci_place *place, int reads, boddurci_fault *fault)
 {
     if (errno == EWOULDBLOCK)
@@ -302,7 +302,8 @@ static uint32_t share_lock(struct boddurci_place *place, int64_t end, boddurci_f
     }
 }
 
-/* Whether somebody else has a lock exclusively. It is tried shared, so that others who look at the same time do not find each other. */
+/* Whether another process has a lock exclusively. It tries a shared lock, so that processes that check at the same time do not find each
+ * other. */
 static int is_busy(int lock)
 {
     if (flock(lock, LOCK_SH | LOCK_NB) == 0) {
@@ -325,7 +326,7 @@ int boddurci_has_writer(const struct boddurci_place *place)
     return has_writer;
 }
 
-/* Whether a save waits for the files: the log has records, and its writer has BASE.writer shared. A writer who was killed has it no more. */
+/* Whether a save waits for the files: the log has records, and a live writer has BASE.writer shared. */
 static int is_waited_for(const struct boddurci_place *place)
 {
     if (place->opened[BODDURCI_LOCK] < 0 || !boddurci_is_marked(place) || boddurci_has_writer(place))
@@ -333,8 +334,8 @@ static int is_waited_for(const struct boddurci_place *place)
     return boddurci_holder_of(place, BODDURCI_WRITER) != 0;
 }
 
-/* The system lets readers in before a writer who waits. So a reader leaves the files for a moment if a save waits for them; not without an end,
- * since a writer may be stopped. */
+/* The system prefers readers to a writer that waits. So a reader releases the files for a moment if a save waits for them; for a limited
+ * time, since the writer may be stopped. */
 uint32_t boddurci_take_shared(struct boddurci_place *place, int64_t milliseconds, boddurci_fault *fault)
 {
     enum { MOST = 100 };
@@ -351,7 +352,7 @@ uint32_t boddurci_take_shared(struct boddurci_place *place, int64_t milliseconds
 
 enum outcome { TAKEN, IS_BUSY, TRY_AGAIN, HAS_FAILED };
 
-/* Takes BASE.lock, and then BASE.writer without waiting; or neither of them. */
+/* Takes BASE.lock, and then BASE.writer without waiting. On failure it holds neither. */
 static enum outcome lock_both(struct boddurci_place *place, int64_t end, boddurci_fault *fault)
 {
     int files = place->opened[BODDURCI_LOCK], writer = place->opened[BODDURCI_WRITER];
@@ -372,8 +373,8 @@ static enum outcome lock_both(struct boddurci_place *place, int64_t end, boddurc
     return outcome == TAKEN ? TRY_AGAIN : outcome;
 }
 
-/* The same. It leaves BASE.lock alone as long as BASE.writer is busy, but not if this is the only try: then another process that only looks
- * might be found. */
+/* The same, but it does not try BASE.lock while BASE.writer is busy. The exception is a single try, which could otherwise fail by another
+ * process that only checks the lock. */
 static enum outcome try_both(struct boddurci_place *place, int64_t end, int is_only, boddurci_fault *fault)
 {
     for (enum boddurci_file lock = BODDURCI_LOCK; lock <= BODDURCI_WRITER; lock++)
@@ -408,8 +409,8 @@ static uint32_t take_both(struct boddurci_place *place, int64_t milliseconds, bo
 
 /* ---- while a base is open */
 
-/* Tries for a moment to have a lock alone, with no sleep in between, and at first without leaving the processor: a reader of few pages is done
- * sooner than a thread is woken. After a failure the lock is not even shared. */
+/* Tries for a moment to get a lock exclusively. It does not sleep, and at first does not even yield: a reader of few pages is done before a
+ * thread could be woken. After a failure the lock is not even shared. */
 static int take_soon(int lock)
 {
     enum { TRIES = 1000, QUICK = 100 };
@@ -429,7 +430,7 @@ int boddurci_take_files(struct boddurci_place *place)
         return 0;
     if (take_soon(files) == 0)
         return wait_through(writer, LOCK_SH);
-    /* BASE.writer is shared first, by which readers who come now see that a save waits (is_waited_for). */
+    /* BASE.writer is shared first: it shows new readers that a save waits (is_waited_for). */
     return wait_through(writer, LOCK_SH) != 0 || wait_through(files, LOCK_EX) != 0 ? -1 : 0;
 }
 
@@ -438,8 +439,8 @@ int boddurci_share_files(struct boddurci_place *place)
     return place->keeps_files ? 0 : wait_through(place->opened[BODDURCI_LOCK], LOCK_SH);
 }
 
-/* Only processes that look have BASE.writer too, for a moment: to write they would need BASE.lock. If one of them is stopped then, BASE.writer
- * stays shared, and readers use the log until the next save. */
+/* Other processes hold BASE.writer only to check it, for a moment: to write they would need BASE.lock. If one of them is stopped then,
+ * BASE.writer stays shared, and readers use the log until the next save. */
 void boddurci_give_files(struct boddurci_place *place)
 {
     set_keeps_files(place, 0);
@@ -462,7 +463,7 @@ uint32_t boddurci_are_held(const struct boddurci_place *place, boddurci_fault *f
     return BODDURCI_DONE;
 }
 
-/* BASE.writer goes first: who has BASE.lock then finds it free. */
+/* BASE.writer is released first: a process that gets BASE.lock then finds it free. */
 void boddurci_give_locks(struct boddurci_place *place, int is_own)
 {
     forget_held(place);
@@ -475,7 +476,7 @@ void boddurci_give_locks(struct boddurci_place *place, int is_own)
 
 /* ---- entering */
 
-/* Whether the name leads where it led before it was waited for. */
+/* Whether the name leads to the same base as before the wait. */
 static uint32_t leads_there(const char *base, boddurci_fault *fault)
 {
     char *led;

@@ -1,4 +1,4 @@
-/* The log of a base in BASE.redo: it is opened, takes the record of each save, and is closed. The library tells the steps of each
+/* The log of a base in BASE.redo: opens it, appends the record of each save, and closes it. The library returns the steps of each
  * (crates/sdbm_log), and boddurci_steps.c makes them. */
 #define _POSIX_C_SOURCE 200809L
 #include "boddurci_saves.h"
@@ -10,8 +10,8 @@
 #include <sys/stat.h>
 #include <unistd.h>
 
-/* The room that is asked for, and the room if the disk has not that much. A redo file without a mark that is longer than the last one is
- * removed: each opening that may write reads it. */
+/* The usual room of a log, and the room if the disk has less. A redo file without a mark that is longer than MOST_UNUSED is removed:
+ * each opening for writing reads it. */
 static const size_t ROOM = 1 << 20, LEAST_ROOM = 1 << 16, MOST_UNUSED = 1 << 24;
 
 static uint32_t cannot_be_written(const struct boddurci_disk *disk, boddurci_fault *fault)
@@ -20,7 +20,7 @@ static uint32_t cannot_be_written(const struct boddurci_disk *disk, boddurci_fau
     return boddurci_fail_by_system(fault, what[disk->last]);
 }
 
-/* Tells of a save that is committed, and of the call that failed afterwards. */
+/* Reports a committed save with the call that failed afterwards. */
 static uint32_t is_pending(const struct boddurci_disk *disk, boddurci_fault *fault)
 {
     static const char *const what[3] = {"the save is kept in BASE.redo, and BASE.pag could not be written",
@@ -34,7 +34,7 @@ static uint32_t too_long(boddurci_fault *fault)
     return boddurci_fail(fault, BODDURCI_TOO_LONG, 0, boddurci_files_text(BODDURCI_TOO_LONG));
 }
 
-/* ---- what the library tells */
+/* ---- steps from the library */
 
 static const uint8_t *or_none(struct boddurci_bytes bytes)
 {
@@ -50,7 +50,7 @@ static void free_steps(struct boddurci_steps *steps)
     steps->own = NULL;
 }
 
-/* Why the library tells no steps. */
+/* The fault if the library returns no steps. */
 static uint32_t refused(uint32_t status, boddurci_fault *fault)
 {
     switch (status) {
@@ -66,7 +66,7 @@ static uint32_t refused(uint32_t status, boddurci_fault *fault)
 
 enum { WORDS = sizeof(boddurci_step) / sizeof(uint64_t) };
 
-/* Makes the rooms for steps and their bytes. */
+/* Allocates the rooms for steps and their bytes. */
 static int make_rooms(struct boddurci_steps *steps, size_t words, size_t bytes)
 {
     free_steps(steps);
@@ -76,8 +76,8 @@ static int make_rooms(struct boddurci_steps *steps, size_t words, size_t bytes)
     return steps->at != NULL && steps->own != NULL ? 0 : -1;
 }
 
-/* Asks for the steps that open the log of these files with so much room; if `log` is NULL, for those that make copies of the data files what
- * the files mean. */
+/* Requests the steps that open the log of these files with `room` bytes. If `log` is NULL, the steps that bring copies of the data files to
+ * the state that the three files mean. */
 static uint32_t ask(const struct boddurci_bytes files[3], size_t room, boddurci_log *log, struct boddurci_steps *steps, boddurci_fault *fault)
 {
     const uint8_t *pag = or_none(files[0]), *dir = or_none(files[1]), *redo = or_none(files[2]);
@@ -101,7 +101,7 @@ static uint32_t ask(const struct boddurci_bytes files[3], size_t room, boddurci_
     return boddurci_is_within_limits(steps) ? status : too_long(fault);
 }
 
-/* Asks for the steps of a save. A change has 128 bytes of a block twice, or more. */
+/* Requests the steps of a save. A change has 128 bytes of a block twice, or more. */
 static uint32_t ask_save(struct boddurci_bytes bytes, boddurci_log *log, struct boddurci_steps *steps, boddurci_fault *fault)
 {
     size_t words = (bytes.length / 256 + 32) * WORDS, room, committed = 0;
@@ -125,7 +125,7 @@ static uint32_t ask_save(struct boddurci_bytes bytes, boddurci_log *log, struct 
 
 /* ---- the mark */
 
-/* Whether an opened redo file begins with its mark; or -1. */
+/* Returns 1 if an open redo file begins with its mark, 0 if not, and -1 on failure. */
 static int has_mark(int opened)
 {
     uint8_t first = 0;
@@ -136,7 +136,7 @@ static int has_mark(int opened)
     return got < 0 ? -1 : got == 1 && first == 1;
 }
 
-/* Opens the redo file to be read, and says whether it has its mark. One that is missing has none, and is -1. */
+/* Opens the redo file for reading, and reports whether it has its mark. If it is missing it has none, and the descriptor is -1. */
 static uint32_t look(const struct boddurci_place *place, int *opened, int *is_marked, boddurci_fault *fault)
 {
     *is_marked = 0;
@@ -174,8 +174,8 @@ void boddurci_logged_of(struct boddurci_logged *logged, struct boddurci_place *p
     logged->is_open = logged->is_doubtful = logged->is_given_up = 0;
 }
 
-/* Leaves the log after a call that failed: whoever opens it next recovers it. Without its mark it is of no use, and it is removed, since the
- * disk may have other bytes of it than are read. */
+/* Leaves the log after a failed call: the next opening recovers it. Without its mark it is useless, and it is removed, since its bytes on
+ * the disk may differ from those that are read. */
 static void give_up(struct boddurci_logged *logged)
 {
     struct boddurci_disk *disk = &logged->disk;
@@ -192,7 +192,7 @@ static void give_up(struct boddurci_logged *logged)
     errno = system;
 }
 
-/* After the redo file could not be opened to be written: removes one without a mark that this user may not write. */
+/* Called if the redo file could not be opened for writing: removes it if it has no mark and this user may not write it. */
 static uint32_t remove_denied(struct boddurci_disk *disk, boddurci_fault *fault)
 {
     boddurci_fault second;
@@ -202,7 +202,7 @@ static uint32_t remove_denied(struct boddurci_disk *disk, boddurci_fault *fault)
     return boddurci_disk_remove_redo(disk) == 0 ? boddurci_no_fault(fault) : cannot_be_written(disk, fault);
 }
 
-/* Opens the redo file to be written, if it exists. One of this user becomes like the pages. */
+/* Opens the redo file for writing, if it exists. If this user owns it, it gets the owner, the group and the permissions of .pag. */
 static uint32_t open_redo(struct boddurci_disk *disk, boddurci_fault *fault)
 {
     struct stat found;
@@ -220,7 +220,7 @@ static uint32_t open_redo(struct boddurci_disk *disk, boddurci_fault *fault)
     return status;
 }
 
-/* Removes an opened redo file without a mark if it is of no use. */
+/* Removes an open redo file if it has no mark and is useless. */
 static uint32_t remove_useless(struct boddurci_logged *logged, boddurci_fault *fault)
 {
     struct boddurci_disk *disk = &logged->disk;
@@ -255,8 +255,8 @@ static uint32_t read_files(struct boddurci_logged *logged, struct boddurci_bytes
     return status;
 }
 
-/* Makes the steps that open the log. A marked redo file is written once more first, with the bytes that were read: if a sync of it failed
- * earlier, the disk may have others, and the next sync would not write them. */
+/* Makes the steps that open the log. First it writes a marked redo file again, with the bytes that were read: if an earlier sync of it
+ * failed, the bytes on the disk may differ, and the next sync would not write them. */
 static uint32_t do_open(struct boddurci_logged *logged, struct boddurci_bytes redo, const struct boddurci_steps *steps, boddurci_fault *fault)
 {
     struct boddurci_disk *disk = &logged->disk;
@@ -270,7 +270,7 @@ static uint32_t do_open(struct boddurci_logged *logged, struct boddurci_bytes re
     return cannot_be_written(disk, fault);
 }
 
-/* Opens the log with so much room. If the redo file has its mark the data files are recovered. */
+/* Opens the log with `room` bytes. If the redo file has its mark the data files are recovered. */
 static uint32_t try_open(struct boddurci_logged *logged, size_t room, boddurci_fault *fault)
 {
     struct boddurci_bytes files[3] = {{NULL, 0, 0}, {NULL, 0, 0}, {NULL, 0, 0}}, none = {NULL, 0, 0};
@@ -330,7 +330,7 @@ uint32_t boddurci_logged_recover(struct boddurci_logged *logged, int *is_ended, 
 
 /* ---- saving */
 
-/* Whether the steps that commit a save only append its record to the log. The others empty the log first. */
+/* Whether the steps that commit a save only append its record to the log. Otherwise they empty the log first. */
 static int only_append(const struct boddurci_steps *steps)
 {
     for (size_t i = 0; i < steps->committed; i++)
@@ -350,7 +350,7 @@ static int commit(struct boddurci_logged *logged, const struct boddurci_steps *s
     return -1;
 }
 
-/* Does a committed save in the data files. */
+/* Writes a committed save to the data files. */
 static int apply(struct boddurci_logged *logged, const struct boddurci_steps *steps)
 {
     struct boddurci_disk *disk = &logged->disk;
@@ -360,7 +360,7 @@ static int apply(struct boddurci_logged *logged, const struct boddurci_steps *st
     return boddurci_do_steps(disk, steps->at + steps->committed, steps->count - steps->committed, steps->bytes);
 }
 
-/* Commits a save, and does it in the data files. */
+/* Commits a save, and writes it to the data files. */
 static uint32_t do_save(struct boddurci_logged *logged, const struct boddurci_steps *steps, int *is_left, boddurci_fault *fault)
 {
     struct boddurci_disk *disk = &logged->disk;
@@ -404,7 +404,8 @@ static void put_number(uint8_t *at, uint64_t number)
         at[i] = (uint8_t)(number >> 8 * i);
 }
 
-/* Commits a plan that changes nothing: boddurci.h has its form. The steps after the commit are left out, since each file has its length. */
+/* Commits a plan that changes nothing; boddurci.h has its form. It omits the steps after the commit, since each file has its length
+ * already. */
 static uint32_t commit_nothing(struct boddurci_logged *logged, const uint64_t lengths[2], boddurci_fault *fault)
 {
     uint8_t record[BODDURCI_PLAN_AT + 28] = {0}, *plan = record + BODDURCI_PLAN_AT;
@@ -438,7 +439,7 @@ uint32_t boddurci_logged_mark(struct boddurci_logged *logged, boddurci_fault *fa
         return BODDURCI_DONE;
     if (boddurci_take_files(disk->place) != 0)
         return boddurci_fail_by_system(fault, "BASE.lock cannot be locked");
-    /* A mark that fails leaves the times of the data files as they are: the next save would take them for another program's. */
+    /* If the mark fails the times of the data files stay: new ones would look to the next save like a write of another program. */
     disk->has_reserved = 0;
     uint32_t status = logged->is_open ? BODDURCI_DONE : open_log(logged, fault);
     return status == BODDURCI_DONE ? commit_nothing(logged, lengths, fault) : status;
@@ -468,7 +469,7 @@ uint32_t boddurci_logged_renew(struct boddurci_logged *logged, boddurci_fault *f
     return is_closed ? BODDURCI_DONE : cannot_be_written(&logged->disk, fault);
 }
 
-/* Whether the next who opens the base may use the redo file: all who may write the pages may write it, and it is not too long. */
+/* Whether the next opening can use the redo file: it has the owner, the group and the permissions of .pag, and is not too long. */
 static int is_of_use(struct boddurci_disk *disk)
 {
     uint64_t length;
@@ -494,10 +495,10 @@ void boddurci_logged_end(struct boddurci_logged *logged)
     pthread_setcancelstate(could_be_cancelled, NULL);
 }
 
-/* ---- reading only */
+/* ---- reading */
 
-/* Syncs a marked redo file that a reader has read: else what is read might not be so once the machine stops. If nothing may be written
- * nothing is to be synced. */
+/* Syncs a marked redo file that a reader has read: otherwise a crash of the machine could lose a save that was read. On a read-only file
+ * system there is nothing to sync. */
 static uint32_t keep_marked(struct boddurci_place *place, int redo, boddurci_fault *fault)
 {
     if ((boddurci_keep_opened(redo) == 0 && boddurci_keep_folder(place) == 0) || errno == EROFS || errno == EINVAL)
@@ -505,7 +506,7 @@ static uint32_t keep_marked(struct boddurci_place *place, int redo, boddurci_fau
     return boddurci_fail_by_system(fault, "BASE.redo cannot be kept");
 }
 
-/* Reads both data files with the saves done in them that a marked redo file has. */
+/* Reads both data files, with the saves of a marked redo file applied. */
 static uint32_t read_done(struct boddurci_place *place, int redo, struct boddurci_bytes files[3], boddurci_fault *fault)
 {
     struct boddurci_steps steps = {NULL, 0, 0, NULL, 0, NULL};

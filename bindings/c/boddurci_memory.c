@@ -1,10 +1,10 @@
-/* The memory of libboddurci.a: the three functions that it asks of the program that it is linked into, over malloc. They have no
- * state. They stay hidden in libboddurci.so. */
+/* The allocator of libboddurci.a: the three functions that it needs from the program, by malloc. They have no state. libboddurci.so hides
+ * them. */
 #include <stdbool.h>
 #include <stddef.h>
 #include <stdlib.h>
 
-/* A place that is never read or written: the library wants no null where it was refused memory. */
+/* A pointer for a failed allocation, never read or written: the library accepts no null even then. */
 static char nowhere;
 
 struct given {

@@ -1,4 +1,4 @@
-/* Notes of the data files of a base, taken when it last read or wrote them, and how the files differ from them now.
+/* Notes of the data files of a base, taken when it last read or wrote them, and how the files differ from the notes now.
  * include/boddurci_files.h says which changes of other programs a save sees by this. */
 #define _GNU_SOURCE
 #include "boddurci_saves.h"
@@ -34,8 +34,8 @@ static int is_near(struct timespec one, struct timespec other)
     return apart > -0.02 && apart < 0.02;
 }
 
-/* Whether this system itself sets the times of a file, while it writes the file. A server sets its own times, and may set them after we have
- * looked. */
+/* Whether this system sets the times of a file itself, while it writes the file. A server sets its own times, and may set them after the
+ * look. */
 static int is_local(int opened)
 {
     /* ext2 to ext4, XFS, Btrfs, tmpfs, F2FS, overlayfs, ZFS, Bcachefs */
@@ -51,7 +51,7 @@ static int is_local(int opened)
 
 /* ---- looks */
 
-/* What a data file is: the one that is opened, or if none is, the one under the name. A quick look copies the times that were noted. */
+/* Reads the state of a data file: of the open file, or if it is closed, of the one under the name. A quick look copies the noted times. */
 static struct boddurci_note look_at(const struct boddurci_notes *notes, const struct boddurci_disk *disk, enum boddurci_file file, int is_held)
 {
     struct stat is;
@@ -70,7 +70,7 @@ static struct boddurci_note look_at(const struct boddurci_notes *notes, const st
     return note;
 }
 
-/* Looks at both files: at those under the names, or at those that are held open, which takes less time. */
+/* Reads the state of both files: of those under the names, or of the open ones, which takes less time. */
 static void look_at_both(const struct boddurci_notes *notes, const struct boddurci_disk *disk, int is_held, struct boddurci_note found[2])
 {
     struct boddurci_note both[2];
@@ -79,11 +79,11 @@ static void look_at_both(const struct boddurci_notes *notes, const struct boddur
     memcpy(found, both, sizeof both);
 }
 
-/* ---- what has changed */
+/* ---- changes */
 
 static const struct timespec never = {0, 0};
 
-/* Whether a time is the one that was noted, or one of later writes of the base. */
+/* Whether a time is the noted one, or that of a later write of the base. */
 static int is_our_time(struct timespec noted, struct timespec is, struct timespec latest)
 {
     return is_same_time(noted, is) || is.tv_sec < latest.tv_sec || (is.tv_sec == latest.tv_sec && is.tv_nsec <= latest.tv_nsec);

@@ -1,5 +1,5 @@
-/* The folder of a database, and its files, by their names in it. A file beside the database, its redo file or a lock, is taken only where
- * nobody has made it who may not write .pag; docs/DECISIONS.md says why under "Calls from C". */
+/* The folder of a database, and its files, by their names in it. A redo file or a lock is accepted only if no user who may not write .pag
+ * can have made it; docs/DECISIONS.md says why under "Calls from C". */
 #define _GNU_SOURCE
 #include "boddurci_saves.h"
 #include <errno.h>
@@ -11,7 +11,7 @@
 #include <sys/sysmacros.h>
 #include <unistd.h>
 
-/* A folder that may be searched and not read serves too. */
+/* A folder that may be searched and not read is enough. */
 #ifdef O_PATH
 enum { OPEN_FOLDER = O_PATH | O_DIRECTORY | O_CLOEXEC };
 #else
@@ -26,7 +26,7 @@ static char *joined(const char *name, const char *ending)
     return all;
 }
 
-/* Opens the folder in which a base has its files. */
+/* Opens the folder of a base. */
 static int open_folder(const char *base)
 {
     const char *end = strrchr(base, '/');
@@ -76,7 +76,7 @@ void boddurci_place_close(struct boddurci_place *place)
         close(place->folder);
 }
 
-/* Closes a file that is not taken, for this reason. */
+/* Closes a file that is not accepted, and sets errno to the reason. */
 static int leave(int opened, int system)
 {
     close(opened);
@@ -134,7 +134,7 @@ int boddurci_open_data(struct boddurci_place *place, enum boddurci_file file, in
     return boddurci_see(place, file, opened) == 0 ? opened : leave(opened, errno);
 }
 
-/* ---- the files beside them */
+/* ---- the redo file and the locks */
 
 static const char *kind_of(mode_t mode)
 {
@@ -161,7 +161,8 @@ static int is_lock(enum boddurci_file file)
     return file >= BODDURCI_LOCK;
 }
 
-/* Whether all who may write a file may write .pag; .pag is NULL where it is not there, and a lock, which has no bytes, may be written then. */
+/* Whether all users who may write a file may write .pag. If .pag is missing `pages` is NULL, and a lock may be writable, since it has no
+ * bytes. */
 static int is_writing_safe(enum boddurci_file file, const struct stat *found, const struct stat *pages)
 {
     if (pages == NULL)
@@ -172,8 +173,8 @@ static int is_writing_safe(enum boddurci_file file, const struct stat *found, co
     return (found->st_mode & S_IWOTH) == 0 && ((found->st_mode & S_IWGRP) == 0 || is_group_safe);
 }
 
-/* Whether its owner may have made it: oneself, root, the owner of .pag. A lock may also be made by others who write .pag, whose owner they
- * cannot give it. */
+/* Whether the owner of a file is trusted: this user, root or the owner of .pag. A lock may belong to any user who may write .pag, since
+ * that user cannot give it to the owner of .pag. */
 static int is_owner_safe(enum boddurci_file file, const struct stat *found, const struct stat *pages)
 {
     if (found->st_uid == geteuid() || found->st_uid == 0 || (pages != NULL && found->st_uid == pages->st_uid))
@@ -183,7 +184,7 @@ static int is_owner_safe(enum boddurci_file file, const struct stat *found, cons
     return (pages->st_mode & S_IWOTH) != 0 || ((pages->st_mode & S_IWGRP) != 0 && found->st_gid == pages->st_gid);
 }
 
-/* Whether a file beside the database is taken; one that has lost its name meanwhile is. */
+/* Checks that a redo file or a lock is accepted. A file that has lost its name meanwhile is. */
 static uint32_t look(const struct boddurci_place *place, enum boddurci_file file, const struct stat *found, boddurci_fault *fault)
 {
     struct stat pages;
@@ -209,7 +210,7 @@ static uint32_t cannot_be_opened(enum boddurci_file file, boddurci_fault *fault)
     return boddurci_fail_by_system(fault, file == BODDURCI_REDO ? "BASE.redo cannot be opened" : lock);
 }
 
-/* Opens it; a lock that may only be read serves too. */
+/* Opens the file. A lock may be read only. */
 static int open_found(const struct boddurci_place *place, enum boddurci_file file, int how)
 {
     int more = O_NOFOLLOW | O_NONBLOCK | O_NOCTTY | O_CLOEXEC, opened = openat(place->folder, place->names[file], how | more);
@@ -230,7 +231,7 @@ uint32_t boddurci_open_beside(const struct boddurci_place *place, enum boddurci_
     int there = open_found(place, file, how);
     if (there < 0)
         return errno == ENOENT ? BODDURCI_DONE : cannot_be_opened(file, fault);
-    /* It may be another by now. */
+    /* The name may lead to another file by now. */
     status = boddurci_look_at(there, &found) == 0 ? look(place, file, &found, fault) : cannot_be_opened(file, fault);
     if (status == BODDURCI_DONE)
         *opened = there;
@@ -250,7 +251,7 @@ mode_t boddurci_mode_of_pages(const struct boddurci_place *place, mode_t otherwi
     return boddurci_look(place->folder, place->names[BODDURCI_PAGES], 0, &pages) == 0 ? pages.st_mode & 0666 : otherwise;
 }
 
-/* Gives a file an owner and a group, each alone. Where the system does not let it be given away, it stays the user's own. */
+/* Gives a file an owner and a group, independently. If the system forbids the change, the file keeps its own. */
 static int give(int opened, const struct stat *pages, struct stat *own)
 {
     if (fstat(opened, own) != 0)
@@ -319,7 +320,7 @@ int boddurci_is_named(const struct boddurci_place *place, enum boddurci_file fil
            held.st_dev == named.st_dev && held.st_ino == named.st_ino;
 }
 
-/* ---- keeping */
+/* ---- syncing */
 
 static int sync_wholly(int opened, int (*sync)(int))
 {

@@ -1,7 +1,6 @@
-/* What the files in C beside the library share: where a database is, its lock, and its log of saves; docs/DECISIONS.md says how under
- * "Reading and writing files" and "Calls from C". boddurci_files.c stands on it, and no program that uses
- * the library. Where a call returns an int and not whether something is so, 0 is success, and after -1 errno says why; where it returns a
- * status, the fault says why. */
+/* Declarations that the C files of this folder share: the place of a database, its locks, and its log of saves. docs/DECISIONS.md explains
+ * them under "Reading and writing files" and "Calls from C". They are not for programs that use the library. A call that returns an int,
+ * and is no yes or no, returns 0 on success, and -1 with errno on failure. A call that returns a status sets the fault. */
 #ifndef BODDURCI_SAVES_H
 #define BODDURCI_SAVES_H
 #include "boddurci_files.h"
@@ -24,276 +23,279 @@ struct boddurci_bytes {
     size_t room;
 };
 
-/* ---- boddurci_texts.c: how a fault is told */
+/* ---- boddurci_texts.c: the texts of faults */
 
 /* Sets the fault, and returns its status. */
 uint32_t boddurci_fail(boddurci_fault *fault, uint32_t status, int system, const char *what);
 uint32_t boddurci_no_fault(boddurci_fault *fault);
 uint32_t boddurci_no_memory(boddurci_fault *fault);
 
-/* Writes a name as a fault tells it into a room: what could lead a terminal or a reader astray is escaped, and a long one is cut. */
+/* Writes a name for the text of a fault: escapes characters that could mislead a terminal or a reader, and truncates a long name. */
 void boddurci_show_name(char *room, size_t size, const char *name);
 
-/* By errno: no memory, a file that is another than was opened (ESTALE), or the fault of a call. */
+/* Sets a fault by errno: no memory, a file that is not the one that was opened (ESTALE), or a failed system call. */
 uint32_t boddurci_fail_by_system(boddurci_fault *fault, const char *what);
 
 /* ---- boddurci_bytes.c: the bytes of a file in memory */
 
 void boddurci_let_go(struct boddurci_bytes *bytes);
 
-/* Makes mapped bytes so many, with zeros after those that were there. */
+/* Changes the length of mapped bytes; new bytes are zeros. */
 int boddurci_set_length(struct boddurci_bytes *bytes, size_t length);
 
-/* Reads the first bytes of an opened file, of which there were none before. Its holes take no memory. */
+/* Reads the first `length` bytes of an open file into empty `bytes`. Its holes take no memory. */
 int boddurci_read_bytes(int file, size_t length, struct boddurci_bytes *bytes);
 
-/* Reads the first bytes of an opened file into memory of malloc, holes as zeros. A process that does so again has that memory still, without a
- * fault for each of its pages. */
+/* Reads the first `length` bytes of an open file into memory of malloc, holes as zeros. malloc reuses its memory the next time, without a
+ * page fault for each page. */
 int boddurci_read_short(int file, size_t length, struct boddurci_bytes *bytes);
 
-/* Whether the first bytes of an opened file have data, or are one hole. */
+/* Whether the first bytes of an open file have data. Otherwise they are one hole. */
 int boddurci_has_data(int file, size_t length);
 
-/* Reads the first bytes of an opened .pag piece by piece, in pages of 8,192 bytes if `is_wide` is not 0, and else of 1,024. It has one piece
- * in memory besides what was read. */
+/* Reads the first `length` bytes of an open .pag in pieces, with pages of 8,192 bytes if `is_wide` is not 0, and of 1,024 otherwise. It has
+ * one piece in memory in addition to the result. */
 int boddurci_read_pages(int file, size_t length, uint32_t is_wide, boddurci_reading *pages);
 
-/* Does the same with the bytes of a .pag in memory, which go as they are read. */
+/* The same with the bytes of a .pag in memory, which are freed as they are read. */
 int boddurci_move_pages(struct boddurci_bytes *bytes, uint32_t is_wide, boddurci_reading *pages);
 
 /* The most bytes that a file may have. */
 size_t boddurci_most_bytes(enum boddurci_file file);
 
-/* How long an opened file is: TOO_LONG if that is too much. The second call reads all of it. */
+/* Sets the length of an open file; TOO_LONG if it exceeds the limit. The second call reads the whole file. */
 uint32_t boddurci_length_of(int opened, enum boddurci_file file, size_t *length, boddurci_fault *fault);
 uint32_t boddurci_read_all(int opened, enum boddurci_file file, struct boddurci_bytes *bytes, boddurci_fault *fault);
 
 /* ---- boddurci_place.c: the folder of a database, and its files */
 
-/* Which file a name has led to. It is held open, since a file that is removed leaves its inode to a later one once nobody has it open. */
+/* The file to which a name has led. It stays open: the system may give the inode of a removed file to a new one once nobody has it open. */
 struct boddurci_seen {
     int is_there;
-    int opened; /* if it is there */
+    int opened; /* valid if is_there */
     dev_t device;
     ino_t number;
 };
 
-/* The folder is kept open, so that the names in it lead where they led, whatever becomes of the path. `opened` and `is_early` are of the locks
- * alone. */
+/* The place of a base. The folder stays open, so that a changed path does not lead to other files. `opened` and `is_early` are for the
+ * locks only. */
 struct boddurci_place {
     int folder;                   /* or -1 */
     char *names[BODDURCI_FILES];  /* of the files, in the folder */
-    struct boddurci_seen seen[2]; /* the data files that were there when they were last opened */
+    struct boddurci_seen seen[2]; /* the data files that existed when they were last opened */
     int opened[BODDURCI_FILES];   /* the file of a lock, or -1 */
-    int is_early[BODDURCI_FILES]; /* this process has made the lock when .pag was missing */
+    int is_early[BODDURCI_FILES]; /* this process has made the lock while .pag was missing */
     int keeps_files;              /* BASE.lock stays locked between the calls of the base */
-    struct boddurci_place *held;  /* the next of those whose locks this process has */
-    unsigned long holder;         /* the thread that has taken the locks, by a number of its own */
-    pid_t process;                /* and its process */
+    struct boddurci_place *held;  /* the next in the list of places whose locks this process has */
+    unsigned long holder;         /* the thread that has taken the locks, by the number in this_thread */
+    pid_t process;                /* the process of that thread */
 };
 
-/* No place, and the place of a base; and what is to be called in any case. */
+/* Sets no place; sets the place of a base; closes a place. Call the last in any case. */
 void boddurci_no_place(struct boddurci_place *place);
 uint32_t boddurci_place_of(struct boddurci_place *place, const char *base, boddurci_fault *fault);
 void boddurci_place_close(struct boddurci_place *place);
 
-/* Opens a data file. Where it is another than was seen, or gone, errno is ESTALE. */
+/* Opens a data file. If the file that was seen is gone, or its name leads to another one, errno is ESTALE. */
 int boddurci_open_data(struct boddurci_place *place, enum boddurci_file file, int how);
 
-/* Notes which files the data files are, so that no others are taken later; and that none was seen. */
+/* Notes an open data file as the seen one, so that later calls accept no other; the second call forgets both files. */
 int boddurci_see(struct boddurci_place *place, enum boddurci_file file, int opened);
 void boddurci_see_none(struct boddurci_place *place);
 
-/* Opens a data file to be read; one that is missing is -1, unless it has to exist. The second call reads all of one, and one that is missing
- * has no bytes. Both are in boddurci_bytes.c. */
+/* Opens a data file for reading. A missing one is -1, unless it must exist. The second call reads a whole data file; a missing one has no
+ * bytes. Both are in boddurci_bytes.c. */
 uint32_t boddurci_open_to_read(struct boddurci_place *place, enum boddurci_file file, int must_exist, int *opened, boddurci_fault *fault);
 uint32_t boddurci_read_data(struct boddurci_place *place, enum boddurci_file file, struct boddurci_bytes *bytes, boddurci_fault *fault);
 
-/* Opens the redo file or a lock if it exists; *opened is -1 if not. UNSAFE if a stranger may have made it. */
+/* Opens the redo file or a lock if it exists, and sets *opened to -1 if not. UNSAFE if a user who may not write .pag can have made it. */
 uint32_t boddurci_open_beside(const struct boddurci_place *place, enum boddurci_file file, int how, int *opened, boddurci_fault *fault);
 
-/* Makes one of the files, which is not there. */
+/* Makes a missing file. */
 int boddurci_make(const struct boddurci_place *place, enum boddurci_file file, mode_t mode);
 
-/* Gives a file that was made the owner, the group and the permissions of .pag, where that is there, as far as the system lets it. */
+/* Gives a new file the owner, the group and the permissions of .pag if it exists, as far as the system allows. */
 int boddurci_be_like_pages(const struct boddurci_place *place, enum boddurci_file file, int opened);
 
-/* Whether an opened file has the owner, the group and the permissions of .pag. */
+/* Whether an open file has the owner, the group and the permissions of .pag. */
 int boddurci_is_like_pages(const struct boddurci_place *place, int opened);
 
-/* Which file it is, of what kind and length, and who may use it, of a name in a folder or of an opened file; but not its times. To ask for the
- * times of a file has the system give it new ones at its next write, and those are a second write for a sync on some file systems. */
+/* Gets the inode, kind, length and permissions of a name in a folder or of an open file, but not its times. After a request for its times
+ * the system gives a file new ones at its next write, and on some file systems these are a second write for a sync. */
 struct stat;
 int boddurci_look(int folder, const char *name, int how, struct stat *found);
 int boddurci_look_at(int opened, struct stat *found);
 
-/* Whether the name of a file leads to the one that is opened. */
+/* Whether the name of a file leads to the open file. */
 int boddurci_is_named(const struct boddurci_place *place, enum boddurci_file file, int opened);
 
-/* The permissions of .pag, or these where it is not there. */
+/* The permissions of .pag, or `otherwise` if it is missing. */
 mode_t boddurci_mode_of_pages(const struct boddurci_place *place, mode_t otherwise);
 
-/* Keeps what stands in the folder. */
+/* Syncs the folder. */
 int boddurci_keep_folder(const struct boddurci_place *place);
 
-/* Keeps what stands in an opened file. */
+/* Syncs an open file. */
 int boddurci_keep_opened(int opened);
 
-/* ---- boddurci_lock.c: which base a name means, and its locks
+/* ---- boddurci_lock.c: the base of a name, and its locks
  *
- * BASE.lock says who uses the files now: a writer locks it exclusively while it opens the base, during each save and when it closes, and a
- * reader shared while it reads. BASE.writer says who may change the database: a writer locks it for as long as it has the base open. A writer
- * gets BASE.writer only while it has BASE.lock, and gives BASE.lock back once the files are recovered and read. So if somebody has BASE.writer
+ * BASE.lock protects the files: a writer locks it exclusively while it opens the base, during each save and when it closes, and a reader
+ * shared while it reads. BASE.writer protects the database: a writer locks it for as long as it has the base open. A writer gets
+ * BASE.writer only while it has BASE.lock, and releases BASE.lock once the files are recovered and read. So if a process has BASE.writer
  * exclusively while a reader has BASE.lock, the data files are those of the last save.
  *
- * While a writer has BASE.lock exclusively, it has BASE.writer shared. If it is killed then, the data files may have half of a save, and the
- * system may give BASE.lock back before BASE.writer: a reader who gets it must not take the files for whole.
+ * While a writer has BASE.lock exclusively, it has BASE.writer shared. If it is killed then, the data files may have half of a save, and
+ * the system may release BASE.lock before BASE.writer: a reader that gets it must not assume that the files are whole.
  *
- * A save shares BASE.lock with readers while it plans, appends its record and syncs it, which takes most of its time: the data files stay as
- * they are. It has BASE.lock alone while it writes them, and while it opens the log or empties it. If it kept readers out for all of its time,
- * one that tries again and again would hardly ever find BASE.lock free beside a service that saves without a pause. */
+ * A save shares BASE.lock with readers while it plans, appends its record and syncs it, which takes most of its time: it does not write the
+ * data files then. It has BASE.lock exclusively while it writes them, and while it opens the log or empties it. If it kept readers out the
+ * whole time, a reader that polls would hardly ever find BASE.lock free during a service that saves without a pause. */
 
-/* Sets the place of the base to which a name leads, and takes its locks: both for a writer; for a reader only BASE.lock, and none if that is
- * missing. A wait has no end if `milliseconds` is below 0, and there is one try if it is 0. Close the place in any case. */
+/* Sets the place of the base of a name, and takes its locks: both for a writer; for a reader only BASE.lock, and none if that
+ * is missing. A wait has no limit if `milliseconds` is below 0, and it tries once if it is 0. Close the place in any case. */
 uint32_t boddurci_enter(struct boddurci_place *place, const char *name, int reads, int64_t milliseconds, boddurci_fault *fault);
 
 /* Takes BASE.lock for a reader that has none, if it exists by now. OPEN_HERE if this thread has it: it would wait for itself. */
 uint32_t boddurci_take_shared(struct boddurci_place *place, int64_t milliseconds, boddurci_fault *fault);
 
-/* Whether another process, or another base of this one, may change the database. Call it while BASE.lock is held. */
+/* Whether another process, or another base of this process, has the database open for writing. Call it while BASE.lock is held. */
 int boddurci_has_writer(const struct boddurci_place *place);
 
-/* Takes BASE.lock for a writer that is open, exclusively or shared with readers, and waits without an end; does nothing if the place keeps it.
- * Each call turns the lock of the other into its own. The third gives it back, and the fourth keeps it until a later call of the third. */
+/* boddurci_take_files takes BASE.lock exclusively for an open writer, and boddurci_share_files shared with readers. Both wait without a
+ * limit, convert the lock of the other, and do nothing if the place keeps the lock. boddurci_give_files releases it, and
+ * boddurci_keep_files keeps it until a later boddurci_give_files. */
 int boddurci_take_files(struct boddurci_place *place);
 int boddurci_share_files(struct boddurci_place *place);
 void boddurci_give_files(struct boddurci_place *place);
 void boddurci_keep_files(struct boddurci_place *place);
 
-/* MOVED if the name of a lock of a writer leads to another file than is held. */
+/* MOVED if the name of a writer's lock no longer leads to the file that is locked. */
 uint32_t boddurci_are_held(const struct boddurci_place *place, boddurci_fault *fault);
 
-/* Gives both locks back. In a child that closes their files alone: they stay its parent's. */
+/* Releases both locks. A forked child only closes their files: the parent keeps the locks. */
 void boddurci_give_locks(struct boddurci_place *place, int is_own);
 
-/* ---- boddurci_holder.c: which process has a lock */
+/* ---- boddurci_holder.c: the process that has a lock */
 
-/* The process that has one of the locks, exclusively or shared, or 0 if the system does not tell it. */
+/* Returns the process that has one of the locks, exclusively or shared, or 0 if the system does not report it. */
 long boddurci_holder_of(const struct boddurci_place *place, enum boddurci_file lock);
 
-/* Sets the fault LOCKED, with the process that keeps a reader or a writer out, if the system tells it. */
+/* Sets the fault LOCKED, with the process that holds the lock if the system reports it. */
 uint32_t boddurci_fail_locked(const struct boddurci_place *place, int reads, boddurci_fault *fault);
 
-/* ---- crates/boddurci_logs: the steps of a log. docs/DESIGN.md says what they promise, and they are proved. */
+/* ---- crates/boddurci_logs: the steps of a log, which are proved. docs/DESIGN.md has their guarantees. */
 
-/* The place of the next record in a log, from the end of its header on: where the records end, how much room they have, and how many changes
- * their plans have. */
+/* The place of the next record in a log, counted from the end of its header: the end of the records, their room, and the number of changes
+ * in their plans. */
 typedef struct {
     size_t end, room, count;
 } boddurci_log;
 
 enum { BODDURCI_WRITE, BODDURCI_ZEROS, BODDURCI_RESIZE, BODDURCI_SYNC };
 
-/* A call on a file, in five words: write so many bytes of a buffer, from a place in it on, or so many zeros, at an offset; make the file so
- * long, with zeros after its end; or sync its bytes, its length and its name. */
+/* A step: a call on a file, in five words. It writes `length` bytes at an offset, from a place in a buffer or zeros; sets the length of the
+ * file, with zeros after its end; or syncs its bytes, its length and its name. */
 typedef struct {
     uint64_t kind, file /* 0 .pag, 1 .dir, 2 .redo */, at, from, length;
 } boddurci_step;
 
-/* Tells the steps that open the log of these files with at least so much room, and the place of its first record. They recover the data files
- * if the redo file has its mark, and otherwise need none of their bytes. SHORT_ROOM, and then only the lengths are told; BAD_FILES if the redo
- * file has no plan of these files, STALE if a record in the middle of its log is damaged, NO_MEMORY. */
+/* Returns the steps that open the log of these files with at least `room` bytes, and the place of its first record. If the redo file has
+ * its mark they recover the data files; otherwise they need none of their bytes. SHORT_ROOM, which sets only the lengths; BAD_FILES if the
+ * redo file has no plan of these files, STALE if a record in the middle of its log is damaged, NO_MEMORY. */
 uint32_t boddurci_log_open(const uint8_t *pages, size_t pages_length, const uint8_t *directory, size_t directory_length, const uint8_t *redo,
                            size_t redo_length, size_t room, boddurci_log *log, uint8_t *bytes, size_t bytes_room, size_t *bytes_length,
                            uint64_t *words, size_t words_room, size_t *words_length);
 
-/* Tells the steps that make copies of the data files what the three files mean: none if the redo file has no plan. The same statuses. */
+/* Returns the steps that bring copies of the data files to the state that the three files mean: none if the redo file has no plan. It has
+ * the same statuses. */
 uint32_t boddurci_log_read(const uint8_t *pages, size_t pages_length, const uint8_t *directory, size_t directory_length, const uint8_t *redo,
                            size_t redo_length, uint8_t *bytes, size_t bytes_room, size_t *bytes_length, uint64_t *words, size_t words_room,
                            size_t *words_length);
 
-/* Tells the steps of a save by a plan, how many words those have that commit it, and the place of the next record. The plan is in `bytes`,
- * after BODDURCI_PLAN_AT bytes, which are written. SHORT_ROOM, FILE_TOO_LONG, NO_MEMORY. */
+/* Returns the steps of a save by a plan, the number of words of those that commit it, and the place of the next record. The plan is in
+ * `bytes`, after BODDURCI_PLAN_AT bytes, which the call writes. SHORT_ROOM, FILE_TOO_LONG, NO_MEMORY. */
 enum { BODDURCI_PLAN_AT = 18 };
 uint32_t boddurci_log_save(boddurci_log *log, uint8_t *bytes, size_t length, uint64_t *words, size_t words_room, size_t *words_length,
                            size_t *committed);
 
-/* Tells the steps that close a log. They write no bytes of a buffer. SHORT_ROOM, NO_MEMORY. */
+/* Returns the steps that close a log. They write no bytes of a buffer. SHORT_ROOM, NO_MEMORY. */
 uint32_t boddurci_log_close(uint64_t *words, size_t words_room, size_t *words_length);
 
-/* ---- boddurci_disk.c: the three files, opened to be written */
+/* ---- boddurci_disk.c: the three files, open for writing */
 
-/* Each data file is opened when it is first synced or written, made if it is missing, and then held open. The redo file is made when it is
- * first written; boddurci_log.c opens one that exists. */
+/* The three files. A data file is opened, or made if it is missing, when it is first synced or written, and then stays open. The redo file
+ * is made when it is first written; boddurci_log.c opens one that exists. */
 struct boddurci_disk {
     struct boddurci_place *place;
     int files[3];            /* -1 if it is not open */
-    int is_folder_synced;    /* and no file was made since */
-    enum boddurci_file last; /* which file the last call was about */
-    sigset_t mask;           /* what was kept from the thread before */
+    int is_folder_synced;    /* no file was made since the last sync of the folder */
+    enum boddurci_file last; /* the file of the last call */
+    sigset_t mask;           /* the signal mask of the thread before */
     int is_signal_held;      /* the mask was changed */
-    int was_signalled;       /* the signal had come before */
-    int has_reserved;        /* a save has taken room in a data file, which may change its times */
+    int was_signalled;       /* the signal was pending before */
+    int has_reserved;        /* a save has allocated blocks of a data file, which may change its times */
 };
 
-/* The files of a place, none of them open yet; closes one, or all. */
+/* Initializes the files of a place, all closed; closes one; closes all. */
 void boddurci_disk_of(struct boddurci_disk *disk, struct boddurci_place *place);
 void boddurci_disk_drop(struct boddurci_disk *disk, enum boddurci_file file);
 void boddurci_disk_close(struct boddurci_disk *disk);
 
-/* Keeps SIGXFSZ from this thread: a write past the limit of the process on the length of a file is EFBIG. The second call discards one that
- * this thread's writes raised, and restores the mask. */
+/* Blocks SIGXFSZ for this thread: a write past the process's limit on the length of a file is EFBIG. The second call discards a signal that
+ * the writes of this thread have raised, and restores the mask. */
 void boddurci_hold_signal(struct boddurci_disk *disk);
 void boddurci_give_signal(struct boddurci_disk *disk);
 
-/* Writes bytes, or zeros; sets the length; syncs the bytes, the length and the names of all files. A data file that is missing has nothing to
- * sync; one that may not be written fails there. */
+/* Writes bytes; writes zeros; sets the length; syncs the bytes and the length of a file and the names of all. A missing data file needs no
+ * sync; for one that may not be written the sync fails. */
 int boddurci_disk_write(struct boddurci_disk *disk, enum boddurci_file file, uint64_t at, const uint8_t *bytes, size_t size);
 int boddurci_disk_zero(struct boddurci_disk *disk, enum boddurci_file file, uint64_t at, uint64_t size);
 int boddurci_disk_resize(struct boddurci_disk *disk, enum boddurci_file file, uint64_t length);
 int boddurci_disk_sync(struct boddurci_disk *disk, enum boddurci_file file);
 
-/* How long a file is: 0 if it is missing. */
+/* Sets the length of a file: 0 if it is missing. */
 int boddurci_disk_length(struct boddurci_disk *disk, enum boddurci_file file, uint64_t *length);
 
 /* Closes and removes the redo file. */
 int boddurci_disk_remove_redo(struct boddurci_disk *disk);
 
-/* Gives a range of an opened file its blocks: its bytes stay, and its length. It is 1 if the file system cannot do that. The second call frees
- * the blocks past this length, which the file has. */
+/* Allocates the blocks of a range of an open file, and leaves its bytes and its length unchanged. Returns 1 if the file system cannot do
+ * that. The second call frees the blocks past `length`, the present length of the file. */
 int boddurci_disk_reserve(struct boddurci_disk *disk, enum boddurci_file file, uint64_t at, uint64_t size);
 int boddurci_disk_trim(struct boddurci_disk *disk, enum boddurci_file file, uint64_t length);
 
-/* ---- boddurci_steps.c: steps, made */
+/* ---- boddurci_steps.c: makes steps */
 
 /* Steps, and the bytes that they write. */
 struct boddurci_steps {
     boddurci_step *at;
     size_t count;
-    size_t committed;     /* of a save: so many of them commit it */
+    size_t committed;     /* of a save: the number of steps that commit it */
     const uint8_t *bytes;
     size_t length;        /* of the bytes */
     uint8_t *own;         /* the bytes, if they are to be freed with the steps */
 };
 
-/* Makes steps on the files, one after another until one fails. */
+/* Makes steps on the files, in order, until one fails. */
 int boddurci_do_steps(struct boddurci_disk *disk, const boddurci_step *steps, size_t count, const uint8_t *bytes);
 
-/* Makes those on the data files on copies of them, which are mapped. */
+/* Makes the steps for the data files on mapped copies of them. */
 int boddurci_do_in_memory(struct boddurci_bytes files[2], const struct boddurci_steps *steps);
 
-/* Whether the data files have no more bytes after the steps than they may; and whether this process may write files that long (RLIMIT_FSIZE). */
+/* Whether the data files are within their limits after the steps; whether this process may write files of that length (RLIMIT_FSIZE). */
 int boddurci_is_within_limits(const struct boddurci_steps *steps);
 int boddurci_may_write(struct boddurci_disk *disk, const struct boddurci_steps *steps);
 
-/* Sees before the commit of a save that there is room for the steps after it: the data files get their blocks, and the redo file tries as many
- * as they cannot be given. The second call frees what the data files have past their ends, and keeps errno. */
+/* Ensures before the commit of a save that there is room for the steps after it: allocates the blocks of the data files, and tries in the
+ * redo file whether the disk has room for those that it cannot allocate. The second call frees the blocks past the ends of the data files,
+ * and preserves errno. */
 int boddurci_take_room(struct boddurci_disk *disk, const struct boddurci_steps *steps);
 void boddurci_release_room(struct boddurci_disk *disk);
 
 /* ---- boddurci_log.c: the log of a base */
 
-/* The log of a base that is open to be written. */
+/* The log of a base that is open for writing. */
 struct boddurci_notes;
 
 struct boddurci_logged {
@@ -301,38 +303,39 @@ struct boddurci_logged {
     struct boddurci_notes *notes;
     boddurci_log next; /* if it is open, the place of the next record */
     int is_open;
-    int is_doubtful;   /* a call on the redo file failed, and it could not be removed: it is to be made anew if it has no mark */
+    int is_doubtful;   /* a call on the redo file failed, and it could not be removed: make it anew if it has no mark */
     int is_given_up;   /* a call failed, and nobody has recovered the files since: the data files may lack a save, or have half of it */
 };
 
 void boddurci_logged_of(struct boddurci_logged *logged, struct boddurci_place *place, struct boddurci_notes *notes);
 
-/* If the log is not open and the redo file has its mark, recovers the data files, opens the log if there is room for it, and sets *is_ended. */
+/* If the log is closed and the redo file has its mark, recovers the data files, opens the log if there is room for it, and sets *is_ended.
+ * */
 uint32_t boddurci_logged_recover(struct boddurci_logged *logged, int *is_ended, boddurci_fault *fault);
 
-/* Saves by a plan, which stands after BODDURCI_PLAN_AT bytes; opens the log first if it is not open. After a fault nothing was changed, or if
- * BASE.redo itself failed, the save may be committed or not: the next save or opening finds out. What fails after the commit is no fault: then
- * it is DONE, *is_left is 1 and the fault says what failed. */
+/* Saves by a plan, which is in `bytes` after BODDURCI_PLAN_AT bytes; opens the log first if it is closed. After a fault nothing has
+ * changed, or if BASE.redo itself failed, the save may be committed or not: the next save or opening finds out. If a step after the commit
+ * fails the status is DONE, *is_left is 1 and the fault says what failed. */
 uint32_t boddurci_logged_save(struct boddurci_logged *logged, struct boddurci_bytes bytes, int *is_left, boddurci_fault *fault);
 
-/* Gives the redo file its mark if it has none and .pag exists, by the record of a plan that changes nothing: older versions, which know
- * BASE.lock alone, write nothing beside a marked file. The second call says whether it has its mark. */
+/* Marks the redo file if it is not marked and .pag exists, by the record of a plan that changes nothing: older versions, which know only
+ * BASE.lock, write nothing if it is marked. The second call returns whether it is marked. */
 uint32_t boddurci_logged_mark(struct boddurci_logged *logged, boddurci_fault *fault);
 int boddurci_logged_is_marked(const struct boddurci_logged *logged);
 
 /* Closes the log, so that the next save opens it anew. */
 uint32_t boddurci_logged_renew(struct boddurci_logged *logged, boddurci_fault *fault);
 
-/* Closes the log and the files. If that fails the next who opens the base recovers it. It makes no step if a lock is lost. */
+/* Closes the log and the files. If that fails the next opening recovers the base. It makes no step if a lock is lost. */
 void boddurci_logged_end(struct boddurci_logged *logged);
 
 /* Whether the redo file exists and has its mark. */
 int boddurci_is_marked(const struct boddurci_place *place);
 
-/* Says whether the redo file has its mark; if so, reads both data files with its saves done in them. The bytes are to be freed in any case. */
+/* Sets whether the redo file has its mark; if so, reads both data files with its saves applied. Free the bytes in any case. */
 uint32_t boddurci_read_marked(struct boddurci_place *place, int *is_marked, struct boddurci_bytes files[2], boddurci_fault *fault);
 
-/* ---- boddurci_notes.c: the state of the data files, and whether another program has changed them */
+/* ---- boddurci_notes.c: the state of the data files, and changes of it by other programs */
 
 /* The state of a data file. */
 struct boddurci_note {
@@ -345,15 +348,15 @@ struct boddurci_note {
 
 struct boddurci_notes {
     struct boddurci_note files[2];
-    struct timespec tick;   /* of the clock, when the times were last looked at */
-    struct timespec latest; /* if the base has written within that tick later, when it last did; else 0 */
+    struct timespec tick;   /* of the clock, when the times were last read */
+    struct timespec latest; /* when the base last wrote later within that tick; else 0 */
     int is_local;           /* this system sets the times of the files while it writes them */
-    int has_our_clock;      /* and by the clock that this process reads */
+    int has_our_clock;      /* it sets them by the clock that this process reads */
     int is_quick;           /* the look before this save copied the times */
     int is_overtaken;       /* another program wrote while this save was committed */
 };
 
-/* How the data files differ from those that were noted. */
+/* How the data files differ from the notes. */
 enum boddurci_change {
     BODDURCI_SAME,
     BODDURCI_TOUCHED, /* a time differs as after chmod or a new link, or is not set by this system; or an empty file was made */
@@ -361,23 +364,23 @@ enum boddurci_change {
     BODDURCI_OTHERS   /* a length differs, or the file under a name is another one */
 };
 
-/* Notes the files under the names, before they are read; and then what the file systems of the folder and of the opened files are. */
+/* Notes the files under the names, before they are read; then, in the second call, the file systems of the folder and of the open files. */
 void boddurci_note_opened(struct boddurci_notes *notes, const struct boddurci_disk *disk);
 void boddurci_note_system(struct boddurci_notes *notes, const struct boddurci_place *place);
 
-/* Looks at the files under the names before a save, and says how they differ, and which. If they are the same they are noted. Within the tick of
- * the last look it may be a quick look, which does not see the times. */
+/* Looks at the files under the names before a save, and returns how they differ from the notes, and which file. If they are the same it
+ * notes them. Within the tick of the last look it may be a quick look, which does not read the times. */
 enum boddurci_change boddurci_look_before(struct boddurci_notes *notes, const struct boddurci_disk *disk, int may_be_quick,
                                           struct boddurci_note found[2], enum boddurci_file *which);
 
-/* Looks once more, at the files that are held open, and says how they differ from what that look found. */
+/* Looks again, at the open files, and returns how they differ from that look. */
 enum boddurci_change boddurci_look_again(const struct boddurci_notes *notes, const struct boddurci_disk *disk,
                                          const struct boddurci_note found[2], enum boddurci_file *which);
 
 /* Looks once a save is committed, before it writes the data files, unless the tick is that of the last look or the save has taken room. */
 void boddurci_look_meanwhile(struct boddurci_notes *notes, const struct boddurci_disk *disk);
 
-/* Notes the files that the last look found; and those that the base has written. */
+/* Notes the files of the last look; notes the files that the base has written. */
 void boddurci_note_found(struct boddurci_notes *notes, const struct boddurci_note found[2]);
 void boddurci_note_written(struct boddurci_notes *notes, const struct boddurci_disk *disk);
 
@@ -385,12 +388,12 @@ void boddurci_note_written(struct boddurci_notes *notes, const struct boddurci_d
 
 struct boddurci_call;
 
-/* The calls that wait for the next save, in the order in which they came. */
+/* The calls that wait for the next save, first come, first served. */
 struct boddurci_group {
     pthread_mutex_t mutex;       /* of the list and the numbers; not held during a save */
     pthread_mutex_t serving;     /* held while the calls of a save get its outcome; the next save may have begun, and serves after it */
     struct boddurci_call *first; /* or NULL */
-    struct boddurci_call **last; /* where the next one is added */
+    struct boddurci_call **last; /* the place for the next call */
     int is_saving;               /* a thread saves, or has been given the turn to */
     int waiting;                 /* the number of calls in the list; atomic */
     int served[2];               /* the number of calls of the last save, and of the one before */
@@ -402,7 +405,7 @@ void boddurci_group_destroy(struct boddurci_group *group);
 
 typedef uint32_t boddurci_saving(boddurci_base *base, int insists, boddurci_fault *fault);
 
-/* Returns the outcome of a save that began after this call did. One thread at a time calls `save`, for all calls that wait then, and insists if
+/* Returns the outcome of a save that began after this call. One thread at a time calls `save`, for all calls that wait then, and insists if
  * one of them does. */
 uint32_t boddurci_group_save(struct boddurci_group *group, boddurci_saving *save, boddurci_base *base, int insists, boddurci_fault *fault);
 

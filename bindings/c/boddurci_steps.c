@@ -1,4 +1,4 @@
-/* The steps that the library tells, made on the files or on copies of them in memory, and the room that they need. */
+/* Makes the steps that the library returns, on the files or on copies of them in memory, and allocates the room that they need. */
 #define _GNU_SOURCE
 #include "boddurci_saves.h"
 #include <errno.h>
@@ -96,8 +96,8 @@ enum { BLOCK = 4096 };
 
 /* The blocks that both data files need. */
 struct need {
-    uint64_t lengths[2]; /* of the files now */
-    uint64_t absent;     /* the bytes of whole blocks that no file could be given */
+    uint64_t lengths[2]; /* the present lengths of the files */
+    uint64_t absent;     /* the bytes of whole blocks that could not be allocated */
 };
 
 static int is_zero(const uint8_t *bytes, size_t size)
@@ -105,8 +105,8 @@ static int is_zero(const uint8_t *bytes, size_t size)
     return size == 0 || (bytes[0] == 0 && memcmp(bytes, bytes + 1, size - 1) == 0);
 }
 
-/* Whether a step writes a data file where it may have no blocks: past its end, or in a hole. The bytes that the file has there follow those
- * that are to be written. */
+/* Whether a step writes a data file past its end or in a hole: there it may have no blocks. In the step the present bytes of the file
+ * follow the bytes to write. */
 static int needs_room(const struct boddurci_steps *steps, const boddurci_step *step, const struct need *need)
 {
     if (step->kind != BODDURCI_WRITE || !is_data(step) || step->length == 0)
@@ -116,7 +116,7 @@ static int needs_room(const struct boddurci_steps *steps, const boddurci_step *s
     return is_zero(steps->bytes + step->from + step->length, (size_t)step->length);
 }
 
-/* Gives a data file the blocks of a range. If that is impossible, they count as absent. */
+/* Allocates the blocks of a range of a data file. If that is impossible, they count as absent. */
 static int reserve_run(struct boddurci_disk *disk, const boddurci_step *run, struct need *need)
 {
     if (run->length == 0)
@@ -129,7 +129,7 @@ static int reserve_run(struct boddurci_disk *disk, const boddurci_step *run, str
     return status < 0 ? -1 : 0;
 }
 
-/* Gives the data files the blocks that the steps after the commit may need; adjacent ones by one call. */
+/* Allocates the blocks that the steps after the commit may need; adjacent ones by one call. */
 static int reserve_all(struct boddurci_disk *disk, const struct boddurci_steps *steps, struct need *need)
 {
     boddurci_step run = {BODDURCI_WRITE, 0, 0, 0, 0};
@@ -148,7 +148,7 @@ static int reserve_all(struct boddurci_disk *disk, const struct boddurci_steps *
     return reserve_run(disk, &run, need);
 }
 
-/* Tries whether the redo file could have this many bytes more past its end, and frees them. */
+/* Checks that the redo file could get `size` bytes past its end: allocates them, and frees them. */
 static int try_behind(struct boddurci_disk *disk, uint64_t size)
 {
     uint64_t length;

@@ -1,4 +1,4 @@
-/* Statuses in words, the version, stock programs by name, and how a fault is told. */
+/* The texts of statuses and faults, the version, and stock programs by name. */
 #define _POSIX_C_SOURCE 200809L
 #include "boddurci_saves.h"
 #include <errno.h>
@@ -36,7 +36,7 @@ const char *boddurci_files_text(uint32_t status)
 
 /* ---- names */
 
-/* The character that UTF-8 spells at a place, and its bytes; or 0 where it spells none there. */
+/* Decodes the UTF-8 character at a place, and sets its length; 0 if the bytes are invalid. */
 static uint32_t character_at(const uint8_t *at, size_t *bytes)
 {
     static const uint32_t least[5] = {0, 0, 0x80, 0x800, 0x10000};
@@ -53,7 +53,7 @@ static uint32_t character_at(const uint8_t *at, size_t *bytes)
     return character;
 }
 
-/* Whether a character is no control, and does not change the order in which others are shown. */
+/* Whether a character is shown unescaped: it is neither a backslash nor a control, a line separator or a bidirectional control. */
 static int is_plain(uint32_t character)
 {
     if (character < 0x20 || (character >= 0x7f && character < 0xa0) || character == '\\')
@@ -63,7 +63,7 @@ static int is_plain(uint32_t character)
     return !is_mark && !is_turn && character != 0x2028 && character != 0x2029;
 }
 
-/* A character as it is told, or a byte that spells none. */
+/* Escapes a character if necessary, or an invalid byte. */
 static size_t show_next(const uint8_t *at, char *shown, size_t size)
 {
     size_t bytes = 0;
@@ -97,7 +97,8 @@ void boddurci_show_name(char *room, size_t size, const char *name)
 
 /* ---- faults */
 
-/* What the system says of an errno, in a room: strerror may share its own between threads. The C library has one of two strerror_r. */
+/* The system's text of an errno, in a room: strerror may share its buffer between threads. The C library has one of two kinds of
+ * strerror_r. */
 static const char *words_of(int system, char *room, size_t size)
 {
     room[0] = 0;

@@ -10,25 +10,33 @@
 #     my ($end, $word) = tied(%db)->run($counter, "runs", blank => 8);
 #     untie %db;
 #
-# The methods `counter`, `lease`, `fenced_lease`, `semaphore` and `rate_limit` run stock programs, as the POD below the code says.
+# The methods `counter`, `lease`, `fenced_lease`, `semaphore` and `rate_limit` run stock programs; the POD below the code describes them.
 #
-# Keys and values are bytes. A database is in memory while it is tied; `sync` and `untie` write its files, and a crash in between leaves the
-# database before or after. One process at a time has it tied to write ("w", "c" and "n"), and others wait for it; one that only reads ("r")
-# does not, and has its last save. If a tied hash ends without `untie`, or is still tied when the program ends, it is saved then; a warning
-# names the base and the fault if that fails, and the locks are released in any case. If another program has changed the files meanwhile, as
-# Perl's SDBM_File does without the locks, `sync` and `untie` die with a Boddurci::Changed and write nothing; tied(%db)->sync(insist => 1)
-# overwrites them. In a child of the process that tied the hash every call but `untie` dies, and nothing is saved. A handler of a signal may
-# die while a hash is tied: the locks are released with it. Every failure dies.
+# Keys and values are bytes. A tied database is in memory; `sync` and `untie` write its files, and a crash during them leaves the database
+# before or after. One process at a time has it tied for writing ("w", "c" and "n"), and other processes wait for that one. A process that
+# only reads ("r") does not wait, and reads the last save. If a tied hash is destroyed without `untie`, or is still tied when the program
+# ends, it is saved then; if that fails a warning names the base and the fault. The locks are released in any case.
 #
-# Options follow the mode: wide => 1, unsigned_keys => 1, timeout => SECONDS, after which a database that another process has tied to write
-# is an error, which names the process (without it a tie waits without an end), no_wait => 1, which tries once, any_size => 1, without which
-# files that look like those of small pages are not opened as wide, and limit => BYTES: a change that would make BASE.pag longer dies and is
-# not made, and pages that exist stay. 1 GiB is the default and the most. Set a limit if others choose your keys: they can make BASE.pag as
-# long as it allows.
+# If another program has changed the files meanwhile, as Perl's SDBM_File does without the locks, `sync` and `untie` die with a
+# Boddurci::Changed and write nothing; tied(%db)->sync(insist => 1) overwrites the files. In a child of the process that tied the hash every
+# call except `untie` dies, and nothing is saved. A handler of a signal may die while a hash is tied: the locks are released then. Every
+# failure dies.
 #
-# It needs FFI::Platypus (Debian: libffi-platypus-perl) and the shared object that `./dbm --build-library` makes. It takes the file that
-# BODDURCI_LIBRARY names by its absolute path, else the one beside this module, else the one in out/boddurci of the repository, else the
-# system's. It ignores BODDURCI_LIBRARY under `perl -T`, and if the effective user or group is not the real one.
+# Options follow the mode:
+#
+#     wide => 1            pages of 8,192 bytes
+#     any_size => 1        with wide: opens files even if they look like those of small pages
+#     unsigned_keys => 1   keys hash by unsigned bytes
+#     timeout => SECONDS   the longest wait for a process that has the database tied for writing; without it there is no limit
+#     no_wait => 1         tries once
+#     limit => BYTES       the greatest length of BASE.pag, by default 1 GiB, which is also the most
+#
+# If the wait is over `tie` dies and names the other process. A change that would make BASE.pag longer than the limit dies and is not made;
+# existing pages stay. Set a limit if strangers choose your keys: they can make BASE.pag as long as the limit.
+#
+# The module needs FFI::Platypus (Debian: libffi-platypus-perl) and the shared object that `./dbm --build-library` makes. It loads the first
+# of these: the file that BODDURCI_LIBRARY names by its absolute path, the one next to this module, the one in out/boddurci of the
+# repository, that of the system. It ignores BODDURCI_LIBRARY under `perl -T`, and if the effective user or group is not the real one.
 #
 # The store behind the calls is proved. This module, the files, the locks and the order of a save are tested and not proved.
 package Boddurci;
@@ -42,7 +50,7 @@ use FFI::Platypus::Buffer qw(scalar_to_pointer);
 use Scalar::Util qw(refaddr);
 use Time::HiRes qw(clock_gettime CLOCK_MONOTONIC);
 
-# Statuses of boddurci.h and boddurci_files.h, and the words for some of them. The library has words for the others.
+# Statuses of boddurci.h and boddurci_files.h, and the texts of some of them. The library has texts for all.
 my ($DONE, $MISSING, $REFUSED, $BAD_TEXT, $CHANGED, $IS_CLOSED, $NO_PROGRAM, $NO_STOCK, $FORKED, $INTERRUPTED)
     = (0, 1, 5, 6, 8, 16, 20, 24, 39, 41);
 my %WORDS = (
@@ -61,18 +69,18 @@ my %FLAGS = (r => 4 | 16, w => 16, c => 0, n => 32);
 my %OPTIONS = (wide => 1, unsigned_keys => 2, no_wait => 8, any_size => 64);
 my $INSIST = 128;
 
-# The sizes of what calls write: a value, an image, a fault (as unpack reads it) and a cursor.
+# The sizes of the results of calls: a value, an image, a fault (with its template for unpack) and a cursor.
 my ($VALUE_MOST, $IMAGE_MOST, $FAULT, $CURSOR) = (8008, 32768, "L l Z200", 16);
 
-# The name under which the system finds the library.
+# The library's name for the loader of the system.
 my $SONAME = "libboddurci.so.2";
 
-# Whether the environment may choose the library. It may not under -T, or if the process has rights that its user does not have.
+# Returns whether the environment may choose the library: not under -T, nor if the process has rights that its user does not have.
 sub _obeys_environment {
     return !${^TAINT} && $< == $> && $( + 0 == $) + 0;
 }
 
-# The path of the shared object. No name is looked up in the working folder.
+# Returns the path of the shared object. It never searches the working folder.
 sub _path_of_library {
     my $named = _obeys_environment() ? $ENV{BODDURCI_LIBRARY} // "" : "";
     if ($named ne "") {
@@ -113,7 +121,7 @@ $ffi->attach(["boddurci_$_->[0]" => "_$_->[0]"], $_->[1], $_->[2])
         ["next",        ["opaque", "opaque", @room, @room] => "uint32"],
     );
 
-# Returns a room of $size bytes: a reference to its bytes, which no other scalar shares, and its address and size for a call.
+# Returns a buffer of $size bytes: a reference to its bytes, which no other scalar shares, and its address and size for a call.
 sub _room {
     my ($size) = @_;
     my $room = "\0" x $size;
@@ -121,8 +129,8 @@ sub _room {
     return (\$room, scalar_to_pointer($room), $size);
 }
 
-# Returns the bytes of a key, a value, an argument or a program, and how many they are. The string of an object is taken once: the next one
-# may have another length.
+# Returns the bytes of a key, a value, an argument or a program, and their number. It takes the string of an object only once: the next
+# string may have another length.
 sub _given {
     my ($given) = @_;
     my $bytes = defined $given ? "$given" : "";
@@ -147,10 +155,10 @@ sub _die_of {
     die bless { text => Carp::shortmess($text) }, "Boddurci::Changed";
 }
 
-# Opens the base once its locks are free. After a signal it runs the handler, and then waits on.
+# Opens the base once its locks are free. After a signal it runs the handler, and then continues to wait.
 #
-# Perl runs handlers of signals between statements. So the statement that opens the base also leaves it in the object, and that object
-# closes it if a handler dies; and the mutex is taken and given back in one statement.
+# Perl runs handlers of signals between statements. So the statement that opens the base also stores it in the object, which closes it if a
+# handler dies. The mutex is taken and given back in one statement.
 sub _open {
     my ($self, $flags, $timeout) = @_;
     my ($fault, $at) = _room(208);
@@ -165,8 +173,8 @@ sub _open {
     ($$self->{db}) = (_take($$self->{base}), _give($$self->{base}));
 }
 
-# The records of all open databases, by the address of each. An object is a reference to its record. If a handler of a signal dies while
-# an object ends, Perl drops the object alone: its record then stays here until it is ended.
+# The records of all open databases, by address. An object is a reference to its record. If a handler of a signal dies during the
+# destruction of an object, Perl drops only the object: its record then stays here until _end_left ends it.
 my %open;
 
 sub TIEHASH {
@@ -188,11 +196,11 @@ sub TIEHASH {
     $open{ refaddr $record } = $record;
     $self->_open($flags, $timeout);
     _check(_limit($self->_db, $limit)) if defined $limit;
-    # An object that ends before it is returned saves nothing: with the mode n that would be an empty database.
+    # An object that is destroyed before it is returned saves nothing: with the mode n that would be an empty database.
     return ($record->{keeps} = 1, $self)[1];
 }
 
-# A database is not copied into the interpreter of another thread, and neither is its record.
+# Neither a database nor its record is copied into the interpreter of another thread.
 sub CLONE_SKIP { 1 }
 
 sub CLONE { %open = () }
@@ -277,7 +285,7 @@ sub SCALAR {
     return scalar(my @keys = $self->_keys);
 }
 
-# Returns a program from its text, for `run` of this database alone. Dies with the line or the unit of its fault if it is refused.
+# Returns a program from its text, for `run` of this database only. If it is refused, dies with the line or the unit of the fault.
 sub program {
     my ($self, $text) = @_;
     $self->_db;
@@ -300,7 +308,7 @@ sub image {
     return bless { number => $number, of => $$self->{token} }, "Boddurci::Program";
 }
 
-# Returns the stock program of a name, for `run` of this database alone. Dies with the ten names if there is no such program.
+# Returns the stock program of a name, for `run` of this database only. If there is no such program, dies with the ten names.
 sub stock {
     my ($self, $name) = @_;
     my @name = _given($name);
@@ -310,7 +318,7 @@ sub stock {
     return bless { number => $number, of => $$self->{token} }, "Boddurci::Program";
 }
 
-# Return a record that a stock program changes, by the methods of its package.
+# These return an object for a record; its methods run a stock program.
 sub counter { return Boddurci::Counter->new(@_) }
 
 sub lease { return Boddurci::Lease->new(@_) }
@@ -329,8 +337,8 @@ sub _number {
     return $program->{number};
 }
 
-# Runs a program on the record of a key, or on `blank` zeros if there is no such key. Returns the number with which it ended and its reply
-# word, or nothing if there is neither key nor blank. `arg` is its argument, and `now` its time, else the system's.
+# Runs a program on the record of a key, or on `blank` zeros if the key is missing. Returns the number that the program returned and its
+# reply word, or nothing if there is neither the key nor a blank. `arg` is its argument, and `now` its time, by default that of the system.
 sub run {
     my ($self, $program, $key, %more) = @_;
     my @bytes = (_given($key), _given($more{arg}));
@@ -343,8 +351,8 @@ sub run {
     return ($end, $word);
 }
 
-# Writes both files and makes them durable. If another program has changed them, it dies with a Boddurci::Changed and writes nothing, unless the
-# option `insist` is true. If a file cannot be written and the save is in BASE.redo alone, it warns: the next opening or save completes it, and
+# Saves both files and makes them durable. If another program has changed them, dies with a Boddurci::Changed and writes nothing, unless the
+# option `insist` is true. If a file cannot be written and only BASE.redo has the save, it warns: the next opening or save completes it, and
 # until then other programs may see half of it.
 sub sync {
     my ($self, %options) = @_;
@@ -357,8 +365,8 @@ sub sync {
     carp $text if $system;
 }
 
-# Writes both files, unless the database is only read, and releases the locks. A fault of the files leaves the database open. In a child of
-# the process that opened it nothing is written, and the locks stay.
+# Saves both files, unless the database was tied for reading, and releases the locks. If the save fails the database stays open. In a child
+# of the process that tied it nothing is written, and the locks stay.
 sub close {
     my ($self) = @_;
     return unless $$self->{base};
@@ -366,15 +374,15 @@ sub close {
     $self->_release;
 }
 
-# Closes the base. It leaves the object in the statement that closes it, so a handler that dies never has it closed twice.
+# Closes the base. The statement that closes it also removes it from the object, so even if a handler dies it is closed only once.
 sub _release {
     my ($self) = @_;
     _close_files(delete $$self->{base}) if $$self->{base};
     delete $open{ refaddr $$self };
 }
 
-# Returns a name for a message, as UTF-8. Backslashes and control and format characters (those that turn text round among them) are escaped,
-# and so are all other bytes but ASCII if the name is not UTF-8.
+# Returns a name for a message, as UTF-8. It escapes backslashes, control and format characters (also bidirectional controls), and if the
+# name is not UTF-8 all bytes that are not ASCII.
 sub _shown {
     my ($text) = @_;
     utf8::encode($text) if utf8::is_utf8($text);
@@ -384,7 +392,7 @@ sub _shown {
     return $text;
 }
 
-# Saves and closes a database that nobody has closed. Changes that cannot be saved are lost, with a warning, and the locks are released.
+# Saves and closes a database that was not closed. Changes that cannot be saved are lost, with a warning, and the locks are released.
 sub _end {
     my ($self) = @_;
     return $self->_release unless $$self->{base};
@@ -399,7 +407,7 @@ sub _end {
     carp _shown($$self->{name}), ": the changes that were not saved are lost: $why" unless $is_saved;
 }
 
-# Ends the records to which this table alone refers, since their object is gone; with a true argument, all records.
+# Ends the records whose object is gone: only this table refers to them. With a true argument, ends all records.
 sub _end_left {
     my ($has_all) = @_;
     for my $record (grep { $has_all || Internals::SvREFCNT(%$_) == 1 } values %open) {
@@ -411,10 +419,10 @@ sub UNTIE { $_[0]->close }
 
 sub DESTROY { $_[0]->_end }
 
-# At the end of the program, while all that a save needs still exists.
+# At the end of the program everything that a save needs still exists.
 END { _end_left(1) }
 
-# What `sync` and `untie` die with if another program has changed the files; as a string it is the text of the fault.
+# The exception of `sync` and `untie` if another program has changed the files. As a string it is the text of the fault.
 package Boddurci::Changed;
 use overload '""' => sub { $_[0]{text} }, fallback => 1;
 
@@ -432,7 +440,7 @@ sub _of {
     return bless { db => $db, key => $bytes, program => $db->stock($class->_name) }, $class;
 }
 
-# How many bytes of a record the program uses.
+# The number of bytes of a record that the program uses.
 sub _size { 8 }
 
 # Returns a whole number from $least to 2^64 - 1.
@@ -451,15 +459,15 @@ sub _need_options {
     $is_known{$_} or croak "no option $_" for sort keys %$options;
 }
 
-# Returns the time of a run: the option `now`, or the system's in seconds.
+# Returns the time of a run: the option `now`, or that of the system in seconds.
 sub _time {
     my (%options) = @_;
     _need_options(\%options, "now");
     return defined $options{now} ? _whole("now", $options{now}, 0) : time;
 }
 
-# Runs the program with the argument on the record. Returns its code and reply word: 0 and 0 if the record is too short, and sometimes
-# otherwise.
+# Runs the program with the argument on the record. Returns its code and reply word. If both are 0 the record may be too short; then it
+# dies.
 sub _run {
     my ($self, $arg, $now) = @_;
     my ($code, $word) = $self->{db}->run($self->{program}, $self->{key}, arg => $arg, blank => $self->_size, now => $now);
@@ -629,12 +637,12 @@ Boddurci - a key-value store with a proved core, and stock programs on its recor
 
 =head1 DESCRIPTION
 
-The head of this file says how a hash is tied, which options there are, and how programs of your own run.
+The head of this file describes how to tie a hash, the options, and how to run your own programs.
 
-The methods below run stock programs. What these do is proved, if one of them alone changes a key; docs/PROGRAMS.md of Boddurci has the
-record, argument, codes and reply word of each. Numbers are whole and below 2^64, but for amounts, which are from -2^63 to 2^63 - 1.
+The methods below run stock programs. Their laws are proved, for a key that only one of them changes; docs/PROGRAMS.md of Boddurci has the
+record, argument, codes and reply word of each. Numbers are whole and below 2^64, except amounts, which are from -2^63 to 2^63 - 1.
 
-Every failure dies, and changes nothing: a number out of its range, a record that is too short for the program.
+Every failure dies and changes nothing, for example a number out of its range, or a record that is too short for the program.
 
 =head1 METHODS
 
@@ -647,38 +655,38 @@ C<lease>, C<fenced_lease>, C<rate_limit>, C<semaphore> or C<token_bucket>. Dies 
 
 =item $db->counter($key, floor => $floor, ceiling => $ceiling)
 
-A number in the first 8 bytes of the record, the lowest byte first; 0 if the key is missing. The floor is 0 and the ceiling 2^64 - 1 if they
-are not given. The program is C<bounded_counter>.
+A number in the first 8 bytes of the record, the lowest byte first; 0 if the key is missing. By default the floor is 0 and the
+ceiling 2^64 - 1. The program is C<bounded_counter>.
 
-C<< ->add($amount) >> adds an amount, which may be negative, or 1 if none is given, and returns the new number. It dies if that would be
-outside floor and ceiling: then nothing changes. C<< ->get >> returns the number.
+C<< ->add($amount) >> adds an amount, by default 1, which may be negative, and returns the new number. If that would be outside floor and
+ceiling it dies and changes nothing. C<< ->get >> returns the number.
 
 =item $db->lease($key)
 
 A lease, which one owner at a time has. An owner is a number that nobody else has, such as a random one.
 
-C<< ->acquire($owner, $seconds) >> gives the lease to the owner, or renews it, for C<$seconds> from now on. It returns the time at which
-the lease ends, or undef if another owner has it. From that time on it may be another's: stop before. C<< ->release($owner) >> gives it
-back, and returns whether the owner had it.
+C<< ->acquire($owner, $seconds) >> gives the lease to the owner, or renews it, for C<$seconds> from now. It returns the time at which the
+lease ends, or undef if another owner has it. At that time another owner may get it: stop before. C<< ->release($owner) >> releases it, and
+returns whether the owner had it.
 
-Two owners never hold a lease at one time if times never fall. Both methods take C<< now => $time >> instead of the system's seconds: give
-it in no call, or in each from one clock.
+Two owners never hold a lease at one time if times never fall. Both methods take C<< now => $time >> instead of the system's seconds: pass
+it in no call, or in all of them from one clock.
 
 =item $db->fenced_lease($key)
 
-The same, but in a list C<acquire> returns two numbers, the end and a token, and nothing if another owner has the lease; in a scalar it
-returns the end. Each new owner has a greater
-token than all before, and a renewal keeps it. Let what the lease guards refuse a token below the greatest that it has seen.
+A lease with a token. In list context C<acquire> returns two numbers, the end and the token, or nothing if another owner has the lease; in
+scalar context it returns the end. Each new owner gets a greater token than all before, and a renewal keeps the token. Let the resource that
+the lease protects refuse a token below the greatest that it has seen.
 
 =item $db->semaphore($key, $size)
 
-C<< ->acquire >> takes a permit, and returns whether one was free. It does not wait. C<< ->release >> gives a permit back, and returns
-whether anybody had one. A permit does not end by itself.
+C<< ->acquire >> takes a permit, and returns whether one was free. It does not wait. C<< ->release >> releases a permit, and returns whether
+anybody had one. A permit does not end by itself.
 
 =item $db->rate_limit($key, $count, $seconds)
 
-C<< ->admit >> returns whether a call is admitted: at most C<$count> in each window of C<$seconds>. The first call after a window is over
-begins the next one. It takes C<< now => $time >> as a lease does.
+C<< ->admit >> returns whether a call is admitted: at most C<$count> in each window of C<$seconds>. The first call after the end of a
+window begins the next one. It takes C<< now => $time >> like a lease.
 
 =back
 

@@ -56,7 +56,7 @@ dies_with(sub { tied(%db)->run(7, "hits") }, qr/no program/);
     untie %other;
 }
 
-# Names, a time for the lock, and a signal that ends the wait for it.
+# Names, a limit of the wait for the lock, and a signal that ends the wait.
 dies_with(sub { tie my %none, "Boddurci", "$base\0x", "c" }, qr/zero byte/);
 dies_with(sub { tie my %none, "Boddurci", $_, "c" }, qr/the name is empty/) for "", ".", "..", "a/", "a/.", "a/..";
 dies_with(sub { tie my %none, "Boddurci", $base, "w", timeout => -1 }, qr/a timeout is/);
@@ -104,14 +104,14 @@ is($db{1999}, "1999" x 3);
 dies_with(sub { $db{a} = 1 }, qr/only read/);
 untie %db;
 
-# A child that ends, as a script does, saves nothing over its parent's later save.
+# The end of a child, like that of a script, does not overwrite a later save of its parent.
 my $script = 'tie %db, "Boddurci", shift, "c"; $db{a} = "old"; pipe $r, $w; if (!fork) { close $w; <$r>; exit } $db{a} = "new"; untie %db; close $w; wait';
 is(system($^X, "-I$top/bindings/perl", "-MBoddurci", "-e", $script, "$base.ends"), 0);
 tie %db, "Boddurci", "$base.ends", "w", no_wait => 1;
 is($db{a}, "new");
 untie %db;
 
-# Files of small pages are not opened as wide, unless that is insisted on.
+# Files of small pages are not opened as wide, except with any_size.
 {
     tie my %small, "Boddurci", "$base.small", "c";
     $small{key} = "value";
@@ -142,7 +142,7 @@ untie %db;
     untie %limited;
 }
 
-# An object whose string is another each time is stored as one of them, and nothing beyond it is read.
+# An object whose string differs each time is stored as one of its strings, and nothing after that string is read.
 {
     package Changing;
     my @strings;
@@ -173,7 +173,7 @@ untie %db;
     untie %strings;
 }
 
-# What ends without an untie is saved, and so is what is still tied when the program ends.
+# A hash that is destroyed without an untie is saved, and so is one that is still tied when the program ends.
 for my $kind ("my", "our") {
     my $script = qq{tie $kind \%db, "Boddurci", shift, "c"; \$db{$kind} = "kept"; \$SIG{__WARN__} = sub { print STDOUT \@_ }};
     is(qx{$^X -I$top/bindings/perl -MBoddurci -e '$script' $base.end 2>&1}, "");
@@ -182,7 +182,7 @@ for my $kind ("my", "our") {
     untie %kept;
 }
 
-# An object that ends while a handler of a signal dies is saved and closed by the next tie.
+# If a handler of a signal dies during the destruction of an object, the next tie saves and closes the base.
 {
     no warnings "redefine";
     local $SIG{__WARN__} = sub { };
@@ -196,7 +196,7 @@ for my $kind ("my", "our") {
     untie %again;
 }
 
-# A thread of Perl leaves what its parent has tied.
+# A thread of Perl does not close the hashes that its parent has tied.
 SKIP: {
     my $script = q{
         use threads;
@@ -212,7 +212,7 @@ SKIP: {
     is(join(",", map { tie my %kept, "Boddurci", "$base.threads$_", "r"; $kept{a} } "", ".own"), "12,own");
 }
 
-# Where that cannot be saved a warning names the base and the fault, and the lock is free afterwards.
+# If the destroyed hash cannot be saved a warning names the base and the fault, and the lock is free afterwards.
 {
     my @warned;
     local $SIG{__WARN__} = sub { push @warned, @_ };
@@ -229,7 +229,7 @@ SKIP: {
     tie my %lost, "Boddurci", "$base.lost", "w", no_wait => 1;
     is($lost{a}, "1", "the lock is free");
     untie %lost;
-    # The name is escaped: it may be anything that the system takes.
+    # The name is escaped, since the system allows any bytes in it.
     for (["\e[31m\n\xe2\x80\xae\\\xc3\xa9", "\\x{1b}[31m\\x{a}\\x{202e}\\x{5c}\xc3\xa9"], ["\xff", "\\x{ff}"]) {
         my ($name, $shown) = @$_;
         @warned = ();
@@ -245,8 +245,8 @@ SKIP: {
     rename "$base.lost.away", "$base.lost.lock" or die;
 }
 
-# A handler of a signal that dies just as the base is open leaves no lock. The signal comes while the lock is waited for, and the system
-# goes on with the wait.
+# If a handler of a signal dies just after the base is open, no lock stays. The signal comes during the wait for the lock, and the system
+# continues the wait.
 for my $mode ("w", "n") {
     tie my %held, "Boddurci", "$base.signal", "c";
     $held{a} = "1";
@@ -276,7 +276,7 @@ for my $mode ("w", "n") {
     untie %held;
 }
 
-# Which library is loaded: what BODDURCI_LIBRARY names by its absolute path, and not where the environment is not to be trusted.
+# The library that is loaded: the one that BODDURCI_LIBRARY names by its absolute path, if the environment is trusted.
 {
     my $folder = tempdir(CLEANUP => 1);
     chmod 0755, $folder;
@@ -295,7 +295,7 @@ for my $mode ("w", "n") {
     is($says->("", q{$) = "65534 65534"}), "loaded", "of another group") if $> == 0;
     $ENV{BODDURCI_LIBRARY} = "./libboddurci.so";
     like($says->("", ""), qr/give the absolute path/);
-    # A library of the working folder is not taken.
+    # A library in the working folder is not loaded.
     delete $ENV{BODDURCI_LIBRARY};
     mkdir "$folder/module" or die;
     rename "$folder/Boddurci.pm", "$folder/module/Boddurci.pm" or die;
@@ -303,7 +303,7 @@ for my $mode ("w", "n") {
     like($trace, qr/^(loaded\z|libboddurci\.so\.2 cannot be loaded)/);
 }
 
-# The stock programs by name, and the packages over them.
+# The stock programs by name, and their packages.
 {
     tie my %stock, "Boddurci", "$base.stock", "c";
     my $db = tied %stock;
@@ -339,7 +339,7 @@ for my $mode ("w", "n") {
         is($seats->get, 10);
     }
 
-    # Leases: two owners, renewals, the end, and giving back.
+    # Leases: two owners, renewals, the end, and the release.
     my $door = $db->lease("door");
     is($door->acquire(7, 30, now => 1000), 1030);
     is($stock{door}, pack("Q<2", 7, 1030));
@@ -419,7 +419,7 @@ for my $mode ("w", "n") {
     }
     delete $stock{it};
 
-    # Numbers that are out of range, or none.
+    # Arguments that are out of range, or are not numbers.
     my %wants = (
         owner   => [0, sub { $door->acquire($_[0], 1, now => 1) }, sub { $door->release($_[0]) }, sub { $gate->acquire($_[0], 1) }],
         seconds => [1, sub { $door->acquire(7, $_[0]) }, sub { $gate->acquire(7, $_[0]) }, sub { $db->rate_limit("it", 1, $_[0]) }],
@@ -456,7 +456,7 @@ for my $mode ("w", "n") {
     dies_with($_, qr/the database is closed at \Q$0\E/)
         for sub { $hits->get }, sub { $hits->add(1) }, sub { $door->release(7) }, sub { $db->stock("lease") };
 
-    # What is only read; and other texts of the same numbers.
+    # A database that is only read; and other texts of the same numbers.
     tie my %read, "Boddurci", "$base.stock";
     is(tied(%read)->counter("seats")->get, 10);
     dies_with(sub { tied(%read)->counter("seats")->add(1) }, qr/only read/);
@@ -468,7 +468,7 @@ for my $mode ("w", "n") {
     untie %stock;
 }
 
-# What Perl's own SDBM_File stores beside a tied hash is not overwritten, until somebody insists.
+# Data that Perl's own SDBM_File stores while a hash is tied is not overwritten, unless a save insists.
 SKIP: {
     skip "no SDBM_File", 1 unless eval { require SDBM_File; require Fcntl; 1 };
     my $beside = "$base.beside";

@@ -1,13 +1,13 @@
-/* The calls of boddurci.py that are made most, in C: fetch, store, delete and run, without ctypes.
+/* The most frequent calls of boddurci.py in C: fetch, store, delete and run, without ctypes.
  *
- * boddurci.py says what a call does, by ctypes, and this file makes the plain ones: on a database that is open, whose lock no other thread
- * has, while no save is under way, with keys and values that are bytes or str. Any other call, and one that the library refuses, is left to
- * the method in Python, which begins it anew. So what a call tells, and when it waits, is described once, and there.
+ * This file makes plain calls: on an open database whose lock no other thread has, during no save, with keys and values that are bytes or
+ * str. It leaves any other call, and one that the library refuses, to the method in Python, which begins the call again. So the results and
+ * the waiting of calls are defined once, in boddurci.py.
  *
- * A plain call keeps the lock of the interpreter from its look at the database to its end, and calls nothing of Python in between: so no
- * other thread, no signal and no fork comes in the middle of it, and it takes no lock of its own.
+ * A plain call keeps the lock of the interpreter from its check of the database to its end, and calls nothing of Python in between. So no
+ * other thread, no signal and no fork can interrupt it, and it takes no other lock.
  *
- * It is not linked to the library. boddurci.py has found and opened that, and gives the addresses of its calls to `bind`. */
+ * It is not linked to the library. boddurci.py finds and opens the library, and passes the addresses of its calls to `bind`. */
 #ifndef Py_LIMITED_API
 #define Py_LIMITED_API 0x03080000
 #endif
@@ -20,10 +20,10 @@
 #error "it stands on the lock of the interpreter, which this one does without"
 #endif
 
-/* What boddurci.py and this file agree on: another number where `bind`, Lock or Calls are others. */
+/* The version of the interface between boddurci.py and this file. Change it with `bind`, Lock or Calls. */
 enum { FORM = 1 };
 
-/* No status of the library: the call is none of the plain ones. */
+/* Not a status of the library: the call is not a plain one. */
 #define LEFT UINT32_MAX
 
 /* The calls of the library. */
@@ -34,20 +34,20 @@ static struct {
     __typeof__(boddurci_run) *run;
 } library;
 
-/* What boddurci.py has beside them, and names of attributes. */
+/* Objects of boddurci.py, and names of attributes. */
 static struct {
     PyObject *get_item, *set_item, *delete_item, *contains, *get, *run; /* the methods of the class in Python */
-    PyObject *program, *ran;   /* the classes of programs and of the answers of runs */
-    PyObject *new_tuple;       /* makes such an answer */
-    PyObject *clock, *seconds; /* the module time, and its function that tells it */
-    PyObject *name_of, *name_number, *name_time, *words[5]; /* and of what a run is given */
+    PyObject *program, *ran;   /* the classes of programs and of the results of runs */
+    PyObject *new_tuple;       /* makes a result of a run */
+    PyObject *clock, *seconds; /* the module time, and its function time */
+    PyObject *name_of, *name_number, *name_time, *words[5]; /* and of the arguments of a run */
 } python;
 
 static PyTypeObject *lock_type;
 
 /* ---- the lock of a database */
 
-/* A lock of threading, with which threads and calls in Python keep out each other; and how often it is held, and by whom. */
+/* A lock of threading for threads and calls in Python, with its holder and the number of times that the holder has taken it. */
 typedef struct {
     PyObject_HEAD
     PyObject *inner;
@@ -115,20 +115,20 @@ static PyType_Slot lock_slots[] = {
 
 static PyType_Spec lock_spec = {"_boddurci.Lock", sizeof(Lock), 0, Py_TPFLAGS_DEFAULT, lock_slots};
 
-/* ---- what a plain call is given */
+/* ---- the arguments of a plain call */
 
-/* A database, as boddurci.py has it. */
+/* The database object of boddurci.py. */
 typedef struct {
     PyObject_HEAD
-    boddurci *db; /* NULL where it is closed, or its process another */
+    boddurci *db; /* NULL if it is closed, or in a child of its process */
     Lock *lock;
-    PyObject *alone, *beside; /* the same but while a save is under way */
-    PyObject *token;          /* which its programs have too */
+    PyObject *alone, *beside; /* the same object, except during a save */
+    PyObject *token;          /* the mark of its programs */
     unsigned long long changes;
     char reads;
 } Calls;
 
-/* Whether a call can be made now. */
+/* Whether a plain call is possible now. */
 static int is_free(const Calls *calls)
 {
     if (calls->db == NULL || calls->lock == NULL || calls->beside != calls->alone)
@@ -136,7 +136,7 @@ static int is_free(const Calls *calls)
     return calls->lock->held == 0 || calls->lock->holder == PyThread_get_thread_ident();
 }
 
-/* Whether it may change the database, and if so it counts as a change. */
+/* Whether a plain call may change the database. If so, counts a change. */
 static int may_change(Calls *calls)
 {
     if (!is_free(calls) || calls->reads)
@@ -145,14 +145,14 @@ static int may_change(Calls *calls)
     return 1;
 }
 
-/* The bytes of a key or value, and what holds them. */
+/* The bytes of a key or value, and the object that owns them. */
 struct text {
     const uint8_t *at;
     size_t length;
     PyObject *holder;
 };
 
-/* Whether the value is plain. The text is to be let go where it is. */
+/* Whether the value is bytes or str. If so, sets *text, which the caller releases. */
 static int has_text(PyObject *value, struct text *text)
 {
     char *at;
@@ -180,7 +180,7 @@ static void let_go(struct text *text)
     Py_DECREF(text->holder);
 }
 
-/* Whether the value is an int of 64 bits. */
+/* Whether the value is an int of 64 bits. If so, sets *number. */
 static int has_number(PyObject *value, uint64_t *number)
 {
     if (!PyLong_CheckExact(value))
@@ -262,7 +262,7 @@ static uint32_t take_out(PyObject *self, PyObject *key)
     return status;
 }
 
-/* Stores a value, or deletes the key where it is NULL. */
+/* Stores a value, or deletes the key if the value is NULL. */
 static int calls_set_item(PyObject *self, PyObject *key, PyObject *value)
 {
     uint32_t status = value != NULL ? store(self, key, value) : take_out(self, key);
@@ -278,7 +278,7 @@ static int calls_set_item(PyObject *self, PyObject *key, PyObject *value)
     return told != NULL ? 0 : -1;
 }
 
-/* A method in Python, with the words that the call was given. */
+/* Calls the method in Python with the same arguments. */
 static PyObject *leave(PyObject *method, PyObject *self, PyObject *words, PyObject *named)
 {
     PyObject *first = PyTuple_Pack(1, self);
@@ -289,7 +289,7 @@ static PyObject *leave(PyObject *method, PyObject *self, PyObject *words, PyObje
     return told;
 }
 
-/* Whether a class that stands on ours looks up a key by itself: then so does its `get`. */
+/* Whether a subclass has its own __getitem__: its `get` must use that. */
 static int has_own_look(PyObject *self)
 {
     return PyType_GetSlot(Py_TYPE(self), Py_mp_subscript) != (void *)(uintptr_t)calls_get_item;
@@ -330,7 +330,7 @@ static int is_attribute(PyObject *object, PyObject *name, PyObject *wanted)
     return is_wanted;
 }
 
-/* The number of a program that this database has accepted. */
+/* Whether this database has accepted the program. If so, sets its number. */
 static int has_program(const Calls *calls, PyObject *program, uint64_t *number)
 {
     if ((PyObject *)Py_TYPE(program) != python.program || !is_attribute(program, python.name_of, calls->token))
@@ -342,7 +342,7 @@ static int has_program(const Calls *calls, PyObject *program, uint64_t *number)
     return has;
 }
 
-/* The system's seconds, unless somebody has put another clock in the place of its own. */
+/* Sets the system's seconds. Returns 0 if time.time has been replaced. */
 static int has_seconds(uint64_t *now)
 {
     if (!is_attribute(python.clock, python.name_time, python.seconds))
@@ -403,7 +403,8 @@ static PyObject *ran(const struct run *run)
 enum { PROGRAM, KEY, ARG, BLANK, NOW, WORDS };
 static const char *const run_words[WORDS] = {"program", "key", "arg", "blank", "now"};
 
-/* What a run is given, in its place or by its name, and NULL where it is not. Whether there is a program, a key, and nothing else. */
+/* Collects the arguments of a run, positional or by name; a missing one is NULL. Returns whether there are a program and a key, and no
+ * unknown arguments. */
 static int has_words(PyObject *words, PyObject *named, PyObject *given[WORDS])
 {
     Py_ssize_t count = PyTuple_Size(words), left = named != NULL ? PyDict_Size(named) : 0;
@@ -504,11 +505,11 @@ static PyMemberDef calls_members[] = {
     {NULL, 0, 0, 0, NULL},
 };
 
-#define GET_TEXT "get($self, key, default=None)\n--\n\nThe value of a key, or the default where it has none."
+#define GET_TEXT "get($self, key, default=None)\n--\n\nReturns the value of a key, or the default if the key is missing."
 #define RUN_TEXT "run($self, program, key, arg=b'', blank=None, now=None)\n--\n\n" \
-    "Runs a program on the record of a key, or on so many zeros where the key is not there and `blank` says how many, as one step.\n" \
-    "The program is told the time `now`, which is the system's in seconds where none is given: a program that counts in another unit\n" \
-    "has to be given it."
+    "Runs a program on the record of a key, as one step. If the key is missing it runs on `blank` zeros; without `blank` that\n" \
+    "is a KeyError. The program can read the time `now`, which is by default the system's in seconds: pass it if the program\n" \
+    "counts in another unit."
 
 static PyMethodDef calls_methods[] = {
     {"get", (PyCFunction)(void (*)(void))calls_get, METH_VARARGS | METH_KEYWORDS, GET_TEXT},
@@ -528,14 +529,14 @@ static PyType_Slot calls_slots[] = {
     {0, NULL},
 };
 
-/* Python 3.8 wants the tag, which headers of 3.10 and later count as no default. */
+/* Python 3.8 needs the tag; headers of 3.10 and later do not count it among the defaults. */
 static PyType_Spec calls_spec = {
     "_boddurci.Calls", sizeof(Calls), 0, Py_TPFLAGS_DEFAULT | Py_TPFLAGS_BASETYPE | Py_TPFLAGS_HAVE_VERSION_TAG, calls_slots,
 };
 
 /* ---- the module */
 
-/* A function of the library at an address, which fails as the interpreter's own calls do. */
+/* Returns the address of a function of the library. On failure it sets an exception and returns 0. */
 static uintptr_t address(PyObject *addresses, const char *name)
 {
     PyObject *value = PyMapping_GetItemString(addresses, name);

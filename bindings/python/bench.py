@@ -1,7 +1,7 @@
-"""How long calls from Python take: N stores, fetches and increments of 16-byte keys and 8-byte values, by boddurci with ctypes and with its
-extension, by the modules of dbm that this Python has, and by sqlite3. BODDURCI_LIBRARY names the shared object.
+"""Times calls from Python: N stores, fetches and increments of 16-byte keys and 8-byte values, by boddurci with ctypes and with its
+extension, by the modules of dbm in this Python, and by sqlite3. BODDURCI_LIBRARY names the shared object.
 
-usage: bench.py N [ROUNDS]     prints the nanoseconds of the processor of each, the least of the rounds, in which all take turns
+usage: bench.py N [ROUNDS]     prints the nanoseconds of processor time of each, the minimum of the rounds; all take turns in a round
 """
 
 import importlib
@@ -17,7 +17,7 @@ TOP = pathlib.Path(__file__).resolve().parent.parent.parent
 
 
 def module(name):
-    """A module, or None where this Python has none."""
+    """Returns a module, or None if this Python lacks it."""
     try:
         return importlib.import_module(name)
     except ImportError:
@@ -25,7 +25,7 @@ def module(name):
 
 
 def ours():
-    """boddurci by ctypes alone, and by its extension, where that is built."""
+    """Returns boddurci by ctypes only, and by its extension if that is built."""
     sys.modules["_boddurci"] = None
     by_ctypes = importlib.import_module("boddurci")
     del sys.modules["_boddurci"], sys.modules["boddurci"]
@@ -38,7 +38,7 @@ OTHERS = {"dbm.gnu": (module("dbm.gnu"), "nf"), "dbm.ndbm": (module("dbm.ndbm"),
 
 
 class Plain:
-    """A mapping whose increment is a fetch, an addition and a store."""
+    """A mapping. An increment is a fetch, an addition and a store."""
 
     def __init__(self, db):
         self.db = db
@@ -48,7 +48,7 @@ class Plain:
 
 
 class Counting(Plain):
-    """Ours, whose increment is a run."""
+    """boddurci. An increment is a run."""
 
     def __init__(self, db):
         super().__init__(db)
@@ -59,7 +59,7 @@ class Counting(Plain):
 
 
 class Sqlite:
-    """A table, in one transaction."""
+    """A table of sqlite3, in one transaction."""
 
     def __init__(self, path):
         self.base = sqlite3.connect(path, isolation_level=None)
@@ -79,7 +79,7 @@ class Sqlite:
 
 
 def measured(store, keys):
-    """The seconds of all stores, fetches and increments, of the processor's time."""
+    """Returns the seconds of processor time of all stores, fetches and increments."""
     times = [time.process_time()]
     for number, key in enumerate(keys):
         store.db[key] = number.to_bytes(8, "little")

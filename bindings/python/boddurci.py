@@ -9,21 +9,22 @@ records.
         histogram = db.program(open("examples/histogram.s").read())
         db.run(histogram, b"sizes", arg=b"\\3", blank=64)
 
-The methods `counter`, `lease`, `fenced_lease`, `semaphore` and `rate_limit` of a database run stock programs. What these do is proved
-(docs/PROGRAMS.md), if one of them alone changes a key.
+The methods `counter`, `lease`, `fenced_lease`, `semaphore` and `rate_limit` of a database run stock programs. Their laws are proved
+(docs/PROGRAMS.md), for a key that only one of them changes.
 
-`open` can replace `dbm.open`: keys and values are bytes, a str counts as its UTF-8. A database is in memory while it is open; `sync` and
-`close` write its files, and a crash in between leaves the database before or after. One process at a time has it open to write: `open` waits
-for it, 5 seconds if the caller gives no timeout, and then raises Locked. An `open` that only reads does not wait for it, and has its last
-save. If a program that ignores the locks, as Perl's SDBM_File, has changed the files meanwhile, `sync` and `close` raise ChangedError and
-write nothing. A database that nobody closes is saved and closed when its object ends, or at the latest when the interpreter exits; if that
-fails, a RuntimeWarning names it. Threads may share a database. A signal handler that interrupts a call may not use it, but may raise. In a
-child of the process that opened it every call but `close` is an error, and nothing is saved.
+`open` can replace `dbm.open`: keys and values are bytes, and a str is encoded as UTF-8. An open database is in memory. `sync` and `close`
+write its files, and a crash during them leaves the database before or after. One process at a time has it open for writing: `open` waits
+for that process, 5 seconds by default, and then raises Locked. An `open` for reading does not wait for it, and reads its last save. If a
+program that ignores the locks, such as Perl's SDBM_File, has changed the files meanwhile, `sync` and `close` raise ChangedError and write
+nothing. A database that is not closed is saved and closed when its object is destroyed, or at the latest when the interpreter exits; if
+that fails, a RuntimeWarning names it. Threads may share a database. A signal handler that interrupts a call may not use the database, but
+may raise. In a child of the process that opened it every call except `close` is an error, and nothing is saved.
 
-The module needs the shared object that `./dbm --build-library` makes. It takes the file that BODDURCI_LIBRARY names by its absolute path,
-else libboddurci.so beside this file, else the one in out/boddurci of the repository, else the system's. It ignores BODDURCI_LIBRARY in
-`python -I` and `python -E`, and if the effective user or group is not the real one. It calls the library by ctypes; if the extension
-`_boddurci` is built (`pip install bindings/python`), fetch, store, delete and run use it, several times as fast and with the same results.
+The module needs the shared object that `./dbm --build-library` makes. It loads the first of these: the file that BODDURCI_LIBRARY names by
+its absolute path, libboddurci.so next to this file, the one in out/boddurci of the repository, that of the system. It ignores
+BODDURCI_LIBRARY in `python -I` and `python -E`, and if the effective user or group is not the real one. It calls the library by ctypes. If
+the extension `_boddurci` is built (`pip install bindings/python`), fetch, store, delete and run use it: several times as fast, with the
+same results.
 
 The store behind the calls is proved. This module, the files, the locks and the order of a save are tested and not proved.
 """
@@ -47,7 +48,7 @@ from typing import NamedTuple
 __all__ = ["ChangedError", "Counter", "Database", "FencedLease", "Grant", "Lease", "Locked", "Program", "ProgramError", "Ran", "RateLimit"]
 __all__ += ["RecordError", "Semaphore", "error", "open"]
 
-# Statuses, and what some are called here: boddurci.h, boddurci_files.h. The library has words for the others.
+# Statuses of boddurci.h and boddurci_files.h, and the texts of some of them. The library has texts for all.
 _DONE, _MISSING, _REFUSED, _BAD_TEXT, _CHANGED, _IS_CLOSED, _NO_STOCK, _LOCKED, _FORKED, _INTERRUPTED = 0, 1, 5, 6, 8, 16, 24, 33, 39, 41
 _WORDS = {
     2: "the key is there",
@@ -67,19 +68,19 @@ _VALUE_MOST = 8008
 _IMAGE_MOST = 32768
 _TIME_MOST, _SIZE_MOST = 2**64 - 1, ctypes.c_size_t(-1).value
 
-# How many pairs an iteration reads at a time.
+# The number of pairs that an iteration reads at a time.
 _AT_A_TIME = 1000
 
 
 class error(OSError):
-    """What the store refuses, or what the system does to its files: of these it has the system's number, and the name."""
+    """A refusal of the store, or a system error on its files; the latter has errno and the name of the file."""
 
     def __str__(self):
         return super().__str__() if self.errno is not None else "".join(map(str, self.args[:1]))
 
 
 class ProgramError(error, ValueError):
-    """A program that is refused; `at` is the line of its text or the unit of its image, where it has one."""
+    """A refused program. `at` is the offending line of its text or unit of its image, or None."""
 
     def __init__(self, text, at):
         super().__init__(text)
@@ -87,28 +88,30 @@ class ProgramError(error, ValueError):
 
 
 class Locked(error):
-    """Another process has the database open to write, or uses its files, for longer than `open` was to wait. The text names the process if the
-    system tells it."""
+    """Another process has had the database open for writing, or has used its files, for longer than the timeout of `open`. The text names
+    the process if the system reports it."""
 
 
 class ChangedError(error):
-    """Another program has changed the files since this database read or saved them: `sync` and `close` then write nothing. The database stays
-    open; `sync(insist=True)` overwrites the files."""
+    """Another program has changed the files since this database read or saved them, so `sync` and `close` have written nothing. The
+    database stays open. `sync(insist=True)` overwrites the files."""
 
 
 class RecordError(error, ValueError):
-    """A record that is too short for a stock program, which then changes nothing."""
+    """A record that is too short for a stock program. Nothing has changed."""
 
 
 class Ran(NamedTuple):
-    """How a run ended: its number (1 saved the record, 2 deleted it, any other changed nothing) and its reply word."""
+    """The result of a run: the number that the program returned (1 saved the record, 2 deleted it, any other changed nothing) and its reply
+    word."""
 
     end: int
     word: int
 
 
 class Program:
-    """A program that a database accepted, under a number. No other database runs it, nor does this one once it is opened anew."""
+    """A program that a database has accepted, with its number. Only this database object runs it: neither another one nor a later one
+    does."""
 
     __slots__ = ("number", "_of")
 
@@ -126,7 +129,7 @@ class Program:
 
 
 class Grant(NamedTuple):
-    """A lease that `FencedLease` gives: the time at which it ends, and its token."""
+    """The result of `FencedLease.acquire`: the time at which the lease ends, and its token."""
 
     end: int
     token: int
@@ -140,18 +143,19 @@ class _Cursor(ctypes.Structure):
     _fields_ = [("page", ctypes.c_uint32), ("end", ctypes.c_uint32), ("pair", ctypes.c_size_t)]
 
 
-# The name under which the system finds the library.
+# The library's name for the loader of the system.
 _SONAME = "libboddurci.so.2"
 
 
 def _obeys_environment():
-    """Whether the environment may choose the library: not in `python -I` and `-E`, nor if the process has rights that its user lacks."""
+    """Returns whether the environment may choose the library: not in `python -I` and `-E`, nor if the process has rights that its user
+    lacks."""
     is_own = os.geteuid() == os.getuid() and os.getegid() == os.getgid()
     return is_own and not sys.flags.isolated and not sys.flags.ignore_environment
 
 
 def _path_of_library():
-    """The path of the shared object. No name is looked up in the working folder."""
+    """Returns the path of the shared object. It never searches the working folder."""
     named = os.environ.get("BODDURCI_LIBRARY") if _obeys_environment() else None
     if named and not os.path.isabs(named):
         raise ImportError(f"BODDURCI_LIBRARY is {named!r}: give the absolute path of the library")
@@ -165,7 +169,7 @@ def _path_of_library():
 
 
 def _bind():
-    """Yields the calls of the library. Those that may wait let other threads go on."""
+    """Yields the calls of the library. Calls that may wait release the interpreter lock."""
     path = _path_of_library()
     try:
         waits, quick = ctypes.CDLL(path), ctypes.PyDLL(path)
@@ -211,7 +215,7 @@ def _error(status):
 
 
 def _bytes(value):
-    """The bytes of a key, a value or an argument. A subclass may override how its bytes and their number are told, so it is copied."""
+    """Returns the bytes of a key, a value or an argument. A subclass may override its bytes and length, so it is copied."""
     if type(value) is bytes:
         return value
     if isinstance(value, str):
@@ -222,7 +226,7 @@ def _bytes(value):
 
 
 class _Room:
-    """A buffer for bytes that a call writes, and its address, which costs a call less than the object does."""
+    """A buffer for the result of a call, and its address. Passing the address is faster than passing the object."""
 
     def __init__(self, size):
         self._bytes = ctypes.create_string_buffer(size)
@@ -234,7 +238,7 @@ class _Room:
 
 
 class _Taken:
-    """The mutex of a base, which its save takes too. A thread that waits for it lets others go on."""
+    """The mutex of a base, which its save takes too. A thread that waits for it releases the interpreter lock."""
 
     def __init__(self, base):
         self._base = base
@@ -246,12 +250,13 @@ class _Taken:
         _call.give(self._base)
 
 
-# Handlers of signals run between steps of the interpreter, and may raise. So what may not be interrupted, as that a base is opened and that
-# it is kept, is one step: `map` makes the call, and the step that drains it keeps the result.
+# Handlers of signals run between steps of the interpreter, and may raise. So an action that must not be interrupted, such as opening a base
+# and storing it, is one step: `map` makes the call, and the step that drains it stores the result.
 
 
 def _open_base(held, name, flags, timeout):
-    """Adds a base to the list `held` once its locks are free. After a signal it runs the handler, and then waits on."""
+    """Opens a base once its locks are free, and adds it to the list `held`. After a signal it runs the handler, and then continues to
+    wait."""
     fault, end = _Fault(), None if timeout is None else time.monotonic() + timeout
     while True:
         left = -1 if end is None else int(min(max(0.0, (end - time.monotonic()) * 1000), 2.0**52))
@@ -263,11 +268,11 @@ def _open_base(held, name, flags, timeout):
 
 
 class _Database(MutableMapping):
-    """All calls of a database. The extension, if there is one, makes the plain calls, and leaves all others to these methods."""
+    """All calls of a database. If the extension is loaded it makes the plain calls, and leaves the rest to these methods."""
 
-    # The base: its address for calls, or None once it is closed; and in a list for whoever closes it, in a child too.
+    # The base: its address for calls, or None once it is closed; and a list with it until it is closed, in a child too.
     _base, _held, _process = None, (), None
-    # Whether it is saved when it is closed: not before it is opened completely.
+    # True if `close` saves the base: not before it is opened completely.
     _keeps = False
 
     def __init__(self, name, flags, timeout=None, limit=None):
@@ -283,13 +288,13 @@ class _Database(MutableMapping):
 
     def _set_up(self, flags):
         self._base = self._held[0]
-        # How often it was changed, for those who walk over it.
+        # The number of changes, for iterators.
         self._changes = 0
-        # What keeps threads apart: a lock of this object; while a save is under way the mutex of the base too.
+        # Threads exclude each other by a lock of this object, and during a save by the mutex of the base too.
         self._taken, self._token, self._stocks = _Taken(self._base), object(), {}
         self._set_locks()
         _databases[id(self)] = self
-        # Taken and given back once: it stays the same.
+        # The handle is always the same, so it is taken and given back once.
         self._db = _call.take(self._base)
         _call.give(self._base)
         self._reads = bool(flags & _READ_ONLY)
@@ -306,7 +311,8 @@ class _Database(MutableMapping):
         self._beside = self._alone
 
     def _leave_to_parent(self):
-        """In a child: leaves the base open, for `_release` to free its memory. If a thread of the parent was at work in it, that stays."""
+        """In a child: leaves the base open, for `_release` to free its memory. If a thread of the parent was in a call, the memory is not
+        freed."""
         if not self._alone.acquire(blocking=False):
             self._held = []
         self._base = self._db = None
@@ -368,7 +374,7 @@ class _Database(MutableMapping):
             return self._length.value
 
     def _walk(self, keeps):
-        """What is kept of each pair in turn. Some are read at a time, so no list of all is held; a change in between is an error."""
+        """Yields `keeps()` for each pair. It reads some pairs at a time, so it needs no list of all; a change in between is an error."""
         cursor, changes = _Cursor(), None
         where, room = ctypes.addressof(cursor), (self._key.at, _VALUE_MOST, self._at["_other"], *self._value)
         while changes is None or found:
@@ -391,20 +397,21 @@ class _Database(MutableMapping):
         return self._room.taken(self._length.value)
 
     def _all(self, keeps):
-        """What is kept of all pairs, as they stand now."""
+        """Returns `keeps()` for all pairs, at one time."""
         with self._lock:
             return list(self._walk(keeps))
 
     def keys(self):
-        """A list of all keys. To hold none, iterate over the database itself; where it changes meanwhile that ends in RuntimeError."""
+        """Returns a list of all keys. To avoid a list, iterate over the database; that raises RuntimeError if the database changes
+        meanwhile."""
         return self._all(self._this_key)
 
     def values(self):
-        """A list of all values."""
+        """Returns a list of all values."""
         return self._all(self._this_value)
 
     def items(self):
-        """A list of all pairs."""
+        """Returns a list of all pairs."""
         return self._all(lambda: (self._this_key(), self._this_value()))
 
     def __iter__(self):
@@ -412,7 +419,7 @@ class _Database(MutableMapping):
         return self._walk(self._this_key)
 
     def setdefault(self, key, default=b""):
-        """The value of a key, which is given the default where it has none."""
+        """Returns the value of a key. If the key is missing it stores the default first."""
         with self._lock:
             if key not in self:
                 self[key] = default
@@ -424,7 +431,8 @@ class _Database(MutableMapping):
                 del self[key]
 
     def program(self, source):
-        """Has a program accepted: its text, a str, or its image, bytes. ProgramError says why it is refused, and where."""
+        """Verifies a program from its text, a str, or its image, bytes, and returns it. ProgramError says why and at which place it is
+        refused."""
         with self._lock, self._beside:
             self._need_open()
             image = self._assembled(source) if isinstance(source, str) else _bytes(bytes(source))
@@ -447,9 +455,9 @@ class _Database(MutableMapping):
         return image.taken(self._other.value)
 
     def stock(self, name):
-        """The stock program of this name, for `run`: "counter", "bounded_add", "bounded_counter", "compare_and_set", "sequence", "lease",
-        "fenced_lease", "rate_limit", "semaphore" or "token_bucket". docs/PROGRAMS.md has the record, argument, codes and reply word of
-        each. ProgramError lists the names if there is no such program."""
+        """Returns the stock program of this name, for `run`: "counter", "bounded_add", "bounded_counter", "compare_and_set", "sequence",
+        "lease", "fenced_lease", "rate_limit", "semaphore" or "token_bucket". docs/PROGRAMS.md has the record, argument, codes and reply
+        word of each. ProgramError lists the names if there is no such program."""
         if not isinstance(name, str):
             raise TypeError(f"the name of a program is a str, not {type(name).__name__}")
         text, number = _bytes(name), ctypes.c_uint32()
@@ -465,29 +473,29 @@ class _Database(MutableMapping):
             return self._stocks[text]
 
     def counter(self, key, floor=0, ceiling=_TIME_MOST):
-        """A number on this key, which `add` changes; see Counter."""
+        """Returns the counter on this key; see Counter."""
         return Counter(self, key, floor, ceiling)
 
     def lease(self, key):
-        """A lease on this key, which `acquire` gives to one owner at a time; see Lease."""
+        """Returns the lease on this key; see Lease."""
         return Lease(self, key)
 
     def fenced_lease(self, key):
-        """A lease on this key with a token that rises with each new owner; see FencedLease."""
+        """Returns the lease with tokens on this key; see FencedLease."""
         return FencedLease(self, key)
 
     def semaphore(self, key, size):
-        """A semaphore on this key with `size` permits; see Semaphore."""
+        """Returns the semaphore on this key with `size` permits; see Semaphore."""
         return Semaphore(self, key, size)
 
     def rate_limit(self, key, count, seconds):
-        """A limit on this key of `count` calls in each window of `seconds`; see RateLimit."""
+        """Returns the limit on this key of `count` calls in each window of `seconds`; see RateLimit."""
         return RateLimit(self, key, count, seconds)
 
     def run(self, program, key, arg=b"", blank=None, now=None):
-        """Runs a program on the record of a key, or on so many zeros where the key is not there and `blank` says how many, as one step.
-        The program is told the time `now`, which is the system's in seconds where none is given: a program that counts in another unit
-        has to be given it."""
+        """Runs a program on the record of a key, as one step. If the key is missing it runs on `blank` zeros; without `blank` that
+        is a KeyError. The program can read the time `now`, which is by default the system's in seconds: pass it if the program
+        counts in another unit."""
         name, arg = _bytes(key), _bytes(arg)
         if blank is not None and not 0 <= blank <= _SIZE_MOST:
             raise ValueError(f"blank is a number from 0 to {_SIZE_MOST}")
@@ -518,9 +526,9 @@ class _Database(MutableMapping):
         raise _error(status)
 
     def sync(self, *, insist=False):
-        """Writes both files and makes them durable. Meanwhile other threads go on. If another program has changed them, it is a ChangedError and
-        nothing is written, unless `insist` is true. If a file cannot be written and the save is in FILE.redo alone, it warns: the next opening
-        or save completes it, and until then other programs may see half of it."""
+        """Saves both files and makes them durable. Other threads may use the database meanwhile. If another program has changed the files
+        it raises ChangedError and writes nothing, unless `insist` is true. If a file cannot be written and only FILE.redo has the save, it
+        warns: the next opening or save completes it, and until then other programs may see half of it."""
         fault = _Fault()
         with self._saving:
             with self._lock:
@@ -540,8 +548,8 @@ class _Database(MutableMapping):
                 warnings.warn(str(_of_fault(fault, self._name)), RuntimeWarning, stacklevel=2)
 
     def close(self):
-        """Writes both files, unless the database is only read, and releases the locks. A fault of the files leaves the database open. In a
-        child of the process that opened it nothing is written, and the locks stay."""
+        """Saves both files, unless the database was opened for reading, and releases the locks. If the save fails the database stays open.
+        In a child of the process that opened it nothing is written, and the locks stay."""
         if not self._held:
             return
         if self._process != os.getpid():
@@ -558,13 +566,13 @@ class _Database(MutableMapping):
             self._release()
 
     def _release(self):
-        """Closes the base without a save. The step that takes it out of the list closes it, so it is closed once."""
+        """Closes the base without a save. The step that removes it from the list closes it, so it is closed once."""
         self._base = self._db = None
         if self._held:
             deque(map(_call.close_files, map(self._held.pop, (0,))), maxlen=0)
 
     def _finish(self):
-        """Closes a database that nobody has closed. Changes that cannot be saved are lost, with a warning, and the locks are released."""
+        """Closes a database that was not closed. Changes that cannot be saved are lost, with a warning, and the locks are released."""
         try:
             self.close()
         except RuntimeWarning:
@@ -585,13 +593,13 @@ class _Database(MutableMapping):
         self._finish()
 
 
-# What the extension and this file agree on.
+# The version of the interface between the extension and this file.
 _FORM = 1
 
 
 def _of_extension():
-    """The extension's classes of databases and locks, where it is built for the library that is here, and no other interpreter of the
-    process has taken it."""
+    """Returns the extension's classes of databases and locks, or None if it is missing, is built for another library, or is in use by
+    another interpreter of the process."""
     try:
         import _boddurci
     except ImportError:
@@ -607,18 +615,18 @@ _plain_calls, _Lock = ((_extension[0],), _extension[1]) if _extension else ((), 
 
 
 def _new_lock():
-    """The lock of a database, of which the extension knows whether somebody has it."""
+    """Returns a new lock of a database. The extension can see whether its own lock is held."""
     return _Lock(threading.RLock()) if _Lock else threading.RLock()
 
 
 class Database(*_plain_calls, _Database):
-    """A database that is open: a mapping from bytes to bytes. `open` makes it."""
+    """An open database: a mapping from bytes to bytes. `open` returns it."""
 
     __slots__ = ()
 
 
 def _whole(name, value, least=0, most=_TIME_MOST):
-    """A number for a program, of the range that it takes."""
+    """Returns a number for a program, after a check of its type and range."""
     if isinstance(value, bool) or not hasattr(type(value), "__index__"):
         raise TypeError(f"{name} is an int, not {type(value).__name__}")
     number = operator.index(value)
@@ -628,20 +636,20 @@ def _whole(name, value, least=0, most=_TIME_MOST):
 
 
 def _given(now):
-    """The time of a run if the caller gives it, or None: then a run takes the system's, in seconds."""
+    """Checks the time of a run that the caller passes. None is the system's time, in seconds."""
     return None if now is None else _whole("now", now)
 
 
 def _time(now):
-    """The same, but the system's time instead of None. Call it under the lock of the database: so a run never has an earlier time than one
-    before it, unless the system's falls."""
+    """Replaces None by the system's time. Call it under the lock of the database: so no run has an earlier time than a run before it,
+    unless the system's time falls."""
     return int(time.time()) if now is None else now
 
 
 class _Stocked:
     """A key of a database, and the stock program that runs on its record."""
 
-    # The program, and how many bytes of a record it uses.
+    # The program, and the number of bytes of a record that it uses.
     _name, _size = "", 8
 
     def __init__(self, db, key):
@@ -651,7 +659,8 @@ class _Stocked:
         return f"{type(self).__name__}({self._key!r})"
 
     def _run(self, now, *numbers):
-        """How a run ended, with these numbers as its argument: with 0 and 0 if the record is too short, and sometimes otherwise."""
+        """Runs the program with these numbers as its argument. A result of 0 and 0 may say that the record is too short, which raises
+        RecordError."""
         arg = struct.pack(f"<{len(numbers)}Q", *numbers)
         with self._db._lock:
             ran = self._db.run(self._program, self._key, arg, self._size, now)
@@ -660,7 +669,7 @@ class _Stocked:
         return ran
 
     def _record(self):
-        """The record, or None if the key is missing."""
+        """Returns the record, or None if the key is missing."""
         record = self._db.get(self._key)
         if record is not None and len(record) < self._size:
             raise RecordError(f"the record of {self._key!r} has {len(record)} bytes: {self._name} takes {self._size} or more")
@@ -669,10 +678,10 @@ class _Stocked:
 
 class Counter(_Stocked):
     """A number from `floor` to `ceiling`, in the first 8 bytes of a record, the lowest byte first; 0 if the key is missing.
-    `db.counter(key)` makes it, and it runs the stock program bounded_counter.
+    `db.counter(key)` returns it, and it runs the stock program bounded_counter.
 
-    Proved is that each run adds its amount or changes nothing; and that a number within the bounds stays within them, if every run names
-    these and nothing else changes the key."""
+    It is proved that each run adds its amount or changes nothing, and that a number within the bounds stays within them, if every run has
+    the same bounds and nothing else changes the key."""
 
     _name = "bounded_counter"
 
@@ -682,8 +691,8 @@ class Counter(_Stocked):
         self._floor = _whole("floor", floor, most=self._ceiling)
 
     def add(self, amount=1):
-        """Adds an amount, which may be negative, and returns the new number. OverflowError if that would be outside floor and ceiling: then
-        nothing changes."""
+        """Adds an amount, which may be negative, and returns the new number. If that would be outside floor and ceiling it raises
+        OverflowError and changes nothing."""
         amount = _whole("amount", amount, -(2**63), 2**63 - 1)
         end, number = self._run(None, amount % 2**64, self._floor, self._ceiling)
         if end != 1:
@@ -691,28 +700,28 @@ class Counter(_Stocked):
         return number
 
     def get(self):
-        """The number."""
+        """Returns the number."""
         record = self._record()
         return 0 if record is None else int.from_bytes(record[:8], "little")
 
 
 class Lease(_Stocked):
-    """A lease, which one owner at a time has, until it ends. `db.lease(key)` makes it, and it runs the stock program lease. An owner is a
+    """A lease, which one owner at a time has until it ends. `db.lease(key)` returns it, and it runs the stock program lease. An owner is a
     number below 2^64 that nobody else has, such as a random one.
 
-    Proved is that two owners never hold a lease at one time, if nothing else changes the key and the times of its runs never fall. So give
-    `now` in no call, or in each from one clock. From the time at which a lease ends it may be another's: stop before."""
+    It is proved that two owners never hold a lease at one time, if nothing else changes the key and the times of its runs never fall. So
+    pass `now` in no call, or in all of them from one clock. At the time at which a lease ends another owner may get it: stop before."""
 
     _name, _size = "lease", 16
 
     def acquire(self, owner, seconds, now=None):
-        """Gives the lease to the owner, or renews it, for this number of seconds from now on. Returns the time at which it ends, or None
-        if another owner has it. A renewal may be for a shorter time."""
+        """Gives the lease to the owner, or renews it, for `seconds` from now. Returns the time at which it ends, or None if another owner
+        has it. A renewal may be for a shorter time."""
         ran = self._run(_given(now), _whole("owner", owner), _whole("seconds", seconds, least=1))
         return ran.word if ran.end == 1 else None
 
     def release(self, owner, now=None):
-        """Gives the lease back. Returns whether the owner had it. Another's lease stays, unless it has ended."""
+        """Releases the lease. Returns whether the owner had it. The lease of another owner stays, unless it has ended."""
         owner, now = _whole("owner", owner), _given(now)
         with self._db._lock:
             now, record = _time(now), self._record()
@@ -724,17 +733,17 @@ class Lease(_Stocked):
 
 
 class FencedLease(Lease):
-    """A lease with a token. `db.fenced_lease(key)` makes it, and it runs the stock program fenced_lease. Each new owner has a greater token
-    than all before, and a renewal keeps it. Send the token with each request to what the lease guards, and let that refuse a token below
-    the greatest that it has seen: so it refuses an owner who does not know that his lease has ended.
+    """A lease with a token. `db.fenced_lease(key)` returns it, and it runs the stock program fenced_lease. Each new owner gets a greater
+    token than all before, and a renewal keeps the token. Send the token with each request to the resource, and let the resource refuse a
+    token below the greatest that it has seen: so it refuses an owner that does not know that its lease has ended.
 
-    Proved is that tokens rise, if nothing else changes the key, even if times fall."""
+    It is proved that tokens rise, even if times fall, if nothing else changes the key."""
 
     _name, _size = "fenced_lease", 24
 
     def acquire(self, owner, seconds, now=None):
-        """Gives the lease to the owner, or renews it, for this number of seconds from now on. Returns a Grant, or None if another owner
-        has it. OverflowError if all 2^64 - 1 tokens are used up."""
+        """Gives the lease to the owner, or renews it, for `seconds` from now. Returns a Grant, or None if another owner has it.
+        OverflowError if all 2^64 - 1 tokens are used up."""
         owner, seconds, now = _whole("owner", owner), _whole("seconds", seconds, least=1), _given(now)
         with self._db._lock:
             now = _time(now)
@@ -745,10 +754,10 @@ class FencedLease(Lease):
 
 
 class Semaphore(_Stocked):
-    """Permits, of which at most `size` are taken at a time. `db.semaphore(key, size)` makes it, and it runs the stock program semaphore. A
-    permit does not end by itself: if its holder dies, it is lost until somebody gives it back.
+    """A semaphore with `size` permits. `db.semaphore(key, size)` returns it, and it runs the stock program semaphore. A permit does not end
+    by itself: if its holder dies, it is lost until somebody releases it.
 
-    Proved is that there are never more holders than permits, if every run names this size and nothing else changes the key."""
+    It is proved that there are never more holders than permits, if every run has this size and nothing else changes the key."""
 
     _name = "semaphore"
 
@@ -761,16 +770,16 @@ class Semaphore(_Stocked):
         return self._run(None, 1, self._permits).end == 1
 
     def release(self):
-        """Gives a permit back. Returns False if nobody has one."""
+        """Releases a permit. Returns False if nobody has one."""
         return self._run(None, 0, self._permits).end == 1
 
 
 class RateLimit(_Stocked):
-    """A limit of `count` calls in each window of `seconds`. `db.rate_limit(key, count, seconds)` makes it, and it runs the stock program
-    rate_limit. The first call after a window is over begins the next one.
+    """A limit of `count` calls in each window of `seconds`. `db.rate_limit(key, count, seconds)` returns it, and it runs the stock program
+    rate_limit. The first call after the end of a window begins the next one.
 
-    Proved is that a window admits at most its count, if every run names the same count and seconds, nothing else changes the key, the
-    times of its runs never fall, and the first is greater than `seconds`. A time before the window began begins a new one."""
+    It is proved that a window admits at most its count, if every run has the same count and seconds, nothing else changes the key, the
+    times of its runs never fall, and the first is greater than `seconds`. A time before the beginning of the window begins a new one."""
 
     _name, _size = "rate_limit", 16
 
@@ -779,28 +788,29 @@ class RateLimit(_Stocked):
         self._count, self._seconds = _whole("count", count, least=1), _whole("seconds", seconds, least=1)
 
     def admit(self, now=None):
-        """Whether a call is admitted."""
+        """Returns whether a call is admitted."""
         return self._run(_given(now), self._seconds, self._count).end == 1
 
 
-# The databases that are open.
+# The open databases.
 _databases = weakref.WeakValueDictionary()
 
 
 def _all_databases():
-    """A list of the databases that are open. It is taken in one step, so another thread may open one meanwhile."""
+    """Returns a list of the open databases. It is made in one step, so another thread may open one meanwhile."""
     return [it for it in (ref() for ref in _databases.valuerefs()) if it is not None]
 
 
 def _leave_all():
-    """Leaves all databases to the parent, in a child."""
+    """In a child: leaves all databases to the parent."""
     for database in _all_databases():
         database._leave_to_parent()
         database._release()
 
 
 def _finish_all():
-    """Closes what is still open when the interpreter exits. The objects need not end then: a daemon thread may have them."""
+    """Closes the databases that are still open when the interpreter exits. Their objects may not be destroyed then: a daemon thread may
+    have them."""
     with contextlib.ExitStack() as stack:
         for database in _all_databases():
             stack.callback(database._finish)
@@ -811,7 +821,7 @@ atexit.register(_finish_all)
 
 
 def _of_fault(fault, name):
-    """The fault of the files of this name, which it names as the system's own errors do."""
+    """Returns the exception for a fault. Like a system error it has the name of the file."""
     text, name = fault.text.decode("utf-8", "replace"), os.fsdecode(name)
     if fault.system:
         return error(fault.system, text, name)
@@ -821,16 +831,16 @@ def _of_fault(fault, name):
 
 
 def open(file, flag="r", mode=0o666, *, wide=False, unsigned_keys=False, any_size=False, wait=True, timeout=5, limit=None):
-    """Opens FILE.dir and FILE.pag, as dbm.open does: 'r' reads only, 'w' writes too, 'c' makes missing files, 'n' begins with an empty
+    """Opens FILE.dir and FILE.pag, as dbm.open does: 'r' reads only, 'w' also writes, 'c' makes missing files, 'n' begins with an empty
     database. `wide` is for pages of 8,192 bytes, `unsigned_keys` for keys that hash by unsigned bytes; the files do not say which. With
-    `wide`, files that look like those of small pages are an error, unless `any_size` is given.
+    `wide`, files that look like those of small pages are an error, unless `any_size` is true.
 
-    One process at a time has a database open to write. While another one has it, `open` waits for `timeout` seconds, or without an end if that
-    is None, and then raises Locked; with `wait` false it tries once. 'r' does not wait for that process, and reads its last save: it waits, at
-    most as long, for a save that is under way.
+    One process at a time has a database open for writing. If another process has it open, `open` waits for `timeout` seconds, or without a
+    limit if that is None, and then raises Locked; if `wait` is false it tries once. 'r' does not wait for that process, and reads its last
+    save: it only waits, at most as long, for the end of a save.
 
-    A change that would make FILE.pag longer than `limit` bytes is an error and is not made; pages that exist stay. 1 GiB is the default and
-    the most. Set a limit if others choose your keys: they can make FILE.pag as long as it allows."""
+    A change that would make FILE.pag longer than `limit` bytes is an error and is not made; existing pages stay. 1 GiB is the default and
+    the most. Set a limit if strangers choose your keys: they can make FILE.pag as long as the limit."""
     if flag not in ("r", "w", "c", "n"):
         raise ValueError("flag must be 'r', 'w', 'c' or 'n'")
     name = os.fsencode(file)
@@ -854,7 +864,7 @@ def open(file, flag="r", mode=0o666, *, wide=False, unsigned_keys=False, any_siz
 
 
 def _make_files(db, name, mode, always):
-    """Files of a new database, with the permissions that are asked for. Beside a .pag that is there a save makes .dir, like it."""
+    """Makes the files of a new database, with the requested permissions. If only .dir is missing, a save makes it like .pag."""
     how, is_new = os.O_WRONLY | os.O_CREAT | os.O_EXCL | os.O_NOFOLLOW | os.O_CLOEXEC, False
     try:
         for ending in (b".pag", b".dir"):

@@ -1,4 +1,4 @@
-"""The extension of boddurci.py; pyproject.toml has the rest. Where it cannot be compiled it is left out, and the module goes by ctypes."""
+"""Builds the extension of boddurci.py; pyproject.toml has the rest. If it cannot be compiled it is left out, and the module uses ctypes."""
 
 import pathlib
 

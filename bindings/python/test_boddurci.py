@@ -1,7 +1,6 @@
-"""Tests of boddurci.py: a mapping in files, programs, stock programs, threads, the cases of CPython's own tests of dbm modules, and a
-random run of calls beside a dict. BODDURCI_LIBRARY names the shared object; BODDURCI_CALLS, how many random calls there are (100,000 where
-it is not set); BODDURCI_WAY, whether calls go by "ctypes", or by the "extension", which has to be there then: else they go by what is
-there."""
+"""Tests of boddurci.py: a mapping in files, programs, stock programs, threads, the cases of CPython's own tests of dbm modules, and random
+calls that are compared with a dict. BODDURCI_LIBRARY names the shared object. BODDURCI_CALLS is the number of random calls (default
+100,000). BODDURCI_WAY is "ctypes", or "extension", which must be built then; by default the tests use the extension if it is built."""
 
 import ctypes
 import dbm
@@ -50,7 +49,7 @@ class Mapping(InFolder):
         self.assertEqual("extension" if boddurci._extension else "ctypes", WAY)
 
     def test_lengths(self):
-        """A class of bytes that tells another length reads nothing after them."""
+        """If a subclass of bytes has a wrong length, nothing is read after the bytes."""
 
         class Long(bytes):
             def __len__(self):
@@ -72,7 +71,7 @@ class Mapping(InFolder):
                 db.program(Itself(b"\0"))
 
     def test_no_handle(self):
-        """A call of the library with NULL for its handle says that it is closed."""
+        """A call of the library with NULL as its handle says that it is closed."""
         for name in ("limit", "fetch", "store", "delete", "count", "submit", "submit_stock", "run", "first", "next"):
             call = getattr(boddurci._call, name)
             nothing = [None if kind in (ctypes.c_char_p, ctypes.c_void_p) else 0 for kind in call.argtypes]
@@ -213,7 +212,7 @@ class Mapping(InFolder):
                     self.assertEqual(reader.items(), [(b"a", value)])
 
     def test_a_handler_that_raises_as_it_opens_leaves_no_lock(self):
-        """The signal goes to another thread, so the wait for the lock goes on, and its handler runs once the base is open."""
+        """The signal is sent to another thread, so the wait for the lock continues, and the handler runs once the base is open."""
         with boddurci.open(self.base, "c") as db:
             db[b"a"] = b"1"
         self.addCleanup(signal.signal, signal.SIGUSR1, signal.signal(signal.SIGUSR1, self.raises))
@@ -254,13 +253,13 @@ class Mapping(InFolder):
                 fcntl.flock(lock, fcntl.LOCK_UN)
 
     def worker(self, script):
-        """A process that runs these lines."""
+        """Starts a process that runs these lines."""
         env = {**os.environ, "PYTHONPATH": os.pathsep.join(sys.path)}
         words = [sys.executable, "-c", "import boddurci, sys, time\n" + script, self.base]
         return subprocess.Popen(words, env=env, stdin=subprocess.PIPE, stdout=subprocess.PIPE, text=True)
 
     def test_four_workers(self):
-        """One of four workers has the database, and the others are told after 5 seconds which process that is."""
+        """Only one of four workers gets the database. The error of the rest names its process after 5 seconds."""
         script = """
 start = time.monotonic()
 try:
@@ -301,7 +300,7 @@ for line in iter(sys.stdin.readline, ""):
             service.stdin.close()
 
     def heard(self, *_):
-        """A signal: the second one ends the wait."""
+        """The second signal ends the wait."""
         self.count += 1
         if self.count == 2:
             signal.setitimer(signal.ITIMER_REAL, 0)
@@ -331,7 +330,7 @@ for line in iter(sys.stdin.readline, ""):
             db[b"new"] = b"y"
             with self.assertRaisesRegex(RuntimeError, "changed during iteration"):
                 list(turns)
-            # Another's walk is on its own way.
+            # Walks are independent.
             self.assertEqual(len([1 for _, _ in zip(db, db)]), 2501)
 
     def test_a_fault_names_the_file(self):
@@ -368,7 +367,7 @@ for line in iter(sys.stdin.readline, ""):
 
 
 class Ends(InFolder):
-    """What is open when the interpreter exits."""
+    """Databases that are open when the interpreter exits."""
 
     SCRIPT = """
 import boddurci, os, sys, threading, time
@@ -410,7 +409,7 @@ if len(sys.argv) > 3:
 
 
 class Library(InFolder):
-    """Which library is loaded. The one beside the module is right, and that of the environment is none."""
+    """The library that is loaded. The file next to the module is right, and the one that the environment names is not a library."""
 
     def setUp(self):
         super().setUp()
@@ -421,7 +420,7 @@ class Library(InFolder):
         (self.folder / "other.so").write_text("no library")
 
     def loads(self, *options, named="other.so", group=None):
-        """The error of a process that imports the module, or nothing."""
+        """Returns the error of a process that imports the module, or nothing."""
         script = f"import sys; sys.path.insert(0, {str(self.folder)!r}); import boddurci"
         env = {"PATH": os.environ["PATH"], "BODDURCI_LIBRARY": os.path.join(self.folder, named)}
         words = [sys.executable, *options, "-c", script]
@@ -489,7 +488,7 @@ class Saves(InFolder):
             self.assertEqual(len(reader), 101)
 
     def test_too_long(self):
-        """The last of these keys would need a page past the end of the longest .pag: it is refused, and the others are saved."""
+        """The last of these keys would need a page past the end of the longest .pag: it is refused, and the rest are saved."""
         keys = [b"far180463", b"far413", b"far192442", b"far4056234"]
         db = boddurci.open(self.base, "c")
         for key in keys[:3]:
@@ -523,7 +522,7 @@ class Saves(InFolder):
                 db.run(db.program((TOP / "examples/counter.s").read_text()), keys[1], blank=900)
             self.assertEqual(db.items(), [(keys[0], value)])
         self.assertEqual(pathlib.Path(self.base + ".pag").read_bytes(), before)
-        # What is above the limit stays, and can be replaced.
+        # A page above the limit stays, and its pairs can be replaced.
         with boddurci.open(self.base, "w", limit=0) as db:
             db[keys[0]] = value[1:]
         for limit in (1 << 20, 2**63):
@@ -614,7 +613,8 @@ class Saves(InFolder):
         return subprocess.run(words, capture_output=True, text=True, check=True).stdout
 
     def test_changed_by_perl(self):
-        """What Perl stores beside an open database is not overwritten, with changes of its own and without, until somebody insists."""
+        """Data that Perl stores while a database is open is not overwritten, whether the database has changes or not, unless a save
+        insists."""
         db = boddurci.open(self.base, "c")
         db[b"a"] = b"1"
         db.sync()
@@ -636,7 +636,7 @@ class Saves(InFolder):
         self.assertEqual(self.beside('print join " ", sort keys %h'), "a b c")
 
     def test_one_key_changed_by_perl(self):
-        """A write that leaves the length as it was, on a page that the database has changed too, and on one that it has not."""
+        """A write that does not change the length, on a page that the database has changed too, and on one that it has not."""
         for own in (True, False):
             with boddurci.open(self.base, "n") as db:
                 db.update({b"%d" % i: b"x" * 20 for i in range(1000)})
@@ -651,7 +651,7 @@ class Saves(InFolder):
                 self.assertEqual(self.beside("print $h{7}"), ("y" if own else "x") * 20)
 
     def test_no_change(self):
-        """Another mode, link or time is no change of the data; and a save overwrites nothing that the database has read."""
+        """A new mode, link or time is not a change of the data. A save overwrites nothing that the database has read."""
         with boddurci.open(self.base, "c") as db:
             db[b"a"] = b"1"
         self.beside("$h{perl} = 1")
@@ -668,7 +668,7 @@ class Saves(InFolder):
         self.assertEqual(self.beside('print join " ", sort keys %h'), "a b c perl")
 
     def test_a_time_that_is_put_back(self):
-        """A write whose time is put back is found by the comparison of pages."""
+        """A write with its time set back is found by the comparison of pages."""
         with boddurci.open(self.base, "c") as db:
             db[b"a"] = b"1"
             db.sync()
@@ -681,7 +681,7 @@ class Saves(InFolder):
         self.assertEqual(self.beside("print $h{a}"), "1")
 
     def test_what_another_program_wrote_is_read_anew(self):
-        """A process that is killed after the fault, and a database that ends, leave what another program wrote."""
+        """After the fault, a killed process and a destroyed database object leave the data of the other program."""
         script = "import boddurci, os, subprocess, sys, time; db = boddurci.open(sys.argv[1], 'c'); db[b'a'] = b'1'; db.sync(); time.sleep(0.05); "
         script += "subprocess.run(sys.argv[3:], check=True); db[b'a'] = b'3'\n"
         script += "try: db.sync()\nexcept boddurci.ChangedError: os.kill(os.getpid(), 9) if sys.argv[2] == 'kill' else None\n"
@@ -724,7 +724,7 @@ class Saves(InFolder):
 
 class Children(InFolder):
     def in_child(self, work):
-        """What a child tells, which ends as a program does."""
+        """Returns the result of `work` in a forked child, which ends by os._exit."""
         reading, writing = os.pipe()
         child = os.fork()
         if child == 0:
@@ -742,7 +742,7 @@ class Children(InFolder):
         return told
 
     def refused(self, db, program):
-        """How many calls on a database of the parent are refused."""
+        """Returns the number of calls on a database of the parent that are refused."""
         calls = (
             lambda: db[b"a"],
             lambda: db.update({b"a": b"child"}),
@@ -775,7 +775,7 @@ class Children(InFolder):
             self.assertEqual(db[b"a"], b"2")
 
     def test_ends(self):
-        """A child that ends saves nothing over its parent's later save."""
+        """The end of a child does not overwrite a later save of its parent."""
         script = """
 import boddurci, os, sys
 db = boddurci.open(sys.argv[1], "c")
@@ -808,7 +808,7 @@ os.wait()
                     db[b"a"] = b"1"
                     db.sync()
 
-            # So that forks meet the thread in the middle of its calls.
+            # Forks then happen in the middle of the thread's calls.
             interval = sys.getswitchinterval()
             sys.setswitchinterval(1e-6)
             thread = threading.Thread(target=work)
@@ -900,7 +900,7 @@ def packed(*numbers):
 
 
 class Stocks(InFolder):
-    """The stock programs by name, and the classes over them."""
+    """The stock programs by name, and their classes."""
 
     def setUp(self):
         super().setUp()
@@ -988,7 +988,7 @@ class Stocks(InFolder):
         self.assertNotIn(b"door", self.db)
         self.assertIs(door.release(8, now=1026), False)
         self.assertNotIn(b"door", self.db)
-        # A lease that has ended is nobody's.
+        # Nobody has a lease that has ended.
         self.assertEqual(door.acquire(7, 1, now=2000), 2001)
         self.assertIs(door.release(7, now=2001), False)
         self.assertNotIn(b"door", self.db)
@@ -1028,8 +1028,8 @@ class Stocks(InFolder):
         self.assertEqual(self.db[b"door"], packed(8, 1024, MOST))
 
     def test_leases_never_overlap(self):
-        """Random calls of three owners at times that never fall: a lease is granted exactly if no other owner's has an end to come, and tokens
-        rise with each new owner."""
+        """Random calls of three owners at times that never fall: a lease is granted exactly if no other owner has one that has not ended,
+        and tokens rise with each new owner."""
         rng = random.Random(3)
         for lease in (self.db.lease("door"), self.db.fenced_lease("gate")):
             now, ends, token = 0, {}, 0
@@ -1063,7 +1063,7 @@ class Stocks(InFolder):
         self.assertEqual([calls.admit(now) for now in (100, 100, 101, 102, 109)], [True, True, True, False, False])
         self.assertEqual(self.db[b"ann"], packed(100, 3))
         self.assertEqual([calls.admit(now) for now in (110, 119, 119, 119, 120)], [True, True, True, False, True])
-        # A time before the window began begins another.
+        # A time before the beginning of the window begins a new window.
         self.assertIs(calls.admit(50), True)
         self.assertEqual(self.db[b"ann"], packed(50, 1))
         once = self.db.rate_limit("bob", 1, 3600)
@@ -1073,7 +1073,7 @@ class Stocks(InFolder):
             self.assertIs(once.admit(), True)
 
     def test_times_are_those_of_the_runs(self):
-        """A thread that waits for its turn takes the time when it has it, so that times do not fall."""
+        """A thread that waits for its turn takes the time when it has its turn, so times do not fall."""
         clock = [100]
         gate = self.db.fenced_lease("gate")
         gate.acquire(7, 1000, now=50)

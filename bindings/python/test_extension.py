@@ -1,5 +1,5 @@
-"""Tests of the extension `_boddurci` of boddurci.py: that it does what the methods in Python do, on random calls and strange ones, leaves
-to them what it has to leave, and keeps no reference. test_boddurci.py tries the rest, with the extension and without."""
+"""Tests of the extension `_boddurci` of boddurci.py: it has the same results as the methods in Python, on random and on unusual calls,
+leaves calls to them when it must, and leaks no reference. test_boddurci.py tests the rest, with the extension and without."""
 
 import inspect
 import os
@@ -23,14 +23,14 @@ NEEDS = unittest.skipUnless(boddurci._extension or os.environ.get("BODDURCI_WAY"
 
 
 class Long(bytes):
-    """Bytes that tell a length they have not."""
+    """Bytes with a wrong length."""
 
     def __len__(self):
         return 1 << 20
 
 
 def outcome(call, *words, **named):
-    """What a call comes to: its value, or its fault with all that it tells."""
+    """Returns the outcome of a call: its value, or its exception with all attributes."""
     try:
         value = call(*words, **named)
     except Exception as fault:
@@ -44,7 +44,7 @@ class InFolder(unittest.TestCase):
         self.addCleanup(self.room.cleanup)
 
     def opened(self, kind=None, name="db", flag="c"):
-        """A database of a class: ours, or the one in Python alone."""
+        """Opens a database of a class: with the extension, or in Python only."""
         with mock.patch.object(boddurci, "Database", kind or boddurci.Database):
             db = boddurci.open(os.path.join(self.room.name, name), flag)
         self.addCleanup(db.close)
@@ -66,7 +66,7 @@ class Left(unittest.TestCase):
 
 @NEEDS
 class Beside(InFolder):
-    """Each call is made on a database with the extension, and on one without."""
+    """Makes each call on a database with the extension, and on one without."""
 
     def setUp(self):
         super().setUp()
@@ -74,12 +74,12 @@ class Beside(InFolder):
         self.programs = [[db.program(text) for text in (COUNTER, LEASE)] for db in self.both]
 
     def same(self, call):
-        """Makes a call, of the database and its programs, on both, and looks whether they come to the same."""
+        """Makes a call, which takes the database and its programs, on both, and compares the outcomes."""
         quick, plain = (outcome(call, *it) for it in zip(self.both, self.programs))
         self.assertEqual(quick, plain)
 
     def calls(self, rng):
-        """A random call, mostly a plain one."""
+        """Returns a random call, mostly a plain one."""
         key, arg, number = rng.randrange(60), rng.randrange(30), rng.choice((None, 0, 8, 16, 1000, 5000))
         strange = (1, None, 8.0, "\udc80", bytearray(b"5"), memoryview(b"7"), memoryview(b"abcd")[::2], Long(b"9"), [b"1"], b"k" * 1100)
         odd = (-1, 2**64, 2**64 - 1, "8", 8.0, True, b"8")
@@ -128,7 +128,7 @@ class Beside(InFolder):
         self.same(lambda db, _: sorted(db.items()))
 
     def test_words(self):
-        """Words that a call does not take, and some that it does."""
+        """Arguments that a call does not take, and some that it does."""
         for call in (
             lambda db, programs: db.run(),
             lambda db, programs: db.run(programs[0]),
@@ -185,7 +185,7 @@ class Beside(InFolder):
 @NEEDS
 class Extension(InFolder):
     def test_it_is_taken(self):
-        """No plain call goes by ctypes."""
+        """No plain call uses ctypes."""
         db = self.opened()
         counter = db.program(COUNTER)
         with mock.patch.multiple(boddurci._call, fetch=None, store=None, delete=None, run=None):
@@ -200,7 +200,7 @@ class Extension(InFolder):
                 db[bytearray(b"a")]
 
     def test_it_is_bound_once(self):
-        """By the interpreter that has come first."""
+        """The first interpreter has it."""
         import _boddurci
 
         self.assertIsNone(_boddurci.bind())
@@ -245,7 +245,7 @@ class Extension(InFolder):
             self.assertEqual(db[b"a"], b"meanwhile")
 
     def test_lists_beside_a_thread(self):
-        """A list of all pairs is of one moment, though it is read in several steps."""
+        """A list of all pairs is consistent, although it is read in several steps."""
         db, is_over = self.opened(), threading.Event()
         db.update({b"%d" % i: b"x" for i in range(2500)})
 
@@ -270,7 +270,7 @@ class Extension(InFolder):
             sys.setswitchinterval(interval)
 
     def test_a_close_beside_threads(self):
-        """What is stored before the end of a close is saved, and what comes later is refused."""
+        """A store before the end of a close is saved, and a later one is refused."""
         db, told = self.opened(), []
 
         def work(own):

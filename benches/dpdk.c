@@ -1,8 +1,8 @@
 /* Runs programs by DPDK's interpreter. Each line of standard input is ROUNDS RECORD ARGUMENT IMAGE, the last three in hex, with "." for no
- * bytes; the answer is the nanoseconds of a run. Each run begins with that record, as `MACHINE image` of crates/test_machine does.
+ * bytes; the answer is the nanoseconds of a run. Each run begins with that record, like `MACHINE image` of crates/test_machine.
  *
- * The interpreter is asked without its loader, which refuses what our programs may do. It sets R1 alone, so three instructions in front set
- * R2 to R4, and the five helpers are functions of the host. What it reads of a loaded program is as in DPDK 22.11.
+ * It calls the interpreter without DPDK's loader, which refuses valid programs of ours. The interpreter sets only R1, so three instructions
+ * in front set R2 to R4, and the five helpers are functions of the host. The layout of a loaded program is that of DPDK 22.11.
  *
  * build: cc -O2 dpdk.c -o dpdk $(pkg-config --cflags --libs libdpdk)      (Debian: libdpdk-dev, pkg-config)
  */
@@ -12,7 +12,7 @@
 #include <string.h>
 #include <time.h>
 
-/* The interpreter reads the instructions and the helpers, which come first in what the loader gives. */
+/* The beginning of the loader's result. The interpreter reads only these: the instructions and the helpers. */
 struct loaded {
     struct rte_bpf_prm parameters;
     char more[256];
@@ -57,7 +57,7 @@ static unsigned char record[8192], bytes[8192], argument[1024], image[4096 * 8];
 static struct ebpf_insn code[4096 + 4];
 static char line[160000];
 
-/* How many bytes a word of hex has. */
+/* Returns the number of bytes of a word in hex. */
 static size_t read_hex(const char *word, unsigned char *to)
 {
     size_t count = word && *word != '.' ? strlen(word) / 2 : 0;

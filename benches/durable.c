@@ -1,7 +1,7 @@
-/* Durable answers: threads increment counters, and each increment is on the disk before its thread begins the next one.
+/* Times durable answers: threads increment counters, and each increment is on the disk before its thread begins the next one.
  * cc -O2 -DHAVE_GDBM .. benches/durable.c -lgdbm .. -pthread -o durable, with one -DHAVE_ for the store (benches/run does it)
- * usage: durable PATH THREADS SECONDS   makes a store of COUNTERS counters at PATH, and prints the increments a second. It then closes the
- * store and opens it again: the status is 5 unless the counters add up to the number of increments. */
+ * usage: durable PATH THREADS SECONDS   makes a store of COUNTERS counters at PATH, and prints the increments per second. It then closes
+ * the store and opens it again: the status is 5 unless the counters add up to the number of increments. */
 #define _GNU_SOURCE
 #include "pairs.h"
 #include <fcntl.h>
@@ -336,7 +336,7 @@ static int sums(const char *path, uint64_t *sum)
 }
 #endif
 
-/* The flush alone: overwrites a block in place and calls fdatasync. The blocks of the file are on the disk before, and each belongs to one
+/* Only the flush: overwrites a block in place and calls fdatasync. The file and its blocks exist before, and each block belongs to one
  * thread. A block begins with the number of times that it was written. */
 #ifdef HAVE_FLUSH
 enum { BLOCK = 4096, BLOCKS = 256 };

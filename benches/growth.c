@@ -1,4 +1,5 @@
-/* How a database grows: time a store and a fetch, the length of .pag, and memory a pair, for N pairs of 16-byte keys and 8-byte values.
+/* Measures the growth of a database: time per store and fetch, length of .pag and memory per pair, for N pairs of 16-byte keys and 8-byte
+ * values.
  * cc -O2 -I out/boddurci benches/growth.c out/boddurci/libboddurci.a -pthread -o growth
  * usage: growth N [wide]     prints: N nanoseconds_a_store nanoseconds_a_fetch bytes_of_pag_a_pair bytes_of_memory_a_pair */
 #include "boddurci.h"

@@ -1,5 +1,5 @@
-/* Runs a command, and prints the milliseconds that it took and the most memory that it had, in KiB. It is small itself, since a child begins
- * with what its parent has.
+/* Runs a command, and prints the milliseconds that it took and its greatest memory, in KiB. It is small itself, since a child begins with
+ * the memory of its parent.
  * usage: most COMMAND WORD ..      the status is that of the command */
 #include <spawn.h>
 #include <stdio.h>

@@ -1,9 +1,9 @@
-/* One store or one fetch by a process of its own, as a command of a shell does it, on stores that a user would take in place of it. A store
- * is on the disk when the process ends.
- * cc -O2 -DHAVE_GDBM .. benches/one.c -lgdbm .. -o one, with one -DHAVE_ for the store that is there (benches/run does it)
+/* One store or one fetch by a process, like a command of a shell, on other stores that a user might choose. A store is on the disk when the
+ * process ends.
+ * cc -O2 -DHAVE_GDBM .. benches/one.c -lgdbm .. -o one, with one -DHAVE_ for the installed store (benches/run does it)
  * usage: one FILE fill N       stores N pairs of 16-byte keys and 100-byte values
- *        one FILE store I      stores pair I anew
- *        one FILE fetch I      fetches pair I; the status is 1 where it is not there */
+ *        one FILE store I      stores pair I again
+ *        one FILE fetch I      fetches pair I; the status is 1 if it is missing */
 #include "pairs.h"
 #include <stdio.h>
 #include <stdlib.h>

@@ -1,5 +1,6 @@
-/* Saves of a store that stays open in a process: the time of one with nothing changed, of one change and of a hundred. Each ends on the disk.
- * cc -O2 -DHAVE_GDBM .. benches/saves.c -lgdbm .. -o saves, with one -DHAVE_ for the store that is there (benches/run does it)
+/* Times saves of a store that stays open in a process: without a change, with one change, and with a hundred. Each save is on the disk at
+ * its end.
+ * cc -O2 -DHAVE_GDBM .. benches/saves.c -lgdbm .. -o saves, with one -DHAVE_ for the installed store (benches/run does it)
  * usage: saves FILE N ROUNDS   of a store of pairs 0 to N - 1 of benches/pairs.h; prints three medians in microseconds */
 #include "pairs.h"
 #include <stdio.h>
@@ -8,7 +9,7 @@
 
 enum { MOST_ROUNDS = 101 };
 
-/* Each store has an opening, one pair stored anew, and a save of all that was stored since the last; 0 is success. */
+/* Each store has functions that open it, store one pair again, and save all stores since the last save; 0 is success. */
 #ifdef HAVE_BODDURCI
 #include "boddurci_files.h"
 
@@ -122,7 +123,7 @@ static int by_size(const void *one, const void *other)
     return (a > b) - (a < b);
 }
 
-/* The median time of a save after so many changes, of pairs that change from round to round. */
+/* Returns the median time of a save after `changes` changes, of other pairs in each round. */
 static double median(unsigned changes, unsigned n, unsigned rounds)
 {
     double times[MOST_ROUNDS];

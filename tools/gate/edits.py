@@ -1,9 +1,9 @@
-"""Tries the must-fail edits of a proved crate over what its proof has kept, all at once as far as they go together.
+"""Tries the must-fail edits of a proved crate on the work that its proof has left in out/, as many as possible in one check.
 
-A check goes on behind a function that it refuses, and names each. An edit changes the body of a function and no contract, so edits of
-different functions do not meet: they are applied together, and each is refused where its function is. An edit is tried alone whose
-function was not named, or is refused only since it calls another one that is; which changes what stands in no body; or which meets
-another one.
+A check continues after a function that it refuses, and names each refused function. An edit changes the body of a function and no contract,
+so edits of different functions are independent: they are applied together, and an edit is refused if its function is. An edit is tried
+by itself if its function is not named, or is refused only since it calls another refused one; if the edit changes text outside function
+bodies; or if it changes a function that another edit changes too.
 """
 
 import re
@@ -14,7 +14,7 @@ from tree import SOURCES
 HEAD = re.compile(r'^( *)(?:pub(?:\([a-z]+\))? )?(?:unsafe )?(?:const )?(?:extern "C" )?fn (\w+)', re.M)
 OWNER = re.compile(r"^(?:impl|trait|pub trait)\b(.*)$", re.M)
 SAID = re.compile(r"^fn (\S+): (?:not proved|no proof(?!: it calls))", re.M)
-# What a check says of a text that it can't read, of whose meaning it then knows nothing.
+# The messages of a check about a text that it can't read. It has not judged the meaning of such a text.
 UNREADABLE = "is not in scope|has no field|is no name|operand is missing|expected the end"
 UNREAD = re.compile(rf"^(?:\./)?(?:src|specs)/\S+:\d+:\d+: error: (?:[^`]|.*(?:{UNREADABLE}))", re.M)
 REFUSED, PROVED, BAD, NOTHING = range(4)
@@ -30,7 +30,7 @@ class BadEdit(Exception):
 
 
 def replacements(edit):
-    """The file, the old text and the new one of each replacement of an edit."""
+    """Yields the file, the old text and the new text of each replacement of an edit."""
     file = old = None
     for line in edit.read_text(encoding="utf-8").splitlines():
         if line.startswith("file: "):
@@ -45,7 +45,7 @@ def replacements(edit):
 
 
 def owner_of(text, at, file):
-    """What the name of a function there begins with: type and trait where it stands in an impl, else the module of its file."""
+    """Returns the first part of the name of a function: type and trait if the function is in an impl, else the module of its file."""
     open_heads = [it for it in OWNER.finditer(text, 0, at) if "\n}\n" not in text[it.end() : at]]
     if not open_heads:
         return file.rpartition("/")[2][:-3]
@@ -57,7 +57,7 @@ def owner_of(text, at, file):
 
 
 def function_at(text, at, file, crate):
-    """The end of the name of the function in whose body a place of a source lies, or None where it lies in none."""
+    """Returns the end of the name of the function whose body contains a place of a source, or None if there is no such function."""
     for head in HEAD.finditer(text, 0, at):
         body = re.compile(rf"^{head[1]}(?:\S.*)?\{{$", re.M).search(text, head.start())
         if body and body.end() < at < text.find(f"\n{head[1]}}}\n", body.end()):
@@ -67,7 +67,7 @@ def function_at(text, at, file, crate):
 
 
 def edited(crate, edit, texts):
-    """The crate's texts as an edit leaves them, and the functions whose bodies it changes, with None where it changes something else."""
+    """Applies an edit. Returns the new texts, and the functions whose bodies it changes, with None if it changes anything else."""
     new, functions = dict(texts), set()
     for file, old, text in replacements(edit):
         if file not in new:
@@ -82,14 +82,14 @@ def edited(crate, edit, texts):
 
 
 def texts_of(crate):
-    """The texts that an edit may change, by file."""
+    """Returns the texts that an edit may change, by file."""
     paths = [path for part in SOURCES for path in (crate.folder / part).rglob("*") if path.suffix in (".rt", ".antt")]
     return {str(path.relative_to(crate.folder)): path.read_text(encoding="utf-8") for path in paths}
 
 
 def sorted_out(crate, texts):
-    """The edits that go together, each with its functions; the texts with all of them; those to be tried alone; and why others can't be
-    applied."""
+    """Returns the edits that can be tried together, each with its functions; the texts with all of them; the edits to try alone; and the
+    reasons why the rest can't be applied."""
     joined, together, alone, told = texts, {}, [], {}
     for edit in crate.edits:
         try:
@@ -105,7 +105,7 @@ def sorted_out(crate, texts):
 
 
 def checked(room, texts, new):
-    """What a check with new texts comes to, and the ends of the names of the functions that it refuses."""
+    """Checks new texts. Returns the outcome, and the ends of the names of the refused functions."""
     for file in texts:
         if new[file] != texts[file]:
             (room.folder / file).write_text(new[file], encoding="utf-8")
@@ -114,12 +114,12 @@ def checked(room, texts, new):
         return BAD, set()
     if status == 1 and re.search(r"^logic=not-proved", said, re.M):
         return REFUSED, {"::".join(name.split("::")[-2:]) for name in SAID.findall(said)}
-    # At a limit of its own, 3, the prover refuses too, and gives no reason.
+    # Status 3 is a limit of the prover: that is a refusal too, without a reason.
     return {0: PROVED, 3: REFUSED}.get(status, NOTHING), set()
 
 
 def try_edits(crate):
-    """What is said of each edit that is not refused, and how many checks it took."""
+    """Returns a message for each edit that is not refused, and the number of checks."""
     texts, checks = texts_of(crate), 0
     together, joined, alone, told = sorted_out(crate, texts)
     if not together and not alone:

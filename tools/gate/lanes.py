@@ -1,24 +1,24 @@
-"""Runs tasks side by side, each once those that it waits for have ended, and first those with the longest chain of others behind them."""
+"""Runs tasks in parallel, each after the tasks that it waits for. Tasks with the longest chain of dependents run first."""
 
 import concurrent.futures
 import os
 import re
 
-# What a check takes of memory, in bytes, as a rule; and the most jobs that one gets.
+# The usual memory of a check, in bytes; the greatest number of jobs of a task.
 MEMORY = 3_000_000_000
 MOST_JOBS = 4
 
 
 class Task:
-    """What is to be done: its key, the keys of those that it waits for, about how many seconds it takes, and a call that takes the number
-    of its jobs. What fills is done where a place is left."""
+    """A task: its key, the keys of the tasks that it waits for, its estimated seconds, and a call that takes the number of its jobs. A task
+    with `fills` runs only if a place is free."""
 
     def __init__(self, key, waits, seconds, call, fills=False):
         self.key, self.waits, self.seconds, self.call, self.fills = key, waits, seconds, call, fills
 
 
 def places():
-    """How many tasks run at a time: one for each core, as far as there is memory for each."""
+    """Returns the number of tasks at a time: one for each core, but not more than the memory allows."""
     cores = len(os.sched_getaffinity(0))
     with open("/proc/meminfo") as it:
         free = 1024 * int(re.search(r"MemAvailable:\s+(\d+)", it.read())[1])
@@ -26,10 +26,10 @@ def places():
 
 
 def chains(tasks):
-    """Of each key the seconds of the longest chain that begins with its task."""
+    """Returns for each key the seconds of the longest chain that begins with its task."""
     seconds = {it.key: it.seconds for it in tasks}
     longest = dict(seconds)
-    # Each task stands behind those that it waits for.
+    # The list has each task after those that it waits for.
     for task in reversed(tasks):
         for key in task.waits:
             longest[key] = max(longest[key], seconds[key] + longest[task.key])
@@ -37,12 +37,12 @@ def chains(tasks):
 
 
 def jobs_for(task, chain, rest, spare):
-    """How many jobs a task gets: beside its own the places that no other task can have, and two where the rest ends before its chain."""
+    """Returns the number of jobs of a task: one and the places that no other task can use, or two if the rest ends before its chain."""
     return 1 if task.fills else min(MOST_JOBS, max(1 + spare, 1 + (chain > rest)))
 
 
 def run_all(tasks, at_once, given):
-    """Runs the tasks, and puts what each gave into `given` by its key."""
+    """Runs the tasks, and stores the result of each in `given` by its key."""
     longest = chains(tasks)
     left = sorted(tasks, key=lambda it: (it.fills, -longest[it.key]))
     running = {}

@@ -8,21 +8,21 @@ import tempfile
 
 from rooms import Room
 
-# A crate may have none of these on its last line: functions of C, values that hide a contract, calls that end the program or never
-# return, and what the prover could not do.
+# The verdict of a crate must have none of these: functions of C, values that hide a contract, calls that end the program or never return, and
+# failures of the prover.
 REFUSED = ("foreign", "hides", "partial", "may-abort", "may-serve", "bugs")
 SECONDS = 120
 CHANGED = "its files, or those of a crate below, were changed meanwhile"
 
 
 def last_line(said):
-    """The verdict on the last line that has one, or None."""
+    """Returns the last line with a verdict, or None."""
     lines = re.findall(r"^logic=proved .*$", said, re.M)
     return lines[-1] if lines else None
 
 
 def beyond(crate, line):
-    """What a verdict has that no crate may have, none where it is right."""
+    """Returns an error if a verdict has anything that a crate must not have, else None."""
     words = dict(word.partition("=")[::2] for word in line.split())
     handles = set(filter(None, words.get("main", "").split("+"))) | ({"Wait"} if "may-wait" in words else set())
     more = [f"{name}={words[name]}" for name in REFUSED if name in words] + sorted(handles - crate.tree.handles)
@@ -30,7 +30,7 @@ def beyond(crate, line):
 
 
 def of_interest(said):
-    """What is to be read of what rt said of a crate that is not proved."""
+    """Returns the useful lines of the output of rt for a crate that is not proved."""
     lines = [it for it in said.splitlines() if not re.search(r": proved$|^(?:checked|statements|library|crate|logic) ", it)]
     return "\n".join(lines[-200:]) or "rt said nothing of it"
 
@@ -52,12 +52,12 @@ def prove(crate, jobs):
 
 
 def date(crate, made):
-    """Has what was made of a crate count as younger than its sources, by which ./dbm goes, but for those that are changed meanwhile."""
+    """Sets the time of the result of a crate: ./dbm takes it for newer than the sources, except those that are changed meanwhile."""
     os.utime(crate.out / made, (crate.tree.began, crate.tree.began))
 
 
 def test(crate, jobs):
-    """Proves and runs the tests of a crate as both compilers build them. Returns what is wrong, or None."""
+    """Proves the tests of a crate, and runs them as built by both compilers. Returns what is wrong, or None."""
     if crate.has_passed("tests", crate.sum):
         return None
     with Room(crate, "tests") as room:
@@ -69,7 +69,7 @@ def test(crate, jobs):
 
 
 def build_otherwise(crate, jobs):
-    """Builds a proved program by Rattle's own compiler, beside that of LLVM. Returns what is wrong, or None."""
+    """Builds a proved program by Rattle's own compiler, in addition to LLVM. Returns what is wrong, or None."""
     made = f"{crate.name}.by-rattle"
     if crate.has_passed("program", crate.sum):
         return None
@@ -82,7 +82,7 @@ def build_otherwise(crate, jobs):
 
 
 def run(crate, program):
-    """Runs a program in a folder of its own with what its crate gives it. Returns what is wrong, or None."""
+    """Runs a program in a new folder with the input and arguments of its crate. Returns what is wrong, or None."""
     given = {name: (crate.folder / name).read_bytes() for name in ("stdin", "stdout", "args", "status") if (crate.folder / name).exists()}
     words = given.get("args", b"").decode().splitlines()
     with tempfile.TemporaryDirectory(prefix="program-") as room:
@@ -100,7 +100,7 @@ def run(crate, program):
 
 
 def first_difference(wrote, wanted):
-    """Says where what a program wrote differs from what it was to write."""
+    """Returns a message about the first line of the output that differs from the expected output."""
     pairs = [wrote.decode(errors="replace").splitlines(), wanted.decode(errors="replace").splitlines()]
     at = next((at for at, (one, other) in enumerate(zip(*pairs)) if one != other), min(map(len, pairs)))
     one, other = (lines[at] if at < len(lines) else "nothing more" for lines in pairs)
@@ -108,7 +108,7 @@ def first_difference(wrote, wanted):
 
 
 def run_both(crate, jobs):
-    """Runs a proved program as each of the two compilers builds it. Returns what is wrong, or None."""
+    """Runs a proved program as built by each of the two compilers. Returns what is wrong, or None."""
     why = build_otherwise(crate, jobs)
     for name, compiler in ((crate.name, "LLVM"), (f"{crate.name}.by-rattle", "Rattle's own compiler")):
         told = None if why else run(crate, crate.out / name)
@@ -117,7 +117,7 @@ def run_both(crate, jobs):
 
 
 def in_format(crates, rattle):
-    """The files of each crate that are not in the layout of rt fmt."""
+    """Returns for each crate with files that rt fmt would change its output."""
     found = {}
     for crate in crates:
         files = [str(it) for it in crate.files() if it.suffix in (".rt", ".antt")]

@@ -1,5 +1,5 @@
-"""Rooms: copies of the tree with one crate and those below it, so that checks of several crates run side by side. In one tree they would
-wait for each other, since rt locks a crate with all below it."""
+"""Rooms: copies of the tree with one crate and those below it, so that checks of several crates run in parallel. In one tree they would
+wait for each other, since rt locks a crate and all crates below it."""
 
 import fcntl
 import os
@@ -15,7 +15,7 @@ RUNNING, STARTING, SPENT = set(), threading.Lock(), threading.local()
 
 
 def linked(one, other):
-    """Gives a file a second name, or copies it where that can't be done. rt replaces such files, and writes into none."""
+    """Links a file, or copies it if that is impossible. rt replaces such files, and never writes into them."""
     try:
         os.link(one, other)
     except OSError:
@@ -23,7 +23,7 @@ def linked(one, other):
 
 
 def linked_work(one, other):
-    """The same for kept work, of which only what was proved is never written into."""
+    """The same for work in out/. Only proofs are linked: other files may be written into."""
     (linked if str(one).endswith(".oantt") else shutil.copy2)(one, other)
 
 
@@ -36,8 +36,8 @@ def copy_part(one, other, copy):
 
 
 class Room:
-    """A room for one crate. With `takes_out` it has the crate's own out/, which it gives back when it is left; without, a copy of what
-    checks have kept."""
+    """A room for one crate. With `takes_out` the crate's own out/ is moved into it, and back at the end; otherwise it has a copy of the
+    work of checks."""
 
     def __init__(self, crate, purpose, takes_out=False):
         self.crate, self.takes_out = crate, takes_out
@@ -61,13 +61,13 @@ class Room:
         return self
 
     def put_sources(self):
-        """Puts the crate's sources there as they stand in the tree."""
+        """Copies the crate's sources from the tree."""
         for part in (*SOURCES, *NOTED):
             shutil.rmtree(self.folder / part, ignore_errors=True)
             copy_part(self.crate.folder / part, self.folder / part, shutil.copy2)
 
     def put_work(self):
-        """Puts a copy of what checks of the crate have kept there."""
+        """Copies the work of earlier checks of the crate."""
         shutil.rmtree(self.folder / "out", ignore_errors=True)
         (self.folder / "out").mkdir()
         copy_part(self.crate.out / "incremental", self.folder / "out/incremental", linked_work)
@@ -78,8 +78,8 @@ class Room:
         shutil.rmtree(self.at, ignore_errors=True)
 
     def rt(self, *words):
-        """Runs rt in the crate's folder, and returns its status and all that it says. What was killed, most likely because memory ran out,
-        runs once more."""
+        """Runs rt in the crate's folder, and returns its status and output. If it was killed, most likely for lack of memory, runs it once
+        more."""
         for _ in range(2):
             ran, said = start([rt(), *words], self.folder)
             if ran not in (-signal.SIGKILL, 256 - signal.SIGKILL):
@@ -88,7 +88,7 @@ class Room:
 
 
 def start(words, folder):
-    """Runs a command in a folder, and returns its status and all that it says."""
+    """Runs a command in a folder, and returns its status and output."""
     env = {name: value for name, value in os.environ.items() if not name.startswith("RT_")}
     with tempfile.TemporaryFile() as said:
         with STARTING:
@@ -103,12 +103,12 @@ def start(words, folder):
 
 
 def spent():
-    """How many seconds of the processor the commands took that this thread ran."""
+    """Returns the processor seconds of the commands that this thread has run."""
     return getattr(SPENT, "seconds", 0)
 
 
 def stop(*_):
-    """Ends what runs, so that all rooms are left."""
+    """Ends all running commands and this process."""
     STARTING.acquire()
     for ran in list(RUNNING):
         ran.terminate()
@@ -116,7 +116,7 @@ def stop(*_):
 
 
 def lock(tree):
-    """Waits until no other rt works in these crates, and keeps others out. Returns what holds the locks."""
+    """Locks the crates against other runs of rt, after those that are running. Returns the descriptors that hold the locks."""
     held = [os.open(it.folder, os.O_RDONLY) for it in tree.crates.values()]
     for crate, it in zip(tree.crates.values(), held):
         try:
@@ -128,7 +128,7 @@ def lock(tree):
 
 
 def clear(tree):
-    """Removes the rooms that a run left which was killed, and gives the crates back what stood in them."""
+    """Removes the rooms of a killed run, and moves each out/ in them back to its crate."""
     for crate in tree.crates.values():
         for out in tree.rooms.glob(f"proof-{crate.name}/crates/{crate.name}/out"):
             if not crate.out.exists():

@@ -1,4 +1,4 @@
-"""The crates as crates.txt has them, and the sums by which it is known what has passed."""
+"""The crates of crates.txt, and the sums that show what has passed."""
 
 import functools
 import hashlib
@@ -10,19 +10,19 @@ import shutil
 import subprocess
 import time
 
-# What a proof reads of a crate, and beside it what the program's build notes.
+# The folders of a crate that a proof reads, and the files that the build of a program reads in addition.
 SOURCES = ("src", "specs", "proofs", "c")
 NOTED = ("args", "status")
 TEST = re.compile(r"^\s*#\[test\]", re.M)
 
 
 def rt():
-    """The command of the Rattle kit, or None where it is missing."""
+    """Returns the command of the Rattle kit, or None if it is missing."""
     return shutil.which("rt") or shutil.which("/opt/rattle/bin/rt")
 
 
 class Crate:
-    """A crate: its name, its line, its folder, and the crates of this tree that it stands on."""
+    """A crate: its name, its line, its folder, and its dependencies in this tree."""
 
     def __init__(self, tree, line):
         head, _, names = line.partition(":")
@@ -40,34 +40,34 @@ class Crate:
 
     @functools.cached_property
     def below(self):
-        """All crates that it stands on, each behind those that it stands on itself."""
+        """All dependencies, direct and indirect, each after its own dependencies."""
         found = []
         for crate in self.uses:
             found += [it for it in [*crate.below, crate] if it not in found]
         return found
 
     def files(self):
-        """The files that its proof reads, in one order."""
+        """Returns the files that its proof reads, sorted."""
         found = [path for part in SOURCES for path in (self.folder / part).rglob("*") if path.is_file()]
         return sorted(found + [self.folder / name for name in NOTED if (self.folder / name).is_file()])
 
     @functools.cached_property
     def code(self):
-        """How many thousand bytes of code it has."""
+        """The size of its code in units of 1,000 bytes."""
         return sum(path.stat().st_size for path in self.files() if path.suffix == ".rt") / 1000
 
     @functools.cached_property
     def load(self):
-        """About how many seconds a check takes that has nothing to prove: it reads what the crates below state."""
+        """The estimated seconds of a check that has nothing to prove: it reads the statements of the crates below."""
         return 10 + sum(it.code for it in self.below) / 10
 
     @functools.cached_property
     def work(self):
-        """About how many seconds a proof from nothing takes."""
+        """The estimated seconds of a proof without earlier work."""
         return self.load + 5 * self.code
 
     def own_sum(self):
-        """A sum of its own files as they stand now."""
+        """Returns a sum of the present state of its files."""
         told = hashlib.sha256(self.line.encode())
         for path in self.files():
             told.update(f"\n{path.relative_to(self.folder)}\n".encode() + path.read_bytes())
@@ -75,12 +75,12 @@ class Crate:
 
     @functools.cached_property
     def began(self):
-        """Its own sum when it was first asked for."""
+        """Its own sum at the first request."""
         return self.own_sum()
 
     @functools.cached_property
     def sum(self):
-        """A sum of all that its proof reads: the kit, the handles, its files and those of the crates below."""
+        """A sum of all inputs of its proof: the kit, the handles, its files and those of the crates below."""
         return summed(self.tree.kit, self.tree.handles_line, self.began, *[it.sum for it in self.uses])
 
     @functools.cached_property
@@ -88,20 +88,20 @@ class Crate:
         return summed(self.sum, *[f"{it.name}\n{it.read_text(encoding='utf-8')}" for it in self.edits])
 
     def passed(self):
-        """What has passed of it, by name: the sum of what that stood on, and the sums of what it made."""
+        """Returns its tasks that have passed, by name: the sum of the inputs, and the sums of the results."""
         try:
             return json.loads((self.out / "passed.json").read_text())
         except (OSError, ValueError):
             return {}
 
     def has_passed(self, what, standing_on):
-        """Whether this has passed on the same, and all that it made is still there as it was made."""
+        """Returns whether a task has passed with these inputs, and its results are unchanged."""
         kept = self.passed().get(what, {})
         made = kept.get("made", {})
         return kept.get("sum") == standing_on and all(file_sum(self.out / name) == it for name, it in made.items())
 
     def note_passed(self, what, standing_on, made=()):
-        """Notes that this has passed, unless files that it stands on were changed meanwhile. Returns whether it is noted."""
+        """Notes that a task has passed, unless its inputs were changed meanwhile. Returns whether it is noted."""
         if any(it.own_sum() != it.began for it in [self, *self.below]):
             return False
         with self.tree.noting:
@@ -121,7 +121,7 @@ def file_sum(path):
 
 
 class Tree:
-    """The repository at a folder, with its crates in the order in which each stands behind those below it."""
+    """The repository at a folder, with its crates, each after those below it."""
 
     def __init__(self, top, noting):
         self.top, self.noting, self.crates, self.began = pathlib.Path(top).resolve(), noting, {}, time.time()

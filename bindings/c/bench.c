@@ -1,7 +1,7 @@
 /* Times calls of the library: N stores, fetches and increments (runs of examples/counter.s) of 16-byte keys and 8-byte values.
  * cc -O2 -I out/boddurci bindings/c/bench.c out/boddurci/libboddurci.a -pthread -o bench
- * usage: bench N [wide]     prints the stores, fetches, runs and runs by a ticket per second; and the milliseconds that it takes to make the
- * bytes of both files, to open them again, and to plan a save of one changed pair. */
+ * usage: bench N [wide]     prints the stores, fetches, runs and runs by a ticket per second; and the milliseconds that it takes to make
+ * the bytes of both files, to open them again, and to plan a save of one changed pair. */
 #include "boddurci.h"
 #include <stdio.h>
 #include <stdlib.h>

@@ -1,5 +1,5 @@
-/* Data files that another program changes while a base is open, from C: which changes a save of boddurci_files.h refuses, and what one that
- * insists does. tests/c_library builds and runs it, in the folder that is the argument. */
+/* Data files that another program changes while a base is open, from C: the changes for which a save of boddurci_files.h is refused, and
+ * saves that insist. tests/c_library builds and runs it. The argument is a folder. */
 #define _POSIX_C_SOURCE 200809L
 #define _DEFAULT_SOURCE
 #include "boddurci_files.h"
@@ -72,7 +72,7 @@ static void delete_one(boddurci_base *base, const char *key)
     boddurci_give(base);
 }
 
-/* Takes the locks of an open base away, or puts them back. */
+/* Moves the locks of an open base away, or back. */
 static void move_locks(const char *name, int is_back)
 {
     static const char *const endings[2] = {"lock", "writer"};
@@ -84,7 +84,7 @@ static void move_locks(const char *name, int is_back)
     }
 }
 
-/* How many pairs a reader finds, who does without the lock that another has. */
+/* Returns the number of pairs that a reader finds without a lock. */
 static size_t found_beside(const char *name, const char *lock)
 {
     EXPECT(rename(lock, "away") == 0);
@@ -104,7 +104,7 @@ static int is_untouched(const char *name, const struct stat *before)
            is.st_mtim.tv_nsec == before->st_mtim.tv_nsec && is.st_ctim.tv_sec == before->st_ctim.tv_sec && is.st_ctim.tv_nsec == before->st_ctim.tv_nsec;
 }
 
-/* Changes the files while another has them open, as who knows nothing of the locks, and in another tick of the clock than the other's save. */
+/* Changes the files while a base has them open, without the locks, and in another tick of the clock than the save of the base. */
 static void change_beside(const char *name)
 {
     EXPECT(usleep(TICK) == 0);
@@ -129,7 +129,7 @@ static size_t value_of(boddurci_base *base, const char *key)
     return length;
 }
 
-/* Whether a save is refused with this text, since another program has changed the files, and writes none. */
+/* Whether a save is refused with this text, since another program has changed the files, and writes no file. */
 static int is_refused(boddurci_base *base, const char *name, const char *text)
 {
     char path[32];
@@ -154,8 +154,8 @@ static int insists(boddurci_base *base)
     return boddurci_save_with(base, BODDURCI_INSIST, &fault) == BODDURCI_DONE && fault.status == BODDURCI_DONE && fault.system == 0;
 }
 
-/* Files that another program has written are refused, even if the base has changed nothing. If it insists they become those of the base as a
- * whole, even if it begins as empty. */
+/* Files that another program has written are refused, even if the base has changed nothing. A save that insists replaces them by those of
+ * the base as a whole, even if the base began empty. */
 static void test_written_beside(void)
 {
     boddurci_base *base = opened("visits", 0);
@@ -191,7 +191,7 @@ static void test_written_beside(void)
     boddurci_close_files(base);
 }
 
-/* Writes one byte of a file, or reads it: as another program writes. */
+/* Reads or writes one byte of a file, as another program does. */
 static void put_byte(const char *name, off_t at, char byte)
 {
     int file = open(name, O_WRONLY);
@@ -206,7 +206,8 @@ static char byte_at(const char *name, off_t at)
     return byte;
 }
 
-/* A byte of each kind of page that another program writes, with its time put back and not: what is found, and what stays. */
+/* Another program writes a byte on each kind of page, with its time set back and not: the changes that are found, and the data that stays.
+ * */
 static void test_bytes_beside(void)
 {
     struct stat found;
@@ -236,7 +237,7 @@ static void test_bytes_beside(void)
     boddurci_close_files(base);
 }
 
-/* The program's own, which the library calls in the place of the C library's: another program writes this file meanwhile. */
+/* Replaces the function of the C library, for the library too: another program writes this file meanwhile. */
 static const char *written_in_sync;
 
 int fdatasync(int file)
@@ -269,7 +270,7 @@ static void test_during(void)
     boddurci_close_files(base);
 }
 
-/* Another mode or link, a time alone, and a file that is made without bytes are no changes. A file that is made with bytes is one. */
+/* A new mode, link or time, and a new empty file are not changes. A new file with bytes is a change. */
 static void test_not_changed(void)
 {
     boddurci_base *base = opened("same", 0);
@@ -330,7 +331,7 @@ struct saver {
     boddurci_fault fault;
 };
 
-/* Stores and saves, with rests of some ticks: our own writes are no changes of another program, in whichever tick they come. */
+/* Stores and saves, with pauses of some ticks: our own writes never look like those of another program, in any tick. */
 static void *save_often(void *given)
 {
     struct saver *saver = given;
@@ -379,7 +380,7 @@ static void *save_once(void *given)
     return NULL;
 }
 
-/* Threads save files that another program has changed: either all are refused, or one insists, and then all that save after it are not. */
+/* Threads save files that another program has changed: all are refused until one insists, and none after that. */
 static void test_together(void)
 {
     pthread_t threads[SAVERS];

@@ -1,5 +1,5 @@
-/* Databases in files, from C: every call and every status of boddurci_files.h, in the folder that is the argument. tests/c_library builds
- * and runs it. It leaves the database `visits`, of 1,000 pairs. */
+/* Databases in files, from C: every call and every status of boddurci_files.h. The argument is a folder. tests/c_library builds and runs
+ * it. It leaves the database `visits`, of 1,000 pairs. */
 #define _POSIX_C_SOURCE 200809L
 #define _DEFAULT_SOURCE
 #include "boddurci_files.h"
@@ -32,7 +32,7 @@ static boddurci_fault fault;
         }                                                                                                                          \
     } while (0)
 
-/* Whether an opening fails so. */
+/* Whether an opening fails with this status. */
 static int fails(const char *name, uint32_t flags, uint32_t status)
 {
     return boddurci_open_files(name, flags, &fault) == NULL && fault.status == status && fault.text[0] != 0;
@@ -70,7 +70,7 @@ static void *open_and_end(void *name)
     return opened(name, 0);
 }
 
-/* What a thread that has ended has opened is nobody else's, whatever number the system gives the next thread. */
+/* A base that an ended thread has opened does not count for a new thread, even if the system reuses the number of the thread. */
 static void test_ended_thread(void)
 {
     pthread_t thread;
@@ -132,7 +132,7 @@ static void delete_one(boddurci_base *base, const char *key)
     boddurci_give(base);
 }
 
-/* How many pairs a reader finds, who does without the lock that another has. */
+/* Returns the number of pairs that a reader finds without a lock. */
 static size_t found_beside(const char *name, const char *lock)
 {
     EXPECT(rename(lock, "away") == 0);
@@ -155,14 +155,14 @@ static void test_new(void)
     EXPECT(boddurci_save(base, &fault) == BODDURCI_DONE && is_there("visits.pag") && is_marked("visits.redo"));
     EXPECT(fails("visits", 0, BODDURCI_OPEN_HERE) && fails("visits", BODDURCI_NO_WAIT, BODDURCI_OPEN_HERE));
     EXPECT(is_locked("visits", 0) && !is_locked("visits", BODDURCI_READ_ONLY));
-    /* What is not saved is not there. */
+    /* Unsaved data is missing. */
     store_one(base, PAIRS);
     boddurci_close_files(base);
     EXPECT(is_there("visits.redo") && !is_marked("visits.redo"));
     boddurci_close_files(NULL);
 }
 
-/* A reader keeps no lock, and has what it read; files that are saved stay the same files. */
+/* A reader holds no lock, and keeps the data that it read; a save does not replace the files by new ones. */
 static void test_reader(void)
 {
     struct stat before, after;
@@ -178,7 +178,7 @@ static void test_reader(void)
     boddurci_close_files(base);
 }
 
-/* A save that fails leaves the files as they were, also if the redo file of an open log is taken away. */
+/* A failed save does not change the files, even if the redo file of an open log is removed. */
 static void test_failing(void)
 {
     boddurci_base *base = opened("visits", 0);
@@ -198,7 +198,7 @@ static void test_failing(void)
     boddurci_close_files(base);
 }
 
-/* Where nothing changed nothing is written, and an empty database makes no files. */
+/* Without a change nothing is written, and an empty database makes no files. */
 static void test_unchanged(void)
 {
     static const struct timespec long_ago[2] = {{1000, 0}, {1000, 0}};
@@ -212,7 +212,7 @@ static void test_unchanged(void)
     boddurci_close_files(base);
 }
 
-/* Whether a file is as it was, and when it was changed last too. */
+/* Whether a file is unchanged, and its time too. */
 static int is_untouched(const char *name, const struct stat *before)
 {
     struct stat is;
@@ -236,7 +236,7 @@ static void test_ends(void)
     EXPECT(stat("visits.dir", &found) == 0 && found.st_size == before[1].st_size);
 }
 
-/* A save of no change touches nothing, not after a save either, nor where a pair was stored that stands there already. */
+/* A save without a change touches nothing, neither after a save, nor after a store of an existing pair. */
 static void test_untouched(void)
 {
     struct stat pages, directory, redo, folder;
@@ -265,7 +265,7 @@ static size_t value_of(boddurci_base *base, const char *key)
     return length;
 }
 
-/* The linker puts this in front of boddurci_mark: no pointer that the library is given may be NULL. */
+/* The linker puts this in front of boddurci_mark: no pointer argument of the library may be NULL. */
 uint32_t __real_boddurci_mark(boddurci *db, const uint32_t *numbers, size_t count);
 uint32_t __wrap_boddurci_mark(boddurci *db, const uint32_t *numbers, size_t count);
 
@@ -278,7 +278,7 @@ uint32_t __wrap_boddurci_mark(boddurci *db, const uint32_t *numbers, size_t coun
     return __real_boddurci_mark(db, numbers, count);
 }
 
-/* The program's own, which the library calls in the place of the C library's: once it was called so often a file may have 1,024 bytes. */
+/* Replaces the function of the C library, for the library too: after a number of calls it limits files to 1,024 bytes. */
 static int syncs_until_limit;
 
 static void set_limit(rlim_t most)
@@ -304,8 +304,8 @@ static boddurci_base *with_many(const char *name, int from)
     return base;
 }
 
-/* A save in a child whom SIGXFSZ would kill, and whose limit falls at one of its syncs, or before it where that is 0; what it comes to, or -1
- * where a signal killed it. Its mask of signals stays. */
+/* Saves in a child that SIGXFSZ would kill. Its limit on files falls at one of its syncs, or before the save if that is 0. Returns the
+ * status of the save, or -1 if a signal killed the child. The signal mask must stay. */
 static int save_in_child(const char *name, int sync, int was_held)
 {
     int status;
@@ -332,8 +332,8 @@ static int save_in_child(const char *name, int sync, int was_held)
     return WIFEXITED(status) ? WEXITSTATUS(status) : -1;
 }
 
-/* A limit on the length of files, which falls at any moment of a save: it is a fault with nothing changed, or the save is kept in the redo
- * file, and nobody dies of it. A save that was cut off and cannot be ended under the limit is a fault of the opening. */
+/* A limit on the length of files falls at any time of a save: the result is a fault with nothing changed, or the save is durable in the
+ * redo file, and no process is killed. If an interrupted save cannot be recovered under the limit the opening fails. */
 static void test_limited(void)
 {
     int seen[3] = {0, 0, 0};
@@ -357,7 +357,7 @@ static void test_limited(void)
         EXPECT(unlink("limited.pag") == 0 && (unlink("limited.dir") == 0 || errno == ENOENT));
     }
     EXPECT(seen[0] != 0 && seen[1] != 0 && seen[2] != 0);
-    /* No page has changed, and the first save fails all the same: there is nothing to be marked. */
+    /* No page has changed, and the first save fails nevertheless: there is nothing to mark. */
     boddurci_base *base = with_many("limited", 0);
     EXPECT(boddurci_save(base, &fault) == BODDURCI_DONE);
     boddurci_close_files(base);
@@ -371,7 +371,7 @@ static void test_limited(void)
     boddurci_close_files(base);
 }
 
-/* What a save has planned and could not write is in the next one. */
+/* Changes that a save has planned and could not write are in the next one. */
 static void test_written_later(void)
 {
     struct rlimit all, few;
@@ -454,7 +454,7 @@ static void test_links(void)
     EXPECT(unlink("visits.pag") == 0 && rename("pages", "visits.pag") == 0);
 }
 
-/* Links to the files of another base lead to its lock; two that lead apart, or nowhere, are refused. */
+/* Links to the files of another base lead to its lock. Links to two bases, or to missing files, are refused. */
 static void test_other_base(void)
 {
     EXPECT(symlink("visits.pag", "linked.pag") == 0);
@@ -482,7 +482,7 @@ static void test_bytes(void)
     boddurci_close_files(base);
 }
 
-/* A database of small pages is not opened with wide ones, however many it has, and stays as it is; one that is wide is opened. */
+/* A database of any number of small pages is not opened with wide ones, and does not change. A wide database is opened. */
 static void test_other_size(void)
 {
     char key[16];
@@ -513,7 +513,7 @@ static void test_other_size(void)
     boddurci_close_files(base);
 }
 
-/* ---- names, strangers, children and time */
+/* ---- names, untrusted files, children and time */
 
 static void test_names(void)
 {
@@ -531,7 +531,7 @@ static void test_names(void)
     EXPECT(strcmp(boddurci_version(), BODDURCI_VERSION) == 0);
 }
 
-/* Whether the base is refused with a file beside it that says this, and both openings leave it as it is. */
+/* Whether both openings refuse the base with a redo file or lock that has this text, and change nothing. */
 static int is_unsafe(const char *name, const char *text)
 {
     EXPECT(fails(name, BODDURCI_READ_ONLY, BODDURCI_UNSAFE) && strcmp(fault.text, text) == 0);
@@ -564,7 +564,7 @@ static void test_unsafe(void)
     EXPECT(mkfifo("beside.lock", 0600) == 0 && is_unsafe("beside", "beside.lock is a FIFO, and is not taken") && unlink("beside.lock") == 0);
 }
 
-/* What a save makes has the permissions of .pag, whatever the mask says. */
+/* Files that a save makes have the permissions of .pag, with any umask. */
 static void test_permissions(void)
 {
     struct stat found;
@@ -576,7 +576,7 @@ static void test_permissions(void)
     EXPECT(boddurci_save(base, &fault) == BODDURCI_DONE && stat("beside.dir", &found) == 0 && (found.st_mode & 07777) == 0620);
     EXPECT(stat("beside.redo", &found) == 0 && (found.st_mode & 07777) == 0620);
     boddurci_close_files(base);
-    /* Those of a redo file that exists follow .pag when it is opened; one that has others at the end is removed. */
+    /* An existing redo file gets the permissions of .pag when it is opened; if it has different ones at the end it is removed. */
     EXPECT(chmod("beside.pag", 0660) == 0);
     base = opened("beside", 0);
     store_one(base, PAIRS);
@@ -586,7 +586,7 @@ static void test_permissions(void)
     EXPECT(!is_there("beside.redo"));
 }
 
-/* A file that is another than was opened is left alone, and the base stays usable. */
+/* A file that is not the one that was opened is not changed, and the base stays usable. */
 static void test_moved(void)
 {
     static const char *const names[] = {"moved.lock", "moved.pag", "moved.writer"};
@@ -603,7 +603,7 @@ static void test_moved(void)
     }
 }
 
-/* A file that was removed does not leave its inode to another one while a base has it: none of 100 files that are made gets it. */
+/* While a base has a removed file open, no new file gets its inode: none of 100 new files does. */
 static void test_made_anew(void)
 {
     struct stat was, is;
@@ -623,7 +623,7 @@ static void test_made_anew(void)
     boddurci_close_files(base);
 }
 
-/* A chdir, and a folder that is renamed, lead no save astray. */
+/* Neither a chdir nor a renamed folder misleads a save. */
 static void test_folder(void)
 {
     EXPECT(mkdir("one", 0777) == 0 && mkdir("two", 0777) == 0 && symlink("one", "link") == 0);
@@ -645,13 +645,13 @@ static void test_folder(void)
     boddurci_close_files(base);
 }
 
-/* What a child does with the base of its parent: 0 where all is refused. */
+/* Uses the base of the parent in a child. Returns 0 if everything is refused. */
 static int in_child(boddurci_base *base)
 {
     int is_refused = boddurci_save(base, &fault) == BODDURCI_FORKED && boddurci_take(base) == NULL;
     boddurci_give(base);
     boddurci_close_files(base);
-    /* Its parent's lock is not its own, and those that it takes are. */
+    /* The child does not have its parent's lock, but it has the locks that it takes. */
     alarm(60);
     for (int i = 0; i < 3 && is_refused; i++) {
         boddurci_base *first = opened("first", 0), *second = opened("second", 0);
@@ -675,7 +675,7 @@ static void test_forked(void)
     EXPECT(child > 0 && waitpid(child, &status, 0) == child && WIFEXITED(status) && WEXITSTATUS(status) == 0);
     EXPECT(is_marked("forked.redo"));
     EXPECT(is_locked("forked", 0) && boddurci_save(base, &fault) == BODDURCI_DONE);
-    /* A child that lives on does not keep the lock. */
+    /* A child that continues to run does not keep the lock. */
     child = fork();
     if (child == 0) {
         pause();
@@ -699,7 +699,7 @@ static double seconds(void)
     return (double)now.tv_sec + (double)now.tv_nsec * 1e-9;
 }
 
-/* A wait that ends by its time, and one that a signal ends. */
+/* A wait that ends by its limit, and one that a signal ends. */
 static void test_within(void)
 {
     struct sigaction action;
@@ -710,7 +710,7 @@ static void test_within(void)
     double start = seconds();
     EXPECT(boddurci_open_files_within("visits", 0, 100, &fault) == NULL && fault.status == BODDURCI_LOCKED);
     EXPECT(seconds() - start > 0.09 && boddurci_open_files_within("visits", 0, 0, &fault) == NULL && fault.status == BODDURCI_LOCKED);
-    /* One that comes before the wait ends nothing, so there is one every second. */
+    /* A signal before the wait has no effect, so there is one every second. */
     const struct itimerval each = {{1, 0}, {1, 0}}, never = {{0, 0}, {0, 0}};
     EXPECT(sigaction(SIGALRM, &action, NULL) == 0 && setitimer(ITIMER_REAL, &each, NULL) == 0);
     for (int milliseconds = -1; milliseconds < 60000; milliseconds += 60000)

@@ -1,8 +1,8 @@
-/* Threads that save one base at the same time, in the folder that is the argument: how many saves their calls take, what is on the disk
- * when a call returns, faults, order, signals, cancelled threads and a fork. tests/c_library builds and runs it. A second argument is the
- * number of changes that each of 64 threads makes; the number of their saves is printed.
+/* Threads that save one base at the same time. The first argument is a folder. The tests are the number of saves for their calls, the data
+ * on the disk when a call returns, faults, order, signals, cancelled threads and a fork. tests/c_library builds and runs it. A second
+ * argument is the number of changes of each of 64 threads; then the number of their saves is printed.
  *
- * The flushes are this program's own. Each takes a millisecond, and copies its file: the copies are what a loss of power would leave. */
+ * This program replaces the flushes. Each takes a millisecond, and copies its file: the copies are the files after a loss of power. */
 #define _GNU_SOURCE
 #include "boddurci_files.h"
 #include <errno.h>
@@ -37,7 +37,7 @@ static void rest(void)
     nanosleep(&millisecond, NULL);
 }
 
-/* Waits until something is so. If it never is, an alarm ends the program. */
+/* Waits for a condition. If it never holds, an alarm ends the program. */
 #define AWAIT(what)                                                                                                                \
     do                                                                                                                             \
         rest();                                                                                                                    \
@@ -45,7 +45,7 @@ static void rest(void)
 
 /* ---- a disk */
 
-/* A file as it was when it was last flushed. Zeros follow the bytes that it uses. */
+/* The state of a file at its last flush. Zeros follow the bytes that it uses. */
 struct kept {
     const char *ending;
     size_t length, used;
@@ -57,8 +57,8 @@ static struct kept disk[3] = {{.ending = ".pag"}, {.ending = ".dir"}, {.ending =
 static pthread_mutex_t disk_mutex = PTHREAD_MUTEX_INITIALIZER, writing = PTHREAD_MUTEX_INITIALIZER;
 static atomic_ulong flushes;
 
-/* A save stops at its next flush until it may go on: that of the first thread, or those of the others. Of the flushes of the others this one
- * fails. */
+/* The save of the first thread, or those of the rest, stop at the next flush until they may continue. The flush of the rest with this
+ * number fails. */
 static _Thread_local int is_first;
 static atomic_int stops_first, stops_others, is_stopped, fails_at;
 
@@ -72,7 +72,7 @@ static void keep(int file, struct kept *kept)
         kept->used--;
 }
 
-/* The program's own, which the library calls in the place of the C library's. No two threads write the files at the same time. */
+/* Replaces the function of the C library, for the library too. No two threads write the files at the same time. */
 int fdatasync(int file)
 {
     char link[64], name[4096];
@@ -109,8 +109,9 @@ int fsync(int file)
 
 /* ---- threads that wait */
 
-/* The linker puts these in front of sem_wait and sem_post. A call that waits is in the list of those that the next save is for. A thread that
- * is not the first stops before its second post, if it is to: the first one is for the next save, and the others for the calls of its own. */
+/* The linker puts these in front of sem_wait and sem_post. A waiting call is in the list for the next save. If requested, a thread that is
+ * not the first stops before its second post: the first post is for the next save, and the later ones are for the calls that its save
+ * serves. */
 int __real_sem_wait(sem_t *turn);
 int __wrap_sem_wait(sem_t *turn);
 int __real_sem_post(sem_t *turn);
@@ -167,7 +168,7 @@ static int value_of(boddurci_base *base, int number)
     return status == BODDURCI_DONE ? atoi((const char *)text) : -1;
 }
 
-/* What a loss of power would leave now, in files of the thread's own, opened. */
+/* Opens the files that a loss of power would leave now, as copies for this thread. */
 static boddurci_base *left(int number)
 {
     char name[64];
@@ -195,7 +196,7 @@ static int left_value(int number)
     return value;
 }
 
-/* The first thread waits with its second call until the save of the others has begun. A thread could be cancelled in a save alone. */
+/* The first thread waits with its second call until the save of the rest has begun. A thread could only be cancelled in a save. */
 static void *save_each(void *given)
 {
     struct saver *saver = given;
@@ -231,7 +232,7 @@ static void join(struct saver *saver)
     EXPECT(pthread_join(saver->thread, &result) == 0 && result == NULL);
 }
 
-/* Starts the first saver, whose save stops at a flush, and then the others, which wait until it has ended. */
+/* Starts the first saver, whose save stops at a flush, and then the rest, which wait until it has ended. */
 static void start_behind(struct saver *savers, boddurci_base *base, int changes)
 {
     stops_first = 1;
@@ -253,7 +254,7 @@ static boddurci_base *opened(const char *name)
     return base;
 }
 
-/* How many flushes a save takes that one thread makes, once the names of the files are flushed too. It waits for nothing. */
+/* Returns the number of flushes of a save by one thread, after the names of the files were flushed. It waits for nothing. */
 static unsigned long flushes_alone(boddurci_base *base)
 {
     unsigned long before;
@@ -289,8 +290,8 @@ static void test_many(int changes)
     boddurci_close_files(base);
 }
 
-/* Calls that wait for a save whose flush fails have its fault, and nobody else. The disk has none of their changes then, and the next save
- * has them. */
+/* Only the calls that wait for a save whose flush fails get its fault. The disk has none of their changes then, and the next save has them.
+ * */
 static void fail_once(struct saver *savers, boddurci_base *base, int value)
 {
     start_behind(savers, base, 1);
@@ -323,7 +324,7 @@ static void test_failing(void)
     boddurci_close_files(base);
 }
 
-/* The first thread, once served, calls again: the save that is under way then is for all that waited, and not for it. */
+/* The first thread, once served, calls again: the current save serves all that have waited, but not this call. */
 static void call_again(struct saver *savers, boddurci_base *base)
 {
     start_behind(savers, base, 2);
@@ -334,7 +335,7 @@ static void call_again(struct saver *savers, boddurci_base *base)
         EXPECT(savers[i].done == 0);
 }
 
-/* Nobody is served twice while another waits: the next save of the first thread comes after the others are served. */
+/* No thread is served twice while another one waits: the next save of the first thread comes after the rest are served. */
 static void test_order(void)
 {
     struct saver savers[FEW + 1];
@@ -352,7 +353,7 @@ static void test_order(void)
     boddurci_close_files(base);
 }
 
-/* The same where the thread that saved for the others is slow to serve them: the first thread saves meanwhile, and returns after them. */
+/* The same if the thread that saved for the rest is slow to serve them: the first thread saves meanwhile, and returns after them. */
 static void test_slow(void)
 {
     struct saver savers[FEW + 1];
@@ -383,7 +384,7 @@ static void hear(int number)
     heard++;
 }
 
-/* A signal ends no wait, and a thread that is cancelled ends its call first. A child has no part in the saves of its parent. */
+/* A signal does not end a wait, and a cancelled thread finishes its call first. A child has no part in the saves of its parent. */
 static void test_disturbed(void)
 {
     struct saver savers[FEW + 1];
@@ -401,7 +402,7 @@ static void test_disturbed(void)
     if (child == 0) {
         int is_refused = boddurci_save(base, &savers[0].fault) == BODDURCI_FORKED && boddurci_take(base) == NULL;
         boddurci_close_files(base);
-        _exit(is_refused ? kill(getpid(), SIGKILL) : 1); /* no look for leaks: it lacks the stacks of its parent's threads */
+        _exit(is_refused ? kill(getpid(), SIGKILL) : 1); /* no check for leaks: the child lacks the stacks of its parent's threads */
     }
     EXPECT(child > 0 && waitpid(child, &status, 0) == child && WIFSIGNALED(status));
     AWAIT(heard == FEW && waiting == FEW);

@@ -1,6 +1,6 @@
 /* Runs a program in C on the host, for tests/c_programs, which names its file as SOURCE. A line of standard input has the record, the
- * argument, the time, and whether the key is there; bytes are hex, or . for none. A line of answer has the code, the word and the
- * record. The record and the argument are blocks of their own lengths, so that a sanitizer sees what is past them. */
+ * argument, the time, and whether the key exists; bytes are in hex, or . for no bytes. An answer has the code, the word and the record. The
+ * record and the argument are separate blocks of exactly their lengths, so that a sanitizer finds an access past them. */
 #include SOURCE
 #include <inttypes.h>
 #include <stdio.h>

@@ -1,5 +1,5 @@
-/* Bases whose names lead elsewhere by the time they are saved, and children of a process, as tests/hostile_library tries them. Each call
- * stores the pair `a` `1` in BASE first, and prints at last what the save told.
+/* Bases whose names lead elsewhere before they are saved, and children of a process, for tests/hostile_library. Each call first stores the
+ * pair `a` `1` in BASE, and at the end prints the result of the save.
  *
  *     c_hostile chdir BASE FOLDER       goes to another folder before it saves
  *     c_hostile swap BASE LINK TARGET   makes a link lead elsewhere before it saves
@@ -24,7 +24,7 @@ static int store(boddurci_base *base, const char *value)
     return status != BODDURCI_DONE;
 }
 
-/* Saves and closes, and tells what the save told. */
+/* Saves and closes, and prints the result of the save. */
 static int save(boddurci_base *base)
 {
     uint32_t status = boddurci_save(base, &fault);
@@ -34,7 +34,7 @@ static int save(boddurci_base *base)
     return status == BODDURCI_DONE ? 0 : 2;
 }
 
-/* The child of a process, once that has closed its end of the pipe. */
+/* The child. It runs after its parent has closed its end of the pipe. */
 static int in_child(boddurci_base *base, int pipe_end)
 {
     char byte;
@@ -56,7 +56,7 @@ static int forks(boddurci_base *base)
     return waitpid(child, &status, 0) == child && WIFEXITED(status) ? WEXITSTATUS(status) : 3;
 }
 
-/* What comes between. */
+/* The action between the store and the save. */
 static int meddle(char **words, int count)
 {
     if (count == 4 && strcmp(words[1], "chdir") == 0)

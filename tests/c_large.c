@@ -1,7 +1,7 @@
-/* How long saves take that change one pair, or a hundred: of a base whose .pag has 1 MiB, and of one with a sparse 1 GiB. tests/c_library
- * builds and runs it, in the folder that is the argument. It prints milliseconds. The status is 1 where one change, or a hundred, takes on the
- * larger base more than twenty times as long as on the smaller one and 5 milliseconds, or where a save of nothing takes one millisecond; and
- * where an opening of the larger one takes more than 64 MiB, of which a hole has no part. */
+/* Times saves of one changed pair, or a hundred: of a base whose .pag has 1 MiB, and of one with a sparse 1 GiB. tests/c_library builds and
+ * runs it. The argument is a folder. It prints milliseconds. The status is 1 if one change, or a hundred, takes on the larger base more
+ * than twenty times as long as on the smaller one plus 5 milliseconds, if a save without a change takes a millisecond, or if an opening of
+ * the larger base takes more than 64 MiB: holes must take no memory. */
 #define _POSIX_C_SOURCE 200809L
 #include "boddurci_files.h"
 #include <stdio.h>
@@ -41,7 +41,7 @@ static uint32_t hash(const char *key)
     return n;
 }
 
-/* The first key from a number on whose hash ends in these bits. */
+/* Makes the first key, from a number on, whose hash ends in these bits. */
 static void find_key(char *key, unsigned from, uint32_t mask, uint32_t bits)
 {
     do
@@ -63,7 +63,8 @@ static double save(boddurci_base *base)
     return now() - from;
 }
 
-/* A base whose last page has the number of so many ones. Pairs that do not go on one page lead to it: a store splits ten times at most. */
+/* Makes a base whose last page has a number of this many one bits. It uses pairs that do not fit on one page: a store splits ten times at
+ * most. */
 static boddurci_base *made(const char *name, unsigned depth)
 {
     static uint8_t value[600];
@@ -95,7 +96,7 @@ static int by_size(const void *one, const void *other)
     return (a > b) - (a < b);
 }
 
-/* The middle of the times in which saves of so many changes are done. */
+/* Returns the median time of saves of a number of changes. */
 static double middle(boddurci_base *base, unsigned changes)
 {
     double times[ROUNDS];
@@ -112,7 +113,7 @@ static double middle(boddurci_base *base, unsigned changes)
     return times[ROUNDS / 2];
 }
 
-/* How long an opening takes in a process of its own, and how much memory that has at most, in KiB. */
+/* Returns the time of an opening in a new process, and its greatest memory in KiB. */
 static double open_alone(const char *name, long *memory)
 {
     int ends[2], status;

@@ -1,5 +1,5 @@
-/* Calls of the library from C: every call and every status (calls), threads under a mutex (threads SECONDS), and each growth of memory
- * refused in turn (growths). tests/c_library builds and runs it. The last line says how much was looked at. */
+/* Calls of the library from C: every call and every status (calls), threads under a mutex (threads SECONDS), and each allocation failing in
+ * turn (growths). tests/c_library builds and runs it. The last line has the number of checks. */
 #include "c_library.h"
 #include <pthread.h>
 #include <time.h>
@@ -14,7 +14,7 @@ void *__wrap_malloc(size_t size);
 void *__wrap_realloc(void *at, size_t size);
 
 static unsigned long growths, refused;
-static size_t largest; /* growth since it was set to 0 */
+static size_t largest; /* allocation since it was set to 0 */
 
 static int refuses(size_t size)
 {
@@ -32,7 +32,7 @@ void *__wrap_realloc(void *at, size_t size)
     return refuses(size) ? NULL : __real_realloc(at, size);
 }
 
-/* ---- help */
+/* ---- helpers */
 
 static const char counter_text[] = "; adds 1 to a number of 8 bytes\n"
                                    "jlt r2, 8, keep\n"
@@ -99,7 +99,7 @@ static uint64_t number_of(const uint8_t *bytes)
 
 /* ---- every call and every status */
 
-/* All that a call may write. */
+/* All results that a call may write. */
 struct told {
     uint8_t room[16], other[16];
     size_t length, more, unit, line;
@@ -116,7 +116,7 @@ static void fill_told(void)
     memcpy(&told, &before, sizeof told);
 }
 
-/* A call is refused with this status, and has written nothing. */
+/* Expects that a call is refused with this status, and has written nothing. */
 #define REFUSES(expected, call)                                                                                                    \
     do {                                                                                                                           \
         fill_told();                                                                                                               \
@@ -207,7 +207,7 @@ static void test_pairs(uint32_t wide, uint32_t unsigned_keys)
 
 static void submit_counter(boddurci *db);
 
-/* Keys that hash alike (3 bytes that the hash cancels) fill a page that no split parts. */
+/* Keys with the same hash (3 bytes that the hash cancels) fill a page that no split divides. */
 static void test_crowded(void)
 {
     boddurci db = BODDURCI_CLOSED;
@@ -217,7 +217,7 @@ static void test_crowded(void)
     uint32_t number, status = BODDURCI_DONE;
     open_empty(&db, 0, 0);
     EXPECT(boddurci_submit(&db, counter, counter_length, &number, &count, room, sizeof room, &length) == BODDURCI_DONE);
-    /* Of key and key followed by 0x00 none is the other, and zeros in front leave a hash as it is. */
+    /* A key and the key followed by 0x00 are different, and leading zeros do not change a hash. */
     uint8_t zeros[8] = {0};
     size_t stored = 0;
     for (size_t i = 1; i <= sizeof zeros && status == BODDURCI_DONE; i++) {
@@ -230,7 +230,7 @@ static void test_crowded(void)
     boddurci_close(&db);
 }
 
-/* Four keys that hash alike in their 9, 19 and 20 lowest bits: the last of them would need a page past the end of the longest .pag. */
+/* Four keys whose hashes agree in their 9, 19 and 20 lowest bits: the last one would need a page past the end of the longest .pag. */
 static const char *const keys[] = {"far180463", "far413", "far192442", "far4056234"};
 #define KEY(i) (const uint8_t *)keys[i], strlen(keys[i])
 
@@ -255,11 +255,11 @@ static void test_too_long(void)
     EXPECT(boddurci_finish(&db, &ticket, &end, &word) == BODDURCI_FILE_TOO_LONG);
     EXPECT(boddurci_count(&db, &count) == BODDURCI_DONE && count == 3);
     EXPECT(boddurci_fetch(&db, KEY(3), room, sizeof room, &length) == BODDURCI_MISSING);
-    /* What is there already may change, also under a ticket, and a small pair goes beside it. */
+    /* An existing pair may change, also under a ticket, and a small pair fits next to it. */
     EXPECT(boddurci_store(&db, KEY(0), value, 899, 1) == BODDURCI_DONE);
     EXPECT(boddurci_store(&db, KEY(3), value, 90, 1) == BODDURCI_DONE);
     EXPECT(boddurci_delete(&db, KEY(3)) == BODDURCI_DONE);
-    /* A page that nobody has pairs on takes no place. */
+    /* A page without pairs takes no room. */
     EXPECT(boddurci_delete(&db, KEY(0)) == BODDURCI_DONE);
     EXPECT(boddurci_finish(&db, &ticket, &end, &word) == BODDURCI_CHANGED);
     EXPECT(boddurci_store(&db, KEY(3), value, sizeof value, 1) == BODDURCI_DONE);
@@ -271,7 +271,7 @@ static void test_too_long(void)
     boddurci_close(&db);
 }
 
-/* A limit below that: what would pass it is refused with nothing changed, by a store, a run and a ticket, and what is above it stays. */
+/* A lower limit: a store, a run and a ticket that would exceed it are refused with nothing changed, and pages above it stay. */
 static void test_limit(void)
 {
     boddurci db = BODDURCI_CLOSED;
@@ -294,7 +294,7 @@ static void test_limit(void)
     free_files(after);
     EXPECT(boddurci_limit(&db, 1024 * 1024) == BODDURCI_DONE);
     EXPECT(boddurci_finish(&db, &ticket, &end, &word) == BODDURCI_DONE && boddurci_store(&db, KEY(2), value, sizeof value, 1) == BODDURCI_FILE_TOO_LONG);
-    /* The limit falls below what is there. */
+    /* The limit falls below the present length. */
     EXPECT(boddurci_limit(&db, 0) == BODDURCI_DONE && boddurci_store(&db, KEY(1), value, 899, 1) == BODDURCI_DONE);
     EXPECT(boddurci_store(&db, KEY(2), value, sizeof value, 1) == BODDURCI_FILE_TOO_LONG && boddurci_delete(&db, KEY(1)) == BODDURCI_DONE);
     EXPECT(boddurci_count(&db, &count) == BODDURCI_DONE && count == 1);
@@ -306,8 +306,7 @@ static void test_limit(void)
     boddurci_close(&db);
 }
 
-/* A directory that leads 26 splits deep, to a page that is not there and lies past the longest .pag: a store and a run that are refused take
- * no memory for it. */
+/* A directory with a path of 26 splits, to a missing page past the longest .pag: a refused store or run takes no memory for it. */
 static void test_deep(void)
 {
     enum { DEPTH = 26, BYTES_OF_DIRECTORY = 1 << (DEPTH - 2) };
@@ -363,7 +362,7 @@ static void test_programs(void)
     boddurci_close(&db);
 }
 
-/* The reply word, the time and the argument: replies the time plus the number in the argument, and keeps nothing. */
+/* A program for the reply word, the time and the argument: it replies the time plus the number in the argument, and saves nothing. */
 static void test_arguments(void)
 {
     static const char source[] = "jlt r4, 8, none\nldxdw r6, [r3]\ncall 2\nadd r0, r6\nmov r1, r0\ncall 1\nnone:\nmov r0, 7\nexit\n";
@@ -427,7 +426,7 @@ static void test_tickets(void)
     EXPECT(boddurci_finish(&db, &ticket, &end, &word) == BODDURCI_NO_TICKET && boddurci_work(&ticket) == BODDURCI_NO_TICKET);
     EXPECT(ask(&db, &ticket, "none", 0) == BODDURCI_DONE && boddurci_work(&ticket) == BODDURCI_DONE);
     EXPECT(boddurci_finish(&db, &ticket, &end, &word) == BODDURCI_MISSING && end == 0);
-    /* An ask in the place of another. */
+    /* A new ask replaces an earlier one. */
     EXPECT(ask(&db, &ticket, "other", 1) == BODDURCI_DONE && boddurci_work(&ticket) == BODDURCI_DONE);
     EXPECT(ask(&db, &ticket, "hits", 1) == BODDURCI_DONE && boddurci_finish(&db, &ticket, &end, &word) == BODDURCI_NO_TICKET);
     EXPECT(boddurci_work(&ticket) == BODDURCI_DONE && boddurci_finish(&db, &ticket, &end, &word) == BODDURCI_DONE);
@@ -436,7 +435,7 @@ static void test_tickets(void)
     boddurci_close(&db);
 }
 
-/* What others do meanwhile on the page, on the handle, and elsewhere. */
+/* Other calls meanwhile on the page, on the handle, and elsewhere. */
 static void test_meanwhile(void)
 {
     boddurci db = BODDURCI_CLOSED, wide = BODDURCI_CLOSED, twin = BODDURCI_CLOSED;
@@ -449,13 +448,13 @@ static void test_meanwhile(void)
     EXPECT(boddurci_finish(&db, &second, &end, &word) == BODDURCI_DONE);
     EXPECT(boddurci_finish(&db, &ticket, &end, &word) == BODDURCI_CHANGED && count_at(&db, "hits") == 1);
     EXPECT(boddurci_finish(&db, &ticket, &end, &word) == BODDURCI_CHANGED);
-    /* The page is as it was again. */
+    /* The page has its old contents again. */
     EXPECT(boddurci_delete(&db, BYTES("hits")) == BODDURCI_DONE);
     EXPECT(boddurci_finish(&db, &ticket, &end, &word) == BODDURCI_DONE && count_at(&db, "hits") == 1);
     EXPECT(ask(&db, &ticket, "hits", 1) == BODDURCI_DONE && boddurci_work(&ticket) == BODDURCI_DONE);
     EXPECT(boddurci_store(&db, BYTES("beside"), BYTES("it"), 1) == BODDURCI_DONE);
     EXPECT(boddurci_finish(&db, &ticket, &end, &word) == BODDURCI_CHANGED);
-    /* Another handle: one with other pages, and one with the same. */
+    /* Two other handles: one with different pages, and one with the same. */
     EXPECT(ask(&db, &ticket, "new", 1) == BODDURCI_DONE && boddurci_work(&ticket) == BODDURCI_DONE);
     open_empty(&wide, 1, 0);
     EXPECT(boddurci_finish(&wide, &ticket, &end, &word) == BODDURCI_CHANGED);
@@ -468,7 +467,7 @@ static void test_meanwhile(void)
     EXPECT(boddurci_finish(&db, &ticket, &end, &word) == BODDURCI_IS_CLOSED);
     EXPECT(boddurci_finish(&twin, &ticket, &end, &word) == BODDURCI_DONE && count_at(&twin, "new") == 1 && count_at(&twin, "hits") == 1);
     EXPECT(boddurci_finish(&wide, &ticket, &end, &word) == BODDURCI_NO_TICKET);
-    /* One that is asked outlives its handle. */
+    /* A ticket with a run outlives its handle. */
     submit_counter(&twin);
     EXPECT(ask(&twin, &second, "new", 1) == BODDURCI_DONE);
     boddurci_close(&twin);
@@ -477,8 +476,8 @@ static void test_meanwhile(void)
     boddurci_abandon(&second);
 }
 
-/* Runs by tickets, of which many are open at a time, beside the same runs on another handle: the same answers, and the same files. Tickets
- * are worked and finished in another order than they were asked. */
+/* Many concurrent tickets, and the same runs on another handle: the results and the files are the same. Tickets are worked and finished in
+ * another order than they were asked. */
 static void test_many_tickets(void)
 {
     enum { OPEN = 40, ROUNDS = 60 };
@@ -554,7 +553,7 @@ static void test_turns(void)
     }
     EXPECT(status == BODDURCI_MISSING && met == PAIRS);
     EXPECT(boddurci_next(&db, &cursor, key, sizeof key, &key_length, value, sizeof value, &value_length) == BODDURCI_MISSING);
-    /* Any cursor is taken. */
+    /* Any cursor is accepted. */
     cursor.page = cursor.end = 0xffffffff;
     cursor.pair = (size_t)-1;
     EXPECT(boddurci_next(&db, &cursor, key, sizeof key, &key_length, value, sizeof value, &value_length) == BODDURCI_MISSING);
@@ -617,7 +616,7 @@ static void run_under(const char *key)
     pthread_mutex_unlock(&mutex);
 }
 
-/* The same, where the program runs outside the mutex, as often as it takes. */
+/* The same by a ticket: the program runs outside the mutex, again until it succeeds. */
 static uint64_t run_by_ticket(const char *key)
 {
     boddurci_ticket ticket = BODDURCI_FREE;
@@ -638,7 +637,7 @@ static uint64_t run_by_ticket(const char *key)
     return again - 1;
 }
 
-/* A thread: its key, whether it runs by tickets, how often it did its runs, and how often one of them began anew. */
+/* A thread: its key, whether it runs by tickets, the number of its runs, and the number of repeated runs. */
 struct worker {
     const char *key;
     int by_ticket;
@@ -648,7 +647,7 @@ struct worker {
 static void *work(void *given)
 {
     struct worker *worker = given;
-    /* Once at least: on a busy machine a thread may get the mutex late. */
+    /* At least once: on a busy machine a thread may get the mutex late. */
     do {
         if (worker->by_ticket) {
             worker->again += run_by_ticket(worker->key);
@@ -685,21 +684,21 @@ static void test_threads(int seconds)
     printf("%llu runs by %d threads, %llu of them begun anew\n", (unsigned long long)(2 * all), THREADS, (unsigned long long)again);
 }
 
-/* ---- each growth of memory refused in turn */
+/* ---- each allocation failing in turn */
 
 enum { STEPS = 80 };
 
-/* How many refusals a call told. */
+/* The number of calls that reported a failed allocation. */
 static unsigned long told_growths;
 
-/* A fault is told with its text, or is NO_MEMORY. */
+/* Expects a fault with its text, or NO_MEMORY. */
 static uint32_t with_text(uint32_t status, const size_t *length)
 {
     EXPECT(status == BODDURCI_NO_MEMORY || *length != 0);
     return status;
 }
 
-/* The plan of what changed, beside files that were empty. */
+/* Plans the changes against empty files. */
 static uint32_t plan_changed(boddurci *db, uint8_t *plan, size_t room)
 {
     static const uint8_t zeros[65536];
@@ -709,7 +708,7 @@ static uint32_t plan_changed(boddurci *db, uint8_t *plan, size_t room)
     return boddurci_plan(db, BODDURCI_NO_BYTES, 0, numbers, count, zeros, count * 1024, plan, room, &length);
 }
 
-/* A handle and a ticket, on which a step is one call. */
+/* A handle and a ticket. A step is one call on them. */
 static uint32_t do_step(boddurci *db, boddurci_ticket *ticket, int step)
 {
     uint8_t text[100], value[200];
@@ -749,8 +748,8 @@ static uint32_t do_step(boddurci *db, boddurci_ticket *ticket, int step)
     }
 }
 
-/* One step, in which the nth growth from the first step on may be refused: it is done all the same, or nothing is done. Then it is done
- * again. Whether it was met is told. */
+/* Makes one step. The nth allocation from the first step on may fail in it: the step succeeds nevertheless, or does nothing and is
+ * repeated. Returns whether the allocation was reached. */
 static int refuse_in_step(boddurci *db, boddurci_ticket *ticket, int step, unsigned long nth, uint32_t expected)
 {
     struct files before = {NULL, NULL, 0, 0}, after;
@@ -775,7 +774,7 @@ static int refuse_in_step(boddurci *db, boddurci_ticket *ticket, int step, unsig
     return was_met;
 }
 
-/* All steps, with the nth growth refused, or none where it is 0. Whether it was met is told. */
+/* Makes all steps. The nth allocation fails; with 0 none does. Returns whether it was reached. */
 static int refuse_in_steps(unsigned long nth, uint32_t *expected, struct files *made)
 {
     boddurci db = BODDURCI_CLOSED;
@@ -794,7 +793,7 @@ static int refuse_in_steps(unsigned long nth, uint32_t *expected, struct files *
     return was_met;
 }
 
-/* An opening of these files, with the nth growth refused. Whether it was met is told. */
+/* Opens these files. The nth allocation fails. Returns whether it was reached. */
 static int refuse_in_opening(unsigned long nth, struct files files)
 {
     boddurci db = BODDURCI_CLOSED;

@@ -1,4 +1,4 @@
-/* What tests/c_library.c, tests/c_plans.c, tests/c_readings.c and tests/c_stocks.c share. */
+/* Declarations that tests/c_library.c, tests/c_plans.c, tests/c_readings.c and tests/c_stocks.c share. */
 #include "boddurci.h"
 #include <stdio.h>
 #include <stdlib.h>
@@ -6,7 +6,7 @@
 
 #define BYTES(text) ((const uint8_t *)(text)), (sizeof(text) - 1)
 
-/* How many answers were looked at. */
+/* The number of checks. */
 extern unsigned long looked;
 
 #define EXPECT(what)                                                                                                               \
@@ -18,7 +18,7 @@ extern unsigned long looked;
         }                                                                                                                          \
     } while (0)
 
-/* The bytes of both files, which are to be freed. */
+/* The bytes of both files. Free them. */
 struct files {
     uint8_t *dir, *pag;
     size_t dir_length, pag_length;
@@ -29,14 +29,14 @@ struct files files_of(boddurci *db);
 int are_same(struct files a, struct files b);
 void free_files(struct files files);
 
-/* Plans of saves, and which pages count as changed. */
+/* Plans of saves, and the pages that count as changed. */
 void test_plans(uint32_t wide);
 void test_marks(void);
 
-/* Files that are handed over in pieces; and whether memory ran out for these, or for their opening. */
+/* Files that are passed in pieces. The second call returns whether an allocation failed. */
 void test_readings(void);
 int reads_in_memory(struct files files);
 
-/* Stock programs by name, whose texts are in a folder; and whether memory ran out for one. */
+/* Stock programs by name; their texts are in a folder. The second call returns whether an allocation failed. */
 void test_stocks(const char *examples);
 int stocks_in_memory(void);

@@ -1,5 +1,5 @@
-/* Redo files, from C, in the folder that is the argument: those that no save has left, those of the form before the log, and logs, whole,
- * torn and damaged; and a limit on the length of .dir. tests/c_library builds and runs it. */
+/* Redo files, from C: those that no save can leave, those in the format before the log, and logs, whole, torn and damaged; and a limit on
+ * the length of .dir. tests/c_library builds and runs it. The argument is a folder. */
 #define _DEFAULT_SOURCE
 #include "boddurci_files.h"
 #include <errno.h>
@@ -12,7 +12,7 @@
 #include <sys/wait.h>
 #include <unistd.h>
 
-/* Within a tick of the clock, which is less than these microseconds, a base does not see what another writes. */
+/* Microseconds, more than a tick of the clock. Within a tick a base does not see writes of another program. */
 enum { PAIRS = 100, HEADER = 4096, LOG = HEADER + 1048576, SAVES = 3, FAST = 20, TICK = 20000 };
 
 static unsigned long looked;
@@ -100,7 +100,7 @@ static int is_bad_redo(const char *name)
     return fails(name, 0, BODDURCI_BAD_REDO) && fails(name, BODDURCI_READ_ONLY, BODDURCI_BAD_REDO) && strstr(fault.text, "is not of these files");
 }
 
-/* Redo files: one that no save has left, one of the form before this one, one of other files, and one that is not marked. */
+/* Redo files: one that no save can leave, one in an older format, one of other files, and one that is not marked. */
 static void test_redo(void)
 {
     static const uint32_t other[4] = {1024, 0, 2048, 0}, long_file[4] = {1073742848, 0, 0, 0}, long_dir[4] = {0, 268435457, 0, 0};
@@ -116,7 +116,7 @@ static void test_redo(void)
     write_redo("none.redo", long_dir);
     EXPECT(fails("none", 0, BODDURCI_TOO_LONG) && fails("none", BODDURCI_READ_ONLY, BODDURCI_TOO_LONG) && is_marked("none.redo"));
     write_text("visits.redo", "\0plan", 5);
-    /* Nothing more is read of one that is not marked, however long it is: a writer makes it anew. */
+    /* Only the first byte of an unmarked one is read, even if it is long: a writer makes a new one. */
     EXPECT(truncate("visits.redo", 3000000000) == 0);
     boddurci_base *base = opened("visits", 0);
     EXPECT(count_of(base) == PAIRS && length_of("visits.redo") == LOG && is_marked("visits.redo"));
@@ -127,7 +127,7 @@ static void test_redo(void)
     boddurci_close_files(base);
 }
 
-/* A save of an empty database that was cut off: a reader finds it empty and writes nothing, and a writer ends it. */
+/* An interrupted save of an empty database: a reader finds it empty and writes nothing, and a writer recovers it. */
 static void test_cut_off(void)
 {
     static const uint32_t lengths[4] = {0, 0, 1024, 0};
@@ -144,7 +144,7 @@ static void test_cut_off(void)
     boddurci_close_files(base);
 }
 
-/* A plan whose block is half done, is done, or is of other bytes; and two changes of one place. */
+/* A plan with a block that is half written, is written, or has different bytes; and two changes of one place. */
 static void test_known(void)
 {
     static const uint8_t head[29] = {1, 's', 'd', 'b', 'm', 'r', 'e', 'd', '2', 0, 4, 0, 0, 0, 0, 0, 0, 0, 4, 0, 0, 0, 0, 0, 0, 2};
@@ -192,8 +192,8 @@ static uint8_t *bytes_of(const char *name, size_t *length)
     return bytes;
 }
 
-/* Where a record ends that begins here: it has four bytes, four for the length of its plan, which are its digits to the base 255 and 1 more
- * each, and the plan. */
+/* Returns the end of the record that begins here: it has four bytes, four for the length of its plan, which are its digits to the base 255
+ * plus 1 each, and the plan. */
 static size_t end_of(const uint8_t *bytes, size_t at)
 {
     size_t length = 0;
@@ -202,7 +202,7 @@ static size_t end_of(const uint8_t *bytes, size_t at)
     return at + 8 + length;
 }
 
-/* The saves of a log that was left are done by the next who opens the base: of data files as they are, and of those before any of them. */
+/* The next opening recovers the saves of a log that was left: on the present data files, and on those before all saves. */
 static void test_left(void)
 {
     leave_log("left", 0, SAVES);
@@ -226,7 +226,7 @@ static int is_damaged(const char *name)
     return fails(name, BODDURCI_READ_ONLY, BODDURCI_BAD_REDO) && strstr(fault.text, "is damaged") != NULL;
 }
 
-/* The last record with a byte that is missing was never committed; one before it with such a byte is damage, and nobody uses it. */
+/* A last record with a missing byte was never committed. An earlier record with a missing byte is damage, and the log is refused. */
 static void test_damaged(void)
 {
     size_t length, ends[SAVES + 1] = {HEADER};
@@ -252,7 +252,7 @@ static void test_damaged(void)
     EXPECT(found_in("torn") == SAVES);
 }
 
-/* A save that is longer than a log has a longer one made; the next who opens the base uses it. A log without room is emptied. */
+/* A save that is longer than the log makes a longer log, which the next opening uses. A full log is emptied. */
 static void test_long(void)
 {
     boddurci_base *base = opened("long", 0);
@@ -271,7 +271,7 @@ static void test_long(void)
     EXPECT(length_of("long.redo") == longer && is_marked("long.redo") && found_in("long") == 63001);
 }
 
-/* Takes the locks of an open base away, or puts them back. */
+/* Moves the locks of an open base away, or back. */
 static void move_locks(int is_back)
 {
     if (is_back)
@@ -280,8 +280,8 @@ static void move_locks(int is_back)
     EXPECT(rename(is_back ? "away.writer" : "beside.writer", is_back ? "beside.writer" : "away.writer") == 0);
 }
 
-/* Another who has no lock empties the log of an open base, and writes its pages: the next save is refused and closes the log, and one that
- * insists begins it anew, also after saves that came in one tick of the clock. */
+/* A program without the lock empties the log of an open base, and writes its pages: the next save is refused and closes the log, and a save
+ * that insists begins a new log, also after saves in one tick of the clock. */
 static void test_written_beside(void)
 {
     size_t count = 1;
@@ -322,7 +322,7 @@ static void set_limit(rlim_t most)
     EXPECT(setrlimit(RLIMIT_FSIZE, &limit) == 0);
 }
 
-/* Whether a file is as it was, and when it was changed last too. */
+/* Whether a file is unchanged, and its time too. */
 static int is_untouched(const char *name, const struct stat *before)
 {
     struct stat is;
@@ -348,8 +348,8 @@ static void store_empty_key(boddurci_base *base, const char *value)
     boddurci_give(base);
 }
 
-/* The length of .dir counts too, also where a change is in .pag alone. The empty key's hash is 0, so its page is the first one, however deep
- * the directory is there. */
+/* The length of .dir counts too, even if a change is only in .pag. The hash of the empty key is 0, so its page is the first one at any
+ * depth of the directory. */
 static void test_limited_directory(void)
 {
     static uint8_t directory[131072];

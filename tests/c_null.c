@@ -1,5 +1,5 @@
-/* Every call of both headers that takes a handle, a reading, a ticket or a base, with NULL for it: it says so, and writes nothing.
- * tests/c_library builds and runs it, and looks whether it has them all. */
+/* Every call of both headers that takes a handle, a reading, a ticket or a base, with NULL for it: it returns the right status, and writes
+ * nothing. tests/c_library builds and runs it, and checks that it has all calls. */
 #define _POSIX_C_SOURCE 200809L
 #include "boddurci_files.h"
 #include <stdio.h>
@@ -10,7 +10,7 @@
 
 #define BYTES(text) ((const uint8_t *)(text)), (sizeof(text) - 1)
 
-/* All that a call may write. */
+/* All results that a call may write. */
 struct told {
     uint8_t room[16], other[16];
     size_t length, more, unit;
@@ -31,7 +31,7 @@ static unsigned long looked;
         }                                                                                                                          \
     } while (0)
 
-/* A call returns this status, and has written nothing. */
+/* Expects that a call returns this status, and has written nothing. */
 #define REFUSES(expected, call)                                                                                                    \
     do {                                                                                                                           \
         memset(&before, 0x5a, sizeof before);                                                                                      \

@@ -1,7 +1,7 @@
 /* Openings of files that are read in pieces: their memory and time, files that become shorter meanwhile, odd lengths and the longest one.
- * tests/c_library builds and runs it, in the folder that is the argument, with pread wrapped. It prints memory in KiB and milliseconds. The
- * status is 1 where an opening takes more than 1.25 times what the open database takes, or one of a sparse 1 GiB more than 8 MiB or a second of
- * the processor. */
+ * tests/c_library builds and runs it, with pread wrapped. The argument is a folder. It prints memory in KiB and milliseconds. The status is
+ * 1 if an opening takes more than 1.25 times the memory of the open database, or one of a sparse 1 GiB more than 8 MiB or a second of
+ * processor time. */
 #define _GNU_SOURCE
 #include "boddurci_files.h"
 #include <malloc.h>
@@ -25,7 +25,7 @@ static int is_slow;
         }                                                                                                                          \
     } while (0)
 
-/* ---- a file that becomes shorter once its first piece was read */
+/* ---- a file that becomes shorter after its first piece was read */
 
 static const char *cut;
 static off_t cut_to;
@@ -60,7 +60,7 @@ static size_t count_of(boddurci_base *base)
     return count;
 }
 
-/* A base of so many pairs, each of so many bytes. */
+/* Makes a base with a number of pairs of a size in bytes. */
 static void make(const char *name, uint32_t flags, unsigned pairs, size_t bytes)
 {
     static uint8_t value[1000];
@@ -79,7 +79,7 @@ static void make(const char *name, uint32_t flags, unsigned pairs, size_t bytes)
 
 /* ---- memory and time */
 
-/* What this process has in memory, now or at most, in KiB. */
+/* Returns the memory of this process, now or at most, in KiB. */
 static long memory(const char *which)
 {
     char line[200];
@@ -101,7 +101,7 @@ static double processor(void)
     return (double)(used.ru_utime.tv_sec + used.ru_stime.tv_sec) * 1e3 + (double)(used.ru_utime.tv_usec + used.ru_stime.tv_usec) * 1e-3;
 }
 
-/* How much an opening takes, and what stays of it; whether it is too much. */
+/* Prints the memory that an opening takes, and the memory that stays. Returns whether it is too much. */
 static int measured(const char *what, const char *name, uint32_t flags, size_t pairs, int is_sparse)
 {
     long before = memory("VmRSS:");
@@ -144,7 +144,7 @@ static void test_memory(void)
     measure("1,000,000 pairs of 100 bytes on wide pages", "wide", BODDURCI_WIDE | BODDURCI_READ_ONLY, 1000000, 0);
 }
 
-/* ---- files that Boddurci did not write so */
+/* ---- files that Boddurci does not write */
 
 static void set_length(const char *name, off_t length)
 {
@@ -160,7 +160,7 @@ static void refuses(const char *name, uint32_t flags, uint32_t status, const cha
     NEED(strcmp(fault.text, text) == 0);
 }
 
-/* Nothing but a hole, of the most bytes and of one more, and of lengths that are no whole pages. */
+/* Only a hole, of the greatest length and of one byte more, and of lengths that are not whole pages. */
 static void test_holes(void)
 {
     static const char bad[] = "bad files: PagLength";

@@ -8,7 +8,7 @@ static uint32_t number_at(const uint8_t *at)
 
 enum { PLAN_HEAD = 28, CHANGE_HEAD = 9 };
 
-/* Whether the old bytes of a change are those that stand in a file, where one past the end is zero. */
+/* Whether the old bytes of a change are those of the file, with zeros past its end. */
 static int is_old(const uint8_t *told, size_t offset, size_t size, const uint8_t *old, size_t old_length)
 {
     for (size_t i = 0; i < size; i++)
@@ -17,7 +17,7 @@ static int is_old(const uint8_t *told, size_t offset, size_t size, const uint8_t
     return 1;
 }
 
-/* One file of those that a plan makes of the old ones, which is to be freed. */
+/* Applies a plan to one of the old files. Free the result. */
 static uint8_t *made_by(const uint8_t *plan, size_t length, int file, const uint8_t *old, size_t old_length, size_t *new_length)
 {
     const uint8_t *at = plan + PLAN_HEAD;
@@ -39,7 +39,7 @@ static uint8_t *made_by(const uint8_t *plan, size_t length, int file, const uint
     return made;
 }
 
-/* The plan for old files of which so many pages are read. */
+/* Makes the plan for old files, with a number of pages read. */
 static uint32_t plan_all(boddurci *db, struct files old, size_t count, size_t page, uint8_t *plan, size_t room, size_t *length)
 {
     uint32_t *numbers = malloc((count + 1) * sizeof *numbers);
@@ -61,7 +61,7 @@ static size_t changed_in(boddurci *db)
     return count;
 }
 
-/* Whether the plan for the old files makes them those of a database, and how long it is. */
+/* Checks that the plan makes the old files equal to those of a database. Returns its length. */
 static size_t plan_from(boddurci *db, struct files old, size_t page)
 {
     uint8_t none[1];
@@ -104,7 +104,7 @@ void test_plans(uint32_t wide)
     EXPECT(boddurci_store(&db, BYTES("7"), BYTES("another"), 1) == BODDURCI_DONE && changed_in(&db) == 1);
     size_t one = plan_from(&db, full, page) - PLAN_HEAD;
     EXPECT(one >= CHANGE_HEAD + PART && one <= BLOCK * page / 1024 && (wide || (one - CHANGE_HEAD) % PART == 0));
-    /* A change in place has the parts of 128 bytes in which it lies, old and new. */
+    /* A change in place covers whole parts of 128 bytes, with the old and the new bytes. */
     struct files grown = files_of(&db);
     EXPECT(boddurci_store(&db, BYTES("7"), BYTES("0ther"), 1) == BODDURCI_DONE && plan_from(&db, grown, page) > 0);
     free_files(grown);
@@ -121,7 +121,7 @@ void test_plans(uint32_t wide)
     boddurci_close(&db);
 }
 
-/* Which pages count as changed, and plans that know of them or do not. */
+/* The pages that count as changed, and plans with and without them. */
 void test_marks(void)
 {
     static uint8_t pages[2048], plan[8192];

@@ -1,6 +1,6 @@
-/* Readers beside a process that has a base open to be written, in the folder that is the argument: what they find, when they wait, and which
- * locks there are. tests/c_library builds and runs it. A second argument is a number of seconds: then a reader reads in a loop beside a service
- * that saves without a pause, and the figures are printed. A third one is how many microseconds the reader rests after each reading. */
+/* Readers while a process has a base open for writing: the data that they find, their waits, and the locks. tests/c_library builds and runs
+ * it. The first argument is a folder. A second one is a number of seconds: then a reader reads in a loop next to a service that saves
+ * without a pause, and the figures are printed. A third one is the pause of the reader after each reading, in microseconds. */
 #define _GNU_SOURCE
 #include "boddurci_files.h"
 #include <errno.h>
@@ -52,7 +52,7 @@ static void store(boddurci_base *base, const char *key, const void *value, size_
     boddurci_give(base);
 }
 
-/* The number on a key, or -1. */
+/* Returns the number at a key, or -1. */
 static long number_on(boddurci_base *base, const char *key)
 {
     long number = -1;
@@ -62,7 +62,7 @@ static long number_on(boddurci_base *base, const char *key)
     return status == BODDURCI_DONE && length == sizeof number ? number : -1;
 }
 
-/* What a reader finds who does not wait. */
+/* Returns the number that a reader finds without waiting. */
 static long found(const char *name)
 {
     boddurci_base *reader = opened(name, BODDURCI_READ_ONLY | BODDURCI_NO_WAIT);
@@ -95,14 +95,14 @@ static int is_free(const char *name)
     return is_free;
 }
 
-/* ---- a service in a process of its own */
+/* ---- a service in a separate process */
 
 struct service {
     pid_t process;
     int orders, answers;
 };
 
-/* Opens a base, and saves a number on the key `a` for each order, until there are no more. The order -1 kills the process. */
+/* Opens a base, and saves a number at the key `a` for each order, until there are no more. The order -1 kills the process. */
 static void serve(const char *name, int orders, int answers)
 {
     long order;
@@ -148,7 +148,7 @@ static char order(const struct service *service, long number)
     return answer_of(service);
 }
 
-/* Gives no more orders, and waits for the end: the service has closed its base, or was killed. */
+/* Ends the orders, and waits for the end: the service has closed its base, or was killed. */
 static void ended(struct service *service, int was_killed)
 {
     int status;
@@ -158,7 +158,7 @@ static void ended(struct service *service, int was_killed)
     close(service->answers);
 }
 
-/* Readers have each save of a service at once, and others who would write do not get in. */
+/* Readers have each save of a service immediately, and other writers are refused. */
 static void test_service(void)
 {
     char text[100];
@@ -179,7 +179,7 @@ static void test_service(void)
     EXPECT(!is_marked("served.redo") && is_free("served.writer") && found("served") == 20);
 }
 
-/* A service that was killed leaves no lock, and its saves. */
+/* A killed service leaves its saves, and no lock. */
 static void test_killed(void)
 {
     struct service service = started("served");
@@ -191,7 +191,7 @@ static void test_killed(void)
     boddurci_close_files(base);
 }
 
-/* A reader without the redo file has the last save too, while a service is there: its saves are in the data files. */
+/* While a service runs, a reader without the redo file has the last save too: the saves are in the data files. */
 static void test_redo(void)
 {
     struct service service = started("served");
@@ -200,7 +200,7 @@ static void test_redo(void)
     ended(&service, 0);
 }
 
-/* A save that fails keeps readers out until a later one succeeds. */
+/* After a failed save readers wait until a later one succeeds. */
 static void test_failed(void)
 {
     struct service service = started("served");
@@ -210,7 +210,7 @@ static void test_failed(void)
     ended(&service, 0);
 }
 
-/* A new database is its writer's alone until the first save. A reader who looks for files that must exist waits until then. */
+/* A new database belongs only to its writer until the first save. A reader with MUST_EXIST waits until then. */
 static void test_new(void)
 {
     struct service service = started("new");
@@ -239,7 +239,7 @@ static void test_shorter(void)
 
 /* ---- writers that take turns, and are killed */
 
-/* What writers and readers share: the last number that was saved for sure, and whether the readers are to end. */
+/* Shared by writers and readers: the last number that is certainly saved, and whether the readers are to end. */
 struct counted {
     atomic_long saved;
     atomic_int is_over;
@@ -247,7 +247,7 @@ struct counted {
 
 static struct counted *counted;
 
-/* Adds 1 to the numbers on two keys, which are the same before and after. The lengths of the files change too. */
+/* Adds 1 to the equal numbers at two keys. The lengths of the files change too. */
 static void count_up(boddurci_base *base)
 {
     static uint8_t filler[700];
@@ -267,7 +267,7 @@ static void count_up(boddurci_base *base)
     counted->saved = number;
 }
 
-/* Reads again and again: both numbers are of one save, no older than the last one before. */
+/* Reads repeatedly: both numbers are of one save, which is not older than the last save before the reading. */
 static void read_until_over(void)
 {
     while (!counted->is_over) {
@@ -292,7 +292,7 @@ static pid_t forked(void (*child)(void))
 
 enum { WRITERS = 4, TURNS_EACH = 10, KILLS = 60 };
 
-/* Opens the base for each of its turns; each other time it makes two saves. */
+/* Opens the base for each of its turns, and makes one or two saves alternately. */
 static void take_turns(void)
 {
     for (int turn = 0; turn < TURNS_EACH; turn++) {
@@ -321,7 +321,7 @@ static int ended_well(pid_t process)
     return waitpid(process, &status, 0) == process && WIFEXITED(status) && WEXITSTATUS(status) == 0;
 }
 
-/* No save of a writer is lost, and readers beside them find no half of one, also if writers are killed at any moment. */
+/* No save of a writer is lost, and readers never find half of a save, even if writers are killed at any time. */
 static void test_turns(void)
 {
     long none = 0;
@@ -351,9 +351,9 @@ static void test_turns(void)
     munmap(counted, sizeof *counted);
 }
 
-/* ---- a save that is cut off in the data files */
+/* ---- a save that is interrupted in the data files */
 
-/* The program's own, which the library calls in the place of the C library's: of those on .pag the second one kills the process, if it is to. */
+/* Replaces the function of the C library, for the library too: if requested, the second call on .pag kills the process. */
 static int writes_until_kill;
 
 ssize_t pwrite(int file, const void *bytes, size_t count, off_t at)
@@ -366,8 +366,8 @@ ssize_t pwrite(int file, const void *bytes, size_t count, off_t at)
     return pwrite64(file, bytes, count, at);
 }
 
-/* Has the system take a while between the locks of a base when it closes the files of this process: the folder of the base and its first lock
- * get descriptors below, and the other lock one above those of files that are slow to free. */
+/* Makes the system slow between the locks of a base when it closes the files of this process: the folder of the base and its first lock get
+ * descriptors below those of files that are slow to free, and the second lock one above. */
 static void separate_locks(void)
 {
     int low[2] = {dup(0), dup(0)};
@@ -391,8 +391,8 @@ static void save_half(const char *name)
     _exit(0);
 }
 
-/* Whoever gets at the files as the process ends finds no half of the save: by then BASE.writer does not say that the files are whole, in
- * whichever order the system gives the locks back. */
+/* A process that gets the files while the writer is being killed does not find half of the save: BASE.writer does not say that the files
+ * are whole then, in any order in which the system releases the locks. */
 static void test_half(void)
 {
     enum { TIMES = 60 };
@@ -412,7 +412,7 @@ static void test_half(void)
         pid_t writer = fork();
         if (writer == 0)
             save_half("half");
-        /* It saves as soon as it has opened the base. A reader who does not sleep is there before all locks are given back. */
+        /* It saves as soon as it has opened the base. A reader that does not sleep comes before all locks are released. */
         for (long number = 0; number != i;) {
             boddurci_base *reader = boddurci_open_files("half", BODDURCI_READ_ONLY | BODDURCI_NO_WAIT, &fault);
             EXPECT(reader != NULL || fault.status == BODDURCI_LOCKED);
@@ -433,7 +433,7 @@ static void *read_here(void *name)
     return (void *)(intptr_t)found(name);
 }
 
-/* A thread reads beside its own base, and others do; nobody opens it twice to write. */
+/* A thread can read while it has the base open, and so can other threads; nobody opens it twice for writing. */
 static void test_here(void)
 {
     void *number;
@@ -448,7 +448,7 @@ static void test_here(void)
     boddurci_close_files(base);
 }
 
-/* What a child does beside the base of its parent: it reads the last save, and the locks stay its parent's. */
+/* A child reads the last save while its parent has the base open, and the locks stay with the parent. */
 static void test_forked(void)
 {
     int status;
@@ -513,7 +513,7 @@ static void *look(void *writer)
     return NULL;
 }
 
-/* A process that stops while it looks at BASE.writer keeps no save waiting. Readers use the log then, and nobody else writes. */
+/* A process that stops while it checks BASE.writer does not block saves. Readers use the log then, and nobody else writes. */
 static void test_stopped(void)
 {
     long number = 40;
@@ -537,7 +537,7 @@ static void test_stopped(void)
     boddurci_close_files(opened("here", BODDURCI_NO_WAIT));
 }
 
-/* A lock that is another file than is held: nothing is saved. */
+/* If the name of a lock leads to another file than the locked one, nothing is saved. */
 static void test_moved(void)
 {
     static const char *const names[] = {"here.lock", "here.writer"};
@@ -552,7 +552,7 @@ static void test_moved(void)
     }
 }
 
-/* Without the file of a lock, and with one that is not taken: a reader reads, and a writer makes it or says why not. */
+/* If the file of a lock is missing or not accepted, a reader reads, and a writer makes it or reports why not. */
 static void test_locks(void)
 {
     static const char *const names[] = {"here.lock", "here.writer"};
@@ -570,8 +570,8 @@ static void test_locks(void)
     boddurci_close_files(opened("here", 0));
 }
 
-/* A redo file that cannot be marked keeps the files with the writer, until a save can mark it. Root may make files everywhere, so it is another
- * user then. */
+/* If the redo file cannot be marked the writer keeps the lock of the files until a save can mark it. Root may make files everywhere, so the
+ * test uses another user then. */
 static void test_unmarked(void)
 {
     long number = 2;
@@ -593,7 +593,7 @@ static void test_unmarked(void)
 
 /* ---- a reader in a loop */
 
-/* What the service and its reader share: the saves that have begun and those that are done, and whether the service is to end. */
+/* Shared by the service and its reader: the numbers of begun and completed saves, and whether the service is to end. */
 struct shared {
     atomic_long begun, done;
     atomic_int is_over;
@@ -601,7 +601,7 @@ struct shared {
 
 enum { PAIRS = 64, WINDOW = 100000 /* microseconds */ };
 
-/* Opens a base with some pages, and saves one number into two keys on different pages until it is over. */
+/* Opens a base with some pages, and saves one number into two keys on different pages until the end. */
 static void save_in_loop(struct shared *shared)
 {
     static uint8_t large[500];
@@ -627,7 +627,7 @@ struct figures {
     double most, sum;
 };
 
-/* Reads once: both keys have the number of one save, the last one or the one that was under way. */
+/* Reads once: both keys have the number of one save, the last or the current one. */
 static void read_once(struct shared *shared, int64_t milliseconds, struct figures *figures)
 {
     long least = shared->done;
@@ -687,10 +687,10 @@ static void read_copy(void)
     boddurci_close_files(reader);
 }
 
-/* What a turn of the loop does. */
+/* The kinds of turns of the loop. */
 enum { RESTS, READS_COPY, READS, READS_WITHIN, TURNS };
 
-/* Lets the service save for a while beside what this turn does. */
+/* Lets the service save for a while during a turn. */
 static void take_turn(int turn, struct shared *shared, useconds_t rest, struct figures *figures)
 {
     double begun = seconds();
@@ -706,8 +706,8 @@ static void take_turn(int turn, struct shared *shared, useconds_t rest, struct f
     }
 }
 
-/* The turns change often, so that the saves of the service are compared with those of the same time: without a reader, beside one of another
- * database, which takes as much of the processors, and beside one of its own, which waits without an end or for 5 seconds. */
+/* The turns change often, so that saves at nearly the same time are compared: without a reader, with a reader of another database, which
+ * takes as much processor time, and with a reader of the same database, which waits without a limit or for 5 seconds. */
 static void loop(double length, useconds_t rest)
 {
     struct shared *shared = mmap(NULL, sizeof *shared, PROT_READ | PROT_WRITE, MAP_SHARED | MAP_ANONYMOUS, -1, 0);

@@ -1,7 +1,7 @@
-/* Files that are handed over in pieces: what is read, and what is opened. tests/c_library.c runs it. */
+/* Files that are passed in pieces: reading, and opening. tests/c_library.c runs it. */
 #include "c_library.h"
 
-/* Hands the bytes of a .pag over in pieces of a length. */
+/* Passes the bytes of a .pag in pieces of a length. */
 static uint32_t read_in(boddurci_reading *reading, uint32_t wide, const uint8_t *pag, size_t length, size_t piece)
 {
     uint32_t status = BODDURCI_DONE;
@@ -12,7 +12,7 @@ static uint32_t read_in(boddurci_reading *reading, uint32_t wide, const uint8_t 
     return status;
 }
 
-/* A base of some pairs, with a page of zeros between others. */
+/* Makes a base of some pairs, with a page of zeros between two pages. */
 static struct files made(uint32_t wide)
 {
     boddurci db = BODDURCI_CLOSED;
@@ -26,7 +26,7 @@ static struct files made(uint32_t wide)
     return files;
 }
 
-/* A text as it was told in a room. */
+/* The text in a room. */
 struct text {
     uint8_t room[100];
     size_t length;
@@ -38,7 +38,7 @@ static uint32_t open_read(boddurci *db, boddurci_reading *reading, struct files 
     return boddurci_open_reading(db, reading, files.dir, files.dir_length, wide, 0, text->room, sizeof text->room, &text->length);
 }
 
-/* What was read opens as the bytes do: the same database, or the same fault. */
+/* Opening a reading has the same result as opening the bytes: the same database, or the same fault. */
 static void test_alike(struct files files, uint32_t read_wide, uint32_t wide, size_t piece)
 {
     boddurci whole = BODDURCI_CLOSED, pieces = BODDURCI_CLOSED;
@@ -46,7 +46,7 @@ static void test_alike(struct files files, uint32_t read_wide, uint32_t wide, si
     struct text one = {{0}, 0}, other;
     uint32_t status = boddurci_open(&whole, files.dir, files.dir_length, files.pag, files.pag_length, wide, 0, one.room, sizeof one.room, &one.length);
     EXPECT(read_in(&reading, read_wide, files.pag, files.pag_length, piece) == BODDURCI_DONE);
-    /* A refusal leaves what was read: the second time it says the same. */
+    /* A refusal does not change the reading: the second time it is the same. */
     for (int time = 0; time < 2; time++) {
         EXPECT(open_read(&pieces, &reading, files, wide, &other) == status);
         EXPECT(one.length == other.length && !memcmp(one.room, other.room, sizeof one.room));
@@ -68,7 +68,7 @@ static void test_alike(struct files files, uint32_t read_wide, uint32_t wide, si
     boddurci_end_reading(&reading);
 }
 
-/* Sizes of pieces, lengths that are no whole pages, pages that are none, and free bytes that are not zeros. */
+/* Sizes of pieces, lengths that are not whole pages, invalid pages, and free bytes that are not zeros. */
 static void test_pieces(uint32_t wide)
 {
     struct files files = made(wide);
@@ -92,7 +92,7 @@ static void test_pieces(uint32_t wide)
     free_files(files);
 }
 
-/* What may follow a piece, and what a reading is before the first one and after an opening. */
+/* The calls after a piece, and the state of a reading before the first piece and after an opening. */
 static void test_states(void)
 {
     static const uint8_t zeros[8192];
@@ -132,7 +132,7 @@ void test_readings(void)
     test_pieces(1);
 }
 
-/* Pieces of a page, and an opening; whether memory ran out for one of them. A piece without memory leaves nothing read. */
+/* Pieces of a page, and an opening. Returns whether an allocation failed. A piece without memory leaves the reading unread. */
 int reads_in_memory(struct files files)
 {
     boddurci db = BODDURCI_CLOSED;

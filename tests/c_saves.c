@@ -1,11 +1,11 @@
-/* Saves from C, as tests/c_crashes cuts them off.
+/* Saves from C, which tests/c_crashes interrupts.
  *
  *     c_saves list BASE      prints all pairs, in hex, of a base that is read only
- *     c_saves change BASE    does the lines of standard input, `replace KEY VALUE` and `delete KEY` in hex, saves, and prints `saved`;
- *                            where the save is kept in the redo file alone, it says so on standard error
- *     c_saves insist BASE    the same, but where the save fails it saves once more
- *     c_saves each BASE      saves after each line, prints `saved` and the number of lines so far, and goes on if a save fails
- *     c_saves over BASE      the same, but overwrites what another program has changed */
+ *     c_saves change BASE    makes the changes on standard input, `replace KEY VALUE` and `delete KEY` in hex, saves, and prints `saved`;
+ *                            if only the redo file has the save, it says so on standard error
+ *     c_saves insist BASE    the same, but if the save fails it saves once more
+ *     c_saves each BASE      saves after each line, prints `saved` and the number of lines so far, and continues if a save fails
+ *     c_saves over BASE      the same, but overwrites the changes of another program */
 #include "boddurci_files.h"
 #include <stdio.h>
 #include <string.h>
@@ -61,7 +61,7 @@ static size_t read_hex(const char *text, uint8_t *bytes)
     return length;
 }
 
-/* Does a line; whether it was one. */
+/* Makes the change of a line. Returns whether the line is valid. */
 static int change(boddurci *db, const char *line)
 {
     static char words[2][4100];

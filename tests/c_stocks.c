@@ -5,7 +5,7 @@ static const char *const names[] = {"counter", "bounded_add", "bounded_counter",
                                     "lease", "fenced_lease", "rate_limit", "semaphore", "token_bucket"};
 enum { NAMES = sizeof names / sizeof *names };
 
-/* The image of a text in a folder. */
+/* Assembles a text in a folder. */
 static size_t assembled(const char *folder, const char *name, uint8_t *image)
 {
     static uint8_t source[65536], text[100];
@@ -20,7 +20,7 @@ static size_t assembled(const char *folder, const char *name, uint8_t *image)
     return length;
 }
 
-/* All names in one line, as the text of NO_STOCK has them. */
+/* Returns all names in one line, as in the text of NO_STOCK. */
 static void test_list(void)
 {
     char listed[300] = "";
@@ -29,7 +29,7 @@ static void test_list(void)
     EXPECT(strcmp(listed, BODDURCI_STOCKS) == 0 && strstr(boddurci_text(BODDURCI_NO_STOCK), listed) != NULL);
 }
 
-/* A name that is not theirs: no number is set, and no program is submitted. */
+/* An unknown name: no number is set, and no program is submitted. */
 static void test_others(boddurci *db, uint32_t next)
 {
     static const char *const others[] = {"", "Counter", "counter ", "counte", "counters", "@counter", "lease.s", "\xff"};
@@ -68,7 +68,7 @@ void test_stocks(const char *examples)
     boddurci_close(&db);
 }
 
-/* A submission by name; whether memory ran out. Then nothing changed. */
+/* Submits by name. Returns whether an allocation failed; then nothing has changed. */
 int stocks_in_memory(void)
 {
     boddurci db = BODDURCI_CLOSED;

@@ -1,8 +1,12 @@
-/* A library in front of the C library's: it cuts a run off at its Nth call that writes, syncs, cuts, removes or renames a file, or gives it
- * blocks, or notes these calls. CUT_CALL is N; with none no call is cut off. CUT_FAULT is the errno with which the call fails; 0 is a kill.
- * CUT_TOLD is a file that is made once a call has failed. With CUT_LINES what is printed, to a descriptor 1 that is no file, counts too, but
- * for writes of no bytes. CUT_LOG is one in which calls are noted, once they are done: pwrite, ftruncate, unlink, syncs and those that
- * failed, in a line each, with bytes in hex; with CUT_LINES also what is printed. */
+/* A library in front of the C library. It interrupts a run at its Nth call that writes, syncs, truncates, removes or renames a file, or
+ * allocates its blocks, or it logs these calls.
+ *
+ *     CUT_CALL     N; without it no call is interrupted
+ *     CUT_FAULT    the errno with which the call fails; 0 is a kill
+ *     CUT_TOLD     a file that is made once a call has failed
+ *     CUT_LINES    output counts too, to a descriptor 1 that is not a file, except writes of no bytes
+ *     CUT_LOG      a file for a log of completed calls: pwrite, ftruncate, unlink, syncs and failed syncs, in a line each, with bytes in hex;
+ *                  with CUT_LINES also output */
 #define _GNU_SOURCE
 #include <dlfcn.h>
 #include <errno.h>
@@ -53,7 +57,7 @@ static int is_next_cut(void)
     return chosen != 0 && atomic_load(&calls) + 1 == chosen;
 }
 
-/* Whether this call is the one at which the run is cut off. A kill does not come back. */
+/* Whether this call is the one to interrupt. A kill does not return. */
 static int is_cut(void)
 {
     if (!chosen || atomic_fetch_add(&calls, 1) + 1 != chosen)
@@ -94,7 +98,7 @@ static void note_opened(const char *call, int fd, long long number, const void *
     errno = system;
 }
 
-/* ---- the calls. A write that is cut off has written half of its bytes. */
+/* ---- the calls. An interrupted write has written half of its bytes. */
 
 ssize_t write(int fd, const void *bytes, size_t count)
 {

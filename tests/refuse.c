@@ -1,5 +1,5 @@
-/* A library in front of the C library's, which refuses the growth of memory that REFUSED_GROWTH numbers, and tells so by a byte on the
- * pipe whose number is REFUSED_PIPE. tests/refused and tests/c_library use it. */
+/* A library in front of the C library. It makes the allocation with the number REFUSED_GROWTH fail, and reports that by a byte on the pipe
+ * with the descriptor REFUSED_PIPE. tests/refused and tests/c_library use it. */
 #include <errno.h>
 #include <stdatomic.h>
 #include <stddef.h>

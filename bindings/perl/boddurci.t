@@ -1,4 +1,4 @@
-# Tests of Boddurci.pm, in a folder of their own. BODDURCI_LIBRARY names the shared object.
+# Tests of Boddurci.pm, in a new folder. BODDURCI_LIBRARY names the shared object.
 use strict;
 use warnings;
 use Config ();

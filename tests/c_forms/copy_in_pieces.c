@@ -1,7 +1,7 @@
 /* accepted */
 #include "boddurci_record.h"
 
-/* Up to 128 bytes, in pieces of eight of which each length is tested. */
+/* Up to 128 bytes, in pieces of eight. Each length is tested. */
 uint64_t program(void *record, uint64_t record_length, const void *argument, uint64_t argument_length)
 {
     uint64_t *to = record;

@@ -1,7 +1,7 @@
 /* accepted */
 #include "boddurci_record.h"
 
-/* As programs for packets are written; the compiler makes a test of the length of it. */
+/* In the style of programs for packets; the compiler turns it into a test of the length. */
 uint64_t program(void *record, uint64_t record_length, const void *argument, uint64_t argument_length)
 {
     uint8_t *bytes = record, *end = bytes + record_length;

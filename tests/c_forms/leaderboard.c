@@ -1,7 +1,7 @@
 /* accepted */
 #include "boddurci_record.h"
 
-/* Eight scores, the greatest first: a new one goes where it belongs, and the last falls out. */
+/* Eight scores, the greatest first: a new one is inserted in order, and the last is dropped. */
 struct score {
     uint64_t player, points;
 };

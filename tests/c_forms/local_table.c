@@ -1,7 +1,7 @@
 /* accepted */
 #include "boddurci_record.h"
 
-/* How often each value below 16 is among 32 bytes, by a local array. */
+/* Counts each value below 16 among 32 bytes, by a local array. */
 uint64_t program(void *record, uint64_t record_length, const void *argument, uint64_t argument_length)
 {
     const uint8_t *values = argument;

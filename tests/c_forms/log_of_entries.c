@@ -1,7 +1,7 @@
 /* accepted */
 #include "boddurci_record.h"
 
-/* Entries of 16 bytes, one behind the other. */
+/* Entries of 16 bytes, one after the other. */
 struct log {
     uint64_t used;
     uint8_t bytes[256];

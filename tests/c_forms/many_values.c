@@ -1,7 +1,7 @@
 /* accepted */
 #include "boddurci_record.h"
 
-/* A lease with more numbers at hand than registers that outlive a call. */
+/* A lease with more live numbers than registers that survive a call. */
 struct lease {
     uint64_t holder, ends, renewals, waits;
 };

@@ -1,7 +1,7 @@
 /* accepted or OutOfArgument */
 #include "boddurci_record.h"
 
-/* How many of the first sixteen bytes are the same, where either may be shorter. */
+/* The length of the common prefix of the first sixteen bytes; either may be shorter. */
 uint64_t program(void *record, uint64_t record_length, const void *argument, uint64_t argument_length)
 {
     const uint8_t *mine = record, *theirs = argument;

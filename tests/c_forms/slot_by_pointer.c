@@ -1,7 +1,7 @@
 /* accepted */
 #include "boddurci_record.h"
 
-/* The first free one of eight slots, by a pointer that is kept. */
+/* The first free one of eight slots, by a pointer. */
 struct slot {
     uint64_t user, since;
 };

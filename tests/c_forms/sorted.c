@@ -1,7 +1,7 @@
 /* accepted */
 #include "boddurci_record.h"
 
-/* Eight numbers, put in order. */
+/* Sorts eight numbers. */
 uint64_t program(void *record, uint64_t record_length, const void *argument, uint64_t argument_length)
 {
     uint64_t *numbers = record;

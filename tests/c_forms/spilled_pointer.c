@@ -1,7 +1,7 @@
 /* PointerStored */
 #include "boddurci_record.h"
 
-/* A token bucket with more values across a call than there are registers that outlive it: R6 to R9. */
+/* A token bucket with more live values across a call than registers that survive it: R6 to R9. */
 struct bucket {
     uint64_t tokens, filled;
 };

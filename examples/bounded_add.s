@@ -2,14 +2,14 @@
 ; second number. A number is 8 bytes, the lowest first.
 ;
 ; Code 1: it was added. Code 0: the sum would be above the bound, the record has fewer than 8 bytes,
-; or the argument has fewer than 16; the record stays as it is.
+; or the argument has fewer than 16; the record is unchanged.
 
     jlt r2, 8, leave        ; R2 is the record's length
     jlt r4, 16, leave       ; R4 is the argument's length
     ldxdw r6, [r1]          ; the record's number
-    ldxdw r7, [r3]          ; what is to be added
+    ldxdw r7, [r3]          ; the amount
     ldxdw r8, [r3+8]        ; the bound
-    jgt r6, r8, leave       ; it is above the bound already
+    jgt r6, r8, leave       ; the number is above the bound already
     sub r8, r6              ; the room below the bound
     jgt r7, r8, leave
     add r6, r7

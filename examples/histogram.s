@@ -1,7 +1,7 @@
-; A histogram: eight counters, of which the argument's first byte picks one.
+; A histogram of eight counters. The argument's first byte selects the counter to increment.
 ;
 ; Record, 64 bytes: eight numbers of 8 bytes each, the lowest byte first.
-; Argument, 1 byte or more: the lowest three bits of the first byte say which number gets one more.
+; Argument, 1 byte or more: the lowest three bits of the first byte are the index of the number.
 ;
 ; Code 1: it was counted. Code 0: a length is too short. The reply word is the number's new value.
 
@@ -10,12 +10,12 @@
     ldxb r6, [r3]
     and r6, 7               ; 0 to 7
     lsh r6, 3               ; 0 to 56, in steps of 8
-    add r1, r6              ; so the 8 bytes there are in the record
+    add r1, r6              ; so these 8 bytes are in the record
     ldxdw r7, [r1]
     add r7, 1
     stxdw [r1], r7
     mov r1, r7
-    call 1                  ; says how many
+    call 1                  ; replies the new value
     mov r0, 1               ; save the record
     exit
 

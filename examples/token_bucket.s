@@ -1,16 +1,16 @@
-; A token bucket, counted in time: it fills as time goes by, and whoever comes takes out a cost.
+; A token bucket, counted in time: it fills as time passes, and each call takes a cost.
 ;
 ; Record, 8 bytes or more: the first 8 are the time at which the bucket is full again. A number is 8
 ; bytes, the lowest first. Zeros are a full bucket.
-; Argument, 16 bytes: the cost and the capacity, both as the time in which so much flows in. With
-; one token every 5 seconds and room for 20, a cost of 2 tokens is 10, and the capacity is 100.
+; Argument, 16 bytes: the cost and the capacity, both as the time that it takes to fill that amount.
+; With one token every 5 seconds and room for 20, a cost of 2 tokens is 10, and the capacity is 100.
 ;
-; Code 1: taken. The reply word is how much is left.
-; Code 0: there is too little, and the reply word is how long to wait until there is enough. It is
+; Code 1: taken. The reply word is the amount that is left.
+; Code 0: there is too little, and the reply word is the time to wait until there is enough. It is
 ; 2^64 - 1 if there never is: the cost is above the capacity, or the time would be past 2^64 - 1. If
 ; a length is too short, it is 0.
 ;
-; A time that is ahead of the clock is believed: if a clock was wrong, delete the key.
+; A time ahead of the clock is accepted: if a clock was wrong, delete the key.
 
     jlt r2, 8, leave        ; R2 is the record's length
     jlt r4, 16, leave       ; R4 is the argument's length
@@ -18,7 +18,7 @@
     ldxdw r7, [r3]          ; the cost
     ldxdw r8, [r3+8]        ; the capacity
     call 2                  ; the time
-    ldxdw r9, [r6]          ; when the bucket is full
+    ldxdw r9, [r6]          ; the time at which the bucket is full
     jge r9, r0, take
     mov r9, r0              ; it is full already
 
@@ -26,20 +26,20 @@ take:
     jgt r7, r8, never
     sub r8, r7
     mov r1, r9
-    sub r1, r0              ; how much is missing
+    sub r1, r0              ; the missing amount
     jgt r1, r8, wait
-    sub r8, r1              ; how much is left
-    add r7, r9              ; when the bucket is full after this
+    sub r8, r1              ; the amount left
+    add r7, r9              ; the new time at which it is full
     jlt r7, r9, never
     stxdw [r6], r7
     mov r1, r8
-    call 1                  ; says how much is left
+    call 1                  ; replies the amount left
     mov r0, 1               ; save the record
     exit
 
 wait:
     sub r1, r8
-    call 1                  ; says how long
+    call 1                  ; replies the time to wait
     mov r0, 0               ; change nothing
     exit
 

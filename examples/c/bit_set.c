@@ -1,6 +1,6 @@
 /* A set of the numbers 0 to 511, a bit each.
- * SAVE: the number was put in, taken out, or turned round. KEEP: nothing was to be done, there is no such number or operation, or a
- * length is too short. The word is 1 where the number was in before, and else 0. */
+ * SAVE: the number was added, removed or toggled. KEEP: nothing was to be done, there is no such number or operation, or a length is
+ * too short. The word is 1 if the number was in the set before, and 0 otherwise. */
 #include "boddurci_record.h"
 
 enum { BITS = 512 };

@@ -1,7 +1,7 @@
-/* A Bloom filter of 1,024 bits with four bits a value. The argument is a hash of a value, 16 bytes; the bits are those at the first
- * half, and the first half and one, two and three times the second.
- * SAVE: the value is new, and is in now; the word is 0. KEEP: it was in, or may have been, and the word is 1; or a length is too
- * short, and the word is 0. */
+/* A Bloom filter of 1,024 bits with four bits for each value. The argument is a hash of a value, 16 bytes; the bits are at the first
+ * half, and at the first half plus one, two and three times the second.
+ * SAVE: the value is new, and is added; the word is 0. KEEP: it was added before, or may have been, and the word is 1; or a length
+ * is too short, and the word is 0. */
 #include "boddurci_record.h"
 
 enum { BITS = 1024, BITS_A_VALUE = 4 };

@@ -1,5 +1,5 @@
-/* Compare and set: a number is replaced where it is still the one that was expected.
- * SAVE: it is replaced. KEEP: it is another one, or a length is too short. The word is the number that was there. */
+/* Compare and set: a number is replaced if it is the expected one.
+ * SAVE: it is replaced. KEEP: it is another number, or a length is too short. The word is the number before the run. */
 #include "boddurci_record.h"
 
 struct change {

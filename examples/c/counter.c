@@ -1,4 +1,4 @@
-/* Counts: the record's first 8 bytes are a number, and get one more.
+/* Counts: increments the number in the record's first 8 bytes.
  * SAVE: it was counted. KEEP: the record has fewer bytes. */
 #include "boddurci_record.h"
 

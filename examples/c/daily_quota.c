@@ -1,6 +1,6 @@
-/* A quota that is whole again with each new day; a time is in seconds.
- * SAVE: the amount is used; the word is how much of the day's is left.
- * KEEP: too little is left, and the word is how many seconds the day still has; or a length is too short, and the word is 0. */
+/* A quota that starts again with each day; a time is in seconds.
+ * SAVE: the amount is used; the word is the amount that is left for the day.
+ * KEEP: too little is left, and the word is the number of seconds until the next day; or a length is too short, and the word is 0. */
 #include "boddurci_record.h"
 
 enum { DAY = 86400 };

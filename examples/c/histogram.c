@@ -1,4 +1,4 @@
-/* A histogram: eight numbers, of which the lowest three bits of the argument's first byte pick one, which gets one more.
+/* A histogram of eight numbers: the lowest three bits of the argument's first byte select the one to increment.
  * SAVE: it was counted; the word is the number's new value. KEEP: a length is too short. */
 #include "boddurci_record.h"
 

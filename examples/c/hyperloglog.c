@@ -1,5 +1,5 @@
-/* HyperLogLog (Flajolet and others, 2007): how many different values came, by 256 registers of a byte each. The argument is a hash
- * of a value, 8 bytes; its lowest 8 bits pick a register, which keeps the most zeros, and one, with which the other 56 began.
+/* HyperLogLog (Flajolet et al., 2007): estimates the number of different values, by 256 registers of a byte each. The argument is a
+ * hash, 8 bytes; its lowest 8 bits select a register, which keeps the greatest number of trailing zeros of the other 56 bits, plus one.
  * SAVE: a register has grown; the word is its value. KEEP: none has, or a length is too short. */
 #include "boddurci_record.h"
 
@@ -13,7 +13,7 @@ uint64_t program(void *record, uint64_t record_length, const void *argument, uin
         return KEEP;
     uint64_t rest = *hash >> 8 | 1ull << 56;
     uint8_t rank = 1;
-    /* The lowest one of the rest, found in six steps. */
+    /* Finds the lowest bit of the rest that is 1, in six steps. */
     if (!(rest & 0xffffffff)) {
         rest >>= 32;
         rank += 32;

@@ -1,8 +1,8 @@
-/* A lease: who has it, and until when; zeros are a lease that has ended.
- * SAVE: who asks has it, new or renewed, until the time in the word.
- * DELETE: it was given back (a duration of 0), or had ended.
- * KEEP: another one has it until the time in the word; or a length is too short, and the word is 0.
- * A lease ends at 2^64 - 1 at the latest: at that time each has ended. */
+/* A lease: its owner and its end; zeros are a lease that has ended.
+ * SAVE: the caller has it, new or renewed, until the time in the word.
+ * DELETE: it was released (a duration of 0), or had ended.
+ * KEEP: another owner has it until the time in the word; or a length is too short, and the word is 0.
+ * A lease ends at 2^64 - 1 at the latest: at that time all have ended. */
 #include "boddurci_record.h"
 
 struct lease {

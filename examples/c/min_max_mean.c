@@ -1,5 +1,5 @@
-/* Count, sum, least and greatest of the numbers that came, with the mean as the word.
- * SAVE: the number was taken in; the word is the mean, rounded down. KEEP: the sum or the count would be above 2^64 - 1, or
+/* Count, sum, minimum and maximum of a series of numbers, with the mean as the word.
+ * SAVE: the number was added; the word is the mean, rounded down. KEEP: the sum or the count would be above 2^64 - 1, or
  * a length is too short. */
 #include "boddurci_record.h"
 

@@ -1,8 +1,8 @@
-/* A lease with an owner of 16 bytes, renewals, and a fencing number that grows with each new owner, so that what a late owner
- * writes can be told from what the next one does.
- * SAVE: taken, renewed or given back; the word is the fencing number.
- * KEEP: another one has it, who renews or gives back does not have it, there is no such operation, or a length is too short; the
- * word is 0.
+/* A lease with an owner of 16 bytes, renewals, and a fencing number that grows with each new owner: by that number a late write of
+ * an earlier owner is recognized.
+ * SAVE: taken, renewed or released; the word is the fencing number.
+ * KEEP: another owner has it, the caller of a renewal or release does not have it, there is no such operation, or a length is too
+ * short; the word is 0.
  * A lease ends at 2^64 - 1 at the latest. */
 #include "boddurci_record.h"
 

@@ -1,8 +1,8 @@
-/* A rate limit: so many in a window of time; zeros are a window that began at 0.
- * SAVE: let through; the word is how many more the window lets through.
- * KEEP: not let through; the word is how long the window still lasts, or would last where none does. Where a length is too
+/* A rate limit: a number of calls in a window of time; zeros are a window that began at 0.
+ * SAVE: admitted; the word is the number of further calls that the window admits.
+ * KEEP: not admitted; the word is the remaining time of the window, or the duration of a window if none is open. If a length is too
  * short it is 0.
- * Who comes where no window lasts, or where it began later than now, begins one. */
+ * If no window is open, or it began later than now, a call begins one. */
 #include "boddurci_record.h"
 
 struct window {

@@ -1,5 +1,5 @@
-/* The last sixteen numbers that came, and how many came in all: number n is at n modulo 16.
- * SAVE: the number is in; the word is the one whose place it took. KEEP: a length is too short. */
+/* The last sixteen numbers, and the count of all: number n is at n modulo 16.
+ * SAVE: the number is stored; the word is the one that it replaced. KEEP: a length is too short. */
 #include "boddurci_record.h"
 
 enum { PLACES = 16 };

@@ -1,6 +1,6 @@
-/* Does a request once: the numbers, above 0, of the last thirty-two requests that were let through.
- * SAVE: the request is new, and is kept. KEEP: it was there, and the word is 1; or its number is 0, or a length is too short, and
- * the word is 0. */
+/* Admits a request once: the record has the numbers, above 0, of the last thirty-two admitted requests.
+ * SAVE: the request is new, and is stored. KEEP: it was admitted before, and the word is 1; or its number is 0, or a length is too
+ * short, and the word is 0. */
 #include "boddurci_record.h"
 
 enum { PLACES = 32 };

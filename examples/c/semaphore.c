@@ -1,7 +1,7 @@
-/* A semaphore of eight permits, each with a holder, above 0, and a time at which it ends, so that a holder that died gives it back.
- * Who asks and has one already renews it; a duration of 0 gives it back.
- * SAVE: who asks has a permit until the time in the word, or has given it back, and the word is 0.
- * KEEP: none is free, nothing was there to give back, or a length is too short. The word is 0.
+/* A semaphore of eight permits, each with a holder, above 0, and an end, so that the permit of a dead holder becomes free.
+ * A caller that has a permit already renews it; a duration of 0 releases it.
+ * SAVE: the caller has a permit until the time in the word, or has released it, and the word is 0.
+ * KEEP: no permit is free, there was none to release, or a length is too short. The word is 0.
  * A permit ends at 2^64 - 1 at the latest. */
 #include "boddurci_record.h"
 

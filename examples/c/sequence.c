@@ -1,6 +1,6 @@
-/* A sequence: a message is replaced by newer ones alone, in whatever order they come; messages are numbered from 1.
- * SAVE: the message is newer, and is there now. KEEP: it is old, or a length is too short.
- * The word is the number of the message that is there now. */
+/* A sequence: only newer messages replace a message, in any order of arrival; messages are numbered from 1.
+ * SAVE: the message is newer, and is stored. KEEP: it is old, or a length is too short.
+ * The word is the number of the message that is stored after the run. */
 #include "boddurci_record.h"
 
 struct message {

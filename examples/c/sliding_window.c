@@ -1,10 +1,10 @@
-/* A sliding window: so many in any stretch of time, reckoned from the counts of this window and of the one before, of which the
- * part counts that the stretch still covers. Duration and limit are below 2^32, and the duration is above 0.
- * SAVE: let through; the word is how many more are. KEEP: not let through, or a number or a length is out of bounds; the word is 0. */
+/* A sliding window: a number of calls in any interval of one duration, estimated from the count of this window and the covered part of
+ * the count of the last window. Duration and limit are below 2^32, and the duration is above 0.
+ * SAVE: admitted; the word is the number of further calls. KEEP: not admitted, or a number or a length is out of range; the word is 0. */
 #include "boddurci_record.h"
 
 struct counts {
-    uint64_t window, now, before; /* which window, its count, and that of the one before */
+    uint64_t window, now, before; /* the number of the window, its count, and that of the one before */
 };
 struct limit {
     uint64_t duration, most;

@@ -1,16 +1,16 @@
-/* A token bucket: it fills at a rate up to its capacity, and who comes takes tokens out. A new one is full.
- * SAVE: they were taken; the word is how many are left.
- * KEEP: there are too few; the word is how long to wait until there are enough, and 2^64 - 1 where there never are. Where a length
- * is too short or the interval is 0, the word is 0.
- * A clock that goes back adds nothing. Where it was ahead once, by more than it takes to fill the bucket, that time is not believed: the
- * bucket is as a new one. The cost times the interval is below 2^63. */
+/* A token bucket: it fills at a rate up to its capacity, and each call takes tokens. A new bucket is full.
+ * SAVE: the tokens were taken; the word is the number that is left.
+ * KEEP: there are too few; the word is the time to wait until there are enough, and 2^64 - 1 if there never are. If a length is too
+ * short or the interval is 0, the word is 0.
+ * A clock that goes back adds nothing. If the clock was ahead once, by more than the time to fill the bucket, that time is ignored: the
+ * bucket counts as a new one. The cost times the interval is below 2^63. */
 #include "boddurci_record.h"
 
 struct bucket {
     uint64_t tokens, filled;
 };
 struct request {
-    uint64_t interval, capacity, cost; /* one token more every interval */
+    uint64_t interval, capacity, cost; /* one more token per interval */
 };
 
 uint64_t program(void *record, uint64_t record_length, const void *argument, uint64_t argument_length)

@@ -1,5 +1,5 @@
-/* The eight values that come most often (Space-Saving; Metwally and others, 2005): eight entries of a value, above 0, and a count.
- * A value that has none takes the entry with the least count, and goes on from that. A count is at most so much too high as the
+/* The eight most frequent values (Space-Saving; Metwally et al., 2005): eight entries of a value, above 0, and a count.
+ * A value without an entry takes the one with the least count, and continues that count. A count is too high by at most the
  * least one.
  * SAVE: it was counted; the word is its count. KEEP: the value is 0, or a length is too short. */
 #include "boddurci_record.h"

@@ -1,5 +1,5 @@
-/* A document of 120 bytes with a version: you replace it by naming the version that is there; a new one has version 0.
- * SAVE: it is replaced; the word is its version now. KEEP: another version is there, and the word is that one; or a length is too
+/* A document of 120 bytes with a version: to replace it, name its present version; a new one has version 0.
+ * SAVE: it is replaced; the word is its new version. KEEP: it has another version, and the word is that one; or a length is too
  * short, and the word is 0. */
 #include "boddurci_record.h"
 

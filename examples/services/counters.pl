@@ -1,10 +1,10 @@
 #!/usr/bin/perl
-# Counters that a Perl program has kept as decimal numbers in an SDBM file, taken over into records of 8 bytes, on which dbm counts. Perl
-# reads them by SDBM_File as before, and unpacks them, while dbm writes.
+# Converts counters that a Perl program has stored as decimal numbers in an SDBM file to records of 8 bytes, on which dbm counts. Perl still
+# reads them by SDBM_File, and unpacks them, while dbm writes.
 #
-#     counters.pl take OLD NEW          takes all counters of OLD over into NEW, in one save for each 50,000
+#     counters.pl take OLD NEW          converts all counters of OLD into NEW, in one save for each 50,000
 #     counters.pl count BASE KEY..      adds 1 to each of these, all in one save, and prints their numbers
-#     counters.pl show BASE             prints all that Perl reads
+#     counters.pl show BASE             prints all counters that Perl reads
 #
 # DBM names the program, or dbm is on the PATH.
 use strict;
@@ -14,7 +14,7 @@ use SDBM_File;
 
 my $dbm = $ENV{DBM} // "dbm";
 
-# The status of dbm on these words, and what it prints. No shell reads them.
+# Runs dbm on these words, without a shell. Returns its status and output.
 sub run_of {
     open my $out, "-|", $dbm, @_ or die "counters.pl: $dbm: $!\n";
     my @said = <$out>;
@@ -22,10 +22,10 @@ sub run_of {
     return ($?, @said);
 }
 
-# What dbm answers to the lines of a script on a base.
+# Returns the answers of dbm to the lines of a script on a base.
 sub answers {
     my ($base, @lines) = @_;
-    # A pipe both ways would stand still where both were full, so the lines lie in a file.
+    # Pipes in both directions would block if both were full, so the lines are in a file.
     open my $script, "+>", undef or die "no file for the lines: $!\n";
     print $script map { "$_\n" } @lines;
     seek $script, 0, 0;
@@ -38,7 +38,8 @@ sub answers {
     return @said;
 }
 
-# Whether a save of dbm was cut off after its commit, which is the first byte of the redo file. Without that the files are as they were.
+# Returns whether a save of dbm was interrupted after its commit, which is the first byte of the redo file. Before the commit it changes no
+# file.
 sub is_cut_off {
     my ($base) = @_;
     open my $redo, "<:raw", "$base.redo" or return 0;
@@ -47,8 +48,8 @@ sub is_cut_off {
     return $mark eq "\1";
 }
 
-# Reads the pairs of a base as Perl does, under the lock of dbm where that is there, and lets a function have each. A save that was cut off
-# is ended by dbm first: Perl knows nothing of it.
+# Reads the pairs of a base by SDBM_File, under the lock of dbm if it exists, and passes each to a function. Before that dbm recovers an
+# interrupted save, which Perl does not know.
 sub each_pair {
     my ($base, $does) = @_;
     while (open my $lock, "<", "$base.lock") {

@@ -1,12 +1,12 @@
-/* A lease service: who takes a name has it for some time, and with it a number that grows with each new owner, so that what a late owner
- * still sends can be told from what the next one does.
+/* A lease service: a client that takes a name has it for some time, and gets a number that grows with each new owner. By that number a late
+ * request of an earlier owner is recognized.
  *
  *     cc -O2 -I ../../out/boddurci leased.c ../../out/boddurci/libboddurci.a -lpthread -o leased
  *     ./leased BASE SOCKET ../c/owned_lease.bin
  *
- * Four threads answer lines on a Unix socket: `take NAME OWNER MILLISECONDS`, `renew NAME OWNER MILLISECONDS` and `give NAME OWNER`, of
- * words without spaces, names of up to 256 bytes and owners of up to 16, by `yes NUMBER` or `no`. A `yes` is sent once its lease is saved, so
- * it stands whatever happens to the service: kill it, and start it again. SIGTERM ends it.
+ * Four threads answer lines on a Unix socket, `take NAME OWNER MILLISECONDS`, `renew NAME OWNER MILLISECONDS` and `give NAME OWNER`, by
+ * `yes NUMBER` or `no`. Words have no spaces, names up to 256 bytes and owners up to 16. A `yes` is sent once its lease is saved, so it
+ * survives a kill of the service: start the service again. SIGTERM ends it.
  *
  * The names are the keys. If strangers choose them, hash them with a secret first, as limiter.py does. */
 #define _POSIX_C_SOURCE 200809L
@@ -24,7 +24,7 @@
 enum { THREADS = 4, RECORD = 40, OWNER = 16, NAME = 256 };
 enum { TAKE, RENEW, GIVE, NONE };
 
-/* The argument of the program, as examples/c/owned_lease.c has it; the processor keeps numbers with the lowest byte first, as it does. */
+/* The argument of examples/c/owned_lease.c. Both the processor and the program have the lowest byte of a number first. */
 struct request {
     uint8_t owner[OWNER];
     uint64_t duration, operation;
@@ -34,7 +34,7 @@ static boddurci_base *base;
 static uint32_t lease;
 static int listener;
 
-/* The service ends: what it has promised is saved, and what is not was not promised. */
+/* Ends the service. All promised leases are saved already. */
 static void end_by(const char *what, const char *why)
 {
     fprintf(stderr, "leased: %s: %s\n", what, why);
@@ -57,7 +57,7 @@ static uint64_t operation_of(const char *word)
     return at;
 }
 
-/* Runs the program on the lease of a name, and saves what it changed. */
+/* Runs the program on the lease of a name, and saves the change. */
 static int is_granted(const char *name, const struct request *request, uint64_t *number)
 {
     uint64_t end = 0;
@@ -94,7 +94,7 @@ static void answer(const char *line, FILE *peer)
     fflush(peer);
 }
 
-/* One thread: it answers one connection after another, each up to a line that is too long or does not end. */
+/* A thread. It answers one connection after another, each up to a line that is too long or does not end. */
 static void *serve(void *unused)
 {
     char line[512];

@@ -1,13 +1,14 @@
 #!/usr/bin/env python3
-"""A rate limiter that stays, for services that ask often: ten calls at once, and one more every 100 milliseconds, for each user.
+"""A rate limiter as a service, for frequent calls: each user may make ten calls at once, and one more every 100 milliseconds.
 
     limiter.py BASE SOCKET
 
-Each line on the Unix socket is a user, and is answered `yes LEFT` or `no MILLISECONDS`. The database is saved every second, and when SIGTERM
-or SIGINT ends the service. A kill forgives what was let through since the last save, and no more.
+Each line on the Unix socket is a user, and the answer is `yes LEFT` or `no MILLISECONDS`. The database is saved every second, and when
+SIGTERM or SIGINT ends the service. A kill only forgets the calls that were admitted since the last save.
 
-Users choose their names. With the names as keys they could choose some whose hashes agree, which makes BASE.pag as long as it can be. So a
-key is a hash of the name with a secret, which is made with the database, in BASE.secret. If you delete that file all users start anew.
+Users choose their names. If the names were the keys, users could choose names whose hashes agree, which makes BASE.pag as long as possible.
+So a key is a hash of the name with a secret, which is made with the database, in BASE.secret. If you delete that file all users start
+again.
 """
 
 import hashlib
@@ -26,13 +27,13 @@ sys.path.append(str(HERE.parent.parent / "bindings/python"))
 
 import boddurci
 
-# The milliseconds for one token more, the most tokens, and the tokens of a call.
+# The milliseconds for one more token, the most tokens, and the tokens of a call.
 RATE = struct.pack("<3Q", 100, 10, 1)
 
 # The most bytes of a user's name.
 LONGEST = 1000
 
-# The most bytes of BASE.pag: room for some half a million users, and no more, so whoever makes names up cannot fill the disk.
+# The most bytes of BASE.pag: room for some half a million users, so invented names cannot fill the disk.
 MOST_BYTES = 64 << 20
 
 # The bytes of the secret.
@@ -40,7 +41,7 @@ SECRET = 32
 
 
 class Asking(socketserver.StreamRequestHandler):
-    """A client, in a separate thread. A line that is too long, or is cut off, ends the connection."""
+    """A client, in a separate thread. A line that is too long or truncated ends the connection."""
 
     def handle(self):
         while True:
@@ -71,8 +72,8 @@ class Limiter(socketserver.ThreadingUnixStreamServer):
 
 
 def secret_of(base):
-    """The secret of a database, which is made if it is missing. The lock of the database keeps other services away meanwhile. A secret of
-    another length ends the service: with an empty one the hash would have no key."""
+    """Returns the secret of a database, and makes it if it is missing. The lock of the database keeps other services away meanwhile. A
+    secret of another length ends the service: with an empty one the hash would have no key."""
     path = pathlib.Path(base + ".secret")
     if not path.exists():
         number, new = tempfile.mkstemp(prefix=f"{path.name}.", dir=path.parent)

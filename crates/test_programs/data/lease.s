@@ -1,43 +1,43 @@
-; A lease: who has it, and until when.
+; A lease: its owner and its end.
 ;
-; Record, 16 bytes: the number of who has the lease, and the time at which it ends. A number is
+; Record, 16 bytes: the number of the owner, and the time at which the lease ends. A number is
 ; 8 bytes, the lowest first. Zeros are a lease that has ended.
-; Argument, 16 bytes: the number of who asks, and for how long from now on; 0 gives it back. Who
-; asks is what the argument claims; `call 4` would give the number of the session.
+; Argument, 16 bytes: the number of the caller, and the duration from now; 0 releases the lease. The
+; program trusts the number of the caller; `call 4` would return the number of the session.
 ;
-; Code 1: who asks has the lease, new or renewed, until the time in the reply word.
-; Code 2: the lease was given back, or had ended, and its pair is deleted.
-; Code 0: another one has the lease until the time in the reply word; or a length is too short, and
-; the word is 0.
+; Code 1: the caller has the lease, new or renewed, until the time in the reply word.
+; Code 2: the lease was released, or had ended, and its pair is deleted.
+; Code 0: another owner has the lease until the time in the reply word; or a length is too short,
+; and the word is 0.
 ;
-; A lease ends at 2^64 - 1 at the latest: at that time each has ended, and anyone may take it.
+; A lease ends at 2^64 - 1 at the latest: at that time all have ended, and anyone may take one.
 
     jlt r2, 16, leave       ; R2 is the record's length
     jlt r4, 16, leave       ; R4 is the argument's length
     mov r6, r1              ; a call leaves R1 to R5 unset
-    ldxdw r7, [r3]          ; who asks
-    ldxdw r8, [r3+8]        ; for how long
+    ldxdw r7, [r3]          ; the caller
+    ldxdw r8, [r3+8]        ; the duration
     call 2                  ; the time
     mov r9, r0
-    ldxdw r1, [r6+8]        ; when the lease ends
+    ldxdw r1, [r6+8]        ; the end of the lease
     jle r1, r9, take        ; it has ended
-    ldxdw r2, [r6]          ; who has it
-    jeq r2, r7, take        ; may renew it and give it back
-    call 1                  ; says until when
+    ldxdw r2, [r6]          ; the owner
+    jeq r2, r7, take        ; the owner may renew or release it
+    call 1                  ; replies the end
     mov r0, 0
     exit
 
 take:
     jeq r8, 0, give_back
-    add r8, r9              ; until when
+    add r8, r9              ; the new end
     jge r8, r9, write
-    mov r8, -1              ; past all times: the last one
+    mov r8, -1              ; overflow: the last time
 
 write:
     stxdw [r6], r7
     stxdw [r6+8], r8
     mov r1, r8
-    call 1                  ; says until when
+    call 1                  ; replies the end
     mov r0, 1               ; save the record
     exit
 

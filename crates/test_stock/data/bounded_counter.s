@@ -2,11 +2,11 @@
 ;
 ; Record, 8 bytes or more: the first 8 are the number. A number is 8 bytes, the lowest first.
 ; Argument, 24 bytes: the amount, the floor and the ceiling. An amount of 2^63 or more is negative:
-; it stands for itself less 2^64, so 2^64 - 1 takes 1 away.
+; it represents that number minus 2^64, so 2^64 - 1 subtracts 1.
 ;
 ; Code 1: added. The reply word is the new number, from the floor to the ceiling.
-; Code 0: the sum would be below the floor or above the ceiling, and the reply word is the number
-; as it was; or a length is too short, and the word is 0.
+; Code 0: the sum would be below the floor or above the ceiling, and the reply word is the
+; unchanged number; or a length is too short, and the word is 0.
 
     jlt r2, 8, leave        ; R2 is the record's length
     jlt r4, 24, leave       ; R4 is the argument's length
@@ -31,13 +31,13 @@ test:
     jgt r8, r5, refuse
     stxdw [r6], r8
     mov r1, r8
-    call 1                  ; says the new number
+    call 1                  ; replies the new number
     mov r0, 1               ; save the record
     exit
 
 refuse:
     mov r1, r7
-    call 1                  ; says the number
+    call 1                  ; replies the number
     mov r0, 0               ; change nothing
     exit
 

@@ -1,19 +1,19 @@
-; Compare and set: a number is replaced where it is still the one that was expected.
+; Compare and set: a number is replaced if it is the expected one.
 ;
 ; Record, 8 bytes or more: the first 8 are the number, the lowest byte first.
-; Argument, 16 bytes: the number that is expected, and the one that is to replace it.
+; Argument, 16 bytes: the expected number, and the new one.
 ;
-; Code 1: it is replaced. Code 0: it is another one, or a length is too short.
-; The reply word is the number that was there.
+; Code 1: it is replaced. Code 0: it is another number, or a length is too short.
+; The reply word is the number before the run.
 
     jlt r2, 8, leave        ; R2 is the record's length
     jlt r4, 16, leave       ; R4 is the argument's length
     mov r6, r1              ; a call leaves R1 to R5 unset
-    ldxdw r7, [r3]          ; what is expected
-    ldxdw r8, [r3+8]        ; what is to replace it
-    ldxdw r9, [r6]          ; what is there
+    ldxdw r7, [r3]          ; the expected number
+    ldxdw r8, [r3+8]        ; the new number
+    ldxdw r9, [r6]          ; the present number
     mov r1, r9
-    call 1                  ; says what is there
+    call 1                  ; replies the present number
     jne r9, r7, leave
     stxdw [r6], r8
     mov r0, 1               ; save the record

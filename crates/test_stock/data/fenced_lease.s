@@ -2,30 +2,30 @@
 ;
 ; Record, 24 bytes: the number of the owner, the time at which the lease ends, and the last token.
 ; A number is 8 bytes, the lowest first. Zeros are a lease that nobody has had.
-; Argument, 16 bytes: the number of who asks, and for how long from now on; 0 gives it back.
+; Argument, 16 bytes: the number of the caller, and the duration from now; 0 releases the lease.
 ;
-; Code 1: granted, and the reply word is the token; or given back or over, and the word is 0.
+; Code 1: granted, and the reply word is the token; or released or over, and the word is 0.
 ; Code 0: another owner has the lease until the time in the reply word; or a length is too short,
 ; and the word is 0.
 ; Code 3: the tokens are used up, after 2^64 - 1 of them.
 ;
-; The first token is 1. An owner who renews the lease while it lasts keeps the token; each other
-; grant has a greater one. Send the token with each request to the resource that the lease guards,
+; The first token is 1. An owner that renews the lease before its end keeps the token; any other
+; grant has a greater one. Send the token with each request to the resource that the lease protects,
 ; and let the resource refuse every token that is lower than one it has seen.
-; A lease ends at 2^64 - 1 at the latest: at that time each has ended, and anyone may take it.
+; A lease ends at 2^64 - 1 at the latest: at that time all have ended, and anyone may take one.
 
     jlt r2, 24, leave       ; R2 is the record's length
     jlt r4, 16, leave       ; R4 is the argument's length
     mov r6, r1              ; a call leaves R1 to R5 unset
-    ldxdw r7, [r3]          ; who asks
-    ldxdw r8, [r3+8]        ; for how long
+    ldxdw r7, [r3]          ; the caller
+    ldxdw r8, [r3+8]        ; the duration
     call 2                  ; the time
     mov r9, r0
-    ldxdw r1, [r6+8]        ; when the lease ends
+    ldxdw r1, [r6+8]        ; the end of the lease
     jle r1, r9, free        ; it has ended
-    ldxdw r2, [r6]          ; who has it
-    jeq r2, r7, own         ; the owner may renew it and give it back
-    call 1                  ; says until when
+    ldxdw r2, [r6]          ; the owner
+    jeq r2, r7, own         ; the owner may renew or release it
+    call 1                  ; replies the end
     mov r0, 0               ; change nothing
     exit
 
@@ -43,14 +43,14 @@ own:
     ldxdw r2, [r6+16]       ; the owner's token
 
 grant:
-    add r8, r9              ; until when
+    add r8, r9              ; the new end
     jge r8, r9, write
-    mov r8, -1              ; past all times: the last one
+    mov r8, -1              ; overflow: the last time
 
 write:
     stxdw [r6+8], r8
     mov r1, r2
-    call 1                  ; says the token
+    call 1                  ; replies the token
     mov r0, 1               ; save the record
     exit
 

@@ -307,8 +307,7 @@ uint32_t boddurci_changed(boddurci *db, uint32_t *numbers, size_t room, size_t *
  *
  * A byte 1 and the plan are a redo file, which dbm and boddurci_files.h recover. The plan is 8 bytes "sdbmred2"; the new lengths of .pag
  * and of .dir, and their present lengths; the number of changes; and for each change its file (a byte, 0 for .pag and 1 for .dir), its
- * offset, its length, its bytes, and the present bytes there, with zeros past the end of the file. A number is 4 bytes, the lowest first.
- * */
+ * offset, its length, its bytes, and the present bytes there, with zeros past the end of the file. Numbers have 4 bytes, lowest first. */
 uint32_t boddurci_plan(boddurci *db, const uint8_t *dir, size_t dir_length, size_t pag_length, const uint32_t *numbers, size_t count,
                        const uint8_t *pages, size_t pages_length, uint8_t *plan, size_t plan_room, size_t *plan_length);
 

@@ -206,8 +206,8 @@ static char byte_at(const char *name, off_t at)
     return byte;
 }
 
-/* Another program writes a byte on each kind of page, with its time set back and not: the changes that are found, and the data that stays.
- * */
+/* Another program writes a byte on each kind of page, with its time set back and not: the changes that are found, and the data that
+ * stays. */
 static void test_bytes_beside(void)
 {
     struct stat found;

@@ -290,8 +290,8 @@ static void test_many(int changes)
     boddurci_close_files(base);
 }
 
-/* Only the calls that wait for a save whose flush fails get its fault. The disk has none of their changes then, and the next save has them.
- * */
+/* Only the calls that wait for a save whose flush fails get its fault. The disk has none of their changes then, and the next save has
+ * them. */
 static void fail_once(struct saver *savers, boddurci_base *base, int value)
 {
     start_behind(savers, base, 1);

@@ -168,8 +168,8 @@ uint32_t boddurci_read_data(struct boddurci_place *place, enum boddurci_file fil
 /* Whole pages of either size. */
 enum { PIECE = 262144 };
 
-/* Passes the next piece. Each piece except the last has whole pages, and together they have 1 GiB at most, so it can only fail for memory.
- * */
+/* Passes the next piece. Each piece except the last has whole pages, and together they have 1 GiB at most, so it can only fail for
+ * memory. */
 static int push(boddurci_reading *pages, uint32_t is_wide, const uint8_t *piece, size_t length)
 {
     if (boddurci_read(pages, is_wide, piece, length) == BODDURCI_DONE)

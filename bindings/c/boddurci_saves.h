@@ -309,8 +309,8 @@ struct boddurci_logged {
 
 void boddurci_logged_of(struct boddurci_logged *logged, struct boddurci_place *place, struct boddurci_notes *notes);
 
-/* If the log is closed and the redo file has its mark, recovers the data files, opens the log if there is room for it, and sets *is_ended.
- * */
+/* If the log is closed and the redo file has its mark, recovers the data files, opens the log if there is room for it, and sets
+ * *is_ended. */
 uint32_t boddurci_logged_recover(struct boddurci_logged *logged, int *is_ended, boddurci_fault *fault);
 
 /* Saves by a plan, which is in `bytes` after BODDURCI_PLAN_AT bytes; opens the log first if it is closed. After a fault nothing has

@@ -1,5 +1,5 @@
 #!/usr/bin/perl
-# Converts counters that a Perl program has stored as decimal numbers in an SDBM file to records of 8 bytes, on which dbm counts. Perl still
+# Converts counters that a Perl program has stored as decimal numbers in an SDBM file to records of 8 bytes for dbm. Perl still
 # reads them by SDBM_File, and unpacks them, while dbm writes.
 #
 #     counters.pl take OLD NEW          converts all counters of OLD into NEW, in one save for each 50,000

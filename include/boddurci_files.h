@@ -129,8 +129,8 @@ boddurci_base *boddurci_open_files(const char *base, uint32_t flags, boddurci_fa
 boddurci_base *boddurci_open_files_within(const char *base, uint32_t flags, int64_t milliseconds, boddurci_fault *fault);
 
 /* Waits for the mutex and borrows the handle until boddurci_give. Never close the handle, and never pass it to boddurci_plan: after that
- * the changes would count as saved. Returns NULL if base is NULL, and in a child of the process that has opened the base. Each call with that NULL
- * returns IS_CLOSED, and boddurci_give does nothing. */
+ * the changes would count as saved. Returns NULL if base is NULL, and in a child of the process that has opened the base. Each call with
+ * that NULL returns IS_CLOSED, and boddurci_give does nothing. */
 boddurci *boddurci_take(boddurci_base *base);
 void boddurci_give(boddurci_base *base);
 

@@ -722,7 +722,7 @@ static uint32_t are_named(const boddurci_base *base, const struct boddurci_note 
     return BODDURCI_DONE;
 }
 
-/* Recovers the files after a failed save. If another program has written them, the log begins anew, since its records do not belong to
+/* Recovers the files after a failed save. If another program has written them, a new log begins, since its records do not belong to
  * these files. */
 static uint32_t recover(boddurci_base *base, struct saving *saving, boddurci_fault *fault)
 {

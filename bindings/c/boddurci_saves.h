@@ -303,7 +303,7 @@ struct boddurci_logged {
     struct boddurci_notes *notes;
     boddurci_log next; /* if it is open, the place of the next record */
     int is_open;
-    int is_doubtful;   /* a call on the redo file failed, and it could not be removed: make it anew if it has no mark */
+    int is_doubtful;   /* a call on the redo file failed, and it could not be removed: make a new one if it has no mark */
     int is_given_up;   /* a call failed, and nobody has recovered the files since: the data files may lack a save, or have half of it */
 };
 
@@ -323,7 +323,7 @@ uint32_t boddurci_logged_save(struct boddurci_logged *logged, struct boddurci_by
 uint32_t boddurci_logged_mark(struct boddurci_logged *logged, boddurci_fault *fault);
 int boddurci_logged_is_marked(const struct boddurci_logged *logged);
 
-/* Closes the log, so that the next save opens it anew. */
+/* Closes the log, so that the next save opens it again. */
 uint32_t boddurci_logged_renew(struct boddurci_logged *logged, boddurci_fault *fault);
 
 /* Closes the log and the files. If that fails the next opening recovers the base. It makes no step if a lock is lost. */

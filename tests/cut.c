@@ -1,5 +1,5 @@
-/* A library in front of the C library's: it cuts a run off at its Nth call that writes, syncs, cuts, removes or renames a file, or gives it
- * blocks, or notes these calls. CUT_CALL is N; with none no call is cut off. CUT_FAULT is the errno with which the call fails; 0 is a kill.
+/* A library in front of the C library's: it cuts a run off at its Nth call that writes, syncs, cuts, removes, links or renames a file, or
+ * gives it blocks, or notes these calls. CUT_CALL is N; with none no call is cut off. CUT_FAULT is the errno with which the call fails; 0 is a kill.
  * CUT_TOLD is a file that is made once a call has failed. With CUT_LINES what is printed, to a descriptor 1 that is no file, counts too, but
  * for writes of no bytes. CUT_LOG is one in which calls are noted, once they are done: pwrite, ftruncate, unlink, syncs and those that
  * failed, in a line each, with bytes in hex; with CUT_LINES also what is printed. */
@@ -172,6 +172,19 @@ int unlinkat(int folder, const char *name, int how)
     if (status == 0)
         note("unlink", name, 0, NULL, 0);
     return status;
+}
+
+/* Gives a file another name. The log has the new one. */
+int linkat(int from, const char *old, int to, const char *name, int flags)
+{
+    int status = is_cut() ? -1 : REAL(linkat)(from, old, to, name, flags);
+    note(status == 0 ? "link" : "failed", name, 0, NULL, 0);
+    return status;
+}
+
+int link(const char *old, const char *name)
+{
+    return linkat(AT_FDCWD, old, AT_FDCWD, name, 0);
 }
 
 int rename(const char *from, const char *to)

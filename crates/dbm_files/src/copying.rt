@@ -50,12 +50,13 @@ pub fn save_copy<R: Files<File = File> + Clock + AllocGlobal>(
 
 // The base under whose name the files of a copy are written. No other process has it at the same time.
 fn early_base_of<R: Files + AllocGlobal>(rt: &R, base: &str) -> Result<String, AllocError> {
-    let process = fs::read_link(rt, "/proc/self").ok();
-    let number = match &process {
-        Some(path) => path.to_str().unwrap_or("0"),
-        None => "0",
+    let Ok(process) = fs::read_link(rt, "/proc/self") else {
+        return format!(in rt.alloc(); "{base}.new");
     };
-    format!(in rt.alloc(); "{base}.{number}.new")
+    match process.to_str() {
+        Some(number) => format!(in rt.alloc(); "{base}.{number}.new"),
+        None => format!(in rt.alloc(); "{base}.new"),
+    }
 }
 
 // Makes both data files, which do not exist yet.

@@ -1,5 +1,5 @@
-/* A library in front of the C library. It interrupts a run at its Nth call that writes, syncs, truncates, removes or renames a file, or
- * allocates its blocks, or it logs these calls.
+/* A library in front of the C library. It interrupts a run at its Nth call that writes, syncs, truncates, removes, links or renames a file,
+ * or allocates its blocks, or it logs these calls.
  *
  *     CUT_CALL     N; without it no call is interrupted
  *     CUT_FAULT    the errno with which the call fails; 0 is a kill
@@ -176,6 +176,19 @@ int unlinkat(int folder, const char *name, int how)
     if (status == 0)
         note("unlink", name, 0, NULL, 0);
     return status;
+}
+
+/* Links a file under a new name, which the log has. */
+int linkat(int from, const char *old, int to, const char *name, int flags)
+{
+    int status = is_cut() ? -1 : REAL(linkat)(from, old, to, name, flags);
+    note(status == 0 ? "link" : "failed", name, 0, NULL, 0);
+    return status;
+}
+
+int link(const char *old, const char *name)
+{
+    return linkat(AT_FDCWD, old, AT_FDCWD, name, 0);
 }
 
 int rename(const char *from, const char *to)

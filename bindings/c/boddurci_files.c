@@ -364,6 +364,13 @@ static void end_reading(struct reading *reading)
     reading->pages = NULL;
 }
 
+/* Clears a reading whose contents now belong to another one. Keeps the length of .pag and the page size. */
+static void forget_reading(struct reading *reading)
+{
+    struct reading none = {.length = reading->length, .size = reading->size};
+    *reading = none;
+}
+
 static int by_number(const void *one, const void *other)
 {
     uint32_t a = *(const uint32_t *)one, b = *(const uint32_t *)other;
@@ -424,21 +431,37 @@ static int read_at(int file, uint64_t at, uint8_t *room, size_t size)
     return 0;
 }
 
-/* The number of listed pages, from one of them on, that are adjacent in the file. */
-static size_t side_by_side(const struct reading *reading, size_t first)
+/* The bytes of a page that was read before, or NULL. */
+static const uint8_t *page_in(const struct reading *before, uint32_t number)
+{
+    const uint32_t *at = before->listed.at;
+    if (before->pages == NULL || at == NULL)
+        return NULL;
+    const uint32_t *found = bsearch(&number, at, before->listed.count, sizeof number, by_number);
+    return found != NULL ? before->pages + (size_t)(found - at) * before->size : NULL;
+}
+
+/* The number of listed pages, from one of them on, that are adjacent in the file and were not read before. */
+static size_t side_by_side(const struct reading *reading, const struct reading *before, size_t first)
 {
     size_t count = 1;
     const uint32_t *numbers = reading->listed.at;
-    while (first + count < reading->listed.count && numbers[first + count] == numbers[first] + count)
+    while (first + count < reading->listed.count && numbers[first + count] == numbers[first] + count &&
+           page_in(before, numbers[first + count]) == NULL)
         count++;
     return count;
 }
 
-/* Reads the listed pages. */
-static uint32_t read_pages(int file, struct reading *reading, boddurci_fault *fault)
+/* Reads the listed pages, except those that were read before. */
+static uint32_t read_pages(int file, struct reading *reading, const struct reading *before, boddurci_fault *fault)
 {
     for (size_t i = 0, count; i < reading->listed.count; i += count) {
-        count = side_by_side(reading, i);
+        const uint8_t *had = page_in(before, reading->listed.at[i]);
+        count = had != NULL ? 1 : side_by_side(reading, before, i);
+        if (had != NULL) {
+            memcpy(reading->pages + i * reading->size, had, reading->size);
+            continue;
+        }
         if (read_at(file, (uint64_t)reading->listed.at[i] * reading->size, reading->pages + i * reading->size, count * reading->size) != 0)
             return boddurci_fail_by_system(fault, "a file cannot be read");
     }
@@ -461,14 +484,15 @@ static uint32_t read_directory(int file, struct boddurci_bytes *directory, boddu
 }
 
 /* Reads the directory, or the listed pages. The files of a base that was saved are open. A missing file has no bytes. */
-static uint32_t read_part(boddurci_base *base, enum boddurci_file which, struct reading *reading, boddurci_fault *fault)
+static uint32_t read_part(boddurci_base *base, enum boddurci_file which, struct reading *reading, const struct reading *before,
+                          boddurci_fault *fault)
 {
     int held = base->logged.disk.files[which], file = held;
     uint32_t status = held >= 0 ? BODDURCI_DONE : boddurci_open_to_read(&base->place, which, 0, &file, fault);
     if (status != BODDURCI_DONE || file < 0)
         return status;
     if (which == BODDURCI_PAGES)
-        status = read_pages(file, reading, fault);
+        status = read_pages(file, reading, before, fault);
     else
         status = read_directory(file, &reading->directory, fault);
     if (held < 0)
@@ -477,13 +501,13 @@ static uint32_t read_part(boddurci_base *base, enum boddurci_file which, struct 
 }
 
 /* Reads the directory and the listed pages. */
-static uint32_t read_listed(boddurci_base *base, struct reading *reading, boddurci_fault *fault)
+static uint32_t read_listed(boddurci_base *base, struct reading *reading, const struct reading *before, boddurci_fault *fault)
 {
-    uint32_t status = read_part(base, BODDURCI_DIRECTORY, reading, fault);
+    uint32_t status = read_part(base, BODDURCI_DIRECTORY, reading, before, fault);
     reading->pages = calloc(reading->listed.count + 1, reading->size);
     if (reading->pages == NULL)
         return boddurci_no_memory(fault);
-    return status == BODDURCI_DONE ? read_part(base, BODDURCI_PAGES, reading, fault) : status;
+    return status == BODDURCI_DONE ? read_part(base, BODDURCI_PAGES, reading, before, fault) : status;
 }
 
 /* ---- planning */
@@ -537,7 +561,7 @@ static uint32_t plan_of(boddurci *db, const struct reading *reading, struct bodd
 }
 
 /* Lists the pages to read, reads them, and plans. It holds the mutex, but not while it reads, unless the caller requests that. */
-static uint32_t try_plan(boddurci_base *base, struct saving *saving, int holds, boddurci_fault *fault)
+static uint32_t try_plan(boddurci_base *base, struct saving *saving, const struct reading *before, int holds, boddurci_fault *fault)
 {
     boddurci *db = boddurci_take(base);
     struct reading *reading = &saving->reading;
@@ -546,7 +570,7 @@ static uint32_t try_plan(boddurci_base *base, struct saving *saving, int holds, 
         boddurci_give(base);
     int is_listed = status == BODDURCI_DONE, plans = !base->is_noted || reading->listed.count != 0 || !base->is_planned;
     if (is_listed && plans)
-        status = read_listed(base, reading, fault);
+        status = read_listed(base, reading, before, fault);
     int is_read = is_listed && status == BODDURCI_DONE;
     if (!holds)
         boddurci_take(base);
@@ -567,8 +591,10 @@ static uint32_t plan_now(boddurci_base *base, struct saving *saving, boddurci_fa
 {
     uint32_t status = BODDURCI_STALE;
     for (int tries = 0; status == BODDURCI_STALE; tries++) {
-        end_reading(&saving->reading);
-        status = try_plan(base, saving, tries >= TRIES, fault);
+        struct reading before = saving->reading;
+        forget_reading(&saving->reading);
+        status = try_plan(base, saving, &before, tries >= TRIES, fault);
+        end_reading(&before);
     }
     return status;
 }

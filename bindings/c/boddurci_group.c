@@ -19,7 +19,7 @@ struct boddurci_call {
 
 /* Nanoseconds. If the last save took less, waiting calls spin until the end of the next one. Tests set it. */
 #ifndef BODDURCI_LONG_SAVE
-#define BODDURCI_LONG_SAVE 200000
+#define BODDURCI_LONG_SAVE 500000
 #endif
 static const int64_t LONG_SAVE = BODDURCI_LONG_SAVE;
 
@@ -66,12 +66,12 @@ static int has_to_wait(struct boddurci_group *group, struct boddurci_call *call)
     return waits;
 }
 
-/* Waits a moment for the threads that the last two saves have served: if they save again, one save serves all. A single thread does not
- * wait. */
+/* Waits a moment for as many calls as the larger of the last two saves has served: its threads may save again, and then one save serves
+ * all. A single thread does not wait. */
 static void await_others(struct boddurci_group *group)
 {
-    int others = group->served[0] + group->served[1];
-    if (others < 3 || __atomic_load_n(&group->took, __ATOMIC_RELAXED) >= LONG_SAVE)
+    int others = group->served[0] > group->served[1] ? group->served[0] : group->served[1];
+    if (others < 2 || __atomic_load_n(&group->took, __ATOMIC_RELAXED) >= LONG_SAVE)
         return;
     for (int64_t end = now() + MOMENT; __atomic_load_n(&group->waiting, __ATOMIC_RELAXED) < others && now() < end;)
         sched_yield();

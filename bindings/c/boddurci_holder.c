@@ -6,16 +6,16 @@
 #include <string.h>
 #include <sys/stat.h>
 
-/* Parses a line of /proc/locks. Returns the process if the line is a flock on the inode, and 0 otherwise. A line has its number, the kind
- * of the lock, two words on how it is held, the process, and the file as its device and inode. A waiting process has an arrow before the
- * kind. A process of another namespace has the number 0 or less. */
+/* Parses a line of /proc/locks. Returns the process if the line is a flock on the inode, -1 if this process cannot see that process, for
+ * example in another container, and 0 otherwise. A line has its number, the kind of the lock, two words on how it is held, the process, and
+ * the file as its device and inode. A waiting process has an arrow before the kind. */
 static long process_in(const char *line, unsigned long long number)
 {
     long process;
     unsigned long long file;
     if (sscanf(line, "%*[^:]: FLOCK %*s %*s %ld %*[^:]:%*[^:]:%llu", &process, &file) != 2)
         return 0;
-    return file == number && process > 0 ? process : 0;
+    return file != number ? 0 : process > 0 ? process : -1;
 }
 
 long boddurci_holder_of(const struct boddurci_place *place, enum boddurci_file lock)
@@ -26,8 +26,10 @@ long boddurci_holder_of(const struct boddurci_place *place, enum boddurci_file l
     if (fstatat(place->folder, place->names[lock], &found, AT_SYMLINK_NOFOLLOW) != 0)
         return 0;
     FILE *locks = fopen("/proc/locks", "re");
-    while (locks != NULL && process == 0 && fgets(line, sizeof line, locks) != NULL)
-        process = process_in(line, (unsigned long long)found.st_ino);
+    while (locks != NULL && process <= 0 && fgets(line, sizeof line, locks) != NULL) {
+        long next = process_in(line, (unsigned long long)found.st_ino);
+        process = next != 0 ? next : process;
+    }
     if (locks != NULL)
         fclose(locks);
     return process;
@@ -49,12 +51,12 @@ static void name_of(long process, char *shown, size_t size)
 uint32_t boddurci_fail_locked(const struct boddurci_place *place, int reads, boddurci_fault *fault)
 {
     char name[60] = "";
-    long writer = reads ? 0 : boddurci_holder_of(place, BODDURCI_WRITER), process = writer != 0 ? writer : boddurci_holder_of(place, BODDURCI_LOCK);
-    const char *what = writer != 0 ? "has the database open to be written" : "uses the files";
-    if (process != 0)
+    long writer = reads ? 0 : boddurci_holder_of(place, BODDURCI_WRITER), process = writer > 0 ? writer : boddurci_holder_of(place, BODDURCI_LOCK);
+    const char *what = writer > 0 ? "has the database open to be written" : "uses the files";
+    if (process > 0)
         name_of(process, name, sizeof name);
     boddurci_fail(fault, BODDURCI_LOCKED, 0, boddurci_files_text(BODDURCI_LOCKED));
-    if (process != 0)
+    if (process > 0)
         snprintf(fault->text, sizeof fault->text, "process %ld%s%s%s %s", process, name[0] ? " (" : "", name, name[0] ? ")" : "", what);
     return fault->status;
 }

@@ -326,10 +326,10 @@ int boddurci_has_writer(const struct boddurci_place *place)
     return has_writer;
 }
 
-/* Whether a save waits for the files: the log has records, and a live writer has BASE.writer shared. */
+/* Whether a save waits for the files: a process has BASE.writer shared. Another reader that checks it counts too, for a moment. */
 static int is_waited_for(const struct boddurci_place *place)
 {
-    if (place->opened[BODDURCI_LOCK] < 0 || !boddurci_is_marked(place) || boddurci_has_writer(place))
+    if (place->opened[BODDURCI_LOCK] < 0 || boddurci_has_writer(place))
         return 0;
     return boddurci_holder_of(place, BODDURCI_WRITER) != 0;
 }
@@ -338,7 +338,7 @@ static int is_waited_for(const struct boddurci_place *place)
  * time, since the writer may be stopped. */
 uint32_t boddurci_take_shared(struct boddurci_place *place, int64_t milliseconds, boddurci_fault *fault)
 {
-    enum { MOST = 100 };
+    enum { MOST = 40 };
     static const struct timespec moment = {0, 1000000};
     int64_t end = end_of(milliseconds);
     uint32_t status = share_lock(place, end, fault);

@@ -146,16 +146,6 @@ static uint32_t look(const struct boddurci_place *place, int *opened, int *is_ma
     return *is_marked < 0 ? boddurci_fail_by_system(fault, "BASE.redo cannot be read") : status;
 }
 
-int boddurci_is_marked(const struct boddurci_place *place)
-{
-    boddurci_fault fault;
-    int opened = -1, is_marked;
-    uint32_t status = look(place, &opened, &is_marked, &fault);
-    if (opened >= 0)
-        close(opened);
-    return status == BODDURCI_DONE && is_marked;
-}
-
 static uint32_t look_only(const struct boddurci_place *place, int *is_marked, boddurci_fault *fault)
 {
     int opened = -1;

@@ -178,7 +178,8 @@ void boddurci_give_locks(struct boddurci_place *place, int is_own);
 
 /* ---- boddurci_holder.c: the process that has a lock */
 
-/* Returns the process that has one of the locks, exclusively or shared, or 0 if the system does not report it. */
+/* Returns the process that has one of the locks, exclusively or shared; -1 if this process cannot see it, and 0 if no process has it or the
+ * system does not report it. */
 long boddurci_holder_of(const struct boddurci_place *place, enum boddurci_file lock);
 
 /* Sets the fault LOCKED, with the process that holds the lock if the system reports it. */
@@ -328,9 +329,6 @@ uint32_t boddurci_logged_renew(struct boddurci_logged *logged, boddurci_fault *f
 
 /* Closes the log and the files. If that fails the next opening recovers the base. It makes no step if a lock is lost. */
 void boddurci_logged_end(struct boddurci_logged *logged);
-
-/* Whether the redo file exists and has its mark. */
-int boddurci_is_marked(const struct boddurci_place *place);
 
 /* Sets whether the redo file has its mark; if so, reads both data files with its saves applied. Free the bytes in any case. */
 uint32_t boddurci_read_marked(struct boddurci_place *place, int *is_marked, struct boddurci_bytes files[2], boddurci_fault *fault);

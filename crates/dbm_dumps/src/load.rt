@@ -78,7 +78,7 @@ pub fn load_command<'a>(alloc: Global) -> Result<Command<'a>, AllocError>
     let notes =
         "Prints loaded N for a dump of N pairs, which may have any length. A pair replaces that of its key;\n\
          with --keep it does not. Lines end in LF. Where a line is wrong, or the dump is cut off, nothing is\n\
-         changed. The database is locked until the input ends, so no dump of itself may be loaded by a pipe.\n\n\
+         changed. It holds the lock until the input ends: others wait, so no dump of BASE may be loaded by a pipe.\n\n\
          Example: dbm load users < users.dump";
     subcommand(alloc, "load", about, notes, args)
 }

@@ -45,7 +45,7 @@ pub enum ServeFault {
     Locked,
     /// A lock that the run holds, or a data file that it has read, has lost its name to another file. Nothing was saved.
     Moved(MovedFile),
-    /// Another program has written a data file since a session read or saved it. Nothing was saved.
+    /// Another program has written a data file since this run read or saved it. Nothing was saved.
     Changed,
     /// Nothing comes of the words, the files and standard input. The fault within is never `NoMemory`.
     Report(ReportFault),

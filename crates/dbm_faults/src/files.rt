@@ -108,11 +108,9 @@ fn octal(mode: u32) -> Part<'static> {
 /// Of a base that names no file.
 pub fn base_sentence<'a>(base: Option<&'a str>) -> Sentence<'a> {
     match base {
-        Some("") => plain(
-            "BASE is empty, which names no files: give the name of a database, without .dir or .pag.",
-        ),
+        Some("") => plain("The name of the database is empty: give it without .dir or .pag."),
         base => with_one(
-            "BASE is {}, a folder: give the name of a database in it, without .dir or .pag.",
+            "{} is a folder: give the name of a database in it, without .dir or .pag.",
             Part::Quoted(base.unwrap_or("BASE")),
         ),
     }
@@ -122,7 +120,7 @@ pub fn base_sentence<'a>(base: Option<&'a str>) -> Sentence<'a> {
 pub fn absent_sentence<'a>(base: Option<&'a str>) -> Sentence<'a> {
     let base = base_part(base);
     with_two(
-        "Neither {}.dir nor {}.pag is there. A command without --must-exist makes them.",
+        "Neither {}.dir nor {}.pag exists: see that the name of the database is right.",
         base,
         base,
     )
@@ -132,7 +130,7 @@ pub fn absent_sentence<'a>(base: Option<&'a str>) -> Sentence<'a> {
 pub fn exists_sentence<'a>(base: Option<&'a str>) -> Sentence<'a> {
     let base = base_part(base);
     with_two(
-        "{}.dir or {}.pag is there already. Nothing was changed: give the copy another name, or take its files away first.",
+        "{}.dir or {}.pag exists already: give the copy another name, or remove its files first.",
         base,
         base,
     )
@@ -186,11 +184,11 @@ pub fn moved_sentence<'a>(base: Option<&'a str>, file: MovedFile) -> Sentence<'a
     }
 }
 
-/// Of a session whose files another program has written.
+/// Of files that another program has written.
 pub fn changed_sentence(base: Option<&str>) -> Sentence<'_> {
     let base = base_part(base);
     with_two(
-        "Another program has written {}.pag or {}.dir since this session read or saved them. Nothing was saved, so that its changes stay: begin a new session.",
+        "Another program has written {}.pag or {}.dir since they were read or saved here. Nothing was saved, so its changes stay: run the command again, or begin a new session.",
         base,
         base,
     )

@@ -1,55 +1,171 @@
-//! The files of a database that is made as a copy of another.
+//! A database that is saved in new files, under another name until they are whole.
 
-use crate::files::LockedFiles;
+use crate::files::{RunFiles, take_files};
 use crate::saving::Saved;
 use crate::writing::save_held;
-use dbm_places::{FilesFault, SeenFiles, make};
-use sdbm_addr::PageSize;
-use sdbm_files::{Image, ReadPages};
+use dbm_places::{FilesFault, Names, RunPlace, folder_of, has_no_files, is_absent, make, names_of};
+use sdbm_files::{Image, PAG_LIMIT};
 use sdbm_saves::ReadFiles;
-use std::alloc::Global;
+use std::alloc::{AllocError, Global};
 use std::fs::{self, File};
-use std::io::ErrorKind;
+use std::io::{self, ErrorKind};
 use std::rt::Files;
+use std::time::{Clock, Duration};
 
-/// Saves a database in files that are locked, and that have no bytes or are missing. BASE.pag gets this mode less the umask if it is missing, and
-/// BASE.dir is made like it. The locks are kept. After a fault neither data file is left.
-///
-/// # Errors
-/// `WriteFile`, `FileTooLong`, `NoMemory`, and `Moved` if a lock or a data file has lost its name to another.
-pub fn save_new<R: Files<File = File> + AllocGlobal>(
-    rt: &R,
-    held: &mut LockedFiles,
-    mode: u32,
-    image: &Image<Global>,
-) -> Result<Saved, FilesFault> {
-    match make(rt, held.place.names.pages.as_str(), mode) {
-        Err(error) if error.kind() != ErrorKind::AlreadyExists => {
-            return Err(FilesFault::WriteFile);
-        }
-        _ => (),
-    }
-    held.place.hold_data(rt);
-    let saved = save_in_none(rt, held, image);
-    if saved.is_err() && held.place.must_be_locked(rt, &held.locks).is_ok() {
-        let _ = fs::remove_file(rt, held.place.names.directory.as_str());
-        let _ = fs::remove_file(rt, held.place.names.pages.as_str());
-    }
-    saved
+/// The outcome of a copy that met no fault.
+#[derive(Clone, Copy, Debug, PartialEq, Eq)]
+pub enum Copied {
+    /// Both files are whole and synced, and so are their names.
+    Done,
+    /// A file of the copy exists already, or a redo file with a save. Nothing was changed.
+    Exists,
 }
 
-// Saves a database in files without bytes.
-fn save_in_none<R: Files<File = File> + AllocGlobal>(
+/// Saves a database in new files of this base, which get this mode less the umask. They are written and synced under another name, in the same
+/// folder, and get their own once they are whole. After a fault neither of them exists. A kill leaves both, or neither, or BASE.pag alone, and
+/// it may leave files under the other name.
+///
+/// # Errors
+/// `WriteFile`, `FileTooLong` and `NoMemory`, and those of `take_files` on the other name.
+pub fn save_copy<R: Files<File = File> + Clock + AllocGlobal>(
     rt: &R,
-    held: &LockedFiles,
+    base: &str,
+    mode: u32,
     image: &Image<Global>,
-) -> Result<Saved, FilesFault> {
-    let seen = SeenFiles::look(rt, &held.place.names)?;
-    held.place.must_be_open(&seen)?;
-    let pages = ReadPages::new(rt.alloc(), PageSize::Small);
-    let old = ReadFiles {
-        pages: &pages,
-        directory: &[],
+) -> Result<Copied, FilesFault> {
+    if !has_no_files(rt, Some(base)) {
+        return Ok(Copied::Exists);
+    }
+    let names = names_of(rt.alloc(), base)?;
+    let early_base = early_base_of(rt, base)?;
+    let early = names_of(rt.alloc(), early_base.as_str())?;
+    make_both(rt, &early, mode)?;
+    let copied = match save_early(rt, early_base.as_str(), &early, image) {
+        Ok(()) => publish(rt, &early, &names),
+        Err(fault) => Err(fault),
     };
-    save_held(rt, held, &seen, old, image)
+    remove_early(rt, &early);
+    copied
+}
+
+// The base under whose name the files of a copy are written. No other process has it at the same time.
+fn early_base_of<R: Files + AllocGlobal>(rt: &R, base: &str) -> Result<String, AllocError> {
+    let Ok(process) = fs::read_link(rt, "/proc/self") else {
+        return format!(in rt.alloc(); "{base}.new");
+    };
+    match process.to_str() {
+        Some(number) => format!(in rt.alloc(); "{base}.{number}.new"),
+        None => format!(in rt.alloc(); "{base}.new"),
+    }
+}
+
+// Makes both data files, which do not exist yet.
+fn make_both<R: Files<File = File>>(rt: &R, early: &Names, mode: u32) -> Result<(), FilesFault> {
+    if make(rt, early.pages.as_str(), mode).is_err() {
+        return Err(FilesFault::WriteFile);
+    }
+    if make(rt, early.directory.as_str(), mode).is_err() {
+        let _ = fs::remove_file(rt, early.pages.as_str());
+        return Err(FilesFault::WriteFile);
+    }
+    Ok(())
+}
+
+// Saves a database in both files, which have no bytes.
+fn save_early<R: Files<File = File> + Clock + AllocGlobal>(
+    rt: &R,
+    base: &str,
+    early: &Names,
+    image: &Image<Global>,
+) -> Result<(), FilesFault> {
+    let place = RunPlace {
+        base: Some(base),
+        file: None,
+        writes: true,
+        pages_limit: PAG_LIMIT,
+        page_size: image.page_size(),
+    };
+    let RunFiles { bytes, held, .. } = take_files(rt, place, false, Some(Duration::ZERO))?;
+    let Some(held) = held else {
+        return Err(FilesFault::WriteFile);
+    };
+    let old = ReadFiles {
+        pages: &bytes.pages,
+        directory: bytes.directory.as_slice(),
+    };
+    match save_held(rt, &held, &held.seen, old, image)? {
+        Saved::Whole => Ok(()),
+        Saved::Unchanged => synced(sync_both(rt, early)),
+        Saved::Pending => Err(FilesFault::WriteFile),
+    }
+}
+
+// Syncs both files of an empty database, which its save has not written.
+fn sync_both<R: Files<File = File>>(rt: &R, early: &Names) -> io::Result<()> {
+    fs::open(rt, early.pages.as_str())?.sync_all()?;
+    fs::open(rt, early.directory.as_str())?.sync_all()
+}
+
+fn synced(outcome: io::Result<()>) -> Result<(), FilesFault> {
+    match outcome {
+        Ok(()) => Ok(()),
+        Err(_) => Err(FilesFault::WriteFile),
+    }
+}
+
+// Gives both files their names, and syncs these. After a fault neither name is left.
+fn publish<R: Files<File = File>>(
+    rt: &R,
+    early: &Names,
+    names: &Names,
+) -> Result<Copied, FilesFault> {
+    let (pages, directory) = (names.pages.as_str(), names.directory.as_str());
+    if !give_name(rt, early.pages.as_str(), pages)? {
+        return Ok(Copied::Exists);
+    }
+    let given = give_name(rt, early.directory.as_str(), directory);
+    if given != Ok(true) {
+        let _ = fs::remove_file(rt, pages);
+        return given.map(|_| Copied::Exists);
+    }
+    let outcome = synced(sync_folder(rt, pages));
+    if outcome.is_err() {
+        let _ = fs::remove_file(rt, directory);
+        let _ = fs::remove_file(rt, pages);
+    }
+    outcome.map(|_| Copied::Done)
+}
+
+// Gives a file another name, unless something has it. Where a file system has no hard links, the file is renamed.
+fn give_name<R: Files<File = File>>(rt: &R, from: &str, to: &str) -> Result<bool, FilesFault> {
+    match fs::hard_link(rt, from, to) {
+        Ok(()) => return Ok(true),
+        Err(error) if error.kind() == ErrorKind::AlreadyExists => return Ok(false),
+        Err(_) => (),
+    }
+    if !is_absent(rt, to) {
+        return Ok(false);
+    }
+    match fs::rename(rt, from, to) {
+        Ok(()) => Ok(true),
+        Err(_) => Err(FilesFault::WriteFile),
+    }
+}
+
+fn sync_folder<R: Files<File = File>>(rt: &R, name: &str) -> io::Result<()> {
+    fs::open(rt, folder_of(name))?.sync_all()
+}
+
+// Removes what is left under the other name.
+fn remove_early<R: Files<File = File>>(rt: &R, early: &Names) {
+    let names = [
+        &early.pages,
+        &early.directory,
+        &early.redo,
+        &early.lock,
+        &early.writer,
+    ];
+    for name in names {
+        let _ = fs::remove_file(rt, name.as_str());
+    }
 }

@@ -11,7 +11,7 @@ mod session_log;
 mod states;
 mod writing;
 
-pub use copying::save_new;
+pub use copying::{Copied, save_copy};
 pub use files::{LockedFiles, RunFiles, read_again, read_program, take_files, take_rest};
 pub use host::RealFiles;
 pub use peeking::UnreadPages;

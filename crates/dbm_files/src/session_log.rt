@@ -50,7 +50,7 @@ impl<'a, R: Files<File = File>> SessionSaves<'a, R> {
     }
 }
 
-/// Saves a database in a session, under BASE.lock, which is given back once the save is done in the data files. The first save opens a log; each
+/// Saves a database in a session, under BASE.lock, which is given back once the save is committed. The first save opens a log; each
 /// later one takes one sync while it stays open. If the log is full, or the files may want new blocks of the disk, the log is closed, and the
 /// files are read again and saved in a new one. A large database is saved without a log that stays open, and so is one if the disk has no room
 /// for that.
@@ -78,8 +78,10 @@ pub fn save_session<'a, R: Files<File = File> + AllocGlobal>(
     }
     let saved = save_locked(rt, place, held, seen, &mut saves.log, image);
     saves.states = DataStates::look(rt, &held.place.names);
-    if let Ok(Saved::Whole | Saved::Unchanged) = saved {
-        held.locks.leave_files();
+    match saved {
+        Ok(Saved::Whole | Saved::Unchanged) => held.locks.leave_files(),
+        Ok(Saved::Pending) => held.locks.leave_unfinished(),
+        Err(_) => (),
     }
     saved
 }

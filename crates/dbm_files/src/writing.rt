@@ -6,6 +6,7 @@ ghost use Rattle.sdbm_saves.specs.Recording.{part_pages};
 use crate::files::{LockedFiles, read_up_to};
 use crate::host::{RealFiles, forget_redo};
 use crate::saving::{Change, Planned, Saved, save_change, save_plan};
+use crate::states::DataStates;
 use dbm_places::{
     FilesFault, Names, SeenFiles, Side, SideFault, is_like_pages, open_beside, side_fault,
 };
@@ -35,7 +36,7 @@ pub(crate) struct OldRedo {
 ///
 /// # Errors
 /// Those of `save_change`, `BadRedo` if the redo file is marked, and before all else `Moved` if a lock or a data file has lost its name to
-/// another file.
+/// another file, and `Changed` if another program has written a data file since it was read.
 pub fn save_files<R: Files<File = File> + AllocGlobal, W: Write>(
     rt: &R,
     held: LockedFiles,
@@ -48,9 +49,10 @@ pub fn save_files<R: Files<File = File> + AllocGlobal, W: Write>(
         place,
         seen,
         locks,
-        ..
+        states,
     } = held;
     place.must_be_held(rt, &locks, &seen)?;
+    must_be_unwritten(rt, &place.names, states)?;
     let redo = find_redo(rt, &place.names)?;
     let change = change_of(old, &redo, new);
     let mut locks = Some(locks);
@@ -107,7 +109,7 @@ pub struct PlannedPart<'a> {
 /// What `save_files` does, of a database of which one page was read, by a plan that knows its files.
 ///
 /// # Errors
-/// Those of `save_plan`, `BadRedo` if the redo file is marked, and `Moved` as `save_files`.
+/// Those of `save_plan`, `BadRedo` if the redo file is marked, and `Moved` and `Changed` as `save_files`.
 pub fn save_part<R: Files<File = File> + AllocGlobal, W: Write>(
     rt: &R,
     held: LockedFiles,
@@ -122,9 +124,10 @@ pub fn save_part<R: Files<File = File> + AllocGlobal, W: Write>(
         place,
         seen,
         locks,
-        ..
+        states,
     } = held;
     place.must_be_held(rt, &locks, &seen)?;
+    must_be_unwritten(rt, &place.names, states)?;
     let redo = find_redo(rt, &place.names)?;
     let found = FoundPart {
         part: planned.part,
@@ -142,6 +145,18 @@ pub fn save_part<R: Files<File = File> + AllocGlobal, W: Write>(
     let saved = save_plan(rt.alloc(), &mut disk, plan, lines, writer, &mut locks);
     forget_failed(rt, &place.names, &saved);
     saved
+}
+
+// Compares the data files with what they were when they were read. `Changed` if another program has written one since.
+fn must_be_unwritten<R: Files<File = File>>(
+    rt: &R,
+    names: &Names,
+    states: DataStates,
+) -> Result<(), FilesFault> {
+    if DataStates::look(rt, names).are_written_since(states) {
+        return Err(FilesFault::Changed);
+    }
+    Ok(())
 }
 
 // What a save changes.

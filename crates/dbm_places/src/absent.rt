@@ -29,8 +29,8 @@ pub fn has_no_files<R: Files<File = File> + AllocGlobal>(rt: &R, base: Option<&s
     }
 }
 
-/// Whether a redo file has its mark, or cannot be read.
-pub(crate) fn may_be_marked<R: Files<File = File>>(rt: &R, names: &Names) -> bool {
+// Whether a redo file has its mark, or cannot be read.
+fn may_be_marked<R: Files<File = File>>(rt: &R, names: &Names) -> bool {
     let (name, pages) = (names.redo.as_str(), names.pages.as_str());
     let mut first = [0u8];
     match open_beside(rt, Side::Redo, name, pages, false) {

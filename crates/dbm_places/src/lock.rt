@@ -1,5 +1,4 @@
 //! The two locks of a database: BASE.lock says who is at the files right now, and BASE.writer who may change the database.
-use crate::absent::may_be_marked;
 use crate::fault::{FilesFault, MovedFile};
 use crate::holder::locker_of;
 use crate::names::Names;
@@ -18,7 +17,7 @@ const LONGEST_REST: u64 = 5;
 const MOST_LOCKS: usize = 100;
 
 /// A run that reads leaves the files at most so many times to a save that waits for them: the process that saves may be stopped.
-const MOST_YIELDS: usize = 20;
+const MOST_YIELDS: usize = 8;
 
 /// The locks of a run that may change a database. Others wait until they are dropped.
 #[derive(Drop)]
@@ -37,6 +36,11 @@ impl WriteLocks {
         if self.writer.try_lock().is_err() {
             let _ = self.writer.lock_shared();
         }
+        let _ = self.files.unlock();
+    }
+
+    /// Gives BASE.lock back after a save that is committed, and that the data files may lack. BASE.writer stays shared, so readers use the redo file.
+    pub fn leave_unfinished(&self) {
         let _ = self.files.unlock();
     }
 
@@ -85,6 +89,11 @@ pub fn lock_to_write<R: Files<File = File> + Clock>(
 ) -> Result<WriteLocks, FilesFault> {
     let mut patience = patience;
     for _ in 0..u64::MAX {
+        // Readers are left alone as long as another run has the database open. Who tries but once looks only at both locks.
+        if patience != Some(Duration::ZERO) && has_writer(rt, names) {
+            patience = rest_within(rt, patience)?;
+            continue;
+        }
         let (files, left) = lock_files(rt, names, patience)?;
         let writer = open_to_lock(rt, names, names.writer.as_str())?;
         if is_locked_now(rt, names, &writer)? {
@@ -178,7 +187,7 @@ pub fn lock_to_read<R: Files<File = File> + Clock + AllocGlobal>(
         let Some((file, left)) = share_files(rt, names, patience)? else {
             return Ok(None);
         };
-        if left == Some(Duration::ZERO) || !is_waited_for(rt, names) {
+        if is_short(left) || !is_waited_for(rt, names) {
             return Ok(Some(file));
         }
         drop(file);
@@ -187,6 +196,14 @@ pub fn lock_to_read<R: Files<File = File> + Clock + AllocGlobal>(
     match share_files(rt, names, patience)? {
         Some((file, _)) => Ok(Some(file)),
         None => Ok(None),
+    }
+}
+
+// Whether a patience would end before the lock is had again.
+fn is_short(left: Option<Duration>) -> bool {
+    match left {
+        Some(left) => left <= Duration::from_millis(4 * LONGEST_REST),
+        None => false,
     }
 }
 
@@ -216,12 +233,10 @@ fn share_files<R: Files<File = File> + Clock>(
     Err(FilesFault::Moved(MovedFile::Lock))
 }
 
-// Whether a save waits for BASE.lock, which this run shares: the log has records, and a process has BASE.writer, but not alone. One that was
-// killed has it no more.
+// Whether a save waits for BASE.lock, which this run shares: a process has BASE.writer, but not alone. Another reader that looks at it counts too,
+// for a moment.
 fn is_waited_for<R: Files<File = File> + AllocGlobal>(rt: &R, names: &Names) -> bool {
-    may_be_marked(rt, names)
-        && !has_writer(rt, names)
-        && locker_of(rt, names.writer.as_str()).is_some()
+    !has_writer(rt, names) && locker_of(rt, names.writer.as_str()).is_some()
 }
 
 /// Whether another run has the database open to change it. To one that has BASE.lock it says that the data files have all that is saved,

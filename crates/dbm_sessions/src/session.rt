@@ -83,7 +83,7 @@ pub fn session_command<'a>(alloc: Global) -> Result<Command<'a>, AllocError>
         "Lines are those of script, and answered as there, each before the next is read. save saves, and is\n\
          answered saved once that is on the disk; the end of the input saves too. What was not saved is lost\n\
          if the session is killed. Each line ends in LF: one in which the input ends is not run, and is a fault.\n\
-         Until it ends no other run may change the database; those that read have its last save.\n\
+         It holds the lock until it ends: no other run may change the database, and readers get its last save.\n\
          help tells of the lines that scripts do not have: .list, .keys, .stats, and .program FILE.\n\n\
          Example: printf 'put 68 01\\nget 68\\n' | dbm session users";
     subcommand(alloc, "session", about, notes, args)

@@ -102,10 +102,18 @@ fn holder_of<R: Runtime<File = File> + AllocGlobal>(
     writes: bool,
 ) -> Option<u64> {
     let names = names_of(rt.alloc(), base).ok()?;
-    if writes && let Some(writer) = locker_of(rt, names.writer.as_str()) {
+    if writes && let Some(writer) = seen_locker_of(rt, names.writer.as_str()) {
         return Some(writer);
     }
-    locker_of(rt, names.lock.as_str())
+    seen_locker_of(rt, names.lock.as_str())
+}
+
+// The number of the process that has a lock, if this one can see it.
+fn seen_locker_of<R: Runtime<File = File> + AllocGlobal>(rt: &R, name: &str) -> Option<u64> {
+    match locker_of(rt, name)? {
+        0 => None,
+        process => Some(process),
+    }
 }
 
 // What a process is called.

@@ -14,7 +14,7 @@ mod serve;
 mod sizes;
 mod stock;
 
-use backup::{Waits, refuse_copy, serve_backup};
+use backup::{refuse_copy, serve_backup};
 use clock::{read_clock, read_time};
 use dbm_command_line::{Ask, Request, ToolFault, Wish, read_words};
 use dbm_faults::ServeFault;
@@ -255,13 +255,7 @@ fn serve_request<R: Runtime<File = File> + AllocGlobal + Threads + Wait + Sync, 
             serve_session(rt, session, place, taken, reader)?;
             Ok(Ending::Served(0))
         }
-        Ask::Backup(backup) => {
-            let waits = Waits {
-                patience,
-                verbose: access.verbose,
-            };
-            serve_backup(rt, &backup, taken.bytes, waits)
-        }
+        Ask::Backup(backup) => serve_backup(rt, &backup, taken.bytes),
         Ask::Programs(programs) => {
             print_programs(rt, &programs, reader)?;
             Ok(Ending::Served(0))

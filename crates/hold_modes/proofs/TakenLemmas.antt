@@ -63,6 +63,6 @@ no_entry k (e ∷ es) l = (elim (nat_eq k e.0) as (λ b. (if b then Some e.1 els
 self_eq : (k : ℕ) → nat_eq k k ≡ true
 self_eq k = grind arith
 
--- a new entry that is moved to the end comes after all entries
+-- putting a new entry and demoting it appends it to the entries
 pub put_last : (c : LruCache ℕ (ℕ × Hold)) (k : ℕ) (v : ℕ × Hold) → lookup (nat_eq k) c.entries ≡ None → length c.entries ≤ c.cap - 1 → demoted (nat_eq k) (put_entries nat_eq c k v) ≡ c.entries ++ (k, v) ∷ []
 put_last c k v l n = rw (no_entry k c.entries l, self_eq k) (ap (λ es. es ++ (k, v) ∷ []) (take_all (c.cap - 1) c.entries n))

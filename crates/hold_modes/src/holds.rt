@@ -22,7 +22,8 @@ pub enum HoldFault {
 const FEW: usize = 16;
 
 /// The holds on pages. The model is the list of holds, oldest first. Each ticket has at most one hold, and any two holds of one page
-/// are compatible. From seventeen holds on, an index finds them by ticket and by page without a search through the list.
+/// are compatible. Once there have been more than sixteen holds at a time, an index finds them by ticket and by page without a search
+/// through the list.
 #[derive(Drop)]
 pub struct Holds<A: Allocator = Global> {
     alloc: A,

@@ -1,4 +1,4 @@
--- Laws of splits: the directory stays valid, and where hashes lead after them.
+-- Laws of splits: the directory stays valid, and the page of each hash after them.
 use Rattle.std.proofs.Common.{◌≡◌, ℕ, zero, suc, ◌+◌, ◌%◌, ◌^◌, ◌≤◌, [], ◌∷◌, length, Bool, true, false, cond, refl, sym, ap, ◌∙◌, subst, arith, inl, inr}
 use borrow.Author.Count.{below_more}
 use Rattle.std.proofs.lemmas.Bool.{false_from_ne_true, or_cases, or_left, or_right, eqb-true, eqb-false}

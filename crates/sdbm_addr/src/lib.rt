@@ -136,7 +136,7 @@ impl<A: Allocator> PartialEq for Bytes<A> {
 
     ghost laws = { partial_equiv_from_equiv nat_list_eq_equiv };
 
-    /// Whether the bytes are equal. Does not allocate.
+    /// Returns `true` if the bytes are equal. Does not allocate.
     fn eq(&self, other: &Self) -> bool
         ensures exact { IsTrue result ↔ (self.now ≡ other.now) }
         ensures value { result ≡ bytes_eq self.now other.now }

@@ -120,7 +120,7 @@ impl<A: Allocator> Dir<A> {
         used_blocks(self.bits.as_slice())
     }
 
-    /// Whether the prefix with this number is split.
+    /// Returns `true` if the prefix with this number is split.
     pub fn is_split(&self, bit: u32) -> bool
         ensures value { result ≡ set.contains self.now.splits (word_of bit) }
         ensures directory { IsDirectory self.now.splits }

@@ -12,7 +12,7 @@ use Rattle.sdbm_dir.specs.Bitmap.{splits_below, splits_of}
 use Rattle.sdbm_dir.proofs.BitmapLemmas.{word_number-word_of, contains-splits_of}
 use Rattle.sdbm_dir.proofs.FileLemmas.{unset_zero}
 
--- words below n have smaller numbers
+-- a word with a number of at least n is not among the words below n
 unlike_above : (bytes : List ℕ) (w : Word) (n : ℕ) → n ≤ word_number w → set.contains (splits_below bytes n) w ≡ false
 unlike_above bytes w zero h = set.contains-empty word_cmp w
 unlike_above bytes w (suc n) h = at (bit_of bytes n) (unlike_above bytes w n (omega arith))

@@ -28,7 +28,7 @@ joined a b = record {
   longest_pair = max a.longest_pair b.longest_pair;
 }
 
--- bounds on the totals
+-- the number of pairs and the sums of lengths are at most n
 pub record AreBelow (t : PairTotals) (n : ℕ) : Type 0 where
   pub count : t.count ≤ n
   pub key_bytes : t.key_bytes ≤ n

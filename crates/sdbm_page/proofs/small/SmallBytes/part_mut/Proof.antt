@@ -1,5 +1,5 @@
--- How a part of a small page's bytes is borrowed. The bytes are split in three, the middle is borrowed, and when the borrow ends the
--- three are joined into one array. The checker does not do this by itself for a part of an array.
+-- Proof of the borrow of a part of a small page's bytes: the bytes are split in three, the middle is borrowed, and when the borrow ends
+-- the three are joined into one array. The checker does not do this by itself for a part of an array.
 use Rattle.std.proofs.Common.{◌≡◌, ℕ, zero, ◌+◌, ◌-◌, ◌^◌, ◌<◌, ◌≤◌, List, [], ◌∷◌, ◌++◌, length, take, drop as past, refl, sym, ap, ◌∙◌, subst, arith, length-append, length-drop, w8, w64}
 use Rattle.std.proofs.lemmas.List.{take-append-drop, length-take-le}
 use Rattle.std.proofs.raw_atomic.Walks.{proved}
@@ -103,7 +103,7 @@ module _ {M : Type 1} {𝓤 : Ura M} (𝓛 : Logic 𝓤) where
       use2 𝓛 (‵ (part_at (Struct (shape small_type)) full_share (small.bytes, tt) b o)) (left_Struct 𝓛 full_share small_type.name field (small.bytes, tt) b o) $
       rewrite ! 0 (λ (held : Fml). ‵ held) (sym (Recorded-part (Struct (shape small_type)) small_type.D small_type.to small_type.to_one full_share small b o)) refl $ done !
 
--- the address of the byte at a place
+-- the offset in memory of the byte at a place
 abbrev byte_at : ℕ → ℕ → ℕ
 byte_at place o = place + home o
 

@@ -1,4 +1,4 @@
--- A few holds, looked through one after another.
+-- Laws of a few holds, searched one after another.
 use Rattle.std.proofs.Common.{◌≡◌, ℕ, suc, zero, ◌+◌, ◌<◌, Bool, true, false, ◌||◌, List, [], ◌∷◌, refl, sym, ap, ◌∙◌, arith, length, Some, None, take}
 use Rattle.std.specs.Prelude.{cond, slice_index_or, slice_set}
 use Rattle.std.specs.List.{list_any, position, position_from, remove}
@@ -10,7 +10,7 @@ use Rattle.hold_modes.specs.declared.modes.Held.{Held}
 use Rattle.hold_modes.specs.Held.{bars, is_of, held_by, without, made_exclusive, obeys_rule, page_of}
 use Rattle.hold_modes.proofs.HeldLemmas.{bars_comm, is_of_comm, or_false_l, or_false_r, either_false, obeys_parts}
 
--- no ticket's hold stands before the place i, and one stands there
+-- the first hold of the ticket is at place i
 abbrev pub IsFirst : Ticket → List Held → ℕ → Held → Type 0
 IsFirst t hs i d = (i < length hs) × (is_of t (slice_index_or hs i d) ≡ true) × ((k : ℕ) → k < i → is_of t (slice_index_or hs k d) ≡ false)
 
@@ -40,7 +40,7 @@ made-first t [] i d f = absurd (omega (arith, f.0))
 made-first t (x ∷ xs) zero d f = rw f.1 refl
 made-first t (x ∷ xs) (suc i) d f = rw (f.2 zero (omega arith)) (ap (λ hs. x ∷ hs) (made-first t xs i d (next t x xs i d f)))
 
--- where no place is found, the ticket holds nothing
+-- if no place is found, the ticket holds nothing
 none_from : (t : Ticket) (n : ℕ) (hs : List Held) → position_from (is_of t) n hs ≡ None → list_any (is_of t) hs ≡ false
 none_from t n [] h = refl
 none_from t n (x ∷ xs) h =
@@ -52,13 +52,13 @@ none_from t n (x ∷ xs) h =
 pub none : (t : Ticket) (hs : List Held) → position (is_of t) hs ≡ None → list_any (is_of t) hs ≡ false
 none t hs h = none_from t 0 hs (sym (position_from-zero (is_of t) hs) ∙ h)
 
--- what no hold passes, the one at a place does not pass
+-- a test that fails for all holds fails for the hold at a place
 none_at : (p : Held → Bool) (hs : List Held) (i : ℕ) (d : Held) → i < length hs → list_any p hs ≡ false → p (slice_index_or hs i d) ≡ false
 none_at p [] i d lt n = absurd (omega (arith, lt))
 none_at p (x ∷ xs) zero d lt n = or_false_l (p x) (list_any p xs) n
 none_at p (x ∷ xs) (suc i) d lt n = none_at p xs i d (omega (arith, lt)) (or_false_r (p x) (list_any p xs) n)
 
--- Of holds that obey their rule, none before a place is of its ticket, and none bars it.
+-- In holds that obey the rule, no hold before a place has the same ticket or bars its mode.
 pub none_before : (hs : List Held) (i : ℕ) (d : Held) → i < length hs → obeys_rule hs ≡ true
     → (list_any (is_of (slice_index_or hs i d).ticket) (take i hs) ≡ false) × (list_any (bars (slice_index_or hs i d).page (slice_index_or hs i d).mode) (take i hs) ≡ false)
 none_before [] i d lt o = absurd (omega (arith, lt))

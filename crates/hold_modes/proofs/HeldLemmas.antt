@@ -56,7 +56,7 @@ pub not_to_false : (a : Bool) → not a ≡ true → a ≡ false
 not_to_false true h = absurd (cc)
 not_to_false false h = refl
 
--- one more hold that none bars, for a ticket that holds nothing
+-- adding a hold that no hold bars, for a ticket that holds nothing
 pub obeys_rule-push : (hs : List Held) (h : Held) → obeys_rule hs ≡ true → list_any (bars h.page h.mode) hs ≡ false → list_any (is_of h.ticket) hs ≡ false → obeys_rule (hs ++ h ∷ []) ≡ true
 obeys_rule-push [] h o b t = refl
 obeys_rule-push (x ∷ xs) h o b t =
@@ -71,7 +71,7 @@ obeys_rule-push (x ∷ xs) h o b t =
     let p2 : list_any (is_of x.ticket) (xs ++ h ∷ []) ≡ false = list_any-append (is_of x.ticket) xs (h ∷ []) ∙ either_false (list_any (is_of x.ticket) xs) (is_of x.ticket h || false) (not_to_false (list_any (is_of x.ticket) xs) o2) (either_false (is_of x.ticket h) false tx refl) in
     rw (p1, p2, rest) refl
 
--- what no hold passes, no hold passes once one is gone
+-- a test that fails for all holds fails for all holds after one is removed
 pub list_any-without : (p : Held → Bool) (t : Ticket) (hs : List Held) → list_any p hs ≡ false → list_any p (without t hs) ≡ false
 list_any-without p t [] n = refl
 list_any-without p t (x ∷ xs) n =
@@ -100,7 +100,7 @@ obeys_rule-without t (x ∷ xs) o =
       | false ↦ obeys_whole x (without t xs) (list_any-without (bars x.page x.mode) t xs p.0) (list_any-without (is_of x.ticket) t xs p.1) (obeys_rule-without t xs p.2)
     ]
 
--- nothing of the ticket
+-- the list has no hold of the ticket
 pub not_found : (t : Ticket) (hs : List Held) → list_any (is_of t) hs ≡ false → (held_by t hs ≡ None) × (without t hs ≡ hs)
 not_found t [] n = (refl, refl)
 not_found t (x ∷ xs) n =
@@ -108,7 +108,7 @@ not_found t (x ∷ xs) n =
     let r = not_found t xs (or_false_r (is_of t x) (list_any (is_of t) xs) n) in
     (rw nx r.0, rw nx (ap (λ ys. x ∷ ys) r.1))
 
--- where no other ticket has a hold on the page, no other hold of it stands
+-- if no other ticket holds the page and this ticket holds nothing, no hold bars the page
 pub alone : (p : ℕ) (t : Ticket) (m : Hold) (hs : List Held) → list_any (is_beside p t) hs ≡ false → list_any (is_of t) hs ≡ false → list_any (bars p m) hs ≡ false
 alone p t m [] a b = refl
 alone p t m (x ∷ xs) a b =
@@ -122,7 +122,7 @@ pub apart : (b c : Bool) → (b && not c) ≡ false → c ≡ false → b ≡ fa
 apart true c h n = absurd (let e : not c ≡ true = ap not n in let z : true ≡ false = sym e ∙ h in cc)
 apart false c h n = refl
 
--- a test that does not read the mode
+-- a test that does not depend on the mode
 pub list_any-made : (p : Held → Bool) → ((h : Held) → p (record h { mode = Exclusive }) ≡ p h) → (t : Ticket) (hs : List Held) → list_any p (made_exclusive t hs) ≡ list_any p hs
 list_any-made p same t [] = refl
 list_any-made p same t (x ∷ xs) =
@@ -157,7 +157,7 @@ obeys_rule-made t (x ∷ xs) o =
           (obeys_rule-made t xs p.2 (or_false_r (is_beside (page_of t xs) t x) (list_any (is_beside (page_of t xs) t) xs) s))
     ]) refl
 
--- what the others hold stays
+-- the holds of other tickets are unchanged
 pub held_by-without_other : (t u : Ticket) → ((u.0 == t.0) ≡ false) → (hs : List Held) → held_by u (without t hs) ≡ held_by u hs
 held_by-without_other t u d [] = refl
 held_by-without_other t u d (x ∷ xs) =
@@ -204,7 +204,7 @@ abbrev pub mode_in : Option (ℕ × Hold) → Hold
 mode_in None = Read
 mode_in (Some h) = h.1
 
--- a hold that no other bars, beside another hold
+-- if no hold bars the mode, the hold of ticket u does not bar it
 pub barred_by : (p : ℕ) (m : Hold) (u : Ticket) (hs : List Held) (q : ℕ) (n : Hold) → list_any (bars p m) hs ≡ false → held_by u hs ≡ Some (q, n) → ((q == p) && not (are_compatible n m)) ≡ false
 barred_by p m u [] q n b = λ h. absurd cc
 barred_by p m u (x ∷ xs) q n b =
@@ -219,7 +219,7 @@ barred_by p m u (x ∷ xs) q n b =
 pub no_two : (a b : Bool) → (a && not b) ≡ false → b ≡ false → a ≡ false
 no_two a b h n = apart a b h n
 
--- an exclusive hold's page is no other ticket's page
+-- a page held exclusively is held by no other ticket
 pub apart_pages : (t u : Ticket) → ((u.0 == t.0) ≡ false) → (hs : List Held) (p q : ℕ) (n : Hold) → obeys_rule hs ≡ true → held_by t hs ≡ Some (p, Exclusive) → held_by u hs ≡ Some (q, n) → (q == p) ≡ false
 apart_pages t u d [] p q n o ht hu = absurd cc
 apart_pages t u d (x ∷ xs) p q n o ht hu =

@@ -1,4 +1,4 @@
--- Holds as they lie by ticket are found as in their list.
+-- Look-ups by ticket agree with look-ups in the list of holds.
 use Rattle.std.proofs.Common.{◌≡◌, ℕ, ◌-◌, ◌≤◌, true, false, List, [], ◌∷◌, ◌++◌, refl, sym, ap, ◌∙◌, arith, Some, None, length, map}
 use Rattle.std.specs.Prelude.{if◌then◌else◌, nat_eq}
 use Rattle.std.specs.List.{list_any}
@@ -12,7 +12,7 @@ use Rattle.hold_modes.specs.Held.{is_of, held_by, without, made_exclusive}
 use Rattle.hold_modes.specs.Taken.{held_of}
 use Rattle.hold_modes.proofs.HeldLemmas.{eq_comm, or_false_l, or_false_r}
 
--- the ticket's test of an entry is its test of the hold
+-- testing the ticket of an entry is testing the ticket of the hold
 test_is : (t : Ticket) (e : ℕ × (ℕ × Hold)) → is_of t (held_of e) ≡ nat_eq t.0 e.0
 test_is t e = eq_comm e.0 t.0
 
@@ -27,7 +27,7 @@ without-held_of t (e ∷ es) = rw (test_is t e) (elim (nat_eq t.0 e.0) as (λ b.
   | false ↦ ap (λ hs. held_of e ∷ hs) (without-held_of t es)
 ])
 
--- what a look-up found, with another mode written back
+-- writing a found entry back with another mode
 pub made-held_of : (t : Ticket) (es : List (ℕ × (ℕ × Hold))) (h : ℕ × Hold) → lookup (nat_eq t.0) es ≡ Some h → map held_of (set_value (nat_eq t.0) es (h.0, Exclusive)) ≡ made_exclusive t (map held_of es)
 made-held_of t [] h l = cc
 made-held_of t (e ∷ es) h l = rw (test_is t e) ((elim (nat_eq t.0 e.0) as (λ b. (if b then Some e.1 else lookup (nat_eq t.0) es) ≡ Some h → map held_of (if b then (e.0, (h.0, Exclusive)) ∷ es else e ∷ set_value (nat_eq t.0) es (h.0, Exclusive)) ≡ (if b then record (held_of e) { mode = Exclusive } ∷ map held_of es else held_of e ∷ made_exclusive t (map held_of es))) [
@@ -63,6 +63,6 @@ no_entry k (e ∷ es) l = (elim (nat_eq k e.0) as (λ b. (if b then Some e.1 els
 self_eq : (k : ℕ) → nat_eq k k ≡ true
 self_eq k = grind arith
 
--- an entry that is put and then goes last stands after the others
+-- putting a new entry and demoting it appends it to the entries
 pub put_last : (c : LruCache ℕ (ℕ × Hold)) (k : ℕ) (v : ℕ × Hold) → lookup (nat_eq k) c.entries ≡ None → length c.entries ≤ c.cap - 1 → demoted (nat_eq k) (put_entries nat_eq c k v) ≡ c.entries ++ (k, v) ∷ []
 put_last c k v l n = rw (no_entry k c.entries l, self_eq k) (ap (λ es. es ++ (k, v) ∷ []) (take_all (c.cap - 1) c.entries n))

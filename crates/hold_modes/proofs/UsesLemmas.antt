@@ -1,4 +1,4 @@
--- How often a page is held in each mode, as the list of holds changes.
+-- The number of a page's holds in each mode, after changes to the list of holds.
 use Rattle.std.proofs.Common.{◌≡◌, ℕ, ◌+◌, ◌-◌, ◌<◌, ◌≤◌, Bool, true, false, ◌&&◌, ◌||◌, not, List, [], ◌∷◌, ◌++◌, refl, sym, ap, subst, ◌∙◌, arith, Some, None, length, suc}
 use Rattle.std.specs.Prelude.{◌==◌, if◌then◌else◌, nat_eq}
 use Rattle.std.specs.List.{list_any}
@@ -48,12 +48,12 @@ uses_in-more-le Exclusive Read u = omega arith
 uses_in-more-le Exclusive Update u = omega arith
 uses_in-more-le Exclusive Exclusive u = omega arith
 
--- one hold more at the end of the list
+-- a hold added at the end of the list
 pub uses_of-push : (q : ℕ) (hs : List Held) (h : Held) → uses_of q (hs ++ h ∷ []) ≡ also q h.page h.mode (uses_of q hs)
 uses_of-push q [] h = refl
 uses_of-push q (x ∷ xs) h = ap (also q x.page x.mode) (uses_of-push q xs h) ∙ also_comm q x.page x.mode h.page h.mode (uses_of q xs)
 
--- the ticket's hold and the others
+-- the ticket's hold plus those of all other tickets
 pub uses_of-without : (q : ℕ) (t : Ticket) (hs : List Held) (p : ℕ) (m : Hold) → held_by t hs ≡ Some (p, m) → uses_of q hs ≡ also q p m (uses_of q (without t hs))
 uses_of-without q t [] p m l = cc
 uses_of-without q t (x ∷ xs) p m l = (elim (is_of t x) as (λ b. (if b then Some (x.page, x.mode) else held_by t xs) ≡ Some (p, m) → also q x.page x.mode (uses_of q xs) ≡ also q p m (uses_of q (if b then xs else x ∷ without t xs))) [
@@ -61,7 +61,7 @@ uses_of-without q t (x ∷ xs) p m l = (elim (is_of t x) as (λ b. (if b then So
   | false ↦ λ y. ap (also q x.page x.mode) (uses_of-without q t xs p m y) ∙ also_comm q x.page x.mode p m (uses_of q (without t xs))
 ]) l
 
--- the same once it is exclusive
+-- the same after the hold is made exclusive
 pub uses_of-made : (q : ℕ) (t : Ticket) (hs : List Held) (p : ℕ) (m : Hold) → held_by t hs ≡ Some (p, m) → uses_of q (made_exclusive t hs) ≡ also q p Exclusive (uses_of q (without t hs))
 uses_of-made q t [] p m l = cc
 uses_of-made q t (x ∷ xs) p m l = (elim (is_of t x) as (λ b. (if b then Some (x.page, x.mode) else held_by t xs) ≡ Some (p, m) → uses_of q (if b then record x { mode = Exclusive } ∷ xs else x ∷ made_exclusive t xs) ≡ also q p Exclusive (uses_of q (if b then xs else x ∷ without t xs))) [
@@ -77,7 +77,7 @@ first_of true a r = refl
 first_of false a true = refl
 first_of false a false = refl
 
--- among three terms of a disjunction, one stands for itself
+-- moves the term of the added hold to the front of a disjunction
 at_first : (c r s t : Bool) → (((true && c) || s) || t) ≡ (c || (((r && c) || s) || t))
 at_first true r s t = refl
 at_first false true s t = refl
@@ -101,7 +101,7 @@ uses_bar-more m Read u = rw (some_more u.read) (at_first (not (are_compatible Re
 uses_bar-more m Update u = rw (some_more u.update) (at_second (not (are_compatible Update m)) (not (u.read == 0) && not (are_compatible Read m)) (not (u.update == 0)) (not (u.exclusive == 0) && not (are_compatible Exclusive m)))
 uses_bar-more m Exclusive u = rw (some_more u.exclusive) (at_third (not (are_compatible Exclusive m)) (not (u.read == 0) && not (are_compatible Read m)) (not (u.update == 0) && not (are_compatible Update m)) (not (u.exclusive == 0)))
 
--- a hold of the list bars a mode exactly where the numbers tell so
+-- a hold of the list bars a mode exactly if the numbers bar it
 pub bars-uses_of : (q : ℕ) (m : Hold) (hs : List Held) → list_any (bars q m) hs ≡ uses_bar m (uses_of q hs)
 bars-uses_of q m [] = refl
 bars-uses_of q m (x ∷ xs) = ap (λ b. ((x.page == q) && not (are_compatible x.mode m)) || b) (bars-uses_of q m xs)
@@ -157,7 +157,7 @@ nobody u f =
     ∙ (ap (λ n. let uses : Uses = record u { read = 0; update = n } in uses) d
     ∙ ap (λ n. let uses : Uses = record { read = 0; update = 0; exclusive = n } in uses) e)
 
--- what is kept tells all
+-- the stored entry determines the numbers
 kept-is : (u : Uses) → unwrap_or (kept u) no_uses ≡ u
 kept-is u = (elim (is_free u) as (λ b. is_free u ≡ b → unwrap_or (if b then None else Some u) no_uses ≡ u) [
   | true ↦ λ f. sym (nobody u f)
@@ -177,7 +177,7 @@ module _ {S : Type 0} (pages : HashMap ℕ Uses S) (hs : List Held) (index : IsI
   pub index-kept : (new : HashMap ℕ Uses S) → Keeps pages new → IsIndex new hs
   index-kept new same q = same q ∙ index q
 
-  -- a page with a new entry
+  -- setting the entry of a page
   index-put : (new : HashMap ℕ Uses S) (p : ℕ) (u : Uses) (hs' : List Held) → Puts pages new p (kept u) → uses_of p hs' ≡ u → ((q : ℕ) → (p == q) ≡ false → uses_of q hs' ≡ uses_of q hs) → IsIndex new hs'
   index-put new p u hs' puts here there q = puts q ∙ (elim (p == q) as (λ b. (p == q) ≡ b → (if b then kept u else get nat_eq pages q) ≡ kept (uses_of q hs')) [
     | true ↦ λ y. let e : p ≡ q = eqb-true p q y in sym (ap kept (ap (λ r. uses_of r hs') (sym e) ∙ here))
@@ -220,7 +220,7 @@ module _ {S : Type 0} (pages : HashMap ℕ Uses S) (hs : List Held) (index : IsI
         (made-own ∙ sym (ap (more Exclusive) others-are))
         (λ q n. made-other q n ∙ sym (other q n))
 
--- another ticket's hold of the page is one beside the ticket's own
+-- another ticket holds the page exactly if some hold of it is left without this ticket's hold
 pub beside-is : (q : ℕ) (t : Ticket) (hs : List Held) → obeys_rule hs ≡ true → list_any (is_beside q t) hs ≡ list_any (is_on q) (without t hs)
 beside-is q t [] o = refl
 beside-is q t (x ∷ xs) o =
@@ -240,7 +240,7 @@ page_of-is t (x ∷ xs) = elim (is_of t x) as (λ b. (if b then x.page else page
   | false ↦ page_of-is t xs
 ]
 
--- a ticket's page is held by another exactly where somebody holds it beside the ticket
+-- another ticket holds the page exactly if its numbers without this ticket's hold are not all 0
 pub shared-is : (t : Ticket) (hs : List Held) (p : ℕ) (m : Hold) → held_by t hs ≡ Some (p, m) → obeys_rule hs ≡ true → is_shared t hs ≡ not (is_free (uses_of p (without t hs)))
 shared-is t hs p m l o =
     let page : page_of t hs ≡ p = page_of-is t hs ∙ ap page_in l in
@@ -251,11 +251,11 @@ update-is Read u = cc
 update-is Update u = refl
 update-is Exclusive u = cc
 
--- a ticket that holds for update
+-- the ticket has an update hold
 pub updating-is : (t : Ticket) (hs : List Held) (p : ℕ) (m : Hold) → held_by t hs ≡ Some (p, m) → is_updating t hs ≡ true → held_by t hs ≡ Some (p, Update)
 updating-is t hs p m l u = l ∙ ap (λ n. Some (p, n)) (update-is m (sym (ap update_in l) ∙ u))
 
--- a ticket that holds nothing takes nothing out
+-- removing the hold of a ticket that holds nothing changes nothing
 pub without-none : (t : Ticket) (hs : List Held) → held_by t hs ≡ None → without t hs ≡ hs
 without-none t [] l = refl
 without-none t (x ∷ xs) l = (elim (is_of t x) as (λ b. (if b then Some (x.page, x.mode) else held_by t xs) ≡ None → (if b then xs else x ∷ without t xs) ≡ x ∷ xs) [
@@ -263,7 +263,7 @@ without-none t (x ∷ xs) l = (elim (is_of t x) as (λ b. (if b then Some (x.pag
   | false ↦ λ y. ap (λ hs. x ∷ hs) (without-none t xs y)
 ]) l
 
--- a page's numbers are no more than the list is long
+-- a page's numbers are at most the length of the list
 pub uses_in-le : (m : Hold) (q : ℕ) (hs : List Held) → uses_in m (uses_of q hs) ≤ length hs
 uses_in-le m q [] = elim m as (λ m. uses_in m no_uses ≤ 0) [ Read ↦ omega arith | Update ↦ omega arith | Exclusive ↦ omega arith ]
 uses_in-le m q (x ∷ xs) = let r = uses_in-le m q xs in elim (x.page == q) as (λ b. uses_in m (if b then more x.mode (uses_of q xs) else uses_of q xs) ≤ suc (length xs)) [

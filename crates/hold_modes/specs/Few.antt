@@ -1,4 +1,4 @@
--- A few holds in a list, or more in one of their own.
+-- Holds in a short list, or in an index.
 use Rattle.std.specs.Prelude.{List, Option, Some, None}
 use Rattle.hold_modes.specs.declared.modes.Held.{Held}
 

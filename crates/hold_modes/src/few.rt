@@ -1,4 +1,4 @@
-//! A few holds, which are looked through one after another.
+//! A few holds in a vector, searched one after another.
 ghost use Rattle.std.specs.Prelude.{◌≡◌, ◌↔◌, true, IsTrue, IsErr, OnOk, OnErr};
 ghost use Rattle.std.specs.List.{list_any, position};
 ghost use Rattle.hold_modes.specs.Held.{bars, is_beside, is_of, is_shared, is_updating, held_by, without, made_exclusive, obeys_rule};
@@ -6,7 +6,7 @@ ghost use Rattle.hold_modes.specs.Held.{bars, is_beside, is_of, is_shared, is_up
 use crate::modes::{Busy, Held, Hold, Ticket, compatible};
 use std::alloc::Allocator;
 
-// Whether the page is held in a mode that bars this one.
+// Returns `true` if some hold of the page bars the mode.
 pub(crate) fn is_barred(few: &[Held], page: u32, mode: Hold) -> bool
     ensures { result ≡ list_any (bars page mode) few.now }
 {
@@ -22,7 +22,7 @@ pub(crate) fn find(few: &[Held], ticket: Ticket) -> Option<(u32, Hold)>
     Some((few[at].page, few[at].mode))
 }
 
-// Makes a ticket's update hold exclusive, or is busy exactly where another ticket has a hold on the page.
+// Makes a ticket's update hold exclusive. Returns `Busy` exactly if another ticket holds the page.
 pub(crate) fn convert(few: &mut [Held], ticket: Ticket) -> Result<(), Busy>
     requires updating { is_updating ticket few.old ≡ true }
     requires rule { obeys_rule few.old ≡ true }
@@ -41,7 +41,7 @@ pub(crate) fn convert(few: &mut [Held], ticket: Ticket) -> Result<(), Busy>
     Ok(())
 }
 
-// Takes the ticket's hold out and tells what it was, or `None` where it held nothing.
+// Removes the ticket's hold and returns its page and mode, or `None` if the ticket holds nothing.
 pub(crate) fn release<A: Allocator>(few: &mut Vec<Held, A>, ticket: Ticket) -> Option<(u32, Hold)>
     ensures value { result ≡ held_by ticket few.old.items }
     ensures rest { few.new.items ≡ without ticket few.old.items }
@@ -51,14 +51,14 @@ pub(crate) fn release<A: Allocator>(few: &mut Vec<Held, A>, ticket: Ticket) -> O
     Some((held.page, held.mode))
 }
 
-// Where the hold of a ticket stands.
+// The index of the ticket's hold.
 fn place(few: &[Held], ticket: Ticket) -> Option<usize>
     ensures { result ≡ position (is_of ticket) few.now }
 {
     few.iter().position(|held| held.ticket.0 == ticket.0)
 }
 
-// Whether another ticket has a hold on the page.
+// Returns `true` if another ticket has a hold on the page.
 fn has_others(few: &[Held], page: u32, ticket: Ticket) -> bool
     ensures { result ≡ list_any (is_beside page ticket) few.now }
 {

@@ -9,25 +9,25 @@ use crate::modes::{Busy, Held, Hold, Ticket};
 use std::alloc::{AllocError, Allocator, Global};
 use std::marker::Model;
 
-/// Why a page could not be taken.
+/// The reason why a page could not be taken.
 #[derive(Clone, Copy, Debug, PartialEq, Eq)]
 pub enum HoldFault {
     /// Another ticket holds the page in a mode that bars this one.
     Busy,
-    /// No memory is left for one more hold.
+    /// Allocation for one more hold fails.
     NoMemory,
 }
 
-// How many holds are looked through one after another, which is faster than to find them by an index.
+// The greatest number of holds that are searched one after another, which is faster than an index for a few.
 const FEW: usize = 16;
 
-/// Which pages are held, seen as the list of holds in the order in which they were taken. Each ticket holds once at most, and any
-/// two holds of one page are compatible. Once there are more than sixteen, holds are found by ticket and by page, without going over
-/// the others.
+/// The holds on pages. The model is the list of holds, oldest first. Each ticket has at most one hold, and any two holds of one page
+/// are compatible. Once there have been more than sixteen holds at a time, an index finds them by ticket and by page without a search
+/// through the list.
 #[derive(Drop)]
 pub struct Holds<A: Allocator = Global> {
     alloc: A,
-    // All holds, as long as there was no need of an index.
+    // All holds, as long as no index is needed.
     few: Vec<Held, A>,
     // All holds from then on.
     many: Option<Indexed<A>>,
@@ -47,7 +47,7 @@ impl<A: Allocator> Model for Holds<A> {
 }
 
 impl<A: Allocator + Copy> Holds<A> {
-    /// No holds. It takes no memory.
+    /// No holds. Does not allocate.
     pub fn new(alloc: A) -> Self
         ensures { result ≡ [] }
     {
@@ -58,10 +58,10 @@ impl<A: Allocator + Copy> Holds<A> {
         }
     }
 
-    /// Holds a page for a ticket that holds nothing. After a refusal the holds are as they were.
+    /// Holds a page for a ticket that holds nothing. On error the holds are unchanged.
     ///
     /// # Errors
-    /// `Busy` exactly where another ticket holds the page in a mode that bars this one; else `NoMemory` where none is left.
+    /// `Busy` exactly if another ticket holds the page in a mode that bars this one; otherwise `NoMemory` if allocation fails.
     pub fn take(&mut self, page: u32, mode: Hold, ticket: Ticket) -> Result<(), HoldFault>
         requires { list_any (is_of ticket) self.old ≡ false }
         ensures ok { OnOk result (self.new ≡ self.old ++ record { page = page; mode = mode; ticket = ticket } ∷ []) }
@@ -69,7 +69,7 @@ impl<A: Allocator + Copy> Holds<A> {
         ensures err { OnErr result (self.new ≡ self.old) }
         ensures rule { obeys_rule self.new ≡ true }
     {
-        // What holds obey is known of them once a field is read.
+        // Reading a field gives the proof the invariant of the holds.
         let _few = &self.few;
         if self.bars(page, mode) {
             return Err(HoldFault::Busy);
@@ -80,10 +80,10 @@ impl<A: Allocator + Copy> Holds<A> {
         Ok(())
     }
 
-    /// Holds a page that no hold bars, for a ticket that holds nothing. It is `take` for a caller that has asked `bars` already.
+    /// Holds a page that no hold bars, for a ticket that holds nothing. This is `take` for a caller that has already called `bars`.
     ///
     /// # Errors
-    /// `AllocError` where no memory is left for one more hold. The holds are then as they were.
+    /// `AllocError` if allocation for one more hold fails. The holds are then unchanged.
     pub fn take_free(&mut self, page: u32, mode: Hold, ticket: Ticket) -> Result<(), AllocError>
         requires ticket { list_any (is_of ticket) self.old ≡ false }
         requires free { list_any (bars page mode) self.old ≡ false }
@@ -104,7 +104,7 @@ impl<A: Allocator + Copy> Holds<A> {
         Ok(())
     }
 
-    /// Whether the page is held in a mode that bars this one.
+    /// Returns `true` if some hold of the page bars the mode.
     pub fn bars(&self, page: u32, mode: Hold) -> bool
         ensures { result ≡ list_any (bars page mode) self.now }
     {
@@ -124,7 +124,7 @@ impl<A: Allocator + Copy> Holds<A> {
         }
     }
 
-    /// Whether the ticket holds for update.
+    /// Returns `true` if the ticket has an update hold.
     pub fn is_updating(&self, ticket: Ticket) -> bool
         ensures { result ≡ update_in (held_by ticket self.now) }
     {
@@ -134,7 +134,7 @@ impl<A: Allocator + Copy> Holds<A> {
         }
     }
 
-    /// Whether the ticket holds alone.
+    /// Returns `true` if the ticket has an exclusive hold.
     pub fn is_exclusive(&self, ticket: Ticket) -> bool
         ensures { result ≡ exclusive_in (held_by ticket self.now) }
     {
@@ -144,11 +144,10 @@ impl<A: Allocator + Copy> Holds<A> {
         }
     }
 
-    /// Makes a ticket's update hold exclusive. It takes no memory.
+    /// Makes a ticket's update hold exclusive. Does not allocate.
     ///
     /// # Errors
-    /// `Busy` exactly where another ticket has a hold on the page, which can only be one to read it. The holds are then as they
-    /// were.
+    /// `Busy` exactly if another ticket has a hold on the page; it can only be a read hold. The holds are then unchanged.
     pub fn convert(&mut self, ticket: Ticket) -> Result<(), Busy>
         requires { is_updating ticket self.old ≡ true }
         ensures ok { OnOk result (self.new ≡ made_exclusive ticket self.old) }
@@ -162,7 +161,7 @@ impl<A: Allocator + Copy> Holds<A> {
         }
     }
 
-    /// Gives up the ticket's hold and tells what it was, or `None` where it held nothing. It takes no memory.
+    /// Removes the ticket's hold and returns its page and mode, or `None` if the ticket holds nothing. Does not allocate.
     pub fn release(&mut self, ticket: Ticket) -> Option<(u32, Hold)>
         ensures value { result ≡ held_by ticket self.old }
         ensures rest { self.new ≡ without ticket self.old }

@@ -1,4 +1,4 @@
-//! Holds that are found by ticket and by page.
+//! Holds indexed by ticket and by page.
 ghost use Rattle.std.specs.Prelude.{◌≡◌, ◌↔◌, ◌++◌, ◌∷◌, [], IsTrue, IfOk, OnOk, OnErr, IsErr, false, true};
 ghost use Rattle.std.specs.List.{list_any};
 ghost use Rattle.hold_modes.specs.Held.{bars, is_of, is_shared, is_updating, held_by, without, made_exclusive, obeys_rule};
@@ -9,7 +9,7 @@ use crate::taken::Taken;
 use std::alloc::{AllocError, Allocator};
 use std::marker::Model;
 
-/// The same list as `Holds`, in which holds are found by ticket and by page, without going over the others.
+/// The same list as `Holds`, with an index that finds holds by ticket and by page without a search through the list.
 #[derive(Drop)]
 pub struct Indexed<A: Allocator> {
     taken: Taken<A>,
@@ -30,7 +30,7 @@ impl<A: Allocator> Model for Indexed<A> {
 }
 
 impl<A: Allocator + Copy> Indexed<A> {
-    // No holds. It takes no memory.
+    // No holds. Does not allocate.
     pub(crate) fn new(alloc: A) -> Self
         ensures { result ≡ [] }
     {
@@ -60,7 +60,7 @@ impl<A: Allocator + Copy> Indexed<A> {
         Ok(())
     }
 
-    // Whether the page is held in a mode that bars this one.
+    // Returns `true` if some hold of the page bars the mode.
     pub(crate) fn bars(&self, page: u32, mode: Hold) -> bool
         ensures { result ≡ list_any (bars page mode) self.now }
     {
@@ -74,7 +74,7 @@ impl<A: Allocator + Copy> Indexed<A> {
         self.taken.get(ticket)
     }
 
-    // Makes a ticket's update hold exclusive, or is busy exactly where another ticket has a hold on the page.
+    // Makes a ticket's update hold exclusive. Returns `Busy` exactly if another ticket holds the page.
     pub(crate) fn convert(&mut self, ticket: Ticket) -> Result<(), Busy>
         requires { is_updating ticket self.old ≡ true }
         ensures ok { OnOk result (self.new ≡ made_exclusive ticket self.old) }
@@ -94,7 +94,7 @@ impl<A: Allocator + Copy> Indexed<A> {
         Ok(())
     }
 
-    // Gives up the ticket's hold and tells what it was, or `None` where it held nothing. It takes no memory.
+    // Removes the ticket's hold and returns its page and mode, or `None` if the ticket holds nothing. Does not allocate.
     pub(crate) fn release(&mut self, ticket: Ticket) -> Option<(u32, Hold)>
         ensures value { result ≡ held_by ticket self.old }
         ensures rest { self.new ≡ without ticket self.old }
@@ -107,7 +107,7 @@ impl<A: Allocator + Copy> Indexed<A> {
     }
 }
 
-// The same holds, found by ticket and by page.
+// Builds the index of a list of holds.
 pub(crate) fn make_index<A: Allocator + Copy>(
     alloc: A,
     few: &[Held],

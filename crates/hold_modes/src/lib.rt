@@ -1,4 +1,4 @@
-//! Which pages are held, in which modes, and for which tickets.
+//! The holds on pages: their modes and the tickets that have them.
 #![tactic(auto)]
 
 mod few;

@@ -1,23 +1,23 @@
-//! The three modes of a hold, and which may stand together.
+//! The three modes of a hold, and which modes are compatible.
 ghost use Rattle.std.specs.Prelude.{◌≡◌, false, true};
 ghost use Rattle.hold_modes.specs.Held.{are_compatible};
 
-/// How a page is held.
+/// The mode of a hold on a page.
 #[derive(Clone, Copy, Debug, PartialEq, Eq)]
 pub enum Hold {
-    /// To read it, beside others that read it and one that means to change it.
+    /// Reads the page. Compatible with other read holds and one update hold.
     Read,
-    /// To change it later, beside others that read it.
+    /// Will change the page later. Compatible with read holds.
     Update,
-    /// To change it, beside nobody.
+    /// Changes the page. Compatible with no other hold.
     Exclusive,
 }
 
-/// The number under which a command is open.
+/// The number of an open command.
 #[derive(Clone, Copy, Debug, PartialEq, Eq)]
 pub struct Ticket(pub usize);
 
-/// One hold: a page, how it is held, and the ticket that holds it.
+/// One hold: a page, its mode, and the ticket that holds it.
 #[derive(Clone, Copy, Debug, PartialEq, Eq)]
 pub struct Held {
     pub page: u32,
@@ -25,7 +25,7 @@ pub struct Held {
     pub ticket: Ticket,
 }
 
-/// Whether two tickets may hold one page in these modes.
+/// Returns `true` if two tickets may hold one page in these modes.
 pub fn compatible(one: Hold, other: Hold) -> bool
     ensures { result ≡ are_compatible one other }
 {
@@ -37,6 +37,6 @@ pub fn compatible(one: Hold, other: Hold) -> bool
     }
 }
 
-/// Another ticket holds the page, so that the hold cannot be had.
+/// The error that another ticket holds the page in a mode that bars the requested one.
 #[derive(Clone, Copy, Debug, PartialEq, Eq)]
 pub struct Busy;

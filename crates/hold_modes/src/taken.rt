@@ -1,4 +1,4 @@
-//! The holds in the order in which they were taken, each found by its ticket.
+//! The holds, oldest first, indexed by ticket.
 ghost use Rattle.std.specs.Prelude.{◌≡◌, ◌<◌, ◌≤◌, ◌-◌, ◌^◌, ◌++◌, ◌∷◌, [], false, length, None, nat_eq, OnOk, OnErr};
 ghost use Rattle.std.specs.List.{list_any};
 ghost use Rattle.std.specs.Map.{lookup};
@@ -10,11 +10,11 @@ use lru::{DefaultHasher, LruCache};
 use std::alloc::{AllocError, Allocator};
 use std::marker::Model;
 
-/// The holds in the order in which they were taken, found by ticket in constant time on average.
+/// The holds, oldest first. A hold is found by its ticket in constant time on average.
 #[derive(Drop)]
 pub struct Taken<A: Allocator> {
     alloc: A,
-    // The oldest comes first. Nothing stands here before the first hold, since an empty cache takes memory too.
+    // The oldest hold is first. `None` until the first hold is taken, because even an empty cache allocates.
     holds: Option<LruCache<usize, (u32, Hold), DefaultHasher, A>>,
 }
 
@@ -31,14 +31,14 @@ impl<A: Allocator> Model for Taken<A> {
 }
 
 impl<A: Allocator + Copy> Taken<A> {
-    // No holds. It takes no memory.
+    // No holds. Does not allocate.
     pub(crate) fn new(alloc: A) -> Self
         ensures { result ≡ [] }
     {
         Taken { alloc, holds: None }
     }
 
-    // Adds a hold of a ticket that holds nothing, as the last.
+    // Adds a hold at the end, for a ticket that holds nothing.
     pub(crate) fn push(&mut self, page: u32, mode: Hold, ticket: Ticket) -> Result<(), AllocError>
         requires { list_any (is_of ticket) self.old ≡ false }
         ensures ok { OnOk result (self.new ≡ self.old ++ record { page = page; mode = mode; ticket = ticket } ∷ []) }
@@ -66,7 +66,7 @@ impl<A: Allocator + Copy> Taken<A> {
         holds.peek(&ticket.0).copied()
     }
 
-    // Makes the ticket's hold exclusive, where it has one.
+    // Makes the ticket's hold exclusive if it has one.
     pub(crate) fn make_exclusive(&mut self, ticket: Ticket)
         ensures { self.new ≡ made_exclusive ticket self.old }
     {
@@ -79,7 +79,7 @@ impl<A: Allocator + Copy> Taken<A> {
         hold.1 = Hold::Exclusive;
     }
 
-    // Takes the ticket's hold out and tells what it was, or `None` where it held nothing.
+    // Removes the ticket's hold and returns its page and mode, or `None` if the ticket holds nothing.
     pub(crate) fn remove(&mut self, ticket: Ticket) -> Option<(u32, Hold)>
         ensures value { result ≡ held_by ticket self.old }
         ensures rest { self.new ≡ without ticket self.old }
@@ -91,7 +91,7 @@ impl<A: Allocator + Copy> Taken<A> {
     }
 }
 
-// Adds a hold as the last.
+// Adds a hold at the end.
 fn add<A: Allocator + Copy>(
     holds: &mut LruCache<usize, (u32, Hold), DefaultHasher, A>,
     page: u32,

@@ -1,10 +1,10 @@
-//! How often a page is held in each mode.
+//! The number of a page's holds in each mode.
 ghost use Rattle.std.specs.Prelude.{◌≡◌, ◌<◌, ◌+◌, ◌^◌};
 ghost use Rattle.hold_modes.specs.Uses.{is_free, uses_bar, uses_in, more, fewer};
 
 use crate::modes::{Hold, compatible};
 
-/// How often a page is held in each mode.
+/// The number of a page's holds in each mode.
 #[derive(Clone, Copy, Debug, PartialEq, Eq)]
 pub struct Uses {
     pub read: usize,
@@ -13,21 +13,21 @@ pub struct Uses {
 }
 
 impl Uses {
-    // Nobody holds the page.
+    // No holds.
     pub(crate) const NONE: Uses = Uses {
         read: 0,
         update: 0,
         exclusive: 0,
     };
 
-    // Whether nobody holds the page.
+    // Returns `true` if there are no holds.
     pub(crate) fn is_none(self) -> bool
         ensures { result ≡ is_free self }
     {
         self.read == 0 && self.update == 0 && self.exclusive == 0
     }
 
-    // Whether one of the holds bars this mode.
+    // Returns `true` if one of the holds bars this mode.
     pub(crate) fn bar(self, mode: Hold) -> bool
         ensures { result ≡ uses_bar mode self }
     {
@@ -36,7 +36,7 @@ impl Uses {
             || (self.exclusive != 0 && !compatible(Hold::Exclusive, mode))
     }
 
-    // With one hold more in a mode.
+    // Adds one hold in a mode.
     pub(crate) fn with(self, mode: Hold) -> Uses
         requires { uses_in mode self + 1 < 2 ^ 64 }
         ensures { result ≡ more mode self }
@@ -50,7 +50,7 @@ impl Uses {
         uses
     }
 
-    // With one hold less in a mode in which there is one.
+    // Removes one hold in a mode that has one.
     pub(crate) fn without(self, mode: Hold) -> Uses
         requires { 0 < uses_in mode self }
         ensures { result ≡ fewer mode self }

@@ -1,4 +1,4 @@
--- Laws of databases: the map of all pages is looked up on the page to which a key leads.
+-- Laws of databases: a look-up in the map of all pages is a look-up on the key's own page.
 use Rattle.std.proofs.Common.{◌≡◌, ◌≢◌, ℕ, List, [], ◌∷◌, ◌++◌, length, Bool, true, false, cond, Option, Some, None, unwrap_or, refl, sym, ap, ◌∙◌, subst, T}
 use Rattle.std.proofs.lemmas.Bool.{cond-true, cond-false, true≢false}
 use Rattle.std.proofs.lemmas.List.Sorted.{length_permutation}
@@ -17,9 +17,9 @@ use Rattle.sdbm_addr.specs.Database.{Database, IsDatabase, pairs_at, pairs_of, m
 use Rattle.sdbm_addr.proofs.MapLemmas.{absent_below, and_true}
 use Rattle.sdbm_addr.proofs.SortedPairs.{entries-IsPermutation}
 
--- ---- pages put in
+-- ---- replacing pages
 
--- what is found where these pairs were put
+-- the result of a look-up after these pairs were put
 abbrev pub put_there : List Pair → Option (List Pair)
 put_there [] = None
 put_there (e ∷ es) = Some (e ∷ es)
@@ -37,7 +37,7 @@ same_number n k t = map.nat_cmp-IsAntisymmetric n k ((Equal-is (nat_cmp n k)).0 
 
 -- ---- lists of numbered pages
 
--- no number comes twice
+-- the page numbers are pairwise distinct
 abbrev pub HasDistinctNumbers : List (ℕ × List Pair) → Type 0
 HasDistinctNumbers [] = Unit {0}
 HasDistinctNumbers (e ∷ es) = (map.find nat_cmp e.0 es ≡ None) × HasDistinctNumbers es
@@ -51,7 +51,7 @@ distinct_sorted (e ∷ es) h =
 pub HasDistinctNumbers-entries : (pages : FinMap nat_cmp (List Pair)) → HasDistinctNumbers (map.entries pages)
 HasDistinctNumbers-entries pages = distinct_sorted (map.entries pages) (map.entries_sorted pages)
 
--- each key leads to the page on which it is found
+-- every key leads to the page that has it
 abbrev LeadsIn : (List ℕ → ℕ) → List (ℕ × List Pair) → Type 0
 LeadsIn lead es = (n : ℕ) (pairs : List Pair) → map.find nat_cmp n es ≡ Some pairs → (q : List ℕ) → value_of pairs q ≢ None → lead q ≡ n
 
@@ -68,7 +68,7 @@ number_is_same n = (eq_by_cmp_equiv nat_cmp_total).refl n
 some_or_none : {A : Type 0} (o : Option A) (x : A) → o ≡ Some x → o ≡ None → ⊥
 some_or_none o x some none = let e : Some x ≡ None = sym some ∙ none in cc
 
--- what is found past the first page is found with it
+-- a page found after the first page is found in the whole list
 found_past : (e : ℕ × List Pair) (es : List (ℕ × List Pair)) (n : ℕ) (pairs : List Pair) → map.find nat_cmp e.0 es ≡ None → map.find nat_cmp n es ≡ Some pairs → map.find nat_cmp n (e ∷ es) ≡ Some pairs
 found_past e es n pairs none some = at (eq_by_cmp nat_cmp n e.0) refl
   where
@@ -110,7 +110,7 @@ distinct-append (e ∷ es) b d f apart =
         at true g = let no : Some e.1 ≡ None = g in cc
         at false g = some g
 
--- a key is looked up in all pairs as on its own page
+-- a look-up in all pairs is a look-up on the key's page
 pub look_up_flat : (lead : List ℕ → ℕ) (es : List (ℕ × List Pair)) → HasDistinctNumbers es → LeadsIn lead es → (q : List ℕ)
     → value_of (flat_map (λ (e : ℕ × List Pair). e.1) es) q ≡ value_of (pairs_in es (lead q)) q
 look_up_flat lead [] d p q = refl
@@ -153,7 +153,7 @@ leads_from db ok es same n pairs found q some =
 distinct_from : (db : Database) → IsDatabase db → (es : List (ℕ × List Pair)) → ((n : ℕ) → map.get db.pages n ≡ map.find nat_cmp n es) → AllDistinct es
 distinct_from db ok es same n pairs found = (ok.pages n pairs (same n ∙ found)).1.distinct
 
--- a key is found in the map as on the page to which it leads
+-- a look-up in the map is a look-up on the key's own page
 pub get-map_of : (db : Database) → IsDatabase db → (q : List ℕ) → map.get (map_of db) q ≡ value_of (pairs_at db (lead_in db q)) q
 get-map_of db ok q =
     map.get-from_entries nat_list_cmp_total (pairs_of db) q
@@ -173,6 +173,6 @@ map_of_pages db ok es d same = map.same_map nat_list_cmp_total exact_bytes _ _ (
     ∙ ap (λ o. value_of (unwrap_or o []) q) (sym (same (lead_in db q)))
     ∙ sym (get-map_of db ok q))
 
--- their pairs are as many as those of the map
+-- the number of pairs with distinct keys is the number of entries of their map
 pub len-from_entries : (pairs : List Pair) → HasDistinctKeys pairs → map.len (map.from_entries {R = key_cmp} pairs) ≡ length pairs
 len-from_entries pairs d = map.len-entries _ ∙ length_permutation _ _ (entries-IsPermutation pairs d)

@@ -1,4 +1,4 @@
--- Laws of words, of their numbers, and of where a hash leads.
+-- Laws of words and their numbers, and of the page that a hash leads to.
 use Rattle.std.proofs.Common.{◌≡◌, ℕ, zero, suc, ◌+◌, ◌*◌, ◌/◌, ◌%◌, ◌^◌, ◌-◌, ◌<◌, ◌≤◌, ◌==◌, ◌||◌, [], ◌∷◌, length, true, false, cond, refl, sym, ap, ◌∙◌, subst, arith, inl, inr, add-one, lit<, bit_and, zero-add, suc-add}
 use borrow.Author.Count.{below_more}
 use Rattle.std.proofs.lemmas.Bool.{cases_order, cases_lt, true≢false, false_from_ne_true}
@@ -33,7 +33,7 @@ page_number-hash_prefix (suc n) hash =
 pub word_number-more : (n hash : ℕ) → word_number (hash_prefix (n + 1) hash) ≡ 2 * word_number (hash_prefix n hash) + cond (hash_bit n hash) 2 1
 word_number-more n hash = rw add-one refl
 
--- each number has one word
+-- words with equal numbers are equal
 pub word_number-injective : (v w : Word) → word_number v ≡ word_number w → v ≡ w
 word_number-injective [] [] h = refl
 word_number-injective [] (true ∷ w) h = absurd (omega arith)
@@ -71,7 +71,7 @@ unset_above d dir n hash (suc k) h =
     let below : set.contains d (hash_prefix (k + n) hash) ≡ false = unset_above d dir n hash k h in
     rw (suc-add k n) (false_from_ne_true _ (λ t. true≢false (sym (dir.closed _ _ t) ∙ below)))
 
--- past an unsplit prefix none is split
+-- prefixes longer than an unsplit prefix are unsplit
 pub unsplit_past : (d : Splits) → IsDirectory d → (m n hash : ℕ) → m ≤ n → set.contains d (hash_prefix m hash) ≡ false → set.contains d (hash_prefix n hash) ≡ false
 unsplit_past d dir m n hash l h = subst (λ (j : ℕ). set.contains d (hash_prefix j hash) ≡ false) (omega arith) (unset_above d dir m hash (n - m) h)
 
@@ -85,7 +85,7 @@ IsDepth-unique d hash g h p q =
       ]
     ]
 
--- sought from h on, where all above is split, and there are letters left
+-- the search from h on, if all shorter prefixes are split and letters are left
 depth_from-IsDepth : (d : Splits) → IsDirectory d → (hash n h : ℕ) → n + h ≡ 31 → ((k : ℕ) → k < h → set.contains d (hash_prefix k hash) ≡ true) → IsDepth d hash (depth_from d hash n h)
 depth_from-IsDepth d dir hash zero h e above =
     record {
@@ -114,7 +114,7 @@ depth_from-le d hash (suc n) h =
     let more : depth_from d hash n (h + 1) ≤ h + 1 + n = depth_from-le d hash n (h + 1) in
     elim (set.contains d (hash_prefix h hash)) as (λ b. cond b (depth_from d hash n (h + 1)) h ≤ h + suc n) [ true ↦ omega arith | false ↦ omega arith ]
 
--- whatever the set is
+-- for any set
 pub depth_of-le : (d : Splits) (hash : ℕ) → depth_of d hash ≤ 31
 unfolding depth_of
 depth_of-le d hash = depth_from-le d hash 31 0
@@ -123,7 +123,7 @@ pub page_of_depth : (d : Splits) → IsDirectory d → (hash h : ℕ) → IsDept
 unfolding page_of
 page_of_depth d dir hash h p = ap (λ k. page_number (hash_prefix k hash)) (IsDepth-unique d hash _ h (depth_of-IsDepth d dir hash) p) ∙ page_number-hash_prefix h hash
 
--- ---- hashes that agree
+-- ---- hashes with the same lowest bits
 
 same_mod_less : (n a b : ℕ) → a % 2 ^ (1 + n) ≡ b % 2 ^ (1 + n) → (a % 2 ^ n ≡ b % 2 ^ n) × (hash_bit n a ≡ hash_bit n b)
 same_mod_less n a b h =
@@ -146,7 +146,7 @@ fewer_bits m n a b l h =
     let g : a % 2 ^ (n - m + m) ≡ b % 2 ^ (n - m + m) = rw e h in
     sym (mod-mod-pow a (n - m) m) ∙ ap (λ x. x % 2 ^ m) g ∙ mod-mod-pow b (n - m) m
 
--- hashes with one prefix have one depth
+-- hashes with the same prefix have the same depth
 pub IsDepth-agree : (d : Splits) (a b h : ℕ) → a % 2 ^ h ≡ b % 2 ^ h → IsDepth d a h → IsDepth d b h
 IsDepth-agree d a b h e p = record {
   leaf = subst (λ (w : Word). set.contains d w ≡ false) (same_prefix h a b e) p.leaf;
@@ -162,7 +162,7 @@ shorter_differs d a b g h l e p q =
     let o : a % 2 ^ g % 2 ^ g ≡ a % 2 ^ g = let z : 0 + g ≡ g = zero-add g in subst (λ (k : ℕ). a % 2 ^ k % 2 ^ g ≡ a % 2 ^ g) z (mod-mod-pow a 0 g) in
     true≢false (sym (q.above g l) ∙ ap (set.contains d) (same_prefix g b a (sym (sym o ∙ f ∙ n))) ∙ p.leaf)
 
--- a page number has one place
+-- equal page numbers have equal depths
 pub same_place : (d : Splits) (a b g h : ℕ) → a % 2 ^ g ≡ b % 2 ^ h → IsDepth d a g → IsDepth d b h → g ≡ h
 same_place d a b g h e p q =
     elim (cases_order g h) as (λ _. g ≡ h) [
@@ -173,7 +173,7 @@ same_place d a b g h e p q =
       ]
     ]
 
--- a word of n letters or more has a number from 2^n - 1 on
+-- a word of n letters or more has a number of at least 2^n - 1
 pub word_number-long : (n : ℕ) (w : Word) → n ≤ length w → 2 ^ n ≤ word_number w + 1
 word_number-long zero w l = omega arith
 word_number-long (suc n) [] l = absurd (omega arith)
@@ -186,7 +186,7 @@ word_number-short w n l = elim (cases_lt (length w) n) as (λ _. length w ≤ n 
   | inr i ↦ absurd (let long : 2 ^ n ≤ word_number w + 1 = word_number-long n w i in omega arith)
 ]
 
--- and one of n letters has a number below 2^(n + 1) - 1
+-- a word of n letters has a number below 2^(n + 1) - 1
 pub word_number-lt : (w : Word) → word_number w + 1 < 2 ^ (length w + 1)
 word_number-lt [] = lit< tt
 word_number-lt (true ∷ w) = let rest : word_number w + 1 < 2 ^ (length w + 1) = word_number-lt w in omega (arith, pow_more 2 (suc (length w)), pow_more 2 (length w))
@@ -200,7 +200,7 @@ child_fits n hash bit l e =
     let below' : word_number (hash_prefix n hash) + 1 < 2 ^ (n + 1) = subst (λ (k : ℕ). word_number (hash_prefix n hash) + 1 < 2 ^ (k + 1)) (length-hash_prefix n hash) below in
     omega arith
 
--- and its number, as code finds it
+-- the number of the child, as the code computes it
 pub child_number : (n hash bit r : ℕ) → bit ≡ word_number (hash_prefix n hash) → r ≡ 2 * bit + cond (bit_and (hash / 2 ^ n) 1 == 1) 2 1 → r ≡ word_number (hash_prefix (n + 1) hash)
 child_number n hash bit r e f =
     f ∙ ap (λ k. 2 * k + cond (bit_and (hash / 2 ^ n) 1 == 1) 2 1) e

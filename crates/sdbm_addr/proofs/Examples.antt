@@ -1,5 +1,4 @@
--- The definitions at values that were worked by hand: hashes, numbers of words and of pages, the bytes of pages and of
--- directories.
+-- The definitions at values computed by hand: hashes, numbers of words and of pages, the bytes of pages and of directories.
 use Rattle.std.proofs.Common.{◌≡◌, ℕ, zero, suc, ◌/◌, ◌%◌, ◌-◌, ◌^◌, ◌<◌, ◌≤◌, ◌==◌, ◌||◌, List, [], ◌∷◌, ◌++◌, length, get_or, replicate, Bool, true, false, refl, sym, ap, ◌∙◌, arith, inl, inr, lit<, lit≤}
 use Rattle.std.specs.Int.{bit_at}
 use Rattle.std.specs.FinSet as set
@@ -16,7 +15,7 @@ use Rattle.sdbm_addr.specs.DirectoryFile.{bit_of, SpellsDirectory, AreDirectoryB
 use Rattle.sdbm_addr.specs.Layout.{bytes_with, bytes_of_page}
 use Rattle.sdbm_addr.proofs.DirectoryLemmas.{contains-insert}
 
--- ---- hashes: of the empty key, of `a`, `ab` and `abc`, and of the byte 255 counted either way
+-- ---- hashes: of the empty key, of `a`, `ab` and `abc`, and of the byte 255 as signed and as unsigned
 
 hash-empty : hash_of Signed [] ≡ 0
 unfolding hash_of
@@ -42,7 +41,7 @@ hash-unsigned : hash_of Unsigned (255 ∷ []) ≡ 255
 unfolding hash_of
 hash-unsigned = refl
 
--- ---- places: the hash of `c` is 99, which ends in the bits 11; its prefix of two letters is the word numbered 6, on page 3
+-- ---- places: the hash of `c` is 99, whose lowest bits are 11; its prefix of two letters is the word numbered 6, on page 3
 
 prefix-c : hash_prefix 2 99 ≡ true ∷ true ∷ []
 prefix-c = refl
@@ -53,11 +52,11 @@ number-c = refl
 page-c : page_number (hash_prefix 2 99) ≡ 3
 page-c = refl
 
--- the hash of `a` is 97, which ends in 01: the lowest bit is the first letter, which stands last
+-- the hash of `a` is 97, whose lowest bits are 01: the lowest bit is the first letter, at the end of the list
 page-a : page_number (hash_prefix 2 97) ≡ 1
 page-a = refl
 
--- ten zeros are the word numbered 1023; a one after nine zeros leads to page 512
+-- ten zeros are the word numbered 1023; nine zeros followed by a one lead to page 512
 number-zeros : word_number (hash_prefix 10 0) ≡ 1023
 number-zeros = refl
 
@@ -66,29 +65,29 @@ page-ones = refl
 
 -- ---- bytes of pages
 
--- `ab` with `xyz`
+-- the pair `ab`, `xyz`
 bytes-one : bytes_of_page Small ((97 ∷ 98 ∷ [], 120 ∷ 121 ∷ 122 ∷ []) ∷ []) ≡ 2 ∷ 0 ∷ 254 ∷ 3 ∷ 251 ∷ 3 ∷ (replicate 1013 0 ++ 120 ∷ 121 ∷ 122 ∷ 97 ∷ 98 ∷ [])
 unfolding bytes_of_page bytes_with
 bytes-one = refl
 
--- the same on a large page
+-- the same pair on a large page
 bytes-wide : bytes_of_page Wide ((97 ∷ 98 ∷ [], 120 ∷ 121 ∷ 122 ∷ []) ∷ []) ≡ 2 ∷ 0 ∷ 254 ∷ 31 ∷ 251 ∷ 31 ∷ (replicate 8181 0 ++ 120 ∷ 121 ∷ 122 ∷ 97 ∷ 98 ∷ [])
 unfolding bytes_of_page bytes_with
 bytes-wide = refl
 
--- `a` with 1,007 zeros: the index and the pair leave ten bytes between them
+-- the pair `a`, 1,007 zeros: ten bytes are free between index and pair
 bytes-full : bytes_of_page Small ((97 ∷ [], replicate 1007 0) ∷ []) ≡ 2 ∷ 0 ∷ 255 ∷ 3 ∷ 16 ∷ 0 ∷ (replicate 1017 0 ++ 97 ∷ [])
 unfolding bytes_of_page bytes_with
 bytes-full = refl
 
--- `b` with `2`, then `a` with `3`
+-- the pairs `b`, `2` and `a`, `3`
 bytes-two : bytes_of_page Small ((98 ∷ [], 50 ∷ []) ∷ (97 ∷ [], 51 ∷ []) ∷ []) ≡ 4 ∷ 0 ∷ 255 ∷ 3 ∷ 254 ∷ 3 ∷ 253 ∷ 3 ∷ 252 ∷ 3 ∷ (replicate 1010 0 ++ 51 ∷ 97 ∷ 50 ∷ 98 ∷ [])
 unfolding bytes_of_page bytes_with
 bytes-two = refl
 
 -- ---- bytes of directories
 
--- one byte below 2^k has no bit from k on
+-- a byte below 2^k has no bit from k on
 unset-above : (b k n : ℕ) → b < 2 ^ k → k ≤ n → bit_of (b ∷ []) n ≡ false
 unset-above b k n l h = elim (cases_lt n 8) as (λ _. bit_of (b ∷ []) n ≡ false) [
   | inl i ↦ let byte : n / 8 ≡ 0 = omega arith in let place : n % 8 ≡ n = omega arith in rw (byte, place, bit_at_above b k n l h) refl
@@ -128,7 +127,7 @@ spells-five = record { bits = bits; directory = record { closed = closed; short 
     short (true ∷ c ∷ w) t = absurd (true≢false (sym t ∙ in-split-twice (true ∷ c ∷ w)))
     short (false ∷ c ∷ w) t = absurd (true≢false (sym t ∙ in-split-twice (false ∷ c ∷ w)))
 
--- no bytes spell the empty directory, and are its own
+-- the empty directory is spelled by no bytes, which are its canonical bytes
 own-none : AreDirectoryBytes set.empty []
 own-none = record {
   spells = record {
@@ -143,7 +142,7 @@ own-none = record {
   last = λ l. absurd (omega arith);
 }
 
--- the directory of the empty word is written as a block that begins with `01`
+-- the directory of the empty word is written as one block whose first byte is `01`
 abbrev split-once : Splits
 split-once = set.insert set.empty []
 
@@ -159,7 +158,7 @@ zeros-everywhere n k = elim (cases_lt k n) as (λ _. get_or (zeros n) k 0 ≡ 0)
   | inr l ↦ let long : length (zeros n) ≡ n = length-replicate n 0 in get_or_past (zeros n) k 0 (omega arith)
 ]
 
--- past the first byte all are zeros
+-- all bytes after the first are zero
 block-past : (rest : List ℕ) → ((k : ℕ) → get_or rest k 0 ≡ 0) → (n : ℕ) → 1 ≤ n → bit_of (1 ∷ rest) n ≡ false
 block-past rest all n l = elim (cases_lt n 8) as (λ _. bit_of (1 ∷ rest) n ≡ false) [
   | inl i ↦ let byte : n / 8 ≡ 0 = omega arith in let place : n % 8 ≡ n = omega arith in rw (byte, place, bit_at_above 1 1 n (lit< tt) l) refl
@@ -190,7 +189,7 @@ own-root = record {
     fit zero = lit< tt
     fit (suc k) = omega (arith, zeros-everywhere 4095 k)
 
--- `02` sets the bit of the word 0 and not that of the empty word
+-- `02` sets the bit of the word 0 without that of the empty word
 orphan-two : HasOrphanBit (2 ∷ [])
 orphan-two = (1, record { is_set = refl; below = lit< tt; parent = refl })
 

@@ -1,4 +1,4 @@
--- A byte more in a hash: the sum so far counts 65599 times.
+-- The hash of a key with one more byte: the previous sum is multiplied by 65599.
 use Rattle.std.proofs.Common.{◌≡◌, ℕ, suc, ◌+◌, ◌*◌, ◌^◌, List, [], ◌∷◌, ◌++◌, length, sym, ap, ◌∙◌, arith, length-append}
 use Rattle.std.proofs.Math.Nat.{pow-suc, add-mul, mul_assoc}
 use Rattle.std.proofs.lemmas.Nat.{pow-add}
@@ -20,7 +20,7 @@ weighted_sum-push kind (x ∷ xs) b =
     ∙ ap (λ s. byte_weight kind x * (65599 ^ length xs * 65599) + s) (weighted_sum-push kind xs b)
     ∙ moved (byte_weight kind x) (65599 ^ length xs) (weighted_sum kind xs) (byte_weight kind b)
 
--- a part in front of another: its sum counts 65599 times for each byte of the other
+-- the sum of a concatenation: the first part's sum is multiplied by 65599 for each byte of the second part
 regroup : (w a p s t : ℕ) → w * (a * p) + (s * p + t) ≡ (w * a + s) * p + t
 regroup w a p s t =
     let both : (w * a + s) * p ≡ w * (a * p) + s * p = add-mul (w * a) s p ∙ ap (λ y. y + s * p) (mul_assoc w a p) in

@@ -64,7 +64,7 @@ look_up_filtered p (e ∷ es) q = at (p e.0) (p q) (same_key q e.0) refl (λ s. 
 
 -- ---- entries
 
--- a map is made of its entries
+-- a map equals the map built from its entries
 pub from_entries-entries : (m : Map) → m ≡ map.from_entries (map.entries m)
 from_entries-entries m = map.same_map nat_list_cmp_total exact_bytes _ _ (λ q. map.get-entries m q ∙ sym (map.get-from_entries nat_list_cmp_total (map.entries m) q))
 
@@ -72,7 +72,7 @@ pub and_true : (a b : Bool) → T (a && b) → (a ≡ true) × T b
 and_true true b h = (refl, h)
 and_true false b h = absurd h
 
--- a key below all others is none of them
+-- a key below all keys of the list is not in the list
 pub absent_below : {K X : Type 0} (R : K → K → Ordering) (x : K) (es : List (K × X)) → T (below_all R x es) → map.find R x es ≡ None
 absent_below R x [] h = refl
 absent_below R x (e ∷ es) h = at (R x e.0) refl (and_true (is_lt (R x e.0)) (below_all R x es) h) (absent_below R x es)
@@ -93,7 +93,7 @@ HasDistinctKeys-entries m = distinct_sorted (map.entries m) (map.entries_sorted 
 
 -- ---- neighbors
 
--- the neighbors in the map of some pairs are those among the pairs
+-- the neighbors in the map built from pairs are the neighbors among the pairs
 pub map_neighbors-from_entries : (kind : KeyBytes) (pairs : List Pair) (key : List ℕ) (n : ℕ) → HasDistinctKeys pairs
     → map_neighbors kind (map.from_entries pairs) key n ≡ neighbors kind pairs key n
 map_neighbors-from_entries kind pairs key n d =
@@ -116,7 +116,7 @@ map_neighbors-entries kind m key n =
 agree_fewer : (low high a b : ℕ) → low ≤ high → agree high a b ≡ true → agree low a b ≡ true
 agree_fewer low high a b h t = eq-eqb _ _ (fewer_bits low high a b h (eqb-true _ _ t))
 
--- more bits, fewer neighbors
+-- a longer common prefix has fewer neighbors
 neighbors_fewer : (kind : KeyBytes) (es : List Pair) (key : List ℕ) (low high : ℕ) → low ≤ high → neighbors kind es key high ≤ neighbors kind es key low
 neighbors_fewer kind [] key low high h = omega arith
 neighbors_fewer kind (e ∷ es) key low high h =

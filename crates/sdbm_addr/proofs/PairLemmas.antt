@@ -1,4 +1,4 @@
--- Laws of pairs: look-ups, and what keeps pairs laid on a page and keys distinct.
+-- Laws of pairs: look-ups, and the operations that preserve `IsLaid` and distinct keys.
 use Rattle.std.proofs.Common.{◌≡◌, ℕ, zero, suc, ◌+◌, ◌*◌, ◌<◌, ◌≤◌, List, [], ◌∷◌, ◌++◌, length, drop, get_or, remove, true, false, cond, Some, None, refl, sym, ap, ◌∙◌, arith}
 use Rattle.std.proofs.lemmas.Bool.{cond-true, cond-false}
 use Rattle.std.proofs.lemmas.List.{drop_more, get_or_read_under}
@@ -13,7 +13,7 @@ use Rattle.std.specs.Str.{bytes_eq}
 use Rattle.sdbm_addr.specs.Pairs.{Pair, key_cmp, same_key, value_of, key_at, value_at, HasDistinctKeys, footprint, AreSmall, IsLaid, IsPlace, page_bytes, pair_limit}
 use Rattle.sdbm_addr.specs.declared.PageSize.{PageSize}
 
--- what `==` on slices answers
+-- `same_key` is `==` on slices
 pub same_key-bytes_eq : (j k : List ℕ) → same_key j k ≡ bytes_eq j k
 same_key-bytes_eq j k = is_eq-slice_cmp j k
 
@@ -26,7 +26,7 @@ equal_keys j k h = (bytes_eq-Decides j k).0 (sym (same_key-bytes_eq j k) ∙ h)
 pub same_key-refl : (k : List ℕ) → same_key k k ≡ true
 same_key-refl k = (eq_by_cmp_equiv nat_list_cmp_total).refl k
 
--- a look-up from place i on
+-- a look-up from place i on, in one step
 pub value_of-drop_more : (pairs : List Pair) (key : List ℕ) (i : ℕ) → i < length pairs
     → value_of (drop i pairs) key ≡ cond (same_key key (key_at pairs i)) (Some (value_at pairs i)) (value_of (drop (i + 1) pairs) key)
 value_of-drop_more pairs key i h = ap (λ es. value_of es key) (drop_more pairs i ([], []) h)
@@ -34,7 +34,7 @@ value_of-drop_more pairs key i h = ap (λ es. value_of es key) (drop_more pairs 
 some_not_none : {A : Type 0} (x : A) → Some x ≡ None → ⊥
 some_not_none x e = cc
 
--- the first pair has another key, and the rest have not the key
+-- if a key is absent, the first pair has another key and the rest do not have the key
 pub absent_parts : (e : Pair) (es : List Pair) (key : List ℕ) → value_of (e ∷ es) key ≡ None → (same_key key e.0 ≡ false) × (value_of es key ≡ None)
 absent_parts e es key h =
     elim (same_key key e.0) as (λ b. cond b (Some e.1) (value_of es key) ≡ None → (b ≡ false) × (value_of es key ≡ None)) [
@@ -64,7 +64,7 @@ IsLaid-push size pairs key value p s f = record {
   small = small-push size pairs key value p.small s;
 }
 
--- a key that is absent stays so where a pair is taken out
+-- an absent key is still absent after a pair is removed
 absent-remove : (pairs : List Pair) (i : ℕ) (key : List ℕ) → value_of pairs key ≡ None → value_of (remove pairs i) key ≡ None
 absent-remove [] zero key h = h
 absent-remove [] (suc i) key h = h
@@ -91,11 +91,11 @@ IsLaid-remove size pairs i h p =
     let fits : sum_by footprint pairs + 2 ≤ page_bytes size = p.fits in
     record { fits = omega arith; small = small-remove size pairs i p.small }
 
--- the pair at place i, as code reads it
+-- the key of the pair at place i, as the code reads it
 key_read : (pairs : List Pair) (i : ℕ) (pair : Pair) (k : List ℕ) → i < length pairs → pair ≡ get_or pairs i pair → k ≡ pair.0 → key_at pairs i ≡ k
 key_read pairs i pair k h is e = ap (λ (p : Pair). p.0) (sym (get_or_read_under pairs i (length pairs) pair ([], []) is h refl)) ∙ sym e
 
--- where the key isn't in front of place i and a comparison finds it there
+-- if the key is not before place i and the comparison finds it at i, then i is its place
 pub found_at : (pairs : List Pair) (key : List ℕ) (i : ℕ) (pair : Pair) (k : List ℕ) → i < length pairs → pair ≡ get_or pairs i pair → k ≡ pair.0
     → bytes_eq k key ≡ true → value_of (drop i pairs) key ≡ value_of pairs key → IsPlace pairs key i
 found_at pairs key i pair k h is e same before =
@@ -106,7 +106,7 @@ found_at pairs key i pair k h is e same before =
       has_value = sym before ∙ value_of-drop_more pairs key i h ∙ cond-true _ _ _ (ap (same_key key) has ∙ same_key-refl key);
     }
 
--- and where it finds another key
+-- if the pair at i has another key, the look-up continues after it
 pub passed_at : (pairs : List Pair) (key : List ℕ) (i : ℕ) (pair : Pair) (k : List ℕ) → i < length pairs → pair ≡ get_or pairs i pair → k ≡ pair.0
     → bytes_eq k key ≡ false → value_of (drop i pairs) key ≡ value_of pairs key → value_of (drop (i + 1) pairs) key ≡ value_of pairs key
 passed_at pairs key i pair k h is e other before =
@@ -114,7 +114,7 @@ passed_at pairs key i pair k h is e other before =
     ap (same_key key) (key_read pairs i pair k h is e) ∙ same_key-sym key k ∙ same_key-bytes_eq k key ∙ other in
     sym (value_of-drop_more pairs key i h ∙ cond-false _ _ _ differs) ∙ before
 
--- each pair takes four bytes at least
+-- each pair takes at least four bytes
 pub few_pairs : (pairs : List Pair) → 4 * length pairs ≤ sum_by footprint pairs
 few_pairs [] = omega arith
 few_pairs (e ∷ es) = let rest : 4 * length es ≤ sum_by footprint es = few_pairs es in rw (sum_by-cons footprint e es) (omega arith)

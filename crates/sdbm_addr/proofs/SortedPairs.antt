@@ -1,4 +1,4 @@
--- Pairs with distinct keys, sorted, are the entries of their map.
+-- Pairs with distinct keys, once sorted, are the entries of their map.
 use Rattle.std.proofs.Common.{◌≡◌, ℕ, zero, suc, ◌+◌, ◌<◌, List, [], ◌∷◌, length, get_or, remove, Bool, true, false, cond, not, ◌&&◌, Some, None, refl, sym, ap, ◌∙◌, arith, T, add-one}
 use Rattle.std.specs.declared.cmp.Ordering.TheVariants.{Less, Equal, Greater}
 use Rattle.std.proofs.lemmas.Bool.{true≢false, false≢true}
@@ -22,7 +22,7 @@ use Rattle.sdbm_addr.proofs.PairLemmas.{absent_parts, equal_keys, same_key-refl,
 swap_two : (a b : Pair) (es : List Pair) → IsPermutation (a ∷ b ∷ es) (b ∷ a ∷ es)
 swap_two a b es = IsPermutation-middle (a ∷ []) b es
 
--- to put a new key's pair only adds it
+-- putting a pair with a new key only adds it
 put-IsPermutation : (k v : List ℕ) (es : List Pair) → value_of es k ≡ None → IsPermutation ((k, v) ∷ es) (put key_cmp k v es)
 put-IsPermutation k v [] h = IsPermutation-refl _
 put-IsPermutation k v (e ∷ es) h =
@@ -51,7 +51,7 @@ entries-IsPermutation (e ∷ es) d =
     rw (map.entries-insert nat_list_cmp_total m e.0 e.1)
     (IsPermutation-trans _ _ _ (IsPermutation-cons e _ _ (entries-IsPermutation es d.1)) (put-IsPermutation e.0 e.1 (map.entries m) (value_of-entries es e.0 ∙ d.0)))
 
--- the same as std's word
+-- `HasDistinctKeys` agrees with the standard library's predicate
 apart_from_absent : (es : List Pair) (k : List ℕ) → value_of es k ≡ None → AllByRecursion (λ y. same_key k y ≡ false) (map_list (λ e. e.0) es)
 apart_from_absent [] k h = tt
 apart_from_absent (e ∷ es) k h = let parts = absent_parts e es k h in (parts.0, apart_from_absent es k parts.1)
@@ -132,21 +132,21 @@ is_sorted-from (e ∷ es) h d =
     let low : T (below_all key_cmp e.0 es) = below_all-from e.0 es (λ j lt. strictly e.0 (get_or es j ([], [])).0 (far 0 (suc j) ([], []) (omega arith) (omega arith)) (apart_at es e.0 j d.0 lt)) in
     and_both _ _ low (is_sorted-from es (sorted-tail (λ (x y : Pair). is_lt (key_cmp x.0 y.0)) e es h) d.1)
 
--- what a sort by the keys makes of pairs with distinct keys
+-- the result of sorting pairs with distinct keys by their keys
 pub sorted_entries : (pairs sorted : List Pair) → HasDistinctKeys pairs → IsPermutation pairs sorted → IsSortedBy (λ x y. is_lt (key_cmp x.0 y.0)) sorted
     → sorted ≡ map.entries (map.from_entries {R = key_cmp} pairs)
 sorted_entries pairs sorted d p up =
     same_entries key_cmp nat_list_cmp_total exact_bytes sorted _ (is_sorted-from sorted up (HasDistinctKeys-IsPermutation pairs sorted p d)) (map.entries_sorted _)
     (λ q. sym (value_of-IsPermutation pairs sorted q p d) ∙ sym (value_of-entries pairs q))
 
--- without a key that isn't there
+-- removing a key that is absent changes nothing
 pub without-absent : (es : List Pair) (key : List ℕ) → value_of es key ≡ None → without key es ≡ es
 without-absent [] key h = refl
 without-absent (e ∷ es) key h =
     let parts = absent_parts e es key h in
     ap (λ b. cond (not b) (e ∷ without key es) (without key es)) parts.0 ∙ ap (λ xs. e ∷ xs) (without-absent es key parts.1)
 
--- to take out the pair of a key is to leave the others
+-- removing the pair of a key leaves the pairs with other keys
 pub remove-without : (es : List Pair) (key : List ℕ) (i : ℕ) → i < length es → key_at es i ≡ key → HasDistinctKeys es → remove es i ≡ without key es
 remove-without [] key i h k d = absurd (omega arith)
 remove-without (e ∷ es) key zero h k d =

@@ -1,4 +1,4 @@
--- Laws of splits: the directory stays one, and where hashes lead after them.
+-- Laws of splits: the directory stays valid, and the page of each hash after them.
 use Rattle.std.proofs.Common.{◌≡◌, ℕ, zero, suc, ◌+◌, ◌%◌, ◌^◌, ◌≤◌, [], ◌∷◌, length, Bool, true, false, cond, refl, sym, ap, ◌∙◌, subst, arith, inl, inr}
 use borrow.Author.Count.{below_more}
 use Rattle.std.proofs.lemmas.Bool.{false_from_ne_true, or_cases, or_left, or_right, eqb-true, eqb-false}
@@ -16,7 +16,7 @@ contains-new d w = contains-insert d w w ∙ or_left _ _ ((eq_by_cmp_equiv words
 contains-old : (d : Splits) (w v : Word) → set.contains d v ≡ true → set.contains (set.insert d w) v ≡ true
 contains-old d w v h = contains-insert d w v ∙ or_right _ _ h
 
--- a word that isn't the new one
+-- a word other than the new one stays absent
 absent_still : (d : Splits) (w v : Word) → (v ≡ w → ⊥) → set.contains d v ≡ false → set.contains (set.insert d w) v ≡ false
 absent_still d w v n h = contains-insert d w v ∙ rw (false_from_ne_true (eq_by_cmp word_cmp v w) (λ t. n (eq_word v w t)), h) refl
 
@@ -25,7 +25,7 @@ lengths_differ g h a b n e =
     let l : length (hash_prefix g a) ≡ length (hash_prefix h b) = ap length e in
     n (sym (length-hash_prefix g a) ∙ l ∙ length-hash_prefix h b)
 
--- the shortest unsplit prefix may be split
+-- splitting the shortest unsplit prefix keeps the directory valid
 pub IsDirectory-insert : (d : Splits) (hash h : ℕ) → IsDirectory d → IsDepth d hash h → h ≤ 30 → IsDirectory (set.insert d (hash_prefix h hash))
 IsDirectory-insert d hash h dir p l = record {
   closed = λ b w t. elim (or_cases (eq_by_cmp word_cmp (b ∷ w) (hash_prefix h hash)) (set.contains d (b ∷ w)) (sym (contains-insert d (hash_prefix h hash) (b ∷ w)) ∙ t)) as (λ _. set.contains (set.insert d (hash_prefix h hash)) w ≡ true) [
@@ -46,7 +46,7 @@ IsDirectory-insert d hash h dir p l = record {
     parent zero b w e p = absurd (cc)
     parent (suc h) b w e p = let f : w ≡ hash_prefix h hash = ap tail e in rw f (p.above h (omega arith))
 
--- what agreed in h bits leads one bit further
+-- a hash with the same h lowest bits then has depth h + 1
 pub IsDepth-insert : (d : Splits) (hash h e : ℕ) → IsDirectory d → IsDepth d hash h → IsDepth d e h → hash % 2 ^ h ≡ e % 2 ^ h
     → IsDepth (set.insert d (hash_prefix h hash)) e (h + 1)
 IsDepth-insert d hash h e dir p q agrees = record {
@@ -55,7 +55,7 @@ IsDepth-insert d hash h e dir p q agrees = record {
       (subst (λ (w : Word). set.contains (set.insert d w) (hash_prefix h e) ≡ true) (sym (same_prefix h hash e agrees)) (contains-new d _));
 }
 
--- a hash that differs from the path in its first m bits stays where it was
+-- a hash that differs from the path within its first m bits keeps its place
 parted : (d : Splits) (hash h t m g e : ℕ) → m ≤ h → (hash % 2 ^ m ≡ e % 2 ^ m → ⊥) → IsDepth d e g → IsDepth (split_along d hash h t) e g
 parted d hash h zero m g e l n p = p
 parted d hash h (suc t) m g e l n p = parted (set.insert d (hash_prefix h hash)) hash (h + 1) t m g e (omega arith) n record {
@@ -73,7 +73,7 @@ IsDirectory-split_along d hash h zero dir p l = dir
 IsDirectory-split_along d hash h (suc t) dir p l =
     IsDirectory-split_along (set.insert d (hash_prefix h hash)) hash (h + 1) t (IsDirectory-insert d hash h dir p (omega arith)) (IsDepth-insert d hash h hash dir p p refl) (omega arith)
 
--- where a hash leads after t splits
+-- the page of a hash after t splits
 pub page_of-split_along : (d : Splits) (hash h t e : ℕ) → IsDirectory d → IsDepth d hash h → IsDepth d e h → h + t ≤ 31 → page_of (split_along d hash h t) e ≡ page_along hash h t e
 page_of-split_along d hash h zero e dir p q l = page_of_depth d dir e h q
 page_of-split_along d hash h (suc t) e dir p q l =
@@ -85,7 +85,7 @@ page_of-split_along d hash h (suc t) e dir p q l =
           page_of_depth _ (IsDirectory-split_along d hash h (suc t) dir p l) e h (parted d hash h (suc t) h h e (omega arith) (eqb-false _ _ differs) q)
     ] refl
 
--- and other hashes lead where they led
+-- hashes with another prefix lead to the same page as before
 pub page_of-elsewhere : (d : Splits) (hash h t e : ℕ) → IsDirectory d → IsDepth d hash h → h + t ≤ 31
     → (hash % 2 ^ h ≡ e % 2 ^ h → ⊥) → page_of (split_along d hash h t) e ≡ page_of d e
 page_of-elsewhere d hash h t e dir p l n =

@@ -1,4 +1,4 @@
--- The sum of a hash so far, under the power that the bytes left give it, with what they add.
+-- Loop steps of the hash: the sum so far times 65599 to the number of bytes left, plus the sum of the bytes left.
 use Rattle.std.proofs.Common.{◌≡◌, ℕ, ◌+◌, ◌-◌, ◌*◌, ◌%◌, ◌^◌, ◌<◌, ◌≤◌, List, ◌++◌, length, get_or, take, drop, slice_range, sym, ap, ◌∙◌, arith, length-append}
 use Rattle.std.proofs.Math.Nat.{add-mod, mod-add-mod, add-mul, mul_assoc, pow-suc, mul_comm}
 use Rattle.std.proofs.lemmas.List.{drop_more, drop_all, length-drop, take-append-drop}
@@ -8,7 +8,7 @@ use Rattle.sdbm_addr.specs.Hash.{byte_weight, weighted_sum, hash_of}
 use Rattle.sdbm_addr.specs.declared.KeyBytes.{KeyBytes}
 use Rattle.sdbm_addr.proofs.HashLemmas.{weighted_sum-append}
 
--- a factor and a term may be reduced first
+-- reducing a factor or a term first does not change the result
 reduced : (x p s m : ℕ) → (x % m * p + s) % m ≡ (x * p + s) % m
 reduced x p s m = sym (mod-add-mod (x % m * p) m s) ∙ ap (λ y. (y + s) % m) (mul-mod_first x p m) ∙ mod-add-mod (x * p) m s
 
@@ -17,11 +17,11 @@ spread h b w p s m =
     reduced (h * b + w) p s m
     ∙ ap (λ y. (y + s) % m) (add-mul (h * b) w p ∙ ap (λ y. y + w * p) (mul_assoc h b p)) ∙ ap (λ y. y % m) (omega arith)
 
--- one byte more
+-- one more byte
 step : (h b w p s m : ℕ) → ((h * b % m + w) % m * p + s) % m ≡ (h * (b * p) + (w * p + s)) % m
 step h b w p s m = ap (λ y. (y * p + s) % m) (mod-add-mod (h * b) m w) ∙ spread h b w p s m
 
--- four bytes more
+-- four more bytes
 leap : (h b w p s m : ℕ) → ((h * (b % m) % m + w % m) % m * p + s) % m ≡ (h * (b * p) + (w * p + s)) % m
 leap h b w p s m =
     ap (λ y. ((y + w % m) % m * p + s) % m) (mul-mod_second h b m) ∙ ap (λ y. (y * p + s) % m) (sym (add-mod (h * b) w m)) ∙ spread h b w p s m
@@ -43,7 +43,7 @@ kept_four kind key at h w l e =
     ∙ ap (λ y. (h * y + (weighted_sum kind four * 65599 ^ length rest + weighted_sum kind rest)) % 2 ^ 32) (sym (ap (λ n. 65599 ^ n) long ∙ pow-add 65599 4 (length rest)))
     ∙ ap (λ y. (h * 65599 ^ length (drop at key) + y) % 2 ^ 32) (sym (ap (weighted_sum kind) parts ∙ weighted_sum-append kind four rest))
 
--- a byte more, and the end
+-- the loop step for one byte
 pub kept : (kind : KeyBytes) (key : List ℕ) (i h b w : ℕ) → i < length key → b ≡ get_or key i 0 → w ≡ byte_weight kind b
     → ((h * 65599 % 2 ^ 32 + w) % 2 ^ 32 * 65599 ^ length (drop (i + 1) key) + weighted_sum kind (drop (i + 1) key)) % 2 ^ 32
     ≡ (h * 65599 ^ length (drop i key) + weighted_sum kind (drop i key)) % 2 ^ 32
@@ -58,7 +58,7 @@ pub ended : (kind : KeyBytes) (key : List ℕ) (i h : ℕ) → length key ≤ i 
 unfolding hash_of
 ended kind key i h e small inv = let at_end = rw (drop_all i key e) at inv in omega arith
 
--- the hash of the first bytes, and the others
+-- the hash of the first n bytes, and the bytes left
 pub begun : (kind : KeyBytes) (key : List ℕ) (n h : ℕ) → h ≡ hash_of kind (take n key)
     → (h * 65599 ^ length (drop n key) + weighted_sum kind (drop n key)) % 2 ^ 32 ≡ weighted_sum kind key % 2 ^ 32
 unfolding hash_of

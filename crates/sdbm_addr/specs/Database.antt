@@ -1,4 +1,4 @@
--- A database: how keys hash, how large pages are, which prefixes are split, and the pairs of each page; and its map.
+-- A database: how keys hash, the page size, which prefixes are split, and the pairs of each page; and the map that it represents.
 use Rattle.std.specs.Prelude.{◌≡◌, ◌≢◌, ℕ, Bool, true, false, List, [], ◌∷◌, Some, None, unwrap_or, refl}
 use Rattle.std.specs.List.{flat_map}
 use Rattle.std.specs.Ordering.{nat_cmp}
@@ -21,11 +21,11 @@ pub record Database : Type 0 where
   -- the pages that have pairs, by number
   pub pages : FinMap nat_cmp (List Pair)
 
--- the pairs of a page, none where there is no page
+-- the pairs of page n; a page that does not exist has no pairs
 abbrev pub pairs_at : Database → ℕ → List Pair
 pairs_at db n = unwrap_or (map.get db.pages n) []
 
--- the pages are pages that have pairs, all of whose keys lead to them
+-- the listed pages have pairs, and all keys on a page lead to it
 pub record IsDatabase (db : Database) : Type 0 where
   pub directory : IsDirectory db.splits
   pub pages : (n : ℕ) (pairs : List Pair) → map.get db.pages n ≡ Some pairs → (pairs ≢ []) × IsPage db.size pairs
@@ -41,7 +41,7 @@ map_of db = map.from_entries (pairs_of db)
 unfoldable pub empty_database : KeyBytes → PageSize → Database
 empty_database kind size = record { kind = kind; size = size; splits = set.empty; pages = map.empty }
 
--- the pages with these pairs on page n, which leaves them where there is none
+-- the pages after page n gets these pairs; an empty list removes it
 abbrev pub put_page : FinMap nat_cmp (List Pair) → ℕ → List Pair → FinMap nat_cmp (List Pair)
 put_page pages n [] = map.remove pages n
 put_page pages n (e ∷ es) = map.insert pages n (e ∷ es)
@@ -49,7 +49,7 @@ put_page pages n (e ∷ es) = map.insert pages n (e ∷ es)
 abbrev pub with_page : Database → ℕ → List Pair → Database
 with_page db n pairs = record { kind = db.kind; size = db.size; splits = db.splits; pages = put_page db.pages n pairs }
 
--- codes, which let a database be the value of a model
+-- encodings, so that a database can be the value of a model
 
 abbrev pub is_signed : KeyBytes → Bool
 is_signed Signed = true

@@ -1,32 +1,32 @@
--- The bytes of a directory, the `.dir` file (Yigit, sdbm 1990: sdbm.c, `getdbit` and `setdbit`): an array of bits, one for each word,
--- which stands for the trees of Larson 1978, "Dynamic hashing". It is written in blocks of 4,096 bytes (`DBLKSIZ`).
+-- The bytes of a directory, the `.dir` file (Yigit, sdbm 1990: sdbm.c, `getdbit` and `setdbit`): an array with one bit per word,
+-- which encodes the trees of Larson 1978, "Dynamic hashing". It is written in blocks of 4,096 bytes (`DBLKSIZ`).
 use Rattle.std.specs.Prelude.{◌≡◌, ℕ, ◌+◌, ◌/◌, ◌%◌, ◌^◌, ◌-◌, ◌<◌, ◌≤◌, ◌==◌, Bool, true, false, List, length, slice_index_or}
 use Rattle.std.specs.Int.{bit_at}
 use Rattle.std.specs.FinSet as set
 use Rattle.sdbm_addr.specs.Directory.{Word, Splits, IsDirectory, word_number}
 
--- bit n of the bytes, which is bit n % 8 of byte n / 8, the lowest first; past the end it is unset (own)
+-- bit n of the bytes: bit n % 8, lowest first, of byte n / 8. Bits after the end are 0 (own).
 abbrev pub bit_of : List ℕ → ℕ → Bool
 bit_of bytes n = bit_at (slice_index_or bytes (n / 8) 0) (n % 8) == 1
 
--- The bytes spell a directory, however many zeros they end with: the bits that are set are those of its words.
+-- The bytes spell a directory: the bits that are 1 are those of its words. Trailing zeros do not matter.
 pub record SpellsDirectory (bytes : List ℕ) (d : Splits) : Type 0 where
   pub bits : (w : Word) → bit_of bytes (word_number w) ≡ set.contains d w
   pub directory : IsDirectory d
 
--- A directory's own bytes, which are written (own): they spell it, in whole blocks, and the last block has the bit of a word.
+-- The canonical bytes of a directory, which are the bytes written (own): whole blocks; the last block has the bit of a word.
 pub record AreDirectoryBytes (d : Splits) (bytes : List ℕ) : Type 0 where
   pub spells : SpellsDirectory bytes d
   pub fit : (k : ℕ) → slice_index_or bytes k 0 < 256
   pub blocks : length bytes % 4096 ≡ 0
   pub last : 0 < length bytes → (w : Word) × ((set.contains d w ≡ true) × (length bytes ≤ word_number w / 8 + 4096))
 
--- a set bit of a word of more than 30 letters
+-- a bit that is 1 and belongs to a word of more than 30 letters
 pub record IsDeepBit (bytes : List ℕ) (bit : ℕ) : Type 0 where
   pub is_set : bit_of bytes bit ≡ true
   pub deep : 2 ^ 31 - 1 ≤ bit
 
--- a set bit of a word whose parent's bit is unset
+-- a bit that is 1 although the bit of its word's parent is 0
 pub record IsOrphanBit (bytes : List ℕ) (bit : ℕ) : Type 0 where
   pub is_set : bit_of bytes bit ≡ true
   pub below : 0 < bit

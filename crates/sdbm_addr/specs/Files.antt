@@ -1,4 +1,4 @@
--- The two files of a database (Yigit, sdbm 1990: the `.dir` and the `.pag` file): what they spell, and what is written.
+-- The two files of a database (Yigit, sdbm 1990: the `.dir` and the `.pag` file): which bytes are valid, and which are written.
 use Rattle.std.specs.Prelude.{◌≡◌, ◌≢◌, ℕ, zero, suc, ◌+◌, ◌*◌, ◌-◌, ◌<◌, ◌≤◌, List, [], ◌++◌, length, slice_range}
 use Rattle.sdbm_addr.specs.declared.PageSize.{PageSize}
 use Rattle.sdbm_addr.specs.Pairs.{page_bytes}
@@ -6,12 +6,12 @@ use Rattle.sdbm_addr.specs.Layout.{Spells, bytes_of_page}
 use Rattle.sdbm_addr.specs.DirectoryFile.{SpellsDirectory, AreDirectoryBytes}
 use Rattle.sdbm_addr.specs.Database.{Database, IsDatabase, pairs_at}
 
--- page n of the bytes of a `.pag` file: pages stand in the order of their numbers
+-- page n of the bytes of a `.pag` file; pages are in the order of their numbers
 abbrev pub page_at : PageSize → List ℕ → ℕ → List ℕ
 page_at size bytes n = slice_range bytes (n * page_bytes size) ((n + 1) * page_bytes size)
 
--- The bytes spell the pages of a database, so many whole ones: each its own, and past the end there are no pairs. A page without
--- pairs may stand anywhere, at the end too.
+-- The bytes spell `count` whole pages of a database, and the pages after them have no pairs. Pages without pairs are allowed anywhere,
+-- also at the end.
 pub record SpellsPages (db : Database) (bytes : List ℕ) (count : ℕ) : Type 0 where
   pub long : length bytes ≡ count * page_bytes db.size
   pub pages : (n : ℕ) → n < count → Spells db.size (page_at db.size bytes n) (pairs_at db n)
@@ -24,7 +24,7 @@ pub record SpellsDatabase (db : Database) (dir pag : List ℕ) : Type 0 where
   pub count : ℕ
   pub pages : SpellsPages db pag count
 
--- n pages are written: none further on has pairs, and the last one has (own)
+-- the written pages are the first n: no later page has pairs, and page n - 1 has pairs (own)
 pub record IsPageCount (db : Database) (n : ℕ) : Type 0 where
   pub past : (k : ℕ) → n ≤ k → pairs_at db k ≡ []
   pub last : 0 < n → pairs_at db (n - 1) ≢ []
@@ -34,13 +34,13 @@ abbrev pub first_pages : Database → ℕ → List ℕ
 first_pages db zero = []
 first_pages db (suc n) = first_pages db n ++ bytes_of_page db.size (pairs_at db n)
 
--- the bytes of the `.pag` file that is written
+-- the bytes that are written to the `.pag` file
 pub record ArePagBytes (db : Database) (bytes : List ℕ) : Type 0 where
   pub count : ℕ
   pub counted : IsPageCount db count
   pub is : bytes ≡ first_pages db count
 
--- the bytes of both files that are written
+-- the bytes that are written to both files
 pub record AreFiles (db : Database) (dir pag : List ℕ) : Type 0 where
   pub directory : AreDirectoryBytes db.splits dir
   pub pages : ArePagBytes db pag

@@ -1,9 +1,9 @@
--- The hash of a key (Yigit, sdbm 1990: hash.c, `sdbm_hash`): a sum of its bytes, each under a power of 65599.
+-- The hash of a key (Yigit, sdbm 1990: hash.c, `sdbm_hash`): the sum of its bytes, each multiplied by a power of 65599.
 use Rattle.std.specs.Prelude.{ℕ, ◌+◌, ◌*◌, ◌%◌, ◌^◌, ◌-◌, Bool, List, [], ◌∷◌, length, nat_lt, if◌then◌else◌, ◌==◌}
 use Rattle.sdbm_addr.specs.declared.KeyBytes.{KeyBytes}
 use Rattle.sdbm_addr.specs.declared.KeyBytes.TheVariants.{Signed, Unsigned}
 
--- What a byte counts as, modulo 2^32. The original adds a plain `char`: signed, a byte from 128 on is itself less 256.
+-- The weight of a byte, modulo 2^32. The original adds a plain `char`: if `char` is signed, a byte from 128 on counts as itself - 256.
 abbrev pub byte_weight : KeyBytes → ℕ → ℕ
 byte_weight Signed b = if nat_lt b 128 then b else b + (2 ^ 32 - 256)
 byte_weight Unsigned b = b
@@ -16,6 +16,6 @@ weighted_sum kind (b ∷ bs) = byte_weight kind b * 65599 ^ length bs + weighted
 unfoldable pub hash_of : KeyBytes → List ℕ → ℕ
 hash_of kind key = weighted_sum kind key % 2 ^ 32
 
--- two hashes agree in their n lowest bits
+-- two hashes have the same n lowest bits
 abbrev pub agree : ℕ → ℕ → ℕ → Bool
 agree n a b = (a % 2 ^ n) == (b % 2 ^ n)

@@ -4,36 +4,36 @@ use Rattle.std.specs.Prelude.{◌≡◌, ℕ, ◌+◌, ◌*◌, ◌-◌, ◌/◌
 use Rattle.sdbm_addr.specs.declared.PageSize.{PageSize}
 use Rattle.sdbm_addr.specs.Pairs.{Pair, IsPage, page_bytes}
 
--- a number in two bytes, the lower one first
+-- a number in two bytes, low byte first
 abbrev pub two_bytes : ℕ → List ℕ
 two_bytes n = n % 256 ∷ n / 256 ∷ []
 
--- the offsets of pairs that end at top: of each key, then of its datum
+-- the offsets of pairs that end at `top`: for each pair, the offset of its key, then of its datum
 abbrev pub offsets_from : ℕ → List Pair → List ℕ
 offsets_from top [] = []
 offsets_from top (e ∷ es) =
     two_bytes (top - length e.0) ++ (two_bytes (top - length e.0 - length e.1) ++ offsets_from (top - length e.0 - length e.1) es)
 
--- keys and data from the end down
+-- keys and data, from the end of the page downwards
 abbrev pub body_of : List Pair → List ℕ
 body_of [] = []
 body_of (e ∷ es) = body_of es ++ (e.1 ++ e.0)
 
--- a page's bytes with these free ones
+-- the bytes of a page with these free bytes
 unfoldable pub bytes_with : PageSize → List ℕ → List Pair → List ℕ
 bytes_with size free pairs = two_bytes (2 * length pairs) ++ (offsets_from (page_bytes size) pairs ++ (free ++ body_of pairs))
 
--- the bytes spell the pairs of a page, whatever the free bytes are
+-- the bytes spell the pairs of a page; the free bytes may have any values
 pub record Spells (size : PageSize) (bytes : List ℕ) (pairs : List Pair) : Type 0 where
   pub free : List ℕ
   pub is : bytes ≡ bytes_with size free pairs
   pub long : length bytes ≡ page_bytes size
   pub page : IsPage size pairs
 
--- how many bytes are free
+-- the number of free bytes
 abbrev pub free_bytes : PageSize → List Pair → ℕ
 free_bytes size pairs = page_bytes size - (2 + 4 * length pairs + length (body_of pairs))
 
--- a page's own bytes, which are written: the free ones are zeros
+-- the canonical bytes of a page, which are the bytes written: all free bytes are zero
 unfoldable pub bytes_of_page : PageSize → List Pair → List ℕ
 bytes_of_page size pairs = bytes_with size (replicate (free_bytes size pairs) 0) pairs

@@ -1,5 +1,5 @@
--- What a store's splits make of a directory and of a page (Yigit, sdbm 1990: sdbm.c, `makroom`, and pair.c, `splpage`;
--- that a store that finds no room leaves all as it was is our own).
+-- How the splits of a store change a directory and a page (Yigit, sdbm 1990: sdbm.c, `makroom`, and pair.c, `splpage`;
+-- leaving everything unchanged when there is no room is our own rule).
 use Rattle.std.specs.Prelude.{ℕ, ◌+◌, ◌%◌, ◌^◌, ◌<◌, ◌≤◌, Bool, List, zero, suc, ◌==◌, not, ◌&&◌, cond, map}
 use Rattle.std.specs.List.{sum_by, filter, range_with_len}
 use Rattle.std.specs.FinMap as map
@@ -10,49 +10,49 @@ use Rattle.sdbm_addr.specs.Hash.{hash_of, agree}
 use Rattle.sdbm_addr.specs.Directory.{Splits, hash_prefix, word_number}
 use Rattle.sdbm_addr.specs.Pairs.{Pair, Map, same_key, footprint, page_bytes}
 
--- the directory with t prefixes of the hash more, of the lengths from h on
+-- the directory after t more prefixes of the hash are split, of lengths h, h + 1, ...
 abbrev pub split_along : Splits → ℕ → ℕ → ℕ → Splits
 split_along d hash h zero = d
 split_along d hash h (suc t) = split_along (set.insert d (hash_prefix h hash)) hash (h + 1) t
 
--- The page to which another hash leads then, if it led to the place at depth h: it parts from the path at the first letter
--- that differs.
+-- The page of a hash after these splits, if its place was the one at depth h before: it leaves the path at the first letter that
+-- differs.
 abbrev pub page_along : ℕ → ℕ → ℕ → ℕ → ℕ
 page_along hash h zero e = e % 2 ^ h
 page_along hash h (suc t) e = cond (agree h hash e) (page_along hash (h + 1) t e) (e % 2 ^ h)
 
--- whether a key is another one whose hash agrees with the key's in the n lowest bits
+-- the other key is a different key whose hash has the same n lowest bits
 abbrev pub is_neighbor : KeyBytes → List ℕ → ℕ → List ℕ → Bool
 is_neighbor kind key n other = not (same_key key other) && agree n (hash_of kind key) (hash_of kind other)
 
--- what the neighbors of a key among the pairs of a page take
+-- the space of the key's neighbors among the pairs of a page
 abbrev pub neighbors : KeyBytes → List Pair → List ℕ → ℕ → ℕ
 neighbors kind pairs key n = sum_by footprint (filter (λ e. is_neighbor kind key n e.0) pairs)
 
--- what its neighbors in the whole map take
+-- the space of the key's neighbors in the whole map
 abbrev pub map_neighbors : KeyBytes → Map → List ℕ → ℕ → ℕ
 map_neighbors kind m key n = sum_by footprint (map.entries (map.retain_keys m (is_neighbor kind key n)))
 
--- a pair goes on a page with its neighbors by n bits, which take so much
+-- a pair fits on a page together with its neighbors by n bits, whose space is `taken n`
 abbrev pub HasRoom : PageSize → (ℕ → ℕ) → List ℕ → List ℕ → ℕ → Type 0
 HasRoom size taken key value n = taken n + footprint (key, value) + 2 ≤ page_bytes size
 
--- the most splits that one store makes
+-- the greatest number of splits in one store
 abbrev pub most_splits : ℕ
 most_splits = 10
 
--- the deepest place: only 31 bits of a hash address
+-- the greatest depth: a hash addresses pages with 31 bits
 abbrev pub deepest : ℕ
 deepest = 31
 
--- t is the least number of splits of a place at depth h after which the pair has room
+-- t is the least number of splits, at a place of depth h, after which the pair fits
 pub record IsLeastSplits (size : PageSize) (taken : ℕ → ℕ) (key value : List ℕ) (h t : ℕ) : Type 0 where
   pub few : t ≤ most_splits
   pub not_deep : h + t ≤ deepest
   pub room : HasRoom size taken key value (h + t)
   pub least : (s : ℕ) → s < t → HasRoom size taken key value (h + s) → ⊥
 
--- there is no such number
+-- no allowed number of splits makes the pair fit
 abbrev pub IsCrowded : PageSize → (ℕ → ℕ) → List ℕ → List ℕ → ℕ → Type 0
 IsCrowded size taken key value h = (t : ℕ) → t ≤ most_splits → h + t ≤ deepest → HasRoom size taken key value (h + t) → ⊥
 
@@ -60,10 +60,10 @@ IsCrowded size taken key value h = (t : ℕ) → t ≤ most_splits → h + t ≤
 abbrev pub on_page : KeyBytes → ℕ → ℕ → ℕ → ℕ → List Pair → List Pair
 on_page kind hash h t number = filter (λ e. page_along hash h t (hash_of kind e.0) == number)
 
--- the number of the twin that the split at depth k makes
+-- the number of the new page created by the split at depth k
 abbrev pub twin_number : ℕ → ℕ → ℕ
 twin_number hash k = hash % 2 ^ k + 2 ^ k
 
--- the directory bits that t splits mark, in their order
+-- the directory bits set by t splits, in order
 abbrev pub bits_of : ℕ → ℕ → ℕ → List ℕ
 bits_of hash h t = map (λ k. word_number (hash_prefix k hash)) (range_with_len h t)

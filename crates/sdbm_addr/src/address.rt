@@ -1,4 +1,4 @@
-//! Hashes of keys, and the numbers of directory bits (Yigit, sdbm 1990: hash.c and sdbm.c). Nothing here takes memory.
+//! Hashes of keys, and the arithmetic of directory bits (Yigit, sdbm 1990: hash.c and sdbm.c). Nothing here allocates.
 ghost use Rattle.std.specs.Prelude.{◌≡◌, ◌<◌, ◌≤◌, ◌^◌, ◌-◌, ◌+◌, ◌*◌, ◌%◌, length, cond};
 ghost use Rattle.sdbm_addr.specs.Hash.{hash_of, byte_weight};
 
@@ -23,7 +23,7 @@ pub fn hash(key: &[u8], kind: KeyBytes) -> u32
     sum
 }
 
-// The hash of some fours of bytes.
+// The hash of bytes whose number is a multiple of four.
 fn fours(kind: KeyBytes, bytes: &[u8]) -> u32
     requires { length bytes.now % 4 ≡ 0 }
     ensures { result ≡ hash_of kind bytes.now }
@@ -36,7 +36,7 @@ fn fours(kind: KeyBytes, bytes: &[u8]) -> u32
     sum
 }
 
-// What four bytes in a row add.
+// The hash of four bytes.
 fn four(kind: KeyBytes, bytes: &[u8]) -> u32
     requires { length bytes.now ≡ 4 }
     ensures { result ≡ hash_of kind bytes.now }
@@ -50,7 +50,7 @@ fn four(kind: KeyBytes, bytes: &[u8]) -> u32
         .wrapping_add(weight(kind, bytes[3]))
 }
 
-/// The number whose lowest bits, as many as the depth, are ones. The depth is 31 at most.
+/// A mask of the `depth` lowest bits. The depth is at most 31.
 pub fn mask(depth: u8) -> u32
     requires { depth ≤ 31 }
     ensures { result ≡ 2 ^ depth - 1 }
@@ -58,8 +58,8 @@ pub fn mask(depth: u8) -> u32
     (1u32 << depth) - 1
 }
 
-/// The directory bit of a prefix with a letter more: `side` is the next bit of the hash. The prefix's own bit is below 2^31 - 1, as
-/// that of every word of at most 30 letters.
+/// The directory bit of a prefix extended by one letter; `side` is the next bit of the hash. The prefix's own bit is below 2^31 - 1,
+/// as for every word of at most 30 letters.
 pub fn child(bit: u32, side: bool) -> u32
     requires { bit < 2 ^ 31 - 1 }
     ensures { result ≡ 2 * bit + cond side 2 1 }
@@ -67,7 +67,7 @@ pub fn child(bit: u32, side: bool) -> u32
     2 * bit + if side { 2 } else { 1 }
 }
 
-// What a byte counts as, modulo 2^32.
+// The weight of a byte in the hash, modulo 2^32.
 fn weight(kind: KeyBytes, byte: u8) -> u32
     ensures { result ≡ byte_weight kind byte }
 {

@@ -1,5 +1,5 @@
-//! The words that the whole store speaks: how keys hash, how large pages are, what a store may replace, byte strings; and
-//! in `specs/` what a page, a directory and a database are.
+//! Vocabulary shared by the whole store: how keys hash, page sizes, insert and replace, and byte strings. `specs/` defines pages,
+//! directories and databases.
 #![tactic(auto)]
 
 ghost use Rattle.std.specs.Prelude.{◌≡◌, IfOk};
@@ -22,26 +22,26 @@ pub enum KeyBytes {
     Unsigned,
 }
 
-/// What a store does where its key is there.
+/// What a store does if its key already exists.
 #[derive(Clone, Copy, Debug, PartialEq, Eq)]
 pub enum Mode {
-    /// It is refused.
+    /// Refuses the new value.
     Insert,
-    /// The old value goes.
+    /// Replaces the old value.
     Replace,
 }
 
-/// How large the pages of a database are. Its files do not say.
+/// The page size of a database. The files do not record it.
 #[derive(Clone, Copy, Debug, PartialEq, Eq)]
 pub enum PageSize {
-    /// 1,024 bytes, as in the original, with pairs of up to 1,008.
+    /// 1,024 bytes, as in the original; a pair has at most 1,008 bytes.
     Small,
-    /// 8,192 bytes, with pairs of up to 8,008.
+    /// 8,192 bytes; a pair has at most 8,008 bytes.
     Wide,
 }
 
 impl PageSize {
-    /// The bytes of a page.
+    /// The number of bytes in a page.
     pub fn bytes(self) -> usize
         ensures { result ≡ page_bytes self }
     {
@@ -51,7 +51,7 @@ impl PageSize {
         }
     }
 
-    /// The most bytes of a pair, its key and its value together.
+    /// The greatest length of a pair in bytes: its key and its value together.
     pub fn pair_limit(self) -> usize
         ensures { result ≡ pair_limit self }
     {
@@ -61,7 +61,7 @@ impl PageSize {
         }
     }
 
-    /// The most offsets that a page's index counts, two for each pair.
+    /// The greatest number of offsets in a page's index, two for each pair.
     pub fn offset_limit(self) -> usize
         ensures { result ≡ offset_limit self }
     {
@@ -72,7 +72,7 @@ impl PageSize {
     }
 }
 
-/// A byte string that owns its memory, seen as the list of its bytes.
+/// A byte string that owns its memory. Its model is the list of its bytes.
 #[derive(Drop)]
 pub struct Bytes<A: Allocator> {
     bytes: Vec<u8, A>,
@@ -87,14 +87,14 @@ impl<A: Allocator> Model for Bytes<A> {
 }
 
 impl<A: Allocator> Bytes<A> {
-    /// The byte string of a vector. It takes no memory.
+    /// Wraps a vector. Does not allocate.
     pub fn new(bytes: Vec<u8, A>) -> Self
         ensures { result ≡ bytes.items }
     {
         Bytes { bytes }
     }
 
-    /// A copy of the bytes of a slice, or the error where no memory is left for it.
+    /// Copies the bytes of a slice, or returns an error if allocation fails.
     pub fn from_slice(alloc: A, bytes: &[u8]) -> Result<Self, AllocError>
         ensures { IfOk result (λ made. made ≡ bytes.now) }
     {
@@ -110,7 +110,7 @@ impl<A: Allocator> Bytes<A> {
         self.bytes.as_slice()
     }
 
-    /// The bytes, to be written over. Their number stays.
+    /// The bytes, for overwriting. The length does not change.
     pub fn as_mut_slice(&mut self) -> &mut [u8]
         ensures* writes_back { sem 𝓛 (LendsBytes A.row A.Allocator self.entry result) }
         ensures value { result.now ≡ self.old }
@@ -118,7 +118,7 @@ impl<A: Allocator> Bytes<A> {
         self.bytes.as_mut_slice()
     }
 
-    /// An equal byte string, or the error where no memory is left for it.
+    /// Clones the byte string, or returns an error if allocation fails.
     pub fn try_clone(&self, alloc: A) -> Result<Self, AllocError>
         ensures { IfOk result (λ copy. copy ≡ self.now) }
     {
@@ -136,7 +136,7 @@ impl<A: Allocator> PartialEq for Bytes<A> {
 
     ghost laws = { partial_equiv_from_equiv nat_list_eq_equiv };
 
-    /// Whether the bytes are the same. No memory is taken.
+    /// Returns `true` if the bytes are equal. Does not allocate.
     fn eq(&self, other: &Self) -> bool
         ensures exact { IsTrue result ↔ (self.now ≡ other.now) }
         ensures value { result ≡ bytes_eq self.now other.now }
@@ -145,7 +145,7 @@ impl<A: Allocator> PartialEq for Bytes<A> {
     }
 }
 
-/// Equal pairs of a key and a value, in the same order, or the error where no memory is left for them.
+/// Clones pairs of a key and a value, in the same order, or returns an error if allocation fails.
 pub fn clone_pairs<A: Allocator + Copy>(
     alloc: A,
     pairs: &[(Bytes<A>, Bytes<A>)],

@@ -1,4 +1,4 @@
--- Laws of a directory kept as bytes.
+-- Laws of a directory stored as bytes.
 use Rattle.std.proofs.Common.{◌≡◌, ℕ, zero, suc, ◌+◌, ◌*◌, ◌/◌, ◌%◌, ◌^◌, ◌-◌, ◌<◌, ◌≤◌, ◌==◌, ◌||◌, List, ◌∷◌, length, get_or, Bool, true, false, cond, refl, sym, ap, ◌∙◌, subst, arith, inl, inr, bit_or, w8, set as set_item}
 use Rattle.std.specs.Int.{bit_at}
 use Rattle.std.proofs.lemmas.Bool.{cases_eq, cases_lt, true≢false, false_from_ne_true, or_cases, or_left, or_right, eq-eqb, ne_eqb}
@@ -72,7 +72,7 @@ contains-below bytes w (suc n) l = one_more bytes w n (λ i. contains-below byte
 pub unset_past : (bytes : List ℕ) (n : ℕ) → 8 * length bytes ≤ n → bit_of bytes n ≡ false
 unset_past bytes n l = rw (get_or_past bytes (n / 8) 0 (omega arith), bit_at-zero (n % 8)) refl
 
--- a word is split where its bit is set
+-- a word is split exactly if its bit is 1
 pub contains-splits_of : (bytes : List ℕ) (w : Word) → set.contains (splits_of bytes) w ≡ bit_of bytes (word_number w)
 unfolding splits_of
 contains-splits_of bytes w = elim (cases_lt (word_number w) (8 * length bytes)) as (λ _. set.contains (splits_below bytes (8 * length bytes)) w ≡ bit_of bytes (word_number w)) [
@@ -83,7 +83,7 @@ contains-splits_of bytes w = elim (cases_lt (word_number w) (8 * length bytes)) 
 pub contains-word_of : (bytes : List ℕ) (n : ℕ) → set.contains (splits_of bytes) (word_of n) ≡ bit_of bytes n
 contains-word_of bytes n = contains-splits_of bytes (word_of n) ∙ ap (bit_of bytes) (word_number-word_of n)
 
--- bytes with one bit more
+-- `more` has the bits of `bytes` and this one
 pub record HasBitMore (bytes more : List ℕ) (bit : ℕ) : Type 0 where
   pub at : (n : ℕ) → bit_of more n ≡ ((n == bit) || bit_of bytes n)
 
@@ -95,7 +95,7 @@ splits_of-more bytes more bit h = set.same_set words_total same_word _ _ (λ w.
 pub splits_of-same : (bytes more : List ℕ) → ((n : ℕ) → bit_of more n ≡ bit_of bytes n) → splits_of more ≡ splits_of bytes
 splits_of-same bytes more h = set.same_set words_total same_word _ _ (λ w. contains-splits_of more w ∙ h (word_number w) ∙ sym (contains-splits_of bytes w))
 
--- bytes whose set bits are low and have set parents
+-- bytes are a directory if their bits that are 1 are low and have parents
 pub IsDirectory-from_bits : (bytes : List ℕ) → ((n : ℕ) → bit_of bytes n ≡ true → n < 2 ^ 31 - 1) → ((n : ℕ) → 0 < n → bit_of bytes n ≡ true → bit_of bytes ((n - 1) / 2) ≡ true) → IsDirectory (splits_of bytes)
 IsDirectory-from_bits bytes low parents = record {
   closed = λ b w t.
@@ -121,7 +121,7 @@ IsDirectory-empty = record {
   short = λ w t. absurd (true≢false (sym t ∙ set.contains-empty word_cmp w));
 }
 
--- one bit more, whose parent is set
+-- setting a bit whose parent is set keeps the directory valid
 pub IsDirectory-more : (d : Splits) (bit : ℕ) → IsDirectory d → bit < 2 ^ 31 - 1 → HasParent d bit → IsDirectory (set.insert d (word_of bit))
 IsDirectory-more d bit dir low has = record {
   closed = λ b w t. elim (or_cases (eq_by_cmp word_cmp (b ∷ w) (word_of bit)) (set.contains d (b ∷ w)) (sym (contains-insert d (word_of bit) (b ∷ w)) ∙ t)) as (λ _. set.contains (set.insert d (word_of bit)) w ≡ true) [

@@ -1,4 +1,4 @@
--- The definitions, computed on values.
+-- The definitions at concrete values.
 use Rattle.std.specs.Prelude.{◌≡◌, ◌≤◌, ℕ, zero, suc, true, false, List, [], ◌∷◌, slice_index_or, refl}
 use Rattle.std.proofs.Common.{inl, inr, sym, ◌∙◌, arith, lit<, lit≤}
 use Rattle.std.proofs.lemmas.Bool.{true≢false}
@@ -17,7 +17,7 @@ bits_of_a_byte = (refl, (refl, refl))
 bit_of_the_second_byte : (bit_of (0 ∷ 128 ∷ []) 15 ≡ true) × (bit_of (0 ∷ 128 ∷ []) 16 ≡ false)
 bit_of_the_second_byte = (refl, refl)
 
--- number 6 is the right child of number 2, the right child of the root; 5 is its left child
+-- number 6 is the right child of number 2, which is the right child of the root; 5 is its left child
 word_of_six : word_of 6 ≡ true ∷ true ∷ []
 unfolding word_of
 word_of_six = refl
@@ -26,15 +26,15 @@ word_of_five : word_of 5 ≡ false ∷ true ∷ []
 unfolding word_of
 word_of_five = refl
 
--- the byte 5 marks the empty prefix and the prefix 1, and not the prefix 0
+-- the byte 5 marks the empty prefix and the prefix 1, but not the prefix 0
 splits_of_five : (set.contains (splits_of (5 ∷ [])) [] ≡ true) × ((set.contains (splits_of (5 ∷ [])) (true ∷ []) ≡ true) × (set.contains (splits_of (5 ∷ [])) (false ∷ []) ≡ false))
 splits_of_five = (contains-splits_of (5 ∷ []) [], (contains-splits_of (5 ∷ []) (true ∷ []), contains-splits_of (5 ∷ []) (false ∷ [])))
 
--- where bit 0 is set, bits 0 and 2 have parents
+-- if bit 0 is 1, bits 0 and 2 have parents
 parents_of_two : (HasParent (splits_of (1 ∷ [])) 0) × (HasParent (splits_of (1 ∷ [])) 2)
 parents_of_two = (inl refl, inr (contains-word_of (1 ∷ []) 0))
 
--- where the zeros begin
+-- the start of the trailing zeros
 abbrev one_and_zeros : List ℕ
 one_and_zeros = 1 ∷ 0 ∷ 0 ∷ []
 
@@ -51,11 +51,11 @@ end_of_one = record { within = lit≤ tt; zeros = zeros; last = λ _. lit< tt }
 none_deep : (byte : ℕ) → HasDeepBit (byte ∷ []) → ⊥
 none_deep byte d = true≢false (sym d.1.is_set ∙ unset_past (byte ∷ []) d.0 (omega (arith, d.1.deep)))
 
--- the byte 2 has an orphan
+-- the byte 2 has a bit without a parent
 orphan_of_two : IsDirFault (2 ∷ []) DirOrphan
 orphan_of_two = (none_deep 2, (1, record { is_set = refl; below = lit< tt; parent = refl }))
 
--- and the byte 5 no fault
+-- the byte 5 has no fault
 five_is_faultless : AreFaultless (5 ∷ [])
 five_is_faultless = record { shallow = none_deep 5; closed = λ o. closed o.0 o.1 }
   where

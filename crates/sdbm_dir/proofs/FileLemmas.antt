@@ -32,7 +32,7 @@ bit_of-at bytes i j l e =
     let place : (8 * i + j) % 8 ≡ j = omega arith in
     rw (byte, place, e) refl
 
--- a byte that is not zero has a set bit
+-- a nonzero byte has a bit that is 1
 pub set_bit_of : (bytes : List ℕ) (i : ℕ) → 0 < get_or bytes i 0 → get_or bytes i 0 < 256 → (n : ℕ) × ((n / 8 ≡ i) × (bit_of bytes n ≡ true))
 set_bit_of bytes i above fits = let low = bit_at-trailing_zeros w8 (get_or bytes i 0) above fits in at (trailing_zeros w8 (get_or bytes i 0)) low.0 low.1
   where
@@ -56,7 +56,7 @@ IsDirectory-faultless bytes f = IsDirectory-from_bits bytes low parents
       | false ↦ λ e. absurd (f.closed (n, record { is_set = t; below = l; parent = e }))
     ] refl
 
--- a longer list, zeros after the same bytes
+-- a list padded with zeros
 pub padded : (old new : List ℕ) (size len : ℕ) → len ≡ length old → length old ≤ size → length new ≡ size
     → ((k : ℕ) (d : ℕ) → k < size → k < len → get_or new k d ≡ get_or old k d) → ((k : ℕ) (d : ℕ) → len ≤ k → k < size → get_or new k d ≡ 0)
     → (k : ℕ) → get_or new k 0 ≡ get_or old k 0
@@ -68,7 +68,7 @@ padded old new size len is l e low high k = elim (cases_lt k (length old)) as (�
   ]
 ]
 
--- ---- where bytes end
+-- ---- the end of bytes
 
 pub unset_from_end : (bytes : List ℕ) (end n : ℕ) → IsEnd bytes end → end ≤ n / 8 → bit_of bytes n ≡ false
 unset_from_end bytes end n e l = unset_zero bytes n (e.zeros (n / 8) l)
@@ -87,7 +87,7 @@ no_deep_bit bytes end e l unset d = elim (cases_eq d.0 (2 ^ 31 - 1)) as (λ _. �
   | inr s ↦ let deep : 2 ^ 31 - 1 ≤ d.0 = d.1.deep in true≢false (sym d.1.is_set ∙ unset_from_end bytes end d.0 e (omega arith))
 ]
 
--- the test of the lowest bit that is too deep tells, where the bytes end before the next one
+-- one test decides whether a bit is too deep, if all bytes from 2^28 on are zero
 pub HasDeepBit-tested : (bytes : List ℕ) (end : ℕ) (r : Bool) → IsEnd bytes end → end ≤ 2 ^ 28 → r ≡ bit_of bytes (2 ^ 31 - 1) → (r ≡ true → HasDeepBit bytes) × (HasDeepBit bytes → r ≡ true)
 HasDeepBit-tested bytes end r e l is = (
   λ t. (2 ^ 31 - 1, record { is_set = sym is ∙ t; deep = omega arith }),
@@ -109,7 +109,7 @@ no_orphan_bit bytes end e none o = elim (cases_lt (o.0 / 8) end) as (λ _. ⊥) 
   | inr l ↦ true≢false (sym o.1.is_set ∙ unset_from_end bytes end o.0 e l)
 ]
 
--- where no bit is too deep the bytes end early
+-- if no bit is too deep, all bytes from 2^28 on are zero
 pub end_shallow : (bytes : List ℕ) (end : ℕ) → ((k : ℕ) → get_or bytes k 0 < 256) → IsEnd bytes end → (HasDeepBit bytes → ⊥) → end ≤ 2 ^ 28
 end_shallow bytes end fit e none = elim (cases_lt (2 ^ 28) end) as (λ _. end ≤ 2 ^ 28) [
   | inl l ↦ absurd (none (HasDeepBit-past bytes end fit e l))
@@ -131,7 +131,7 @@ SpellsDirectory-same bytes made same p = record {
   directory = p.directory;
 }
 
--- ---- the bytes that are written
+-- ---- the written bytes
 
 pub AreDirectoryBytes-take : (bytes : List ℕ) (end size : ℕ) → IsBitmap bytes → ((k : ℕ) → get_or bytes k 0 < 256) → IsEnd bytes end
     → size % 4096 ≡ 0 → end ≤ size → size < end + 4096 → AreDirectoryBytes (splits_of bytes) (take size bytes)
@@ -157,7 +157,7 @@ AreDirectoryBytes-take bytes end size p fit e whole long short = record {
         let byte : found.0 / 8 ≡ end - 1 = found.1.0 in
         (word_of found.0, (contains-word_of bytes found.0 ∙ found.1.1, rw (size_is, word_number-word_of found.0) (omega arith)))
 
--- ---- bytes and directories fix one another
+-- ---- bytes and directories determine each other
 
 pub SpellsDirectory-unique : (bytes : List ℕ) (d e : Splits) → SpellsDirectory bytes d → SpellsDirectory bytes e → d ≡ e
 SpellsDirectory-unique bytes d e p q = set.same_set words_total same_word d e (λ w. sym (p.bits w) ∙ q.bits w)
@@ -194,7 +194,7 @@ no_directory bytes TooDeep f told = λ d p. (AreFaultless-spells bytes d p).shal
 no_directory bytes DirOrphan f told = λ d p. (AreFaultless-spells bytes d p).closed f.1
 no_directory bytes NoMemory f told = λ d p. told refl
 
--- a directory has one list of bytes of its own
+-- the canonical bytes of a directory are unique
 pub AreDirectoryBytes-unique : (d : Splits) (a b : List ℕ) → AreDirectoryBytes d a → AreDirectoryBytes d b → a ≡ b
 AreDirectoryBytes-unique d a b p q = same_number_lists a b (omega (arith, no_longer a b p q, no_longer b a q p)) (λ k _. byte k)
   where

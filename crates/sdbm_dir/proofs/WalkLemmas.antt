@@ -1,4 +1,4 @@
--- Laws of a walk through a directory that begins at any depth.
+-- Laws of a search through a directory that begins at any depth.
 use Rattle.std.proofs.Common.{◌≡◌, ℕ, zero, suc, ◌+◌, ◌*◌, ◌/◌, ◌%◌, ◌^◌, ◌-◌, ◌<◌, ◌≤◌, ◌==◌, Bool, true, false, cond, refl, sym, ap, ◌∙◌, subst, arith, bit_and, lit<, length}
 use Rattle.std.proofs.lemmas.Bool.{true≢false}
 use Rattle.std.proofs.lemmas.Nat.{and_mask, mod_below}
@@ -10,21 +10,21 @@ use Rattle.sdbm_addr.proofs.DirectoryLemmas.{length-hash_prefix, unsplit_past, w
 use Rattle.sdbm_dir.specs.Words.{word_of}
 use Rattle.sdbm_dir.proofs.BitmapLemmas.{word_of-word_number}
 
--- the test of a bit is the test of its word
+-- testing a bit is testing its word
 pub tested : (d : Splits) (bit : ℕ) (w : Word) (r b : Bool) → bit ≡ word_number w → r ≡ set.contains d (word_of bit) → r ≡ b → set.contains d w ≡ b
 tested d bit w r b n is e = ap (set.contains d) (sym (word_of-word_number w) ∙ ap word_of (sym n)) ∙ sym is ∙ e
 
 pub few : (d : Splits) (n hash : ℕ) → IsDirectory d → set.contains d (hash_prefix n hash) ≡ true → n ≤ 30
 few d n hash dir t = let short : length (hash_prefix n hash) ≤ 30 = dir.short _ t in let long : length (hash_prefix n hash) ≡ n = length-hash_prefix n hash in omega arith
 
--- before a split prefix all are split
+-- all prefixes of a split prefix are split
 pub split_before : (d : Splits) → IsDirectory d → (m n hash : ℕ) → m ≤ n → set.contains d (hash_prefix n hash) ≡ true → set.contains d (hash_prefix m hash) ≡ true
 split_before d dir m n hash l t = elim (set.contains d (hash_prefix m hash)) as (λ b. set.contains d (hash_prefix m hash) ≡ b → b ≡ true) [
   | true ↦ λ e. refl
   | false ↦ λ e. absurd (true≢false (sym t ∙ unsplit_past d dir m n hash l e))
 ] refl
 
--- a prefix with letters has a parent
+-- a nonempty prefix has a parent
 pub parent_number : (n m hash bit : ℕ) → n ≡ suc m → bit ≡ word_number (hash_prefix n hash) → (0 < bit) × ((bit - 1) / 2 ≡ word_number (hash_prefix m hash))
 parent_number n m hash bit more e = halved (hash_bit m hash) (e ∙ ap (λ (k : ℕ). word_number (hash_prefix k hash)) more)
   where
@@ -32,7 +32,7 @@ parent_number n m hash bit more e = halved (hash_bit m hash) (e ∙ ap (λ (k : 
     halved true e = (omega arith, omega arith)
     halved false e = (omega arith, omega arith)
 
--- four bits turned round, from a table
+-- the table reverses four bits
 pub turned_round : (q : ℕ) → q < 16 → bit_and (17848844570815808640 / 2 ^ (4 * q)) 15 ≡ 8 * (q % 2) + (4 * (q / 2 % 2) + (2 * (q / 4 % 2) + q / 8))
 turned_round zero l = refl
 turned_round (suc zero) l = refl
@@ -97,7 +97,7 @@ low_four h = let is : bit_and h 15 ≡ h % 16 = and_mask h 4 in omega arith
 pub letters_is : (h : ℕ) → (bit_and h 15 ≡ h % 16) × (bit_and h 15 < 16)
 letters_is h = let is : bit_and h 15 ≡ h % 16 = and_mask h 4 in (is, omega arith)
 
--- one round of the walk by fours
+-- one step of the search by four letters
 pub round : (i hash bit : ℕ) → bit ≡ word_number (hash_prefix (4 * i) hash)
     → 16 * bit + 15 + bit_and (17848844570815808640 / 2 ^ (4 * bit_and (hash / 2 ^ (4 * i)) 15)) 15 ≡ word_number (hash_prefix (4 * (i + 1)) hash)
 round i hash bit e =

@@ -1,7 +1,7 @@
--- Where the zeros begin that bytes end with.
+-- The end of bytes without their trailing zeros.
 use Rattle.std.specs.Prelude.{◌≡◌, ℕ, ◌-◌, ◌<◌, ◌≤◌, List, length, slice_index_or}
 
--- all bytes from here on are zeros, and the one in front is none
+-- all bytes from `end` on are zero, and the byte before it is nonzero
 pub record IsEnd (bytes : List ℕ) (end : ℕ) : Type 0 where
   pub within : end ≤ length bytes
   pub zeros : (k : ℕ) → end ≤ k → slice_index_or bytes k 0 ≡ 0

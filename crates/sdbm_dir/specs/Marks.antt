@@ -1,4 +1,4 @@
--- What a directory is seen as.
+-- The model of a directory.
 use Rattle.std.specs.Prelude.{ℕ, ◌*◌, List, length, refl}
 use Rattle.std.specs.Coded.{Coded, code_by, coded×, coded_ℕ, coded_list, coded_bool}
 use Rattle.std.specs.FinSet as set
@@ -13,6 +13,6 @@ pub record Marks : Type 0 where
 abbrev pub coded_marks : Coded Marks
 coded_marks = code_by (Splits × ℕ) (coded× (set.code (coded_list coded_bool)) coded_ℕ) (λ m. (m.splits, m.room)) (λ p. record { splits = p.0; room = p.1 }) (λ _. refl)
 
--- what a bitmap is seen as
+-- the model of a bitmap
 abbrev pub marks_of : List ℕ → Marks
 marks_of bytes = record { splits = splits_of bytes; room = 8 * length bytes }

@@ -1,18 +1,18 @@
--- The words that directory bits stand for (Yigit, sdbm 1990: sdbm.c, `getpage`): a binary tree kept level by level in an array.
+-- The words that directory bits represent (Yigit, sdbm 1990: sdbm.c, `getpage`): a binary tree stored level by level in an array.
 use Rattle.std.specs.Prelude.{◌≡◌, ℕ, zero, suc, ◌/◌, ◌%◌, ◌-◌, ◌==◌, true, [], ◌∷◌, ◌⊎◌}
 use Rattle.std.specs.FinSet as set
 use Rattle.sdbm_addr.specs.Directory.{Word, Splits}
 
--- the word numbered n, of at most so many letters
+-- the word numbered n, with a bound on its number of letters
 abbrev pub word_from : ℕ → ℕ → Word
 word_from zero n = []
 word_from (suc most) zero = []
 word_from (suc most) (suc n) = ((n % 2) == 1) ∷ word_from most (n / 2)
 
--- the word numbered n: the one whose `word_number` that is
+-- the word numbered n: the word whose `word_number` is n
 unfoldable pub word_of : ℕ → Word
 word_of n = word_from n n
 
--- a bit whose word's prefixes may all be split: bit 0, or one whose parent's word is split
+-- a bit whose word may be split: bit 0, or a bit whose parent's word is split
 abbrev pub HasParent : Splits → ℕ → Type 0
 HasParent d bit = (bit ≡ 0) ⊎ (set.contains d (word_of ((bit - 1) / 2)) ≡ true)

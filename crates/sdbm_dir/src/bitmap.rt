@@ -1,4 +1,4 @@
-//! Bits in bytes, as a directory keeps them.
+//! Bit tests on the bytes of a directory, and its blocks.
 
 ghost use Rattle.std.specs.Prelude.{◌≡◌, ◌<◌, ◌≤◌, ◌+◌, ◌*◌, ◌%◌, ◌^◌, ℕ, length, slice_index_or, IsTrue, ◌↔◌, IfOk};
 ghost use Rattle.sdbm_addr.specs.DirectoryFile.{bit_of, AreDirectoryBytes, HasDeepBit, HasOrphanBit, IsOrphanBit};
@@ -7,16 +7,16 @@ ghost use Rattle.sdbm_dir.specs.Ends.{IsEnd};
 
 use std::alloc::{AllocError, Allocator};
 
-/// A directory grows by blocks of so many bytes (the original's `DBLKSIZ`).
+/// The size in bytes of a block; a directory grows by whole blocks (the original's `DBLKSIZ`).
 pub const BLOCK_BYTES: usize = 4096;
 
 // The lowest bit of a word of more than 30 letters.
 const DEEP_BIT: u32 = (1 << 31) - 1;
 
-// That bit is the last one of so many bytes.
+// The number of bytes up to the one that has `DEEP_BIT` as its last bit.
 const MOST_BYTES: usize = 1 << 28;
 
-/// Whether a bit is set. Past the end none is.
+/// Reads a bit. Bits after the end are 0.
 pub fn is_set(bytes: &[u8], bit: u32) -> bool
     ensures { result ≡ bit_of bytes.now bit }
 {
@@ -26,7 +26,7 @@ pub fn is_set(bytes: &[u8], bit: u32) -> bool
     }
 }
 
-/// The number of bytes up to the last one that is not zero.
+/// The length of the bytes without trailing zeros.
 pub fn end_of(bytes: &[u8]) -> usize
     ensures { IsEnd bytes.now result }
 {
@@ -40,7 +40,7 @@ pub fn end_of(bytes: &[u8]) -> usize
     0
 }
 
-/// Whether a bit is set of a word of more than 30 letters. `end` is where the zeros begin that the bytes end with.
+/// Checks for a bit of a word of more than 30 letters. `end` is the length of the bytes without trailing zeros.
 pub fn has_deep_bit(bytes: &[u8], end: usize) -> bool
     requires { IsEnd bytes.now end }
     ensures { IsTrue result ↔ HasDeepBit bytes.now }
@@ -51,8 +51,8 @@ pub fn has_deep_bit(bytes: &[u8], end: usize) -> bool
     is_set(bytes, DEEP_BIT)
 }
 
-/// Whether a bit is set whose parent is not. `end` is where the zeros begin that the bytes end with; bits are looked at only in
-/// bytes that are not zero.
+/// Checks for a bit that is 1 although its parent is 0. `end` is the length of the bytes without trailing zeros. Only the bits of
+/// bytes other than zero are tested.
 pub fn has_orphan_bit(bytes: &[u8], end: usize) -> bool
     requires end { IsEnd bytes.now end }
     requires short { end ≤ 2 ^ 28 }
@@ -66,7 +66,7 @@ pub fn has_orphan_bit(bytes: &[u8], end: usize) -> bool
     false
 }
 
-// Whether a bit of one byte is set whose parent is not.
+// The same check for the bits of one byte.
 fn has_orphan_in(bytes: &[u8], index: u32) -> bool
     requires { index < 2 ^ 28 }
     ensures { IsTrue result ↔ ((k : ℕ) × ((k < 8) × IsOrphanBit bytes.now (8 * index + k))) }
@@ -79,14 +79,14 @@ fn has_orphan_in(bytes: &[u8], index: u32) -> bool
     false
 }
 
-// Whether a bit is set whose parent is not.
+// The same check for one bit.
 fn is_orphan_bit(bytes: &[u8], bit: u32) -> bool
     ensures { IsTrue result ↔ IsOrphanBit bytes.now bit }
 {
     bit > 0 && is_set(bytes, bit) && !is_set(bytes, (bit - 1) / 2)
 }
 
-/// A copy of bytes, with zeros after it up to a whole block, or the error where no memory is left for it.
+/// Copies bytes and pads the copy with zeros to whole blocks. Returns an error if allocation fails.
 pub fn whole_blocks<A: Allocator>(alloc: A, bytes: &[u8]) -> Result<Vec<u8, A>, AllocError>
     requires { length bytes.now ≤ 2 ^ 28 }
     ensures blocks { IfOk result (λ made. length made.items % 4096 ≡ 0) }
@@ -100,7 +100,7 @@ pub fn whole_blocks<A: Allocator>(alloc: A, bytes: &[u8]) -> Result<Vec<u8, A>, 
     Ok(made)
 }
 
-/// The blocks of a bitmap up to the one of its last byte that is not zero.
+/// The blocks of a bitmap up to the block of its last nonzero byte.
 pub fn used_blocks(bytes: &[u8]) -> &[u8]
     requires { IsBitmap bytes.now }
     ensures { AreDirectoryBytes (splits_of bytes.now) result.now }

@@ -1,14 +1,14 @@
-//! Where the search for a place begins: at a depth that is a multiple of four, near that of most places.
+//! The depth at which the search for a place begins: a multiple of four, near the depth of most places.
 ghost use Rattle.std.specs.Prelude.{◌≡◌, ◌≤◌, ◌*◌};
 ghost use Rattle.sdbm_addr.specs.Directory.{word_number, hash_prefix};
 
-/// The deepest beginning is at 28 letters.
+/// The greatest starting depth is 28 letters, seven fours.
 pub const MOST_FOURS: u8 = 7;
 
-// Digit i is i with its four bits in reverse order.
+// Digit i, in hexadecimal, is i with its four bits reversed.
 const TURNED: u64 = 0xF7B3_D591_E6A2_C480;
 
-/// How many bits are set, modulo 2^32.
+/// The number of bits that are 1, modulo 2^32.
 pub fn count_of(bytes: &[u8]) -> u32 {
     let mut count = 0u32;
     for byte in bytes {
@@ -17,7 +17,7 @@ pub fn count_of(bytes: &[u8]) -> u32 {
     count
 }
 
-/// The depth, in fours of letters, near which most places lie once so many prefixes are split.
+/// The depth near which most places are if `count` prefixes are split, in units of four letters.
 pub fn fours_of(count: u32) -> u8 {
     for fours in 0..MOST_FOURS {
         if count >> (4 * fours + 2) == 0 {
@@ -27,7 +27,7 @@ pub fn fours_of(count: u32) -> u8 {
     MOST_FOURS
 }
 
-/// The directory bit of a hash's prefix of so many fours of letters.
+/// The directory bit of a hash's prefix of `4 * fours` letters.
 pub fn bit_of_fours(hash: u32, fours: u8) -> u32
     requires { fours ≤ 7 }
     ensures { result ≡ word_number (hash_prefix (4 * fours) hash) }

@@ -1,5 +1,5 @@
-//! The directory: which prefixes of hashes are split, a bit for each, and the place to which a hash leads
-//! (Yigit, sdbm 1990: sdbm.c, `getpage`).
+//! The directory: the split prefixes of hashes, one bit for each, and the place that a hash leads to (Yigit, sdbm 1990: sdbm.c,
+//! `getpage`).
 #![tactic(auto)]
 
 ghost use Rattle.std.specs.Prelude.{◌≡◌, ◌≢◌, ℕ, ◌<◌, ◌≤◌, ◌^◌, ◌-◌, ◌%◌, true, false, OnOk, OnErr, IfOk, IfErr, Ok};
@@ -21,37 +21,36 @@ use sdbm_addr::{child, mask};
 use std::alloc::{AllocError, Allocator};
 use std::marker::Model;
 
-/// Why bytes give no directory.
+/// The reason why bytes cannot be read as a directory.
 #[derive(Clone, Copy, Debug, PartialEq, Eq)]
 pub enum DirFault {
-    /// A bit is set that no prefix of at most 30 letters has: its number is 2^31 - 1 or above.
+    /// A bit is 1 that belongs to no prefix of at most 30 letters: its number is at least 2^31 - 1.
     TooDeep,
-    /// A bit b above 0 is set and that of its parent, (b - 1) / 2, is not: a prefix is split and the one that is a letter
+    /// A bit b above 0 is 1 and the bit of its parent, (b - 1) / 2, is 0: a prefix is split, but the prefix that is one letter
     /// shorter is not.
     DirOrphan,
-    /// The bytes spell a directory, and no memory is left for it.
+    /// The bytes spell a directory, but allocation fails.
     NoMemory,
 }
 
-/// Where a hash leads.
+/// The place of a hash.
 #[derive(Clone, Copy, Debug, PartialEq, Eq)]
 pub struct Place {
     /// The number of the page.
     pub page: u32,
-    /// The length of the hash's shortest prefix that is not split, 31 at most.
+    /// The length of the hash's shortest unsplit prefix, at most 31.
     pub depth: u8,
-    /// The directory bit of that prefix, which a split of the page would set.
+    /// The directory bit of that prefix; splitting the page sets it.
     pub bit: u32,
 }
 
-/// The prefixes that are split, seen as their set and the number of bits that there is room for. Bits past the room are
-/// unset.
+/// The split prefixes. The model is their set and the number of bits that there is room for. Bits beyond the room are 0.
 #[derive(Drop)]
 pub struct Dir<A: Allocator> {
     bits: Vec<u8, A>,
-    // About how many bits are set.
+    // Approximate number of bits that are 1.
     count: u32,
-    // The depth near which most places lie, in fours of letters. A search begins there, and ends at the same place whatever this is.
+    // The starting depth of a search, in units of four letters, near the depth of most places. It does not affect the result.
     fours: u8,
 }
 
@@ -69,7 +68,7 @@ impl<A: Allocator> Model for Dir<A> {
 }
 
 impl<A: Allocator> Dir<A> {
-    /// A directory without split prefixes, in which each hash leads to page 0. It takes no memory.
+    /// A directory without split prefixes: every hash leads to page 0. Does not allocate.
     pub fn empty(alloc: A) -> Self
         ensures splits { result.splits ≡ set.empty }
         ensures room { result.room ≡ 0 }
@@ -81,13 +80,13 @@ impl<A: Allocator> Dir<A> {
         }
     }
 
-    /// The directory that the bytes of a `.dir` file spell: bit b modulo 8, lowest first, of byte b / 8 is set where the prefix
-    /// with the number b is split (Yigit, sdbm 1990: sdbm.c, `getdbit`). They may be any bytes, of any number; zeros at their end
-    /// say nothing. Memory is taken for the blocks up to the highest bit that is set.
+    /// Reads the bytes of a `.dir` file: bit b modulo 8, lowest first, of byte b / 8 is 1 if the prefix with number b is split
+    /// (Yigit, sdbm 1990: sdbm.c, `getdbit`). The bytes may have any values and any length; trailing zeros are ignored. Allocates
+    /// the blocks up to the highest bit that is 1.
     ///
     /// # Errors
-    /// `TooDeep` where a bit is set whose number is too high, else `DirOrphan` where one is set without its parent's, else
-    /// `NoMemory` where no memory is left.
+    /// `TooDeep` if a bit is 1 whose number is too high; otherwise `DirOrphan` if a bit is 1 whose parent is 0; otherwise
+    /// `NoMemory` if allocation fails.
     pub fn from_bytes(alloc: A, bytes: &[u8]) -> Result<Self, DirFault>
         ensures ok { IfOk result (λ dir. SpellsDirectory bytes.now dir.splits) }
         ensures only { IfOk result (λ dir. (splits : Splits) → SpellsDirectory bytes.now splits → splits ≡ dir.splits) }
@@ -113,15 +112,15 @@ impl<A: Allocator> Dir<A> {
         }
     }
 
-    /// The bytes of the directory's `.dir` file: those that spell it, in whole blocks of 4,096 bytes up to the one of the highest
-    /// bit that is set, and none where no bit is. It takes no memory. The room is read from its end as far as that bit.
+    /// The bytes of the directory's `.dir` file: whole blocks of 4,096 bytes up to the block of the highest bit that is 1; empty if
+    /// every bit is 0. Does not allocate. Takes time in proportion to the room after that bit.
     pub fn bytes(&self) -> &[u8]
         ensures { AreDirectoryBytes self.now.splits result.now }
     {
         used_blocks(self.bits.as_slice())
     }
 
-    /// Whether the prefix with this number is split.
+    /// Returns `true` if the prefix with this number is split.
     pub fn is_split(&self, bit: u32) -> bool
         ensures value { result ≡ set.contains self.now.splits (word_of bit) }
         ensures directory { IsDirectory self.now.splits }
@@ -129,8 +128,8 @@ impl<A: Allocator> Dir<A> {
         is_set(self.bits.as_slice(), bit)
     }
 
-    /// Makes room for a bit, in whole blocks. It is the only call here that takes memory, and takes none where there is room.
-    /// After the error the directory is as it was.
+    /// Makes room for a bit, in whole blocks. This is the only method that allocates, and it does not allocate if there is room. On
+    /// error the directory is unchanged.
     pub fn grow_for(&mut self, bit: u32) -> Result<(), AllocError>
         ensures splits { self.new.splits ≡ self.old.splits }
         ensures room { OnOk result (bit < self.new.room) }
@@ -146,8 +145,8 @@ impl<A: Allocator> Dir<A> {
         Ok(())
     }
 
-    /// Marks a prefix of at most 30 letters as split, all of whose own prefixes are. There must be room for its bit; this takes no
-    /// memory.
+    /// Marks a prefix of at most 30 letters as split; its shorter prefixes must be split already. There must be room for its bit.
+    /// Does not allocate.
     pub fn mark(&mut self, bit: u32)
         requires grown { bit < self.old.room }
         requires shallow { bit < 2 ^ 31 - 1 }
@@ -161,8 +160,8 @@ impl<A: Allocator> Dir<A> {
         self.fours = fours_of(self.count);
     }
 
-    /// The place to which a hash leads: its shortest prefix, from the lowest bit on, that is not split. The prefix is the
-    /// number of the page, the hash's lowest bit being the page number's.
+    /// The place of a hash: its shortest unsplit prefix, beginning with the lowest bit. The page number is that prefix, read as a
+    /// number with the same lowest bit as the hash.
     pub fn place(&self, hash: u32) -> Place
         ensures depth { IsDepth self.now.splits hash result.depth }
         ensures shallow { result.depth ≤ 31 }
@@ -182,9 +181,9 @@ impl<A: Allocator> Dir<A> {
     }
 }
 
-// How a place is found from a prefix of any length, whose bit is known.
+// Searches that begin at a prefix of any length, whose bit is known.
 impl<A: Allocator> Dir<A> {
-    // The place to which a hash leads, where all shorter prefixes are split.
+    // The place of a hash, searched in longer prefixes; all shorter prefixes than `depth` are split.
     fn place_below(&self, hash: u32, depth: u8, bit: u32) -> Place
         requires number { bit ≡ word_number (hash_prefix depth hash) }
         requires shallow { depth ≤ 31 }
@@ -205,7 +204,7 @@ impl<A: Allocator> Dir<A> {
         self.place_at(hash, depth, bit)
     }
 
-    // The same, where that prefix is not split.
+    // The place of a hash, searched in shorter prefixes; the prefix of length `depth` is not split.
     fn place_above(&self, hash: u32, depth: u8, bit: u32) -> Place
         requires number { bit ≡ word_number (hash_prefix depth hash) }
         requires shallow { depth ≤ 31 }
@@ -230,7 +229,7 @@ impl<A: Allocator> Dir<A> {
         self.place_at(hash, depth, bit)
     }
 
-    // The place to which a hash leads, whose depth and bit these are.
+    // The place of a hash with this depth and this bit.
     fn place_at(&self, hash: u32, depth: u8, bit: u32) -> Place
         requires depth { IsDepth self.now.splits hash depth }
         requires shallow { depth ≤ 31 }

@@ -1,4 +1,4 @@
--- Databases that the longest `.pag` has room for: what they stay, what was read of a file, and how long theirs is.
+-- Databases within the longest `.pag`: they stay within it, a file that was read is within it, and the length of their file.
 use Rattle.std.proofs.Common.{◌≡◌, ◌≢◌, ℕ, ◌-◌, ◌*◌, ◌<◌, ◌≤◌, ◌&&◌, ◌||◌, nat_lt, List, [], ◌∷◌, length, Bool, true, false, cond, unwrap_or, refl, sym, ap, ◌∙◌, subst, arith, eqb, inl, inr}
 use Rattle.std.proofs.lemmas.Bool.{eqb-true, cases_lt}
 use Rattle.std.specs.List.{list_all}
@@ -15,13 +15,13 @@ use Rattle.sdbm_files.specs.Limits.{pag_limit, most_pages, FitsFiles, is_bare, h
 use Rattle.sdbm_files.proofs.PutLemmas.{pairs-put_page}
 use Rattle.sdbm_files.proofs.WriteLemmas.{length-first_pages}
 
--- a number that the test finds below is
+-- a number is below another if the test says so
 below : (n m : ℕ) → nat_lt n m ≡ true → n < m
 below n m t = grind arith
 
--- ---- pages that are put in
+-- ---- replaced pages
 
--- each page that has pairs has a number below
+-- each page that has pairs has a number below the bound
 abbrev AreBelow : ℕ → FinMap nat_cmp (List Pair) → Type 0
 AreBelow most pages = (n : ℕ) → unwrap_or (map.get pages n) [] ≢ [] → n < most
 
@@ -46,13 +46,13 @@ all_below size pages (e ∷ es) t all =
     let parts = both (has_place size e) (list_all (has_place size) es) t in
     all_below size (put_page pages e.0 e.1.pairs) es parts.1 (put_below (most_pages size) pages e.0 e.1.pairs parts.0 all)
 
--- a plan whose pages have their places
+-- a plan whose pages fit into the file
 pub FitsFiles-installed : (db : Database) (number : ℕ) (leaf : Content) (twins : List (ℕ × Content)) (bits : List ℕ) → has_place db.size (number, leaf) ≡ true → list_all (has_place db.size) twins ≡ true
     → FitsFiles db → FitsFiles (installed db number leaf twins bits)
 FitsFiles-installed db number leaf twins bits here there fits =
     all_below db.size (put_page db.pages number leaf.pairs) twins there (put_below (most_pages db.size) db.pages number leaf.pairs here fits)
 
--- a plan without splits for a page that has pairs fills no other
+-- a plan without splits for a page that has pairs adds no page
 pub fills_none : (db : Database) (number : ℕ) (leaf : Content) → pairs_at db number ≢ [] → (n : ℕ) → pairs_at db n ≡ [] → pairs_at (installed db number leaf [] []) n ≡ []
 fills_none db number leaf some n none = pairs-put_page db.pages number leaf.pairs n ∙ at (eqb n number) refl
   where
@@ -70,7 +70,7 @@ pages_short : (size : PageSize) (count : ℕ) → count ≤ most_pages size → 
 pages_short Small count h = omega arith
 pages_short Wide count h = omega arith
 
--- what a file spells that is no longer
+-- a database whose `.pag` is within the limit fits
 pub FitsFiles-spelled : (db : Database) (dir pag : List ℕ) → SpellsDatabase db dir pag → length pag ≤ pag_limit → FitsFiles db
 FitsFiles-spelled db dir pag spells short n some = elim (cases_lt n spells.count) as (λ _. n < most_pages db.size) [
   | inl inside ↦
@@ -85,7 +85,7 @@ few_counted db count counted fits = elim (cases_lt 0 count) as (λ _. count ≤ 
   | inr none ↦ omega (arith, none)
 ]
 
--- the file of one that fits is no longer
+-- the `.pag` of a database that fits is within the limit
 pub short_fitting : (db : Database) → IsDatabase db → (pag : List ℕ) → ArePagBytes db pag → FitsFiles db → length pag ≤ pag_limit
 short_fitting db ok pag are fits =
     subst (λ (l : ℕ). l ≤ pag_limit) (sym (ap length are.is ∙ length-first_pages db ok are.count)) (pages_short db.size are.count (few_counted db are.count are.counted fits))

@@ -27,7 +27,7 @@ contains_found (e ∷ es) n content found = at (eqb n e.0) refl (contains_found 
         (suc there.0, omega arith, there.2)
 
 module _ (kind : KeyBytes) (size : PageSize) (splits : Splits) (entries : List (ℕ × Content)) where
-  -- each page that has pairs is one of them
+  -- each page that has pairs is in the list
   pub numbers_cover : (n : ℕ) → pairs_at (database_of kind size splits entries) n ≢ [] → Contains (keys_of entries) n
   numbers_cover n some = at (lookup (eqb n) entries) refl
     where
@@ -35,7 +35,7 @@ module _ (kind : KeyBytes) (size : PageSize) (splits : Splits) (entries : List (
       at (Some content) found = contains_found entries n content found
       at None missing = absurd (some (pairs_missing entries n missing))
 
-  -- each of them has pairs
+  -- each page in the list has pairs
   pub numbers_only : IsDatabase (database_of kind size splits entries) → All (λ (n : ℕ). pairs_at (database_of kind size splits entries) n ≢ []) (keys_of entries)
   numbers_only ok = λ k d l none.
       let n = get_or (keys_of entries) k d in

@@ -1,4 +1,4 @@
--- A database of which one page alone is known.
+-- A database restricted to one page.
 use Rattle.std.proofs.Common.{◌≡◌, ◌≢◌, ℕ, List, [], ◌∷◌, Bool, true, false, cond, Option, Some, None, unwrap_or, refl, sym, ap, ◌∙◌, subst, eqb}
 use Rattle.std.specs.Cmp.{nat_cmp_total, eq_by_cmp_equiv}
 use Rattle.std.proofs.lemmas.Bool.{false_from_ne_true}
@@ -26,7 +26,7 @@ use Rattle.sdbm_files.specs.Opened.{IsRead, LeadTo, IsFaultOfDir, SpellsNoPart, 
 use Rattle.sdbm_files.proofs.KeptLemmas.{get-pages_of}
 use Rattle.sdbm_files.proofs.InstallLemmas.{pages_of-put}
 
--- no page put in leaves none
+-- putting no page leaves an empty map
 pub no_page : (entries : List (ℕ × Content)) (n : ℕ) (page : Option Content) → entries ≡ [] → page ≡ None → pages_of entries ≡ put_page (pages_of []) n (pairs_of_page page)
 no_page entries n page none is =
     ap pages_of none ∙ pages_of-put [] [] n None [] (λ q. at None (eqb n q)) refl ∙ ap (λ (o : Option Content). put_page (pages_of []) n (pairs_of_page o)) (sym is)
@@ -43,7 +43,7 @@ put_some : (put pairs : List Pair) → put_there put ≡ Some pairs → (pairs �
 put_some [] pairs is = absurd (cc)
 put_some (e ∷ es) pairs is = let same : e ∷ es ≡ pairs = cc in (λ none. let nil : e ∷ es ≡ [] = same ∙ none in cc, same)
 
--- the page with a number was read, its keys lead to it, and it is put in alone
+-- the page with a number was read, its keys lead to it, and it is the only page of the map
 module _ (kind : KeyBytes) (size : PageSize) (dir bytes : List ℕ) (d : Splits) (number : ℕ) (page : Option Content) (entries : List (ℕ × Content)) (spelled : SpellsDirectory dir d) (read : IsRead size bytes page) (lead : LeadTo kind d number (pairs_of_page page)) (put : pages_of entries ≡ put_page (pages_of []) number (pairs_of_page page)) where
   abbrev got : Bool → Option (List Pair)
   got b = cond b (put_there (pairs_of_page page)) None
@@ -87,7 +87,7 @@ module _ (kind : KeyBytes) (size : PageSize) (dir bytes : List ℕ) (d : Splits)
   pub IsKept-one : AreSized size entries → IsKept kind size d entries
   IsKept-one sized = record { sizes = sized; database = IsDatabase-one }
 
--- ---- bytes that are no part of a database
+-- ---- bytes that are not part of a database
 
 pub none_of_dir : (kind : KeyBytes) (size : PageSize) (dir bytes : List ℕ) (n : ℕ) (fault : OpenFault) (of : DirFault) → fault ≡ faults.Dir of → IsFaultOfDir dir fault → SpellsNoPart kind size dir n bytes
 none_of_dir kind size dir bytes n fault of is f = λ db kinds sizes ok directory page.

@@ -1,4 +1,4 @@
--- Pages in the bytes of a file: where they stand, and what bytes after them change.
+-- Pages in the bytes of a file: their positions, and the effect of appended bytes.
 use Rattle.std.proofs.Common.{◌≡◌, ℕ, ◌+◌, ◌*◌, ◌-◌, ◌/◌, ◌%◌, ◌<◌, ◌≤◌, min, List, [], ◌++◌, length, length-drop, take, drop, get_or, sym, ap, ◌∙◌, subst, arith}
 use Rattle.std.proofs.lemmas.List.{append-nil, take-append-le, drop-append-le, take_all, get_or-take, get_or-drop}
 use Rattle.std.proofs.Math.Seq.{take-add}
@@ -21,12 +21,12 @@ pub page_end : (size : PageSize) (long n count : ℕ) → count * page_bytes siz
 page_end Small long n count is h = omega arith
 page_end Wide long n count is h = omega arith
 
--- so many pages and no whole one more, in whole pages, are all
+-- if no whole page follows the first `count` pages of a whole number of pages, these are all pages
 pub all_pages : (size : PageSize) (long count : ℕ) → long % page_bytes size ≡ 0 → count * page_bytes size ≤ long → long < (count + 1) * page_bytes size → long ≡ count * page_bytes size
 all_pages Small long count whole least most = omega arith
 all_pages Wide long count whole least most = omega arith
 
--- one page more
+-- one more page
 pub one_page : (size : PageSize) (long count : ℕ) → long ≡ count * page_bytes size → long + page_bytes size ≡ (count + 1) * page_bytes size
 one_page Small long count is = omega arith
 one_page Wide long count is = omega arith
@@ -43,7 +43,7 @@ pub start_below : (size : PageSize) (n : ℕ) → n * page_bytes size ≤ (n + 1
 start_below Small n = omega arith
 start_below Wide n = omega arith
 
--- bytes after whole pages leave them
+-- appended bytes do not change earlier pages
 pub page_before : (size : PageSize) (pag bytes : List ℕ) (n : ℕ) → (n + 1) * page_bytes size ≤ length pag → page_at size (pag ++ bytes) n ≡ page_at size pag n
 page_before size pag bytes n inside =
     let start = n * page_bytes size in
@@ -51,20 +51,20 @@ page_before size pag bytes n inside =
     let room : (n + 1) * page_bytes size - start ≤ length (drop start pag) = omega (arith, length-drop start pag, inside) in
     ap (λ (l : List ℕ). take ((n + 1) * page_bytes size - start) l) (drop-append-le start pag bytes from) ∙ take-append-le ((n + 1) * page_bytes size - start) (drop start pag) bytes room
 
--- a page after so many is the next one
+-- a page appended to n pages is page n
 pub page_behind : (size : PageSize) (pag bytes : List ℕ) (n : ℕ) → length pag ≡ n * page_bytes size → length bytes ≡ page_bytes size → page_at size (pag ++ bytes) n ≡ bytes
 page_behind size pag bytes n long is_page =
     part_read (pag ++ bytes) pag bytes [] (n * page_bytes size) ((n + 1) * page_bytes size) (ap (λ (l : List ℕ). pag ++ l) (sym (append-nil bytes))) (sym long)
     (omega (arith, one_page size (length pag) n long, is_page))
 
--- a byte of a page is one of the file
+-- a byte of a page is a byte of the file
 pub page_reads : (size : PageSize) (pag : List ℕ) (n i : ℕ) → i < page_bytes size → get_or (page_at size pag n) i 0 ≡ get_or pag (n * page_bytes size + i) 0
 page_reads size pag n i below =
     get_or-take ((n + 1) * page_bytes size - n * page_bytes size) (drop (n * page_bytes size) pag) i 0 (omega (arith, below, next_start size n)) ∙ get_or-drop (n * page_bytes size) pag i 0
 
 -- ---- whole pages
 
--- so many whole pages
+-- the length of a whole number of pages
 pub pages_counted : (size : PageSize) (long : ℕ) → long % page_bytes size ≡ 0 → long ≡ long / page_bytes size * page_bytes size
 pages_counted Small long whole = omega arith
 pages_counted Wide long whole = omega arith
@@ -91,7 +91,7 @@ no_pages size pag = ap (λ (k : ℕ). take k pag) (nothing (page_bytes size))
     nothing : (n : ℕ) → 0 * n ≡ 0
     nothing n = omega arith
 
--- the first pages and the next one
+-- the first n pages and the next page
 pub pages_next : (size : PageSize) (pag : List ℕ) (n : ℕ) → take (n * page_bytes size) pag ++ page_at size pag n ≡ take ((n + 1) * page_bytes size) pag
 pages_next size pag n =
     let start = n * page_bytes size in
@@ -101,7 +101,7 @@ ceil_past : (size : PageSize) (long n : ℕ) → long / page_bytes size + min 1 
 ceil_past Small long n h = omega arith
 ceil_past Wide long n h = omega arith
 
--- so many first pages are all
+-- n pages are the whole file, if n is at least its number of pages, a partial last page included
 pub all_taken : (size : PageSize) (pag : List ℕ) (n b : ℕ) → b ≡ page_bytes size → length pag / b + min 1 (length pag % b) ≤ n → take (n * page_bytes size) pag ≡ pag
 all_taken size pag n b is past =
     take_all (n * page_bytes size) pag (ceil_past size (length pag) n (subst (λ (k : ℕ). length pag / k + min 1 (length pag % k) ≤ n) is past))

@@ -1,4 +1,4 @@
--- Pages that are parsed one after the other.
+-- Laws of parsing pages one after another.
 use Rattle.std.proofs.Common.{◌≡◌, ◌≢◌, ℕ, ◌+◌, ◌*◌, ◌%◌, ◌<◌, ◌≤◌, List, [], ◌++◌, length, length-append, true, false, cond, Option, Some, None, is_some, unwrap_or, inl, inr, refl, sym, ap, ◌∙◌, subst, arith, eqb}
 use Rattle.std.proofs.lemmas.Bool.{cases_eq, cond-true, cond-false, eq-eqb}
 use Rattle.std.specs.FinMap as map
@@ -20,7 +20,7 @@ use Rattle.sdbm_files.proofs.PutLemmas.{AreKept, AreKept-put_page, pairs-put_pag
 use Rattle.sdbm_files.proofs.InstallLemmas.{pages_of-put, AreSized-put, some_put}
 use Rattle.sdbm_files.proofs.PagesInBytes.{pages_whole, all_pages, one_page, more_pages, page_end, page_before, page_behind}
 
--- a bad page stays the lowest one
+-- an invalid page stays the lowest one when bytes are appended
 pub bad_before : (size : PageSize) (pag bytes : List ℕ) (n : ℕ) (fault : PageFault) → IsBadPage size pag n fault → IsBadPage size (pag ++ bytes) n fault
 bad_before size pag bytes n fault bad = record {
   inside = omega (arith, bad.inside, length-append pag bytes);
@@ -31,9 +31,9 @@ bad_before size pag bytes n fault bad = record {
   told = bad.told;
 }
 
--- ---- the pages that are parsed
+-- ---- the parsed pages
 
--- more bytes leave what was parsed
+-- appended bytes do not change the parsed pages
 parsed_before : (size : PageSize) (entries : List (ℕ × Content)) (count : ℕ) (bad next : Option (ℕ × PageFault)) (pag bytes : List ℕ) → EndsAt size (pag ++ bytes) count next
     → AreParsed size entries count bad pag → AreParsed size entries count next (pag ++ bytes)
 parsed_before size entries count bad next pag bytes ends are = record {
@@ -48,7 +48,7 @@ parsed_before size entries count bad next pag bytes ends are = record {
     same : (n : ℕ) → n < count → page_at size (pag ++ bytes) n ≡ page_at size pag n
     same n h = page_before size pag bytes n (page_end size (length pag) n count are.inside h)
 
--- one page more
+-- one more page
 module _ (size : PageSize) (old new : List (ℕ × Content)) (count : ℕ) (pairs : List Pair) (bytes : List ℕ) (long : length bytes ≡ page_bytes size) (spelled : Spells size bytes pairs) (there : (q : ℕ) → pairs_under new q ≡ cond (eqb q count) pairs (pairs_under old q)) where
   here : pairs_under new count ≡ pairs
   here = there count ∙ cond-true _ _ _ (eq-eqb count count refl)
@@ -77,7 +77,7 @@ module _ (size : PageSize) (old new : List (ℕ × Content)) (count : ℕ) (pair
       before : (n : ℕ) → n < count → page_at size (pag ++ bytes) n ≡ page_at size pag n
       before n h = page_before size pag bytes n (page_end size (length pag) n count are.inside h)
 
--- a page that is none
+-- a page that is invalid
 parsed_bad : (size : PageSize) (entries : List (ℕ × Content)) (count : ℕ) (fault : PageFault) (pag bytes : List ℕ) → length bytes ≡ page_bytes size → IsPageFault size bytes fault → fault ≢ NoMemory
     → length pag ≡ count * page_bytes size → AreParsed size entries count None pag → AreParsed size entries count (Some (count, fault)) (pag ++ bytes)
 parsed_bad size entries count fault pag bytes long is told all are = parsed_before size entries count None (Some (count, fault)) pag bytes ends are
@@ -93,7 +93,7 @@ parsed_bad size entries count fault pag bytes long is told all are = parsed_befo
       told = told;
     }
 
--- nothing was parsed yet
+-- before the first page
 pub parsed_nothing : (size : PageSize) (entries : List (ℕ × Content)) (count : ℕ) (bad : Option (ℕ × PageFault)) (pag : List ℕ) → entries ≡ [] → count ≡ 0 → bad ≡ None → pag ≡ []
     → AreParsed size entries count bad pag
 parsed_nothing size entries count bad pag no_entries no_pages sound none =
@@ -115,7 +115,7 @@ parsed_nothing size entries count bad pag no_entries no_pages sound none =
       ends = some_bytes size;
     }
 
--- bytes that make no whole page
+-- appended bytes that are not a whole page
 pub parsed_rest : (size : PageSize) (entries : List (ℕ × Content)) (count : ℕ) (bad : Option (ℕ × PageFault)) (pag rest : List ℕ) → length pag % page_bytes size ≡ 0
     → length rest < page_bytes size → AreParsed size entries count bad pag → AreParsed size entries count bad (pag ++ rest)
 parsed_rest size entries count bad pag rest whole short are = parsed_before size entries count bad bad pag rest (ends bad are.ends) are
@@ -126,7 +126,7 @@ parsed_rest size entries count bad pag rest whole short are = parsed_before size
         omega (arith, one_page size (length pag) count all, length-append pag rest, short)
     ends (Some b) h = bad_before size pag rest b.0 b.1 h
 
--- bytes after a bad page
+-- bytes after an invalid page
 parsed_past : (size : PageSize) (entries : List (ℕ × Content)) (count : ℕ) (bad : Option (ℕ × PageFault)) (pag bytes : List ℕ) → is_some bad ≡ true
     → AreParsed size entries count bad pag → AreParsed size entries count bad (pag ++ bytes)
 parsed_past size entries count bad pag bytes some are = parsed_before size entries count bad bad pag bytes (ends bad some are.ends) are
@@ -135,7 +135,7 @@ parsed_past size entries count bad pag bytes some are = parsed_before size entri
     ends None t h = absurd (cc)
     ends (Some b) t h = bad_before size pag bytes b.0 b.1 h
 
--- pages that are all parsed are as many as there are
+-- if all pages are valid, all of them are parsed
 same_count : (size : PageSize) (entries : List (ℕ × Content)) (count total : ℕ) (pag : List ℕ) → length pag ≡ total * page_bytes size → AreParsed size entries count None pag → count ≡ total
 same_count size entries count total pag all are =
     counts size count total (sym (all_pages size (length pag) count (pages_whole size (length pag) total all) are.inside are.ends) ∙ all)
@@ -144,7 +144,7 @@ same_count size entries count total pag all are =
     counts Small m n h = omega arith
     counts Wide m n h = omega arith
 
--- no page after those that were parsed has pairs
+-- no page after the parsed ones has pairs
 none_past : (size : PageSize) (entries : List (ℕ × Content)) (count total : ℕ) (bad : Option (ℕ × PageFault)) (pag : List ℕ) → length pag ≡ total * page_bytes size
     → AreParsed size entries count bad pag → pairs_under entries total ≡ []
 none_past size entries count total bad pag all are = are.past total (counts size count total (subst (λ (k : ℕ). count * page_bytes size ≤ k) all are.inside))
@@ -153,9 +153,9 @@ none_past size entries count total bad pag all are = are.past total (counts size
     counts Small m n h = omega arith
     counts Wide m n h = omega arith
 
--- ---- the bytes that are known
+-- ---- the known bytes
 
--- one page more
+-- one more page
 module _ (size : PageSize) (old new : List (ℕ × Content)) (raw more : ℕ → Option (List ℕ)) (total : ℕ) (kept : Option (List ℕ)) (pag bytes : List ℕ) (all : length pag ≡ total * page_bytes size) (long : length bytes ≡ page_bytes size) where
   known_more : ((q : ℕ) → q ≢ total → pairs_under new q ≡ pairs_under old q) → HasRaw raw more total kept → unwrap_or kept (bytes_of_page size (pairs_under new total)) ≡ bytes
       → AreKnown size old raw total pag → AreKnown size new more (total + 1) (pag ++ bytes)
@@ -181,7 +181,7 @@ module _ (size : PageSize) (old new : List (ℕ × Content)) (raw more : ℕ →
       there : (q : ℕ) → q ≢ total → more q ≡ raw q
       there q other = has none q ∙ cond-false _ _ _ (other_number total q (λ same. other (sym same)))
 
--- bytes after so many pages leave them
+-- appended bytes do not change known ones
 pub known_before : (size : PageSize) (entries : List (ℕ × Content)) (raw : ℕ → Option (List ℕ)) (total : ℕ) (pag bytes : List ℕ) → total * page_bytes size ≤ length pag
     → AreKnown size entries raw total pag → AreKnown size entries raw total (pag ++ bytes)
 known_before size entries raw total pag bytes inside are = record {
@@ -189,7 +189,7 @@ known_before size entries raw total pag bytes inside are = record {
   past = are.past;
 }
 
--- the same bytes are kept
+-- the same bytes are stored
 pub known_same : (size : PageSize) (entries : List (ℕ × Content)) (raw same : ℕ → Option (List ℕ)) (total : ℕ) (pag : List ℕ) → ((n : ℕ) → same n ≡ raw n)
     → AreKnown size entries raw total pag → AreKnown size entries same total pag
 known_same size entries raw same total pag is are = record {
@@ -197,13 +197,13 @@ known_same size entries raw same total pag is are = record {
   past = λ n h. is n ∙ are.past n h;
 }
 
--- nothing is known yet
+-- before the first page
 pub known_nothing : (size : PageSize) (entries : List (ℕ × Content)) (raw : ℕ → Option (List ℕ)) (total : ℕ) (pag : List ℕ) → ((n : ℕ) → raw n ≡ None) → total ≡ 0 → AreKnown size entries raw total pag
 known_nothing size entries raw total pag none start = record { each = λ n h. absurd (omega (arith, h, start)); past = λ n h. none n }
 
--- ---- what is taken
+-- ---- taking pages
 
--- a page is kept as it is read
+-- a page is stored as read
 module _ (size : PageSize) (old new : List (ℕ × Content)) (raw more : ℕ → Option (List ℕ)) (count total : ℕ) (page : Option Content) (kept : Option (List ℕ)) (bytes : List ℕ) (long : length bytes ≡ page_bytes size) (read : IsRead size bytes page) (put : HasPage old new total page) (has : HasRaw raw more total kept) (is : unwrap_or kept (bytes_of_page size (pairs_of_page page)) ≡ bytes) where
   pub taken_more : (pag : List ℕ) → length pag ≡ total * page_bytes size → AreTaken size old raw count None total pag → AreTaken size new more (total + 1) None (total + 1) (pag ++ bytes)
   taken_more pag all are = record {
@@ -238,7 +238,7 @@ module _ (size : PageSize) (old new : List (ℕ × Content)) (raw more : ℕ →
       stays (Some c) has some spelled =
           subst (AreKept size) (sym (pages_of-put old new total (Some c) c.pairs has (some_put c some))) (AreKept-put_page size (pages_of old) total c.pairs spelled.page parsed.pages)
 
--- a page is none, or stands after one that is none
+-- a page that is invalid, or comes after an invalid one
 module _ (size : PageSize) (entries : List (ℕ × Content)) (raw more : ℕ → Option (List ℕ)) (count total : ℕ) (kept : Option (List ℕ)) (bytes : List ℕ) (long : length bytes ≡ page_bytes size) (has : HasRaw raw more total kept) (is : unwrap_or kept (bytes_of_page size []) ≡ bytes) where
   known_unparsed : (bad : Option (ℕ × PageFault)) (pag : List ℕ) → length pag ≡ total * page_bytes size → AreTaken size entries raw count bad total pag → AreKnown size entries more (total + 1) (pag ++ bytes)
   known_unparsed bad pag all are =
@@ -259,7 +259,7 @@ module _ (size : PageSize) (entries : List (ℕ × Content)) (raw more : ℕ →
       → AreTaken size entries more count bad (total + 1) (pag ++ bytes)
   taken_past bad pag some all are = record { parsed = parsed_past size entries count bad pag bytes some are.parsed; known = known_unparsed bad pag all are }
 
--- bytes that are put into the same ones
+-- storing bytes in an equal map
 pub put_behind : (raw same more : ℕ → Option (List ℕ)) (n : ℕ) (kept : Option (List ℕ)) → ((q : ℕ) → same q ≡ raw q) → HasRaw same more n kept → HasRaw raw more n kept
 put_behind raw same more n kept is has none q = has (is n ∙ none) q ∙ ap (cond (eqb n q) kept) (is q)
 

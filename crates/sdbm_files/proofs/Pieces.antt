@@ -1,4 +1,4 @@
--- A piece of a file that is read page by page.
+-- Reading a piece of a file page by page.
 use Rattle.std.proofs.Common.{◌≡◌, ℕ, ◌+◌, ◌*◌, ◌-◌, ◌/◌, ◌%◌, ◌<◌, ◌≤◌, List, ◌++◌, length, length-append, length-drop, take, drop, sym, ap, ◌∙◌, subst, arith, append_assoc}
 use Rattle.std.proofs.lemmas.List.{append-nil, length-take-le, take-append-drop, take_rest}
 use Rattle.std.proofs.Math.Seq.{take-add}
@@ -7,14 +7,14 @@ use Rattle.sdbm_addr.specs.declared.PageSize.TheVariants.{Small, Wide}
 use Rattle.sdbm_addr.specs.Pairs.{page_bytes}
 use Rattle.sdbm_files.specs.Reading.{PagRead, with_piece}
 
--- the bytes that were read, with others in their place
+-- the same file with other bytes
 abbrev with_bytes : PagRead → List ℕ → PagRead
 with_bytes read bytes = record { size = read.size; bytes = bytes }
 
 pub piece_none : (read : PagRead) (piece : List ℕ) (n : ℕ) → n ≡ 0 → read ≡ with_piece read (take n piece)
 piece_none read piece n none = sym (ap (with_bytes read) (ap (λ (k : ℕ). read.bytes ++ take k piece) none ∙ append-nil read.bytes))
 
--- two pieces one after the other
+-- two pieces in a row
 pub piece_more : (read middle new : PagRead) (first second both : List ℕ) → middle ≡ with_piece read first → new ≡ with_piece middle second → first ++ second ≡ both → new ≡ with_piece read both
 piece_more read middle new first second both before is parts =
     is ∙ ap (λ (r : PagRead). with_piece r second) before ∙ ap (with_bytes read) (append_assoc read.bytes first second ∙ ap (λ (l : List ℕ). read.bytes ++ l) parts)
@@ -43,7 +43,7 @@ whole_more : (size : PageSize) (long n : ℕ) → long % page_bytes size ≡ 0 �
 whole_more Small long n h = omega arith
 whole_more Wide long n h = omega arith
 
--- the first pages are read
+-- the first pages of the piece are read
 module _ (read middle : PagRead) (piece : List ℕ) (index : ℕ) (before : middle ≡ with_piece read (take (index * page_bytes read.size) piece)) (inside : index * page_bytes read.size ≤ length piece) where
   long : length middle.bytes ≡ length read.bytes + index * page_bytes read.size
   long = ap (λ (r : PagRead). length r.bytes) before ∙ length-append read.bytes (take (index * page_bytes read.size) piece)
@@ -56,7 +56,7 @@ module _ (read middle : PagRead) (piece : List ℕ) (index : ℕ) (before : midd
   whole_still whole =
       ap (λ (s : PageSize). length middle.bytes % page_bytes s) same_size ∙ ap (λ (k : ℕ). k % page_bytes read.size) long ∙ whole_more read.size (length read.bytes) index whole
 
-  -- the next one
+  -- the next page
   module _ (b : ℕ) (b_is : b ≡ page_bytes read.size) (below : index < length piece / b) where
     abbrev part : List ℕ
     part = take (index * b + b - index * b) (drop (index * b) piece)
@@ -94,7 +94,7 @@ module _ (read middle : PagRead) (piece : List ℕ) (index : ℕ) (before : midd
         next_at Small index = omega arith
         next_at Wide index = omega arith
 
--- all whole pages are read, and the rest is left
+-- all whole pages are read, and the rest is not
 module _ (read middle : PagRead) (piece : List ℕ) (index b : ℕ) (before : middle ≡ with_piece read (take (index * page_bytes read.size) piece)) (b_is : b ≡ page_bytes read.size) (all : index ≡ length piece / b) where
   abbrev rest : List ℕ
   rest = take (length piece - length piece / b * b) (drop (length piece / b * b) piece)

@@ -1,4 +1,4 @@
--- What is kept of the bytes that were read, after more of them.
+-- The state after more bytes are read.
 use Rattle.std.proofs.Common.{◌≡◌, ℕ, ◌+◌, ◌*◌, ◌/◌, ◌%◌, ◌<◌, List, ◌++◌, length, length-append, drop, Option, sym, ap, ◌∙◌, subst, arith}
 use Rattle.std.proofs.lemmas.List.{drop_all, drop-append-le}
 use Rattle.sdbm_addr.specs.declared.PageSize.{PageSize}
@@ -13,7 +13,7 @@ pub read_same : (size : PageSize) (len : ℕ) (entries : List (ℕ × Content)) 
     → IsReadAs size len entries raw count bad rest pag → IsReadAs size len entries raw count bad same pag
 read_same size len entries raw count bad rest same pag is = subst (λ (l : List ℕ). IsReadAs size len entries raw count bad l pag) (sym is)
 
--- bytes that make no whole page are read after whole ones
+-- reading bytes that are not a whole page, after whole pages
 pub read_rest : (size : PageSize) (len next : ℕ) (entries : List (ℕ × Content)) (raw : ℕ → Option (List ℕ)) (count : ℕ) (bad : Option (ℕ × PageFault)) (rest more pag bytes : List ℕ)
     → length pag % page_bytes size ≡ 0 → length bytes < page_bytes size → next ≡ len + length bytes → more ≡ rest ++ bytes
     → IsReadAs size len entries raw count bad rest pag → IsReadAs size next entries raw count bad more (pag ++ bytes)
@@ -40,7 +40,7 @@ read_still size len number old new raw more count counted bad found rest pag is 
     let t = taken (subst (λ (k : ℕ). AreTaken size old raw count bad k pag) (sym is) (record { parsed = before.parsed; known = before.known })) in
     record { long = before.long; parsed = t.parsed; known = subst (λ (k : ℕ). AreKnown size new more k pag) is t.known; rest = before.rest }
 
--- a page is read after whole ones
+-- reading a page after whole pages
 pub read_page : (size : PageSize) (len next number : ℕ) (old new : List (ℕ × Content)) (raw more : ℕ → Option (List ℕ)) (count counted : ℕ) (bad found : Option (ℕ × PageFault)) (rest pag bytes : List ℕ)
     → length pag % page_bytes size ≡ 0 → length bytes ≡ page_bytes size → next ≡ len + length bytes → number ≡ whole_pages size pag → IsReadAs size len old raw count bad rest pag
     → (length pag ≡ number * page_bytes size → AreTaken size old raw count bad number pag → AreTaken size new more counted found (number + 1) (pag ++ bytes))

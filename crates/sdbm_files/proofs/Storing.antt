@@ -1,4 +1,4 @@
--- A pair stored where its page stands, as the database sees it.
+-- The effect on the database of storing a pair in place.
 use Rattle.std.proofs.Common.{◌≡◌, ◌≢◌, ℕ, List, [], Some, unwrap_or, refl, sym, ap, ◌∙◌, subst}
 use Rattle.std.specs.Option.{option_map}
 use Rattle.std.specs.FinMap as map
@@ -26,7 +26,7 @@ module _ (mode : Mode) (kind : KeyBytes) (size : PageSize) (d : Splits) (entries
   pub stored_is : database_of kind size d new ≡ installed (database_of kind size d entries) number (with_stored (content_at (database_of kind size d entries) number) key value) [] []
   stored_is = database_is kind size d d new _ refl (s.pages ∙ ap (λ (p : Content). put_page (pages_of entries) number (stored p.pairs key value)) the_page)
 
-  -- the page was there, so it had pairs
+  -- the page existed, so it had pairs
   pub stored_there : IsDatabase (database_of kind size d entries) → pairs_at (database_of kind size d entries) number ≢ []
   stored_there ok none =
       let got : map.get (database_of kind size d entries).pages number ≡ Some s.page.pairs = get-database_of kind size d entries number ∙ ap (option_map (λ (c : Content). c.pairs)) s.under in

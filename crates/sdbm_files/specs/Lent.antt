@@ -1,9 +1,9 @@
--- Pairs as they lie in their pages.
+-- Borrowed pairs.
 use Rattle.std.specs.Prelude.{ℕ, List, map}
 use Rattle.std.specs.Borrow.{Bor}
 use Rattle.sdbm_addr.specs.Pairs.{Pair}
 
--- the pair of a key and a value that are lent
+-- a borrowed pair of a key and a value
 abbrev pub pair_lent : Bor (List ℕ) × Bor (List ℕ) → Pair
 pair_lent lent = (lent.0.now, lent.1.now)
 

@@ -1,15 +1,15 @@
--- How long a `.pag` may be that is read or written (own), and the databases that one has room for.
+-- The greatest length of a `.pag` that is read or written (own), and the databases within it.
 use Rattle.std.specs.Prelude.{◌≢◌, ◌<◌, ◌||◌, ℕ, Bool, true, false, nat_lt, List, [], ◌∷◌}
 use Rattle.sdbm_addr.specs.declared.PageSize.{PageSize}
 use Rattle.sdbm_addr.specs.declared.PageSize.TheVariants.{Small, Wide}
 use Rattle.sdbm_addr.specs.Pairs.{Pair, Content}
 use Rattle.sdbm_addr.specs.Database.{Database, pairs_at}
 
--- the most bytes of a `.pag`: 1 GiB
+-- the greatest length of a `.pag` in bytes: 1 GiB
 abbrev pub pag_limit : ℕ
 pag_limit = 1073741824
 
--- how many pages of a size have room in it
+-- the number of pages within that length
 abbrev pub most_pages : PageSize → ℕ
 most_pages Small = 1048576
 most_pages Wide = 131072
@@ -22,6 +22,6 @@ abbrev pub is_bare : List Pair → Bool
 is_bare [] = true
 is_bare (e ∷ es) = false
 
--- a page under its number ends within the longest `.pag`, or has no pairs and takes no place there
+-- the page ends within the longest `.pag` under its number, or it has no pairs and needs no space there
 abbrev pub has_place : PageSize → ℕ × Content → Bool
 has_place size e = is_bare e.1.pairs || nat_lt e.0 (most_pages size)

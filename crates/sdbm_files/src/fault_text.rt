@@ -1,4 +1,4 @@
-//! The text of a fault: its name, and in brackets where it is and what.
+//! Displays a fault as its name, followed in brackets by its page number and its cause, if it has them.
 use crate::OpenFault;
 use std::error::Error;
 use std::fmt;

@@ -1,4 +1,4 @@
-//! The two files of a database as one value: the directory of `.dir`, and the pages of `.pag` that have pairs, by number.
+//! The two files of a database as one value: the directory from `.dir`, and the pages from `.pag` that have pairs, by number.
 #![tactic(auto)]
 
 ghost use Rattle.std.specs.Prelude.{◌≡◌, ◌≢◌, ◌<◌, ◌≤◌, ◌+◌, ◌%◌, ◌^◌, [], length, true, false, IfOk, OnOk, IfErr, OnErr, IfSome};
@@ -46,8 +46,8 @@ use std::marker::Model;
 pub use widening::widen;
 pub use writing::WriteFault;
 
-/// A database, seen as how its keys hash, how large its pages are, which prefixes are split, and the pairs of each page. All
-/// pairs stand on the pages to which their keys lead. Pages without pairs are not kept.
+/// A database. The model is how its keys hash, its page size, the split prefixes, and the pairs of each page. Every pair is on the page
+/// that its key leads to. Pages without pairs are not stored.
 #[derive(Drop)]
 pub struct Image<A: Allocator> {
     alloc: A,
@@ -71,7 +71,7 @@ impl<A: Allocator> Model for Image<A> {
 }
 
 impl<A: Allocator + Copy> Image<A> {
-    /// A database without pairs or splits. It takes no memory.
+    /// A database without pairs or splits. Does not allocate.
     pub fn empty(alloc: A, kind: KeyBytes, size: PageSize) -> Self
         ensures { result ≡ empty_database kind size }
     {
@@ -84,14 +84,14 @@ impl<A: Allocator + Copy> Image<A> {
         }
     }
 
-    /// The database that the bytes of `.dir` and `.pag` spell (Yigit, sdbm 1990), with keys that hash so and pages of a size; the
-    /// files do not say which. They may be any bytes. Free bytes of pages may be anything, and pages without pairs and zeros of
-    /// `.dir` may stand at the end; none of these is kept.
+    /// Reads the bytes of `.dir` and `.pag` (Yigit, sdbm 1990). The caller gives the way keys hash and the page size, because the files
+    /// do not record them. The bytes may have any values. Free bytes of pages are ignored, and so are pages without pairs and zeros of
+    /// `.dir` at the end.
     ///
     /// # Errors
-    /// `PagLength` where `.pag` has no whole number of pages; else `Page` with the lowest number of a page that is none, and why;
-    /// else `Dir` where the bytes of `.dir` are no directory, and why; else `Misplaced` with the lowest number of a page with a key
-    /// that leads to another page. `NoMemory` where memory is refused on the way.
+    /// `PagLength` if `.pag` is not a whole number of pages; otherwise `Page` with the lowest number of an invalid page, and its fault;
+    /// otherwise `Dir` with the fault of `.dir`, if its bytes are not a directory; otherwise `Misplaced` with the lowest number of a
+    /// page with a key that leads to another page. `NoMemory` if allocation fails before that.
     pub fn open(
         alloc: A,
         dir: &[u8],
@@ -116,8 +116,8 @@ impl<A: Allocator + Copy> Image<A> {
         Image::open_parsed(alloc, dir, &read, kind)
     }
 
-    /// The same for a `.pag` that was read piece by piece, in pages of either size. Where these have the size of the database it
-    /// shares them until it changes them; else all bytes are copied and parsed again. What was read stays as it is.
+    /// Like `open`, for a `.pag` that was read in pieces, with pages of either size. If its page size is that of the database, its pages
+    /// are shared until the database changes them; otherwise all bytes are copied and parsed again. `pag` does not change.
     ///
     /// # Errors
     /// Those of `open`.
@@ -147,7 +147,7 @@ impl<A: Allocator + Copy> Image<A> {
         Image::open(alloc, dir, bytes.as_slice(), kind, size)
     }
 
-    // The same for a database whose pages have the size of those that were read.
+    // `open_read` if the pages that were read have the page size of the database.
     fn open_parsed(
         alloc: A,
         dir: &[u8],
@@ -188,21 +188,21 @@ impl<A: Allocator + Copy> Image<A> {
         })
     }
 
-    /// How the keys hash.
+    /// How keys hash.
     pub fn key_bytes(&self) -> KeyBytes
         ensures { result ≡ self.now.kind }
     {
         self.kind
     }
 
-    /// How large the pages are.
+    /// The page size.
     pub fn page_size(&self) -> PageSize
         ensures { result ≡ self.now.size }
     {
         self.size
     }
 
-    /// The page with a number, where it has pairs.
+    /// The page with a number, or `None` if it has no pairs.
     pub fn page(&self, number: u32) -> Option<&SharedPage<A>>
         ensures pairs { option_map (λ p. p.now.pairs) result ≡ map.get self.now.pages number }
         ensures size { IfSome result (λ p. p.now.size ≡ self.now.size) }
@@ -211,7 +211,7 @@ impl<A: Allocator + Copy> Image<A> {
         self.pages.get(&number)
     }
 
-    /// The place to which a key leads.
+    /// The place of a key.
     pub fn place(&self, key: &[u8]) -> Place
         ensures depth { IsDepth self.now.splits (hash_of self.now.kind key.now) result.depth }
         ensures shallow { result.depth ≤ 31 }
@@ -223,9 +223,9 @@ impl<A: Allocator + Copy> Image<A> {
         self.dir.place(hash(key, self.kind))
     }
 
-    /// Puts in what a plan for the page of a place gives: its leaf under the number of that page, its twins, and its bits. All
-    /// memory is taken first, for a plan without splits only where the place has no page: where none is left the database is as it
-    /// was, and the plan comes back.
+    /// Installs a plan for the page of a place: its leaf under the number of that page, its twins, and its bits. All memory is allocated
+    /// first; a plan without splits allocates only if the place has no page. If allocation fails, the database is unchanged and the plan
+    /// is returned.
     pub fn install(&mut self, place: Place, plan: Plan<A>) -> Result<(), (AllocError, Plan<A>)>
         requires { IsInstallable self.old place.page plan.leaf plan.twins.items plan.bits.items }
         ensures ok { OnOk result (self.new ≡ installed self.old place.page plan.leaf plan.twins.items plan.bits.items) }
@@ -248,7 +248,7 @@ impl<A: Allocator + Copy> Image<A> {
         Ok(())
     }
 
-    // The same for a plan without splits, which takes memory only where the place has no page.
+    // `install` for a plan without splits. Allocates only if the place has no page.
     fn install_leaf(&mut self, place: Place, plan: Plan<A>) -> Result<(), (AllocError, Plan<A>)>
         requires installable { IsInstallable self.old place.page plan.leaf plan.twins.items plan.bits.items }
         requires twins { plan.twins.items ≡ [] }
@@ -264,8 +264,8 @@ impl<A: Allocator + Copy> Image<A> {
         }
     }
 
-    /// Writes over the value of pair `i` of the page with a number by one as long, and says whether it did: not where someone else
-    /// shares the page. The database is then as it was. It takes no memory.
+    /// Overwrites the value of pair `i` of a page with a value of the same length. Returns `false` and changes nothing if the page has
+    /// another owner. Does not allocate.
     pub fn write_record(&mut self, number: u32, i: usize, value: &[u8]) -> bool
         requires inside { i < length (pairs_at self.old number) }
         requires long { length value.now ≡ length (value_at (pairs_at self.old number) i) }
@@ -276,9 +276,9 @@ impl<A: Allocator + Copy> Image<A> {
         write_record(&mut self.pages, number, i, value)
     }
 
-    /// Stores a pair where the page with a number stands, and says whether it did: not where the number has no page, an insert meets
-    /// its key, the pair does not go on the page beside those of other keys, or someone else shares the page. The database is then as
-    /// it was. It takes no memory.
+    /// Stores a pair by changing the page with a number in place. Returns `false` and changes nothing if there is no page with the
+    /// number, if the key of an insert exists, if the pair does not fit together with the pairs of other keys, or if the page has another
+    /// owner. Does not allocate.
     pub fn store_pair(&mut self, number: u32, key: &[u8], value: &[u8], mode: Mode) -> bool
         requires small { length key.now + length value.now ≤ pair_limit self.old.size }
         requires installable { MayStore mode (content_at self.old number) key.now value.now
@@ -298,7 +298,7 @@ impl<A: Allocator + Copy> Image<A> {
         count_pairs(&self.pages)
     }
 
-    /// All pairs, sorted by the bytes of their keys, or the error where no memory is left for them.
+    /// Copies all pairs, sorted by the bytes of their keys, or returns an error if allocation fails.
     pub fn pairs(&self) -> Result<Vec<(Bytes<A>, Bytes<A>), A>, AllocError>
         ensures pairs { IfOk result (λ pairs. pairs.items ≡ map.entries (map_of self.now)) }
         ensures database { IsDatabase self.now }
@@ -308,8 +308,8 @@ impl<A: Allocator + Copy> Image<A> {
         Ok(pairs)
     }
 
-    /// All pairs as they lie in their pages, sorted by the bytes of their keys: no byte of them is copied. The error is that no memory
-    /// is left for the list.
+    /// Borrows all pairs from their pages, sorted by the bytes of their keys. Copies no bytes. Returns an error if allocation of the list
+    /// fails.
     pub fn lend_pairs(&self) -> Result<Vec<(&[u8], &[u8]), A>, AllocError>
         ensures pairs { IfOk result (λ lent. pairs_lent lent.items ≡ map.entries (map_of self.now)) }
         ensures database { IsDatabase self.now }

@@ -1,4 +1,4 @@
-//! How long a `.pag` may be, and which pages have a place in it.
+//! The limit on the length of a `.pag`, and the pages that are within it.
 ghost use Rattle.std.specs.Prelude.{◌≡◌};
 ghost use Rattle.sdbm_files.specs.Limits.{pag_limit, most_pages, has_place};
 
@@ -6,10 +6,10 @@ use sdbm_addr::PageSize;
 use sdbm_page::SharedPage;
 use std::alloc::Allocator;
 
-/// The most bytes of a `.pag` that is read or written: 1 GiB.
+/// The greatest length in bytes of a `.pag` that is read or written: 1 GiB.
 pub const PAG_LIMIT: u64 = 1_073_741_824;
 
-// How many pages of a size have room in the longest `.pag`.
+// The number of pages in the longest `.pag`.
 fn most_pages(size: PageSize) -> u32
     ensures { result ≡ most_pages size }
 {
@@ -19,7 +19,7 @@ fn most_pages(size: PageSize) -> u32
     }
 }
 
-/// Whether the page under a number has a place in the longest `.pag`: it ends there, or it has no pairs and takes none.
+/// Returns `true` if the page fits into the longest `.pag` under this number: it ends within the limit, or it has no pairs.
 pub fn has_place<A: Allocator + Copy>(size: PageSize, number: u32, page: &SharedPage<A>) -> bool
     ensures { result ≡ has_place size (number, page.now) }
 {

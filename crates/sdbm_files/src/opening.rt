@@ -1,4 +1,4 @@
-//! A database from the bytes of both files.
+//! Checks and conversions for opening a database from the bytes of both files.
 ghost use Rattle.std.specs.Prelude.{◌≡◌, ◌<◌, ◌↔◌, ℕ, IsTrue, IfOk, IfErr, IfSome, IfNone};
 ghost use Rattle.sdbm_addr.specs.declared.PageSize.{PageSize};
 ghost use Rattle.sdbm_addr.specs.DirectoryFile.{SpellsDirectory};
@@ -14,22 +14,22 @@ use sdbm_page::{Page, PageFault};
 use std::alloc::{AllocError, Allocator};
 use std::collections::HashMap;
 
-/// Why the bytes of two files give no database. The faults are tested in this order; memory that runs out ends the call there.
+/// The reason why the bytes of two files are not a database. The faults are tested in this order; a failed allocation ends the test.
 #[derive(Clone, Copy, Debug, PartialEq, Eq)]
 pub enum OpenFault {
-    /// The length of `.pag` is no multiple of the page size.
+    /// The length of `.pag` is not a multiple of the page size.
     PagLength,
-    /// The page with this number, the lowest such, is none. Its fault is never `NoMemory`.
+    /// The page with this number, the lowest invalid one, has this fault. The fault is never `NoMemory`.
     Page(usize, PageFault),
-    /// The bytes of `.dir` are no directory. The fault is never `NoMemory`.
+    /// The bytes of `.dir` are not a directory. The fault is never `NoMemory`.
     Dir(DirFault),
-    /// A key on the page with this number, the lowest such, leads to another page.
+    /// A key on the page with this number leads to another page. It is the lowest such number.
     Misplaced(usize),
-    /// No memory is left for the database.
+    /// Allocation fails.
     NoMemory,
 }
 
-/// The directory that bytes spell.
+/// Reads the bytes of a directory.
 pub fn read_dir<A: Allocator + Copy>(alloc: A, bytes: &[u8]) -> Result<Dir<A>, OpenFault>
     ensures dir { IfOk result (λ dir. SpellsDirectory bytes.now dir.splits) }
     ensures fault { IfErr result (IsFaultOfDir bytes.now) }
@@ -41,7 +41,7 @@ pub fn read_dir<A: Allocator + Copy>(alloc: A, bytes: &[u8]) -> Result<Dir<A>, O
     }
 }
 
-/// The lowest number of a page, of so many, with a key that leads to another page.
+/// The lowest number below `count` of a page with a key that leads to another page, or `None`.
 pub fn misplaced<A: Allocator>(
     dir: &Dir<A>,
     kind: KeyBytes,
@@ -59,7 +59,7 @@ pub fn misplaced<A: Allocator>(
     None
 }
 
-// Whether each key leads to the page with this number.
+// Returns `true` if each key of the page with this number leads to it.
 fn leads_here<A: Allocator>(
     dir: &Dir<A>,
     kind: KeyBytes,
@@ -74,8 +74,8 @@ fn leads_here<A: Allocator>(
     }
 }
 
-/// Whether each key of a page leads to this number. Where the first one does, the others do whose hashes have its lowest bits, as
-/// many as lead to the page.
+/// Returns `true` if each key of a page leads to this number. If the first key does, its depth gives the number of lowest bits of the
+/// hash that lead to the page, and it is enough to compare these bits of the remaining hashes.
 pub fn keys_lead<A: Allocator>(dir: &Dir<A>, kind: KeyBytes, number: usize, page: &Page<A>) -> bool
     ensures { IsTrue result ↔ LeadTo kind dir.now.splits number page.now.pairs }
 {
@@ -95,7 +95,7 @@ pub fn keys_lead<A: Allocator>(dir: &Dir<A>, kind: KeyBytes, number: usize, page
     true
 }
 
-/// The same pages, shared, under the same numbers.
+/// Shares the same pages under the same numbers.
 pub fn copy_pages<A: Allocator + Copy>(
     alloc: A,
     pages: &Numbered<A>,

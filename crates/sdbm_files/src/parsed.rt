@@ -1,4 +1,4 @@
-//! Pages of a `.pag` file, parsed one by one.
+//! Parses the pages of a `.pag` file one by one.
 ghost use Rattle.std.specs.Prelude.{◌≡◌, ◌≢◌, ◌<◌, ◌^◌, ℕ, List, [], Option, length, false, IfOk, IfErr, IfSome, OnOk, OnErr, None, unwrap_or};
 ghost use Rattle.std.specs.HashMap.{spare};
 ghost use Rattle.sdbm_addr.specs.Pairs.{page_bytes};
@@ -16,22 +16,22 @@ use std::alloc::{AllocError, Allocator};
 use std::collections::HashMap;
 use std::hash::{BuildHasherDefault, FoldHasher};
 
-/// The pages that have pairs, each under its number in the file.
+/// Pages that have pairs, by their number in the file.
 pub type Numbered<A> = HashMap<usize, SharedPage<A>, BuildHasherDefault<FoldHasher>, A>;
 
-/// Bytes of whole pages, each under its number in the file.
+/// Bytes of whole pages, by their number in the file.
 pub type Raw<A> = HashMap<usize, Vec<u8, A>, BuildHasherDefault<FoldHasher>, A>;
 
-/// What the whole pages of a file have come to.
+/// The result of parsing the whole pages of a file.
 #[derive(Drop)]
 pub struct Parsed<A: Allocator> {
     /// The pages that have pairs.
     pub pages: Numbered<A>,
-    /// The bytes of the pages that have others than their own, and of those that were not parsed, where these are not all zeros.
+    /// The bytes of pages that are not canonical, and of pages that were not parsed, except those that are all zeros.
     pub raw: Raw<A>,
-    /// How many pages were parsed.
+    /// The number of pages that were parsed.
     pub count: usize,
-    /// The page after those, where it is none. No further one is parsed.
+    /// The page after those, if it is invalid, and its fault. No later page is parsed.
     pub bad: Option<(usize, PageFault)>,
 }
 
@@ -51,8 +51,8 @@ impl<A: Allocator + Copy> Parsed<A> {
         }
     }
 
-    /// Takes one page more, the one with this number, and parses it where no page before it was bad. Where no memory is left for it
-    /// the pages are as they were.
+    /// Adds the next page, which has this number, and parses it unless a page before it was invalid. If allocation fails, the pages are
+    /// unchanged.
     pub fn take(
         &mut self,
         alloc: A,
@@ -78,7 +78,7 @@ impl<A: Allocator + Copy> Parsed<A> {
         }
     }
 
-    // Keeps the page that bytes spell after the others.
+    // Adds a parsed page.
     fn keep(
         &mut self,
         alloc: A,
@@ -101,7 +101,7 @@ impl<A: Allocator + Copy> Parsed<A> {
         Ok(())
     }
 
-    /// The bytes of the page with a number: those that are kept, or else the page's own.
+    /// The bytes of the page with a number: the stored bytes, or the canonical bytes of the page if none are stored.
     pub fn bytes(&self, number: usize, size: PageSize) -> &[u8]
         requires { AreSized size self.now.pages.entries }
         ensures { result.now ≡ known_under size self.now.pages.entries (raw_under self.now.raw.entries) number }
@@ -113,7 +113,7 @@ impl<A: Allocator + Copy> Parsed<A> {
     }
 }
 
-// Keeps the bytes of a page that is not parsed, where they are not all zero.
+// Stores the bytes of a page that is not parsed, unless they are all zeros.
 fn keep_bytes<A: Allocator + Copy>(
     alloc: A,
     raw: &mut Raw<A>,
@@ -129,7 +129,7 @@ fn keep_bytes<A: Allocator + Copy>(
     Ok(())
 }
 
-// A copy of bytes that are not a page's own, and room to keep it.
+// Copies bytes that differ from the page's canonical bytes, and makes room to store the copy.
 fn copy_foreign<A: Allocator + Copy>(
     alloc: A,
     raw: &mut Raw<A>,
@@ -148,7 +148,7 @@ fn copy_foreign<A: Allocator + Copy>(
     Ok(Some(copy))
 }
 
-// Keeps bytes under a number, where there are some.
+// Stores bytes under a number, if there are any.
 fn put_bytes<A: Allocator + Copy>(raw: &mut Raw<A>, number: usize, copy: Option<Vec<u8, A>>)
     requires { IfSome copy (λ _. 0 < spare raw.old) }
     ensures { HasRaw (raw_under raw.old.entries) (raw_under raw.new.entries) number (bytes_in copy) }
@@ -161,7 +161,7 @@ fn put_bytes<A: Allocator + Copy>(raw: &mut Raw<A>, number: usize, copy: Option<
     };
 }
 
-// Keeps a page under a number, where there is one.
+// Stores a page under a number, if there is one.
 fn insert_page<A: Allocator + Copy>(
     pages: &mut Numbered<A>,
     number: usize,
@@ -179,7 +179,7 @@ fn insert_page<A: Allocator + Copy>(
     }
 }
 
-/// The page that bytes spell, none where it has no pairs, or why they spell none. The error is that no memory is left.
+/// Reads a page: `None` if it has no pairs, or the fault if the bytes are not a page. Returns an error if allocation fails.
 pub fn read_page<A: Allocator + Copy>(
     alloc: A,
     bytes: &[u8],
@@ -199,14 +199,14 @@ pub fn read_page<A: Allocator + Copy>(
     }
 }
 
-// Whether bytes are others than a page's own.
+// Returns `true` if bytes are not the canonical bytes of a page.
 fn differs(own: &[u8], bytes: &[u8]) -> bool
     ensures { result ≡ false → own.now ≡ bytes.now }
 {
     own != bytes
 }
 
-// The bytes that are written for a page.
+// The canonical bytes of a page.
 fn own_bytes<A: Allocator>(page: &Option<SharedPage<A>>, size: PageSize) -> &[u8]
     requires { IfSome page.now (λ content. content.size ≡ size) }
     ensures { result.now ≡ bytes_of_page size (pairs_of_page page.now) }
@@ -217,7 +217,7 @@ fn own_bytes<A: Allocator>(page: &Option<SharedPage<A>>, size: PageSize) -> &[u8
     }
 }
 
-// The bytes that are written for the page with a number.
+// The canonical bytes of the page with a number.
 fn bytes_under<A: Allocator>(pages: &Numbered<A>, number: usize, size: PageSize) -> &[u8]
     requires { AreSized size pages.now.entries }
     ensures { result.now ≡ bytes_of_page size (pairs_under pages.now.entries number) }

@@ -1,4 +1,4 @@
-//! A part of a database: one page of it alone, and which pages it has.
+//! A database restricted to one page, and the numbers of its pages.
 ghost use Rattle.std.specs.Prelude.{◌≡◌, ◌≢◌, ◌↔◌, ℕ, [], length, nat_eq, IsTrue, IfOk, IfSome, IfNone};
 ghost use Rattle.std.specs.List.{All, Contains};
 ghost use Rattle.std.specs.List.Sorted.{IsStrictlyIncreasing};
@@ -22,13 +22,13 @@ use std::alloc::{AllocError, Allocator};
 use std::collections::HashMap;
 
 impl<A: Allocator + Copy> Image<A> {
-    /// The database that the bytes of `.dir` spell with one page alone, whose number and bytes are given. All other pages are without
-    /// pairs. A command that asks for one key needs no more. The work goes by the bytes that are given, whatever the number is. None
-    /// where no database has that directory and that page: the bytes of `.dir` are no directory, those of the page are no page, or a
-    /// key on it leads to another page.
+    /// Opens a database restricted to one page, from the bytes of `.dir` and the number and the bytes of the page. All other pages have
+    /// no pairs. This is enough for a command on one key. The time depends only on the given bytes, not on the page number. Returns
+    /// `None` if no database has that directory and that page: the bytes of `.dir` are not a directory, those of the page are not a
+    /// page, or a key on it leads to another page.
     ///
     /// # Errors
-    /// `AllocError` where no memory is left for it.
+    /// `AllocError` if allocation fails.
     pub fn open_page(
         alloc: A,
         dir: &[u8],
@@ -70,7 +70,7 @@ impl<A: Allocator + Copy> Image<A> {
     /// The numbers of the pages that have pairs, in ascending order.
     ///
     /// # Errors
-    /// `AllocError` where no memory is left for them.
+    /// `AllocError` if allocation fails.
     pub fn page_numbers(&self) -> Result<Vec<u32, A>, AllocError>
         ensures covers { IfOk result (λ numbers. (n : ℕ) → pairs_at self.now n ≢ [] → Contains numbers.items n) }
         ensures only { IfOk result (λ numbers. All (λ (n : ℕ). pairs_at self.now n ≢ []) numbers.items) }
@@ -82,7 +82,7 @@ impl<A: Allocator + Copy> Image<A> {
     }
 }
 
-// Whether each key of a page that may not be kept leads to this number.
+// Returns `true` if there is no page, or if each of its keys leads to this number.
 fn leads_there<A: Allocator>(
     dir: &Dir<A>,
     kind: KeyBytes,
@@ -97,7 +97,7 @@ fn leads_there<A: Allocator>(
     }
 }
 
-// One page under its number.
+// A map with one page under its number.
 fn one_page<A: Allocator + Copy>(
     alloc: A,
     number: u32,

@@ -1,4 +1,4 @@
-//! The pages of a `.pag` file that is read piece by piece.
+//! Reads the pages of a `.pag` file in pieces.
 ghost use Rattle.std.specs.Prelude.{◌≡◌, ◌+◌, ◌%◌, ◌^◌, ◌<◌, ◌≤◌, ◌↔◌, ℕ, [], length, get_or, IsTrue, IfOk, OnOk, OnErr};
 ghost use Rattle.sdbm_addr.specs.Pairs.{page_bytes};
 ghost use Rattle.sdbm_addr.specs.Files.{page_at};
@@ -9,12 +9,12 @@ use sdbm_addr::PageSize;
 use std::alloc::{AllocError, Allocator};
 use std::marker::Model;
 
-/// How many bytes a block has, which is what a save compares and writes at once.
+/// The size of a block in bytes. A save compares and writes whole blocks.
 pub const BLOCK: usize = 1024;
 
-/// A `.pag` file as far as it was read, seen as the size of its pages and all its bytes so far. It keeps the pages that have pairs,
-/// the bytes of a page where they are not its own, and those after the last whole page, so a hole takes no memory;
-/// `Image::open_read` opens the database over the same pages.
+/// The part of a `.pag` file that was read so far. The model is its page size and all its bytes. It stores the pages that have pairs,
+/// the bytes of pages that are not canonical, and the bytes after the last whole page, so a hole takes no memory. `Image::open_read`
+/// opens the database over the same pages.
 #[derive(Drop)]
 pub struct ReadPages<A: Allocator> {
     alloc: A,
@@ -38,7 +38,7 @@ impl<A: Allocator> Model for ReadPages<A> {
 impl<A: Allocator + Copy> ReadPages<A> {
     ghost use Rattle.sdbm_files.specs.Reading.{with_piece, IsPartlyRead, IsBlock};
 
-    /// A file of which nothing was read, with pages of a size. It takes no memory.
+    /// A file with pages of a size, with nothing read yet. Does not allocate.
     pub fn new(alloc: A, size: PageSize) -> Self
         ensures { result ≡ record { size = size; bytes = [] } }
     {
@@ -52,39 +52,39 @@ impl<A: Allocator + Copy> ReadPages<A> {
         }
     }
 
-    /// How large the pages are.
+    /// The page size.
     pub fn page_size(&self) -> PageSize
         ensures { result ≡ self.now.size }
     {
         self.size
     }
 
-    /// How many bytes were read.
+    /// The number of bytes that were read.
     pub fn len(&self) -> usize
         ensures { result ≡ length self.now.bytes }
     {
         self.len
     }
 
-    /// Whether nothing was read.
+    /// Returns `true` if nothing was read.
     pub fn is_empty(&self) -> bool
         ensures { IsTrue result ↔ (length self.now.bytes ≡ 0) }
     {
         self.len == 0
     }
 
-    /// Whether whole pages were read.
+    /// Returns `true` if the bytes that were read are a whole number of pages.
     pub fn is_whole(&self) -> bool
         ensures { IsTrue result ↔ (length self.now.bytes % page_bytes self.now.size ≡ 0) }
     {
         self.len % self.size.bytes() == 0
     }
 
-    /// Reads the next piece of the file, after whole pages. It takes memory for the pages of the piece that have pairs, for the bytes
-    /// of a page where they are not its own, and for those after the last whole page. Pages of zeros take none.
+    /// Reads the next piece of the file; the bytes before it must be whole pages. Allocates memory for the pages of the piece that have
+    /// pairs, for the bytes of pages that are not canonical, and for the bytes after the last whole page. Pages of zeros need none.
     ///
     /// # Errors
-    /// `AllocError` where no memory is left. The first pages of the piece may be read then.
+    /// `AllocError` if allocation fails. The first pages of the piece may then be read already.
     pub fn push(&mut self, piece: &[u8]) -> Result<(), AllocError>
         requires whole { length self.old.bytes % page_bytes self.old.size ≡ 0 }
         requires short { length self.old.bytes + length piece.now < 2 ^ 63 }
@@ -100,7 +100,7 @@ impl<A: Allocator + Copy> ReadPages<A> {
         self.push_rest(&piece[count * size..])
     }
 
-    // Reads one page. Where no memory is left nothing was read.
+    // Reads one page. If allocation fails, nothing is read.
     fn push_page(&mut self, page: &[u8]) -> Result<(), AllocError>
         requires whole { length self.old.bytes % page_bytes self.old.size ≡ 0 }
         requires short { length self.old.bytes + length page.now < 2 ^ 63 }
@@ -115,7 +115,7 @@ impl<A: Allocator + Copy> ReadPages<A> {
         Ok(())
     }
 
-    // Reads the bytes after the last whole page. Where no memory is left nothing was read.
+    // Reads the bytes after the last whole page. If allocation fails, nothing is read.
     fn push_rest(&mut self, rest: &[u8]) -> Result<(), AllocError>
         requires whole { length self.old.bytes % page_bytes self.old.size ≡ 0 }
         requires short { length self.old.bytes + length rest.now < 2 ^ 63 }
@@ -129,8 +129,8 @@ impl<A: Allocator + Copy> ReadPages<A> {
         Ok(())
     }
 
-    /// The 1,024 bytes of the file from byte 1,024 times the index on, to compare them with those of another file. A block that
-    /// reaches past the end of the file may be shorter, or empty: the bytes that it lacks count as zeros. It takes no memory.
+    /// Block `index` of the file, 1,024 bytes from byte `1024 * index` on, for comparison with another file. A block that reaches beyond
+    /// the end of the file may be shorter, or empty; its missing bytes count as zeros. Does not allocate.
     pub fn block(&self, index: usize) -> &[u8]
         ensures { IsBlock self.now.bytes index result.now }
     {
@@ -138,10 +138,10 @@ impl<A: Allocator + Copy> ReadPages<A> {
         part(self.page(index / blocks), index % blocks * BLOCK)
     }
 
-    /// A copy of all bytes that were read, to parse them again in pages of the other size. What was read stays as it is.
+    /// Copies all bytes that were read, so that they can be parsed again with the other page size. The pages read do not change.
     ///
     /// # Errors
-    /// `AllocError` where no memory is left for the copy.
+    /// `AllocError` if allocation fails.
     pub fn to_vec(&self, alloc: A) -> Result<Vec<u8, A>, AllocError>
         ensures { IfOk result (λ copy. copy.items ≡ self.now.bytes) }
     {
@@ -152,7 +152,7 @@ impl<A: Allocator + Copy> ReadPages<A> {
         Ok(copy)
     }
 
-    // The bytes of the page with a number, as many of them as were read.
+    // The bytes read so far of the page with a number.
     fn page(&self, number: usize) -> &[u8]
         ensures { result.now ≡ page_at self.now.size self.now.bytes number }
     {
@@ -167,7 +167,7 @@ impl<A: Allocator + Copy> ReadPages<A> {
     }
 }
 
-// The bytes from a place on, at most a block of them.
+// The bytes from `start` on, at most one block.
 fn part(bytes: &[u8], start: usize) -> &[u8]
     ensures short { length result.now ≤ 1024 }
     ensures reads { (i : ℕ) → i < 1024 → get_or result.now i 0 ≡ get_or bytes.now (start + i) 0 }

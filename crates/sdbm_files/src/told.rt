@@ -1,11 +1,11 @@
-// Bytes that only clauses read, so that a value can be tied to all bytes that it was made of and keep none of them.
+// Bytes that exist only for contracts: they relate a value to all bytes that it was made from, without storing these.
 ghost use Rattle.std.specs.Prelude.{◌≡◌, ◌++◌, ℕ, List, []};
 ghost use Rattle.std.specs.Coded.{coded_list, coded_ℕ};
 ghost use base.Fml.{ftrue};
 
 use std::marker::Model;
 
-/// Bytes as clauses see them. It has none itself and owns nothing.
+/// A ghost list of bytes. It has no size at run time and owns nothing.
 pub(crate) struct Told {
     pub(crate) ghost bytes: { List ℕ } by { coded_list coded_ℕ },
 }
@@ -22,7 +22,7 @@ impl Told {
         Told {}
     }
 
-    /// These bytes after the others.
+    /// These bytes appended to the previous ones.
     pub(crate) fn more(&self, bytes: &[u8]) -> Told
         ensures { result.bytes ≡ self.now.bytes ++ bytes.now }
     {

@@ -1,4 +1,4 @@
--- Keys behind slices: in another order, and sorted.
+-- Slices of keys, permuted and sorted.
 use Rattle.std.proofs.Common.{◌≡◌, ◌≢◌, ℕ, ◌+◌, ◌<◌, ◌≤◌, ◌⊎◌, List, [], ◌∷◌, map, length, get_or, set, swap, take, Bool, true, false, IsPermutation, IsSorted, Bor, Ordering, Less, Equal, Greater, nat_cmp, is_eq, is_lt, bytes_eq, inl, inr, refl, sym, ap, ◌∙◌, arith, length-take, get_or-take}
 use Rattle.std.proofs.lemmas.Bool.{cases_eq}
 use Rattle.std.proofs.lemmas.Cmp.{on_total, nat_list_cmp_total}
@@ -41,7 +41,7 @@ differ_from_unlike slices i j h less within d =
     let inside : j < length (read slices) = omega (arith, length-map slices (λ (x : Slice). x.now)) in
     told (get_or slices i d).now (get_or slices j d).now _ refl (λ e. h i j [] less inside (get_or-map (λ x. x.now) slices i d [] (omega arith) ∙ e ∙ sym (get_or-map (λ x. x.now) slices j d [] within)))
 
--- ---- in another order
+-- ---- permuted
 
 either_way : (keys : List (List ℕ)) → AreUnlike keys → (i j : ℕ) (d : List ℕ) → i < length keys → j < length keys → get_or keys i d ≡ get_or keys j d → i ≡ j
 either_way keys h i j d p q e =
@@ -49,7 +49,7 @@ either_way keys h i j d p q e =
     let not_above : j < i → ⊥ = λ less. h j i d less p (sym e) in
     omega arith
 
--- where an exchange of a and b took the element at m from
+-- the source of the element at m when a and b are exchanged
 abbrev From : ℕ → ℕ → ℕ → ℕ → Type 0
 From a b m k = ((m ≡ a) × (k ≡ b)) ⊎ (((m ≡ b) × (k ≡ a)) ⊎ ((m ≢ a) × (m ≢ b) × (k ≡ m)))
 
@@ -83,7 +83,7 @@ only_less o Less e p q = cc
 only_less o Equal e p q = let tie = ap is_eq (sym e) ∙ q in cc
 only_less o Greater e p q = e
 
--- Neighbors that are in order and differ rise, and so do all pairs.
+-- If neighbors are in order and differ, they ascend, and so do all pairs.
 pub differ_from_sorted : (slices : List Slice) → IsSorted slice_order slices → ((k : ℕ) → k + 1 < length slices → DifferAt slices k (k + 1))
     → (i j : ℕ) → i < j → j < length slices → DifferAt slices i j
 differ_from_sorted slices sorted neighbors i j less within d =
@@ -96,7 +96,7 @@ differ_from_sorted slices sorted neighbors i j less within d =
 
 -- ---- the keys of a page
 
--- one key more stands in its place
+-- one more key is stored at its place
 pub stored_next : (bytes : List ℕ) (room : List Slice) (s : Slice) (i : ℕ) → i < length room → s.now ≡ key_of bytes i
     → ((k : ℕ) (d : Slice) → k < i → (get_or room k d).now ≡ key_of bytes k)
     → (k : ℕ) (d : Slice) → k < i + 1 → (get_or (set room i s) k d).now ≡ key_of bytes k

@@ -1,4 +1,4 @@
--- Keys that are told by the last eight bytes.
+-- Comparison of keys by their last eight bytes.
 use Rattle.std.proofs.Common.{◌≡◌, ℕ, zero, suc, ◌+◌, ◌*◌, ◌-◌, ◌<◌, ◌≤◌, ◌==◌, List, [], ◌∷◌, ◌++◌, length, take, drop, slice_range, slice_index, Bool, true, false, refl, sym, ap, ◌∙◌, subst, inl, inr, arith}
 use Rattle.std.proofs.lemmas.Bool.{cases_eq, eq-eqb, ne_eqb}
 use Rattle.std.proofs.lemmas.List.{drop-take, drop-drop, get_or-drop, get_or_past, length-take-le, length-drop, take-append-drop}
@@ -28,7 +28,7 @@ false_where_not : (b : Bool) → (b ≡ true → ⊥) → b ≡ false
 false_where_not true other = absurd (other refl)
 false_where_not false other = refl
 
--- a part with another tail is no key
+-- a part with another tail is not the key
 pub other_tail : (bytes key : List ℕ) (start end tail : ℕ) → end - start ≡ length key → IsTail key tail → (little_number 8 (slice_range bytes (end - 8) end) ≡ tail → ⊥)
     → false ≡ bytes_eq (slice_range bytes start end) key
 other_tail bytes key start end tail long is other =
@@ -48,7 +48,7 @@ bytes_take (suc n) [] f k = f k
 bytes_take (suc n) (x ∷ xs) f zero = f 0
 bytes_take (suc n) (x ∷ xs) f (suc k) = bytes_take n xs (λ j. f (suc j)) k
 
--- bytes that read as one number are the same
+-- two lists of bytes that read as the same number are equal
 same_bytes : (n : ℕ) (xs ys : List ℕ) → n ≤ length xs → n ≤ length ys → AreBytes xs → AreBytes ys → little_from 0 n xs ≡ little_from 0 n ys → take n xs ≡ take n ys
 same_bytes zero xs ys a b f g e = refl
 same_bytes (suc n) [] ys a b f g e = absurd (omega arith)
@@ -62,7 +62,7 @@ same_bytes (suc n) (x ∷ xs) (y ∷ ys) a b f g e =
     let rest : little_from 0 n xs ≡ little_from 0 n ys = omega arith in
     ap (λ h. h ∷ take n xs) head ∙ ap (λ t. y ∷ t) (same_bytes n xs ys (omega arith) (omega arith) (λ k. f (suc k)) (λ k. g (suc k)) rest)
 
--- two lists of sixteen bytes at most whose first eight and last eight are the same
+-- two lists of at most sixteen bytes are equal if their first eight and last eight bytes are
 joined : (p q : List ℕ) (m : ℕ) → length p ≡ m → length q ≡ m → 8 ≤ m → m ≤ 16 → take 8 p ≡ take 8 q → drop (m - 8) p ≡ drop (m - 8) q → p ≡ q
 joined p q m lp lq long few heads tails =
     let sum : m - 8 + (16 - m) ≡ 8 = omega arith in
@@ -83,7 +83,7 @@ same_part p key tail f g long few is last first =
     joined p key (length key) long refl many few heads
     (ap (λ (k : ℕ). drop k p) (sym less) ∙ sym (take_all 8 (drop (length p - 8) p) (omega arith)) ∙ tails ∙ take_all 8 (drop (length key - 8) key) (omega arith))
 
--- where the last eight bytes are a key's, the first eight tell whether all are, if there are no more than sixteen
+-- if the last eight bytes match and there are at most sixteen, the first eight decide whether the key matches
 pub first_tells : (bytes key : List ℕ) (start end tail r s : ℕ) → ((k : ℕ) → slice_index bytes k < 256) → ((k : ℕ) → slice_index key k < 256)
     → start ≤ end → end ≤ length bytes → end - start ≡ length key → length key ≤ 16 → IsTail key tail → little_number 8 (slice_range bytes (end - 8) end) ≡ tail
     → r ≡ little_number 8 (slice_range bytes start (start + 8)) → s ≡ little_number 8 (take 8 key)
@@ -106,7 +106,7 @@ first_tells bytes key start end tail r s f g order inside long few is last first
           (λ same. d (reads_r ∙ ap (little_number 8) ((bytes_eq-Decides (slice_range bytes start end) key).0 same) ∙ sym reads_s)))
     ]
 
--- a pair of a page whose bytes are lent
+-- a pair of a page whose bytes are borrowed
 pub lent_inside : (bytes slice : List ℕ) (content : Content) (i : ℕ) → Holds bytes content → i < length content.pairs → slice ≡ bytes → IsInside slice i
 lent_inside bytes slice content i h below same = rw same (holds_inside bytes content i h below)
 

@@ -1,4 +1,4 @@
--- What the bytes of a page end as, where they are lent.
+-- The final value of a page's bytes after a mutable borrow.
 use Rattle.std.specs.Prelude.{ℕ, List}
 use Rattle.std.specs.Borrow.{Lends, Fml, RattleType, MutBor, Array, u8}
 use Rattle.std.specs.declared.alloc.Allocator.{Ghosts}

@@ -1,4 +1,4 @@
--- The keys that stand in the bytes of a page.
+-- The keys in the bytes of a page.
 use Rattle.std.specs.Prelude.{◌≡◌, ◌≢◌, ℕ, ◌*◌, ◌+◌, ◌<◌, List, AllPairs, slice_range}
 use Rattle.sdbm_page.specs.Fields.{number_at, end_at, IsInside}
 
@@ -6,7 +6,7 @@ use Rattle.sdbm_page.specs.Fields.{number_at, end_at, IsInside}
 abbrev pub key_of : List ℕ → ℕ → List ℕ
 key_of bytes i = slice_range bytes (number_at bytes (4 * i + 2)) (end_at bytes i)
 
--- the first n pairs stand inside the bytes
+-- the first n pairs are inside the bytes
 abbrev pub AreInside : List ℕ → ℕ → Type 0
 AreInside bytes n = (i : ℕ) → i < n → IsInside bytes i
 
@@ -14,7 +14,7 @@ AreInside bytes n = (i : ℕ) → i < n → IsInside bytes i
 abbrev pub AreApart : List ℕ → ℕ → Type 0
 AreApart bytes n = (a b : ℕ) → a < b → b < n → key_of bytes a ≢ key_of bytes b
 
--- a pair before pair i has its key
+-- a pair before pair i has the same key
 pub record IsKeyBefore (bytes : List ℕ) (i : ℕ) : Type 0 where
   pub place : ℕ
   pub below : place < i

@@ -1,8 +1,8 @@
--- A page with another value in one of its pairs, or without one of them.
+-- A page with another value in one of its pairs, or with one pair removed.
 use Rattle.std.specs.Prelude.{ℕ, List, slice_set, remove}
 use Rattle.sdbm_addr.specs.Pairs.{Pair, Content, key_at}
 
--- pairs with another value in pair i
+-- the pairs with another value in pair i
 abbrev pub with_value_in : List Pair → ℕ → List ℕ → List Pair
 with_value_in pairs i value = slice_set pairs i (key_at pairs i, value)
 

@@ -1,14 +1,14 @@
--- The bytes of a small page, where some of them are lent.
+-- The bytes of a small page after some of them were mutably borrowed.
 use Rattle.std.specs.Prelude.{ℕ, List, length}
 use Rattle.std.specs.Borrow.{Lends, Fml, MutBor, Array, u8}
 use Rattle.sdbm_page.specs.Edits.{written_from}
 use Rattle.sdbm_page.specs.contracts.small.SmallBytes.{the_row}
 use Rattle.sdbm_page.specs.declared.small.SmallBytes.{SmallBytes}
 
--- with others from a place on
+-- the bytes overwritten with a part from a place on
 abbrev pub small_with : SmallBytes → ℕ → List ℕ → SmallBytes
 small_with small at part = record { bytes = written_from (length small.bytes) small.bytes at part }
 
--- they end with what was written through r from a place on
+-- the bytes end with the part written through r from a place on
 abbrev pub lends_some : MutBor SmallBytes → ℕ → MutBor (List ℕ) → Fml
 lends_some small at r = Lends the_row (Array u8 0) small r (small_with small.now at)

@@ -1,4 +1,4 @@
-//! The text of a fault: its name.
+//! Displays a fault as its name.
 use crate::PageFault;
 use std::error::Error;
 use std::fmt;

@@ -1,5 +1,5 @@
-//! Where the bytes of a page lie: those of a small page in the page itself, so a reader that has found the page waits for no other memory
-//! before it reads them; those of a wide one in memory of their own.
+//! Storage for the bytes of a page. A small page stores them inline, so a reader that has found the page need not wait for other memory
+//! to be loaded; a wide page stores them in a separate allocation.
 ghost use Rattle.std.specs.Prelude.{◌≡◌, ◌≤◌, length, replicate, slice_range, IfOk};
 ghost use Rattle.std.specs.Borrow.{sem};
 ghost use Rattle.sdbm_addr.specs.Pairs.{page_bytes};
@@ -12,16 +12,16 @@ use std::alloc::{AllocError, Allocator};
 /// The bytes of a page.
 #[derive(Drop)]
 pub enum Held<A: Allocator> {
-    /// Those of a small page.
+    /// The bytes of a small page, inline.
     Small(SmallBytes),
-    /// Those of a wide one.
+    /// The bytes of a wide page.
     Wide(Vec<u8, A>),
 }
 
 impl<A: Allocator> Held<A> {
     ghost use Rattle.sdbm_page.specs.HeldLends.{held_lends_all, held_lends_part};
 
-    /// Zeros, as many as a page of a size has.
+    /// Creates a page of zeros, or returns an error if allocation fails.
     pub fn zeros(alloc: A, size: PageSize) -> Result<Self, AllocError>
         ensures { IfOk result (λ held. held_items held ≡ replicate (page_bytes size) 0) }
     {
@@ -31,7 +31,7 @@ impl<A: Allocator> Held<A> {
         }
     }
 
-    /// A copy of bytes, as many as a page of a size has.
+    /// Copies the bytes of a page of this size, or returns an error if allocation fails.
     pub fn from_slice(alloc: A, bytes: &[u8], size: PageSize) -> Result<Self, AllocError>
         requires { length bytes.now ≡ page_bytes size }
         ensures { IfOk result (λ held. held_items held ≡ bytes.now) }
@@ -65,7 +65,7 @@ impl<A: Allocator> Held<A> {
         self.slice_mut(0, all)
     }
 
-    /// The bytes from a place to another, for writing.
+    /// The bytes from `start` to `end`, for writing.
     pub fn slice_mut(&mut self, start: usize, end: usize) -> &mut [u8]
         requires order { start ≤ end }
         requires inside { end ≤ length (held_items self.old) }
@@ -80,7 +80,7 @@ impl<A: Allocator> Held<A> {
 }
 
 impl<A: Allocator + Copy> Held<A> {
-    /// The same bytes, or the error where no memory is left for them.
+    /// Clones the bytes, or returns an error if allocation fails.
     pub fn try_clone(&self) -> Result<Self, AllocError>
         ensures { IfOk result (λ copy. held_items copy ≡ held_items self.now) }
     {

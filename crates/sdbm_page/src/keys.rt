@@ -1,4 +1,4 @@
-//! Whether the keys in the bytes of a page are distinct.
+//! Checks that the keys in the bytes of a page are distinct.
 ghost use Rattle.std.specs.Prelude.{◌≡◌, ◌+◌, ◌≤◌, ◌↔◌, length, IsTrue, IfSome};
 ghost use Rattle.sdbm_addr.specs.Pairs.{page_bytes};
 ghost use Rattle.sdbm_page.specs.Faults.{IsLayout, AreKeys};
@@ -10,13 +10,13 @@ use crate::noted::Noted;
 use crate::sorted::are_apart_sorted;
 use sdbm_addr::PageSize;
 
-// From so many keys on marks cost less than comparing.
+// The least number of keys for which the Bloom filter costs less than comparing every two keys.
 const MARKED: usize = 16;
 
-// With more keys than these that may come twice, marks tell little, and all are sorted.
+// The greatest number of keys that may hit the filter. With more hits the filter decides little, and all keys are sorted.
 const DOUBTED: usize = 16;
 
-/// Whether no key comes twice in bytes that are laid out. It costs no more than to sort the keys.
+/// Checks that no key occurs twice in bytes with a valid layout. The cost is at most that of sorting the keys.
 pub fn has_distinct_keys(bytes: &[u8], size: PageSize, layout: Layout) -> bool
     requires long { length bytes.now ≡ page_bytes size }
     requires layout { IsLayout size bytes.now layout.count layout.low }
@@ -25,7 +25,7 @@ pub fn has_distinct_keys(bytes: &[u8], size: PageSize, layout: Layout) -> bool
     are_apart(bytes, layout.count)
 }
 
-// Whether no two of the first `count` pairs have the same key.
+// Checks that no two of the first `count` pairs have the same key.
 fn are_apart(bytes: &[u8], count: usize) -> bool
     requires inside { AreInside bytes.now count }
     requires few { count ≤ 2048 }
@@ -40,7 +40,7 @@ fn are_apart(bytes: &[u8], count: usize) -> bool
     }
 }
 
-// The same, where each key is compared with all before it.
+// The same check: compares each key with all keys before it.
 fn are_apart_one_by_one(bytes: &[u8], count: usize) -> bool
     requires { AreInside bytes.now count }
     ensures { IsTrue result ↔ AreApart bytes.now count }
@@ -53,7 +53,7 @@ fn are_apart_one_by_one(bytes: &[u8], count: usize) -> bool
     true
 }
 
-// The same, where a key is compared with those before it only if one of them may be equal. `None` where marks tell little.
+// The same check: compares a key with the keys before it only if it hits the filter. Returns `None` after too many hits.
 fn are_apart_by_marks(bytes: &[u8], count: usize) -> Option<bool>
     requires { AreInside bytes.now count }
     ensures { IfSome result (λ told. IsTrue told ↔ AreApart bytes.now count) }
@@ -74,7 +74,7 @@ fn are_apart_by_marks(bytes: &[u8], count: usize) -> Option<bool>
     Some(true)
 }
 
-// Whether one of the pairs before pair `i` has its key.
+// Returns `true` if one of the pairs before pair `i` has the same key.
 fn comes_before(bytes: &[u8], i: usize) -> bool
     requires { AreInside bytes.now (i + 1) }
     ensures { IsTrue result ↔ IsKeyBefore bytes.now i }

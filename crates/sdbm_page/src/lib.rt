@@ -1,5 +1,5 @@
-//! A page of a `.pag` file (Yigit, sdbm 1990: pair.c): pairs of a key and a value, in the order in which they were added, which
-//! together go into 1,024 or 8,192 bytes. It is kept as the bytes that stand in the file, and edited in place.
+//! A page of a `.pag` file (Yigit, sdbm 1990: pair.c): pairs of a key and a value, in the order of insertion, in 1,024 or 8,192 bytes.
+//! A page is stored as its bytes in the file and edited in place.
 #![tactic(auto)]
 
 ghost use Rattle.std.specs.Prelude.{◌≡◌, ◌≢◌, ◌+◌, ◌<◌, ◌≤◌, ◌↔◌, List, [], length, remove, IsTrue, IfOk, IfErr, IfNone, IfSome, None};
@@ -36,20 +36,20 @@ use std::alloc::{AllocError, Allocator};
 use std::marker::Model;
 use tails::{is_key, tail_of};
 
-/// Why bytes give no page. The faults are tested in this order.
+/// The reason why bytes cannot be read as a page. The faults are tested in this order.
 #[derive(Clone, Copy, Debug, PartialEq, Eq)]
 pub enum PageFault {
-    /// The count of offsets is odd, or above what a page of the size may have.
+    /// The count of offsets is odd, or higher than a page of the size allows.
     Count,
-    /// An offset lies above the one before it, a pair is larger than a pair may be, or the pairs reach into the index.
+    /// An offset is above the one before it, a pair is larger than the limit, or the pairs reach into the index.
     Offsets,
-    /// A key stands twice.
+    /// A key occurs twice.
     DoubleKey,
-    /// No memory is left for the page that the bytes spell.
+    /// The bytes spell a page, but allocation fails.
     NoMemory,
 }
 
-/// Whether bytes, as many as a page of the size has, spell the page without pairs, as the zeros of a hole do.
+/// Returns `true` if the bytes, those of a page of the size, spell the page without pairs, like the zeros of a hole.
 pub fn spells_empty(bytes: &[u8], size: PageSize) -> bool
     requires { length bytes.now ≡ page_bytes size }
     ensures { IsTrue result ↔ Spells size bytes.now [] }
@@ -57,8 +57,8 @@ pub fn spells_empty(bytes: &[u8], size: PageSize) -> bool
     number_at(bytes, 0) == 0
 }
 
-/// A page, seen as its size and the list of its pairs. Its pairs always fit, and each is small enough; that keys are distinct
-/// is kept by those who add to it. Free bytes are zeros.
+/// A page. The model is its size and the list of its pairs. The pairs always fit, and each is small enough; callers that add pairs
+/// keep the keys distinct. Free bytes are zero.
 #[derive(Drop)]
 pub struct Page<A: Allocator> {
     size: PageSize,
@@ -78,7 +78,7 @@ impl<A: Allocator> Model for Page<A> {
 }
 
 impl<A: Allocator> Page<A> {
-    /// A page without pairs, or the error where no memory is left for it.
+    /// Creates a page without pairs, or returns an error if allocation fails.
     pub fn empty(alloc: A, size: PageSize) -> Result<Self, AllocError>
         ensures size { IfOk result (λ page. page.size ≡ size) }
         ensures pairs { IfOk result (λ page. page.pairs ≡ []) }
@@ -87,11 +87,11 @@ impl<A: Allocator> Page<A> {
         Ok(Page { size, bytes })
     }
 
-    /// The page that bytes spell, as many as a page of the size has. Its free bytes may be anything, and are cleared in the page.
-    /// Nothing is copied before all tests are passed.
+    /// Reads the bytes of a page of the size. Free bytes may have any values; they are zero in the page. Nothing is copied before all
+    /// tests pass.
     ///
     /// # Errors
-    /// `Count`, `Offsets` or `DoubleKey`, the first of them that holds; else `NoMemory`, where no memory is left for the page.
+    /// `Count`, `Offsets` or `DoubleKey`, the first that applies; otherwise `NoMemory` if allocation fails.
     pub fn from_bytes(alloc: A, bytes: &[u8], size: PageSize) -> Result<Self, PageFault>
         requires { length bytes.now ≡ page_bytes size }
         ensures size { IfOk result (λ page. page.size ≡ size) }
@@ -110,21 +110,21 @@ impl<A: Allocator> Page<A> {
         Ok(page)
     }
 
-    /// How large the page is.
+    /// The size of the page.
     pub fn page_size(&self) -> PageSize
         ensures { result ≡ self.now.size }
     {
         self.size
     }
 
-    /// The page's bytes, as they are written: free ones are zeros.
+    /// The bytes of the page in the file; free bytes are zero.
     pub fn bytes(&self) -> &[u8]
         ensures { result.now ≡ bytes_of_page self.now.size self.now.pairs }
     {
         self.bytes.as_slice()
     }
 
-    /// How many pairs there are.
+    /// The number of pairs.
     pub fn len(&self) -> usize
         ensures count { result ≡ length self.now.pairs }
         ensures laid { IsLaid self.now.size self.now.pairs }
@@ -132,14 +132,14 @@ impl<A: Allocator> Page<A> {
         number_at(self.bytes.as_slice(), 0) / 2
     }
 
-    /// Whether there is no pair.
+    /// Returns `true` if the page has no pairs.
     pub fn is_empty(&self) -> bool
         ensures { IsTrue result ↔ (self.now.pairs ≡ []) }
     {
         self.len() == 0
     }
 
-    /// The key of pair `i`, which is below `len`.
+    /// The key of pair `i`. Requires `i` below `len`.
     pub fn key(&self, i: usize) -> &[u8]
         requires { i < length self.now.pairs }
         ensures { result.now ≡ key_at self.now.pairs i }
@@ -147,7 +147,7 @@ impl<A: Allocator> Page<A> {
         key_in(self.bytes.as_slice(), i)
     }
 
-    /// The value of pair `i`, which is below `len`.
+    /// The value of pair `i`. Requires `i` below `len`.
     pub fn record(&self, i: usize) -> &[u8]
         requires { i < length self.now.pairs }
         ensures { result.now ≡ value_at self.now.pairs i }
@@ -155,7 +155,7 @@ impl<A: Allocator> Page<A> {
         value_in(self.bytes.as_slice(), i)
     }
 
-    /// The value of pair `i`, which is below `len`, to be written over in place. Its length and all else on the page stay.
+    /// The value of pair `i`, for overwriting in place. Requires `i` below `len`. Its length and the rest of the page do not change.
     pub fn record_mut(&mut self, i: usize) -> &mut [u8]
         requires { i < length self.old.pairs }
         ensures* writes_back { sem 𝓛 (LendsValue A.row A.Allocator self.entry i result) }
@@ -165,7 +165,7 @@ impl<A: Allocator> Page<A> {
         self.bytes.slice_mut(start, end)
     }
 
-    /// Where a pair with a key stands, whose value is the one that a look-up finds, or none where the key is absent.
+    /// The index of the pair with the key, or `None` if the key is absent. If several pairs have the key, it is the first one.
     pub fn find(&self, key: &[u8]) -> Option<usize>
         ensures found { IfSome result (λ i. IsPlace self.now.pairs key.now i) }
         ensures absent { IfNone result (value_of self.now.pairs key.now ≡ None) }
@@ -176,7 +176,7 @@ impl<A: Allocator> Page<A> {
         }
     }
 
-    /// Whether a pair of so many bytes more goes on the page: with its two offsets, beside the others and the count.
+    /// Returns `true` if a pair of `need` bytes fits on the page, with its two offsets, next to the existing pairs and the count.
     pub fn fits(&self, need: usize) -> bool
         ensures { IsTrue result ↔ (sum_by footprint self.now.pairs + need + 4 + 2 ≤ page_bytes self.now.size) }
     {
@@ -187,7 +187,7 @@ impl<A: Allocator> Page<A> {
         need <= room - 4
     }
 
-    /// Adds a pair as the last one. The pair goes on the page, is small enough, and its key is absent.
+    /// Appends a pair. It must fit on the page and be small enough, and its key must be absent.
     pub fn add(&mut self, key: &[u8], value: &[u8])
         requires fits { sum_by footprint self.old.pairs + footprint (key.now, value.now) + 2 ≤ page_bytes self.old.size }
         requires small { length key.now + length value.now ≤ pair_limit self.old.size }
@@ -199,7 +199,7 @@ impl<A: Allocator> Page<A> {
         put_pair(self.bytes.as_mut_slice(), count, low, key, value);
     }
 
-    /// Takes pair `i` out, which is below `len`. The others keep their order.
+    /// Removes pair `i`, which must be below `len`. The remaining pairs keep their order.
     pub fn remove(&mut self, i: usize)
         requires { i < length self.old.pairs }
         ensures { self.new ≡ record { size = self.old.size; pairs = remove self.old.pairs i } }
@@ -211,9 +211,9 @@ impl<A: Allocator> Page<A> {
     }
 }
 
-// How bytes become a page.
+// Conversion from bytes.
 impl<A: Allocator> Page<A> {
-    // The page of bytes that are laid out, whatever the keys are, with free bytes cleared.
+    // The page of bytes with a valid layout, with free bytes cleared. The keys may be equal.
     fn cleared(alloc: A, bytes: &[u8], size: PageSize, layout: Layout) -> Result<Self, AllocError>
         requires long { length bytes.now ≡ page_bytes size }
         requires layout { IsLayout size bytes.now layout.count layout.low }
@@ -225,9 +225,9 @@ impl<A: Allocator> Page<A> {
     }
 }
 
-// How a key is found.
+// Searches for a key.
 impl<A: Allocator> Page<A> {
-    // The same for a key of eight bytes and more, whose last eight read as `tail`.
+    // `find` for a key of at least eight bytes; `tail` is the number in the last eight.
     fn find_by_tail(&self, key: &[u8], tail: u64) -> Option<usize>
         requires { IsTail key.now tail }
         ensures found { IfSome result (λ i. IsPlace self.now.pairs key.now i) }
@@ -244,7 +244,7 @@ impl<A: Allocator> Page<A> {
         None
     }
 
-    // The same for any key.
+    // `find` for any key.
     fn find_by_key(&self, key: &[u8]) -> Option<usize>
         ensures found { IfSome result (λ i. IsPlace self.now.pairs key.now i) }
         ensures absent { IfNone result (value_of self.now.pairs key.now ≡ None) }
@@ -258,16 +258,16 @@ impl<A: Allocator> Page<A> {
     }
 }
 
-// Where pairs stand.
+// Positions of pairs.
 impl<A: Allocator> Page<A> {
-    // Where the last pair ends.
+    // The position of the first byte of the last pair; without pairs, the length of the page.
     fn low(&self) -> usize
         ensures { IsLow self.now result }
     {
         end_at(self.bytes.as_slice(), self.len())
     }
 
-    // Where pair `i` ends, and where its value starts.
+    // The position at which pair `i` ends, and the position at which its value starts.
     fn extent(&self, i: usize) -> (usize, usize)
         requires { i < length self.now.pairs }
         ensures { IsExtent self.now i result.0 result.1 }
@@ -276,7 +276,7 @@ impl<A: Allocator> Page<A> {
         (end_at(bytes, i), value_start(bytes, i))
     }
 
-    // Where the value of pair `i` starts, and where it ends.
+    // The start and the end of the value of pair `i`.
     fn value_range(&self, i: usize) -> (usize, usize)
         requires { i < length self.now.pairs }
         ensures { IsValueRange self.now i result.0 result.1 }
@@ -287,7 +287,7 @@ impl<A: Allocator> Page<A> {
 }
 
 impl<A: Allocator> Page<A> {
-    /// Whether two pages have one size and the same pairs in the same order. No memory is taken.
+    /// Returns `true` if two pages have the same size and the same pairs in the same order. Does not allocate.
     pub fn equals(&self, other: &Page<A>) -> bool
         ensures { IsTrue result ↔ (self.now ≡ other.now) }
     {
@@ -310,7 +310,7 @@ impl<A: Allocator> PartialEq for Page<A> {
 
     ghost laws = { on_per sized_bytes (partial_equiv_from_equiv nat_list_eq_equiv) };
 
-    /// Whether two pages are equal, as `equals` says.
+    /// Like `equals`.
     fn eq(&self, other: &Self) -> bool
         ensures exact { IsTrue result ↔ (self.now ≡ other.now) }
         ensures value { result ≡ bytes_eq (sized_bytes self.now) (sized_bytes other.now) }
@@ -323,7 +323,7 @@ impl<A: Allocator> PartialEq for Page<A> {
 }
 
 impl<A: Allocator + Copy> Page<A> {
-    /// An equal page, or the error where no memory is left for it.
+    /// Clones the page, or returns an error if allocation fails.
     pub fn try_clone(&self) -> Result<Self, AllocError>
         ensures { IfOk result (λ copy. copy ≡ self.now) }
     {

@@ -2,18 +2,18 @@
 ghost use Rattle.std.specs.Prelude.{◌≡◌, ◌≤◌, length, slice_range};
 ghost use Rattle.std.specs.Borrow.{sem};
 
-/// The bytes of a small page, in a struct of their own: what a struct holds once a part that was lent is back can be proved, while of a
-/// bare array it cannot.
+/// The bytes of a small page. The array is wrapped in a struct because the contents after a mutable borrow of a part can be proved for a
+/// struct, but not for a bare array.
 #[derive(Clone, Copy, Drop)]
 pub struct SmallBytes {
-    /// All of them.
+    /// All bytes.
     pub bytes: [u8; 1024],
 }
 
 impl SmallBytes {
     ghost use Rattle.sdbm_page.specs.Small.{lends_some};
 
-    /// Those from a place to another, to be written over. The others stay.
+    /// The bytes from `start` to `end`, for overwriting. The other bytes do not change.
     pub fn part_mut(&mut self, start: usize, end: usize) -> &mut [u8]
         requires { (start ≤ end) × (end ≤ length self.old.bytes) }
         ensures* writes_back { sem 𝓛 (lends_some self.entry start result) }

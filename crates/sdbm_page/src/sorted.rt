@@ -1,4 +1,4 @@
-//! Whether the keys in the bytes of a page are distinct, told by sorting them.
+//! Checks that the keys in the bytes of a page are distinct by sorting them.
 ghost use Rattle.std.specs.Prelude.{◌≤◌, ◌↔◌, map, IsTrue, IsSorted};
 ghost use Rattle.std.specs.Ordering.{nat_cmp};
 ghost use Rattle.std.specs.Cmp.Lexicographic.{slice_cmp};
@@ -6,11 +6,11 @@ ghost use Rattle.sdbm_page.specs.Keys.{AreInside, AreApart, AreUnlike};
 
 use crate::fields::key_in;
 
-// As many keys as the largest page may have, and one more.
+// One more than the greatest number of keys on a wide page.
 const ROOM: usize = 2048;
 
-/// Whether no two of the first `count` pairs have the same key. Sorted, equal keys are neighbors. The slices stand on the
-/// stack, and no memory is taken.
+/// Checks that no two of the first `count` pairs have the same key: after sorting, equal keys are neighbors. The slices are stored on
+/// the stack; nothing is allocated.
 pub fn are_apart_sorted(bytes: &[u8], count: usize) -> bool
     requires inside { AreInside bytes.now count }
     requires few { count ≤ 2048 }
@@ -26,7 +26,7 @@ pub fn are_apart_sorted(bytes: &[u8], count: usize) -> bool
     neighbors_differ(keys)
 }
 
-// Whether no two keys of a sorted list are equal.
+// Checks that no two neighbors in a sorted list are equal.
 fn neighbors_differ(keys: &[&[u8]]) -> bool
     requires { IsSorted (λ a b. slice_cmp nat_cmp a.now b.now) keys.now }
     ensures { IsTrue result ↔ AreUnlike (map (λ k. k.now) keys.now) }

@@ -1,11 +1,11 @@
-//! The last eight bytes of a key, by which most others are told from it at once.
+//! The last eight bytes of a key, which distinguish it from most keys with one comparison.
 ghost use Rattle.std.specs.Prelude.{◌≡◌, ◌<◌, ◌≤◌, ℕ, length, slice_index, slice_range, IfSome};
 ghost use Rattle.std.specs.Str.{bytes_eq};
 ghost use Rattle.sdbm_page.specs.Tails.{IsTail};
 
 use byteorder::{ByteOrder, LittleEndian};
 
-/// The number in the last eight bytes of a key, or none where it has fewer.
+/// The number in the last eight bytes of a key, or `None` if the key is shorter.
 pub fn tail_of(key: &[u8]) -> Option<u64>
     ensures { IfSome result (IsTail key.now) }
 {
@@ -15,7 +15,7 @@ pub fn tail_of(key: &[u8]) -> Option<u64>
     Some(LittleEndian::read_u64(&key[key.len() - 8..]))
 }
 
-/// Whether the bytes from a place to another are those of a key, whose last eight read as `tail`.
+/// Returns `true` if the bytes from `start` to `end` are the key; `tail` is the number in its last eight bytes.
 pub fn is_key(bytes: &[u8], start: usize, end: usize, key: &[u8], tail: u64) -> bool
     requires tail { IsTail key.now tail }
     requires typed { (k : ℕ) → slice_index key.now k < 256 }

@@ -1,4 +1,4 @@
--- Blocks of 1,024 bytes in wide pages of a file.
+-- Blocks of 1,024 bytes in the wide pages of a file.
 use Rattle.std.proofs.Common.{◌≡◌, ℕ, ◌+◌, ◌*◌, ◌-◌, ◌<◌, ◌≤◌, List, ◌++◌, length, length-append, take, drop, get_or, replicate, refl, sym, ap, ◌∙◌, arith, inl, inr}
 use Rattle.std.proofs.lemmas.Bool.{cases_lt}
 use Rattle.std.proofs.Math.Seq.{take-add}
@@ -10,7 +10,7 @@ use Rattle.sdbm_page.proofs.Spelling.{length-part}
 use Rattle.sdbm_files.specs.Reading.{IsBlock}
 use Rattle.sdbm_files.proofs.PagesInBytes.{page_reads}
 
--- a block with zeros for the bytes that it lacks
+-- a block padded with zeros
 abbrev padded : List ℕ → List ℕ
 padded block = block ++ replicate (1024 - length block) 0
 
@@ -25,14 +25,14 @@ padded_reads block i below = elim (cases_lt i (length block)) [
       ∙ get_or-replicate (1024 - length block) (i - length block) 0 0 (omega arith) ∙ sym (get_or_past block i 0 l)
 ]
 
--- a block inside a file is a small page of it
+-- a whole block of a file is a small page of it
 pub block_is_page : (pag block : List ℕ) (index : ℕ) → IsBlock pag index block → (index + 1) * 1024 ≤ length pag → padded block ≡ page_at Small pag index
 block_is_page pag block index is inside =
     let long : length (page_at Small pag index) ≡ 1024 = length-part pag (index * 1024) ((index + 1) * 1024) (omega arith) inside ∙ omega arith in
     ext_get_or 0 (padded block) (page_at Small pag index) (length-padded block is.short ∙ sym long)
     (λ i below. padded_reads block i (omega (arith, below, length-padded block is.short)) ∙ is.reads i (omega (arith, below, length-padded block is.short)) ∙ sym (page_reads Small pag index i (omega (arith, below, length-padded block is.short))))
 
--- the first blocks of a wide page, and the next one
+-- appending the next block to the first blocks of a wide page
 pub next_block : (pag : List ℕ) (start i : ℕ) → slice_range pag start (start + i * 1024) ++ slice_range pag (start + i * 1024) (start + (i + 1) * 1024) ≡ slice_range pag start (start + (i + 1) * 1024)
 next_block pag start i =
     let rest = drop start pag in

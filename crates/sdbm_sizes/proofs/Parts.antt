@@ -21,7 +21,7 @@ no_part kind dir n bytes none part = none part.db part.kind_is part.size_is part
 pub no_page : (kind : KeyBytes) (dir : List ℕ) (n : ℕ) (bytes : List ℕ) → SpellsNone Small bytes → IsSmallPart kind dir n bytes → ⊥
 no_page kind dir n bytes none part = none (pairs_at part.db n) part.page
 
--- small page 8 n is the first part of wide page n
+-- small page 8 n is the start of wide page n
 first_part : (pag : List ℕ) (n : ℕ) → page_at Small pag (8 * n) ≡ take 1024 (page_at Wide pag n)
 first_part pag n =
     let rest = drop (n * 8192) pag in
@@ -59,7 +59,7 @@ same_first pag n m a b = elim (cases_lt n m) [
   ]
 ]
 
--- the first wide page that is not all zeros decides
+-- the first wide page that is not all zeros decides the result
 pub decides : (kind : KeyBytes) (dir pag : List ℕ) (n : ℕ) → IsFirstWritten pag n → LooksSmall kind dir n (page_at Wide pag n) ↔ FileLooksSmall kind dir pag
 decides kind dir pag n first = (
   λ looks. record { n = n; first = first; looks = looks },
@@ -70,7 +70,7 @@ pub none_small : (kind : KeyBytes) (dir pag : List ℕ) (n : ℕ) → IsFirstWri
 none_small kind dir pag n first looks db kind_is size_is spells short k inside written =
     looks (small_looks kind dir pag db kind_is size_is spells n first.inside first.written)
 
--- no page is written
+-- if every page is all zeros, there is no first written page
 pub none_first : (kind : KeyBytes) (dir pag : List ℕ) (count : ℕ) → ((k : ℕ) → k < count → IsWritten (page_at Wide pag k) → ⊥) → (length pag ≤ pag_limit → length pag < (count + 1) * 8192) → SpellsNoSmall kind dir pag
 none_first kind dir pag count zeros all db kind_is size_is spells short k inside written =
     let past = all short in zeros k (omega arith) written
@@ -84,7 +84,7 @@ module _ {E : Type 0} (kind : KeyBytes) (dir pag : List ℕ) (n : ℕ) (first : 
   first_denies = IfOk-weaker r (λ small. IsTrue small ↔ LooksSmall kind dir n (page_at Wide pag n)) (λ small. small ≡ false → SpellsNoSmall kind dir pag)
       (λ small is no. none_small kind dir pag n first (λ looks. false≢true (sym no ∙ is.1 looks)))
 
--- no page is written
+-- if every page is all zeros, the file does not look small
 pub none_looks : (kind : KeyBytes) (dir pag : List ℕ) (count : ℕ) → ((k : ℕ) → k < count → IsWritten (page_at Wide pag k) → ⊥) → (count < most_pages Wide → length pag < (count + 1) * 8192) → FileLooksSmall kind dir pag → ⊥
 none_looks kind dir pag count zeros all file =
     elim (cases_lt file.n count) [

@@ -1,4 +1,4 @@
--- Small pages, of 1,024 bytes, in a `.pag` file that is opened with wide ones, of 8,192 bytes.
+-- Small pages, of 1,024 bytes, in a `.pag` file that is opened with wide pages, of 8,192 bytes.
 use Rattle.std.specs.Prelude.{◌≡◌, ◌≢◌, ℕ, ◌+◌, ◌*◌, ◌<◌, ◌≤◌, List, length, take, get_or}
 use Rattle.sdbm_addr.specs.declared.KeyBytes.{KeyBytes}
 use Rattle.sdbm_addr.specs.declared.PageSize.TheVariants.{Small, Wide}
@@ -40,7 +40,7 @@ pub record FileLooksSmall (kind : KeyBytes) (dir pag : List ℕ) : Type 0 where
   pub first : IsFirstWritten pag n
   pub looks : LooksSmall kind dir n (page_at Wide pag n)
 
--- No database of small pages is in these files, unless all whole wide pages of the file are zeros.
+-- The files are not those of a database of small pages, unless all whole wide pages of the file are zeros.
 abbrev pub SpellsNoSmall : KeyBytes → List ℕ → List ℕ → Type 0
 SpellsNoSmall kind dir pag =
     (db : Database) → db.kind ≡ kind → db.size ≡ Small → SpellsDatabase db dir pag → length pag ≤ pag_limit

@@ -1,4 +1,4 @@
-//! Copies of pages of a `.pag` that was read piece by piece.
+//! Copies pages out of a `.pag` that was read in blocks.
 ghost use Rattle.std.specs.Prelude.{◌≡◌, ◌<◌, ◌≤◌, ◌+◌, ◌*◌, ◌-◌, ◌++◌, length, replicate, IfOk, OnOk};
 ghost use Rattle.sdbm_addr.specs.declared.PageSize.TheVariants.{Wide};
 ghost use Rattle.sdbm_addr.specs.Files.{page_at};
@@ -7,7 +7,7 @@ ghost use Rattle.sdbm_files.specs.Limits.{most_pages};
 use sdbm_files::{BLOCK, ReadPages};
 use std::alloc::{AllocError, Allocator};
 
-/// A copy of the wide page with a number.
+/// Copies the wide page with a number.
 pub fn copy_page<A: Allocator + Copy>(
     alloc: A,
     pag: &ReadPages<A>,
@@ -24,7 +24,7 @@ pub fn copy_page<A: Allocator + Copy>(
     Ok(page)
 }
 
-// Adds a block to a page. The bytes that the block lacks are zeros.
+// Appends a block to a page, padded with zeros to the length of a block.
 fn push_block<A: Allocator>(page: &mut Vec<u8, A>, block: &[u8]) -> Result<(), AllocError>
     requires { length block.now ≤ 1024 }
     ensures { OnOk result (page.new.items ≡ page.old.items ++ (block.now ++ replicate (1024 - length block.now) 0)) }

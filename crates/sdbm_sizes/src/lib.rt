@@ -1,5 +1,5 @@
-//! Whether files that are opened with pages of 8,192 bytes are those of a database with pages of 1,024 bytes. The files do not say
-//! how large their pages are, and a small page can read as a wide one by chance.
+//! Detects files of a database with pages of 1,024 bytes that are opened with pages of 8,192 bytes. The files do not record their page
+//! size, and a small page can happen to read as a wide one.
 #![tactic(auto)]
 
 ghost use Rattle.std.specs.Prelude.{◌≡◌, ◌<◌, ◌≤◌, ◌↔◌, ◌+◌, ◌*◌, length, false, IsTrue, IfOk, get_or};
@@ -18,19 +18,19 @@ use sdbm_files::{Image, ReadPages};
 use sdbm_page::{Page, PageFault};
 use std::alloc::{AllocError, Allocator};
 
-// The bytes of a small page and of a wide one.
+// The sizes in bytes of a small page and of a wide page.
 const SMALL: usize = 1024;
 
 const WIDE: usize = 8192;
 
-/// The number of wide pages for which the longest `.pag` has room.
+/// The number of wide pages in the longest `.pag`.
 pub const MOST_PAGES: usize = 131_072;
 
-/// Whether a wide page looks small: it is not all zeros, and its first 1,024 bytes are a page of a database of small pages with this
-/// directory. A wide page that this store wrote looks small only if its first key has 7,168 bytes or more.
+/// Returns `true` if a wide page looks small: it is not all zeros, and its first 1,024 bytes are a page of a database of small pages
+/// with this directory. A wide page written by this store looks small only if its first key has at least 7,168 bytes.
 ///
 /// # Errors
-/// `AllocError` if memory runs out.
+/// `AllocError` if allocation fails.
 pub fn page_looks_small<A: Allocator + Copy>(
     alloc: A,
     dir: &[u8],
@@ -49,8 +49,8 @@ pub fn page_looks_small<A: Allocator + Copy>(
     is_small_part(alloc, dir, kind, 8 * number, first)
 }
 
-// Whether some database of small pages has this directory and this page. A wide page seldom reads as a small one, so the directory is
-// seldom read.
+// Checks if some database of small pages has this directory and this page. The page is tested first: a wide page seldom reads as a
+// small one, so the directory is seldom read.
 fn is_small_part<A: Allocator + Copy>(
     alloc: A,
     dir: &[u8],
@@ -70,7 +70,7 @@ fn is_small_part<A: Allocator + Copy>(
     Ok(true)
 }
 
-// Whether bytes are a small page.
+// Checks if bytes are a small page.
 fn is_small_page<A: Allocator + Copy>(alloc: A, page: &[u8]) -> Result<bool, AllocError>
     requires { length page.now ≡ page_bytes Small }
     ensures { IfOk result (λ small. small ≡ false → SpellsNone Small page.now) }
@@ -84,11 +84,11 @@ fn is_small_page<A: Allocator + Copy>(alloc: A, page: &[u8]) -> Result<bool, All
     }
 }
 
-/// Whether the bytes of a `.pag` look small: the first wide page that is not all zeros does. So each database of small pages does that
-/// has at most 1 GiB, unless all wide pages of its file are zeros.
+/// Returns `true` if the bytes of a `.pag` look small: its first wide page that is not all zeros looks small. This holds for every
+/// database of small pages of at most 1 GiB, unless all wide pages of its file are zeros.
 ///
 /// # Errors
-/// `AllocError` if memory runs out.
+/// `AllocError` if allocation fails.
 pub fn bytes_look_small<A: Allocator + Copy>(
     alloc: A,
     dir: &[u8],
@@ -107,10 +107,10 @@ pub fn bytes_look_small<A: Allocator + Copy>(
     Ok(false)
 }
 
-/// The same for a `.pag` that was read piece by piece.
+/// Like `bytes_look_small`, for a `.pag` that was read in blocks.
 ///
 /// # Errors
-/// `AllocError` if memory runs out.
+/// `AllocError` if allocation fails.
 pub fn pages_look_small<A: Allocator + Copy>(
     alloc: A,
     dir: &[u8],
@@ -129,7 +129,7 @@ pub fn pages_look_small<A: Allocator + Copy>(
     Ok(false)
 }
 
-// Number of whole wide pages in a file of a length, at most those of the longest `.pag`.
+// The number of whole wide pages in a file of a length, at most that of the longest `.pag`.
 fn pages_in(len: usize) -> usize
     ensures inside { result * 8192 ≤ len }
     ensures low { result ≤ most_pages Wide }
@@ -139,7 +139,7 @@ fn pages_in(len: usize) -> usize
     (len / WIDE).min(MOST_PAGES)
 }
 
-// Whether some byte is not zero.
+// Checks for a byte that is not zero.
 fn is_written(bytes: &[u8]) -> bool
     ensures { IsTrue result ↔ IsWritten bytes.now }
 {

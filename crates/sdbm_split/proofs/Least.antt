@@ -1,4 +1,4 @@
--- The least number of splits, found by trying one after another.
+-- The least number of splits, found by trying the numbers in order.
 use Rattle.std.proofs.Common.{◌≡◌, ℕ, zero, suc, ◌+◌, ◌<◌, ◌≤◌, ◌&&◌, List, Bool, true, false, cond, Option, Some, None, refl, sym, ap, ◌∙◌, arith, inl, inr, ◌⊎◌}
 use Rattle.std.proofs.Math.Dec.{leb}
 use Rattle.std.proofs.lemmas.Bool.{leb-true, le-leb, true≢false, cases_eq}
@@ -7,7 +7,7 @@ use Rattle.sdbm_addr.specs.Pairs.{footprint, page_bytes}
 use Rattle.sdbm_addr.specs.Splitting.{HasRoom, IsLeastSplits, IsCrowded, most_splits, deepest}
 use Rattle.sdbm_split.specs.Planned.{first_from, makes_room, least_splits}
 
--- u is the first of n numbers from t on that passes
+-- u is the first of the n numbers from t on that passes the test
 pub record IsFirst (passes : ℕ → Bool) (t n u : ℕ) : Type 0 where
   pub above : t ≤ u
   pub below : u < t + n
@@ -58,7 +58,7 @@ room_seen size taken key value h t deep room =
 no_room_there : (size : PageSize) (taken : ℕ → ℕ) (key value : List ℕ) (h t : ℕ) → makes_room size taken key value h t ≡ false → h + t ≤ deepest → HasRoom size taken key value (h + t) → ⊥
 no_room_there size taken key value h t fails deep room = true≢false (sym (room_seen size taken key value h t deep room) ∙ fails)
 
--- either it is the least number, or no number makes room
+-- the result is the least number of splits, or no number makes room
 pub least_splits-cases : (size : PageSize) (taken : ℕ → ℕ) (key value : List ℕ) (h : ℕ)
     → ((t : ℕ) × ((least_splits size taken key value h ≡ Some t) × IsLeastSplits size taken key value h t)) ⊎ ((least_splits size taken key value h ≡ None) × IsCrowded size taken key value h)
 least_splits-cases size taken key value h = at (first_from-cases (makes_room size taken key value h) 0 (most_splits + 1))

@@ -1,4 +1,4 @@
-//! Stores on a page that nobody else shares, which are done where it stands.
+//! Stores in place, on a page with one owner.
 ghost use Rattle.std.specs.Prelude.{◌≡◌, ◌+◌, ◌≤◌, length, true, false};
 ghost use Rattle.sdbm_addr.specs.Pairs.{HasDistinctKeys, pair_limit};
 ghost use Rattle.sdbm_split.specs.InPlace.{MayStore, with_stored};
@@ -10,10 +10,10 @@ use sdbm_addr::Mode;
 use sdbm_page::SharedPage;
 use std::alloc::Allocator;
 
-/// Stores a pair where its page stands, and says whether it did: not where an insert meets its key, where the pair does not go on the
-/// page beside those of other keys, or where the page has another owner. The page is then as it was. The old pair of the key goes,
-/// and the new one is the last. The pair has to be small enough for the page's size, and the page's keys are distinct. No memory is
-/// taken.
+/// Stores a pair by changing its page in place. Returns `false` and leaves the page unchanged if the key of an insert exists, if the
+/// pair does not fit on the page together with the pairs of other keys, or if the page has another owner. The old pair of the key is
+/// removed, and the new pair is the last one. The pair must be small enough for the page's size, and the page's keys distinct. Does not
+/// allocate.
 pub fn store_in_place<A: Allocator>(
     page: &mut SharedPage<A>,
     key: &[u8],
@@ -36,7 +36,7 @@ pub fn store_in_place<A: Allocator>(
     put(page, own, key, value)
 }
 
-// Puts in a pair that goes on the page, and takes out the key's own, which stands at a place, if it has one.
+// Adds a pair that fits on the page, and removes the key's own pair, at index `own`, if there is one.
 fn put<A: Allocator>(page: &mut SharedPage<A>, own: Option<usize>, key: &[u8], value: &[u8]) -> bool
     requires small { length key.now + length value.now ≤ pair_limit page.old.size }
     requires room { GoesOn page.old key.now value.now }

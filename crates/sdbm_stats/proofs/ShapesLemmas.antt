@@ -1,4 +1,4 @@
--- Pages in numbers, and what is made of these numbers.
+-- Laws of measured pages, and of the statistics computed from them.
 use Rattle.std.proofs.Common.{◌≡◌, ◌≢◌, ℕ, zero, suc, add-one, ◌+◌, ◌-◌, ◌*◌, ◌%◌, ◌^◌, ◌<◌, ◌≤◌, ◌==◌, Bool, true, false, cond, ◌&&◌, T, List, [], ◌∷◌, length, get_or, map as map_list, ◌++◌, Option, Some, None, unwrap_or, refl, sym, ap, ◌∙◌, subst, arith}
 use Rattle.std.proofs.lemmas.Bool.{cond-true, true≢false}
 use Rattle.std.proofs.lemmas.List.{get_or-map, length-map, append-nil, map-append}
@@ -48,7 +48,7 @@ first_found : (pairs : List Pair) → 0 < length pairs → value_of pairs (key_a
 first_found [] h = absurd (omega arith)
 first_found (e ∷ es) h = λ none. some_not_none e.1 (sym (cond-true _ _ _ (same_key-refl e.0)) ∙ none)
 
--- a page lies as deep as its first key
+-- a page has the depth of the hash of its first key
 pub depth_there : (db : Database) → IsDatabase db → (n : ℕ) (pairs : List Pair) (key : List ℕ) (h : ℕ) → map.get db.pages n ≡ Some pairs → 0 < length pairs → key ≡ key_at pairs 0
     → IsDepth db.splits (hash_of db.kind key) h → h ≡ depth_of db.splits n
 depth_there db ok n pairs key h there some is deep =
@@ -104,11 +104,11 @@ pub depths_map : (db : Database) (pages : List (ℕ × List Pair)) → map_list 
 depths_map db [] = refl
 depths_map db (e ∷ es) = ap (λ (ds : List ℕ). page_depth db e.0 ∷ ds) (depths_map db es)
 
--- as many pages are written of a database that is widened
+-- a widened database has the same number of written pages
 pub counted_widened : (db : Database) (n : ℕ) → IsPageCount db n → IsPageCount (widened db) n
 counted_widened db n counted = record { past = counted.past; last = counted.last }
 
--- ---- in the order of their numbers
+-- ---- the order of page numbers
 
 parts : (a b : Bool) → T (a && b) → T a × T b
 parts true b t = (tt, t)
@@ -161,7 +161,7 @@ rooms_rise size shapes rooms are up = subst (IsSortedByKey (λ (r : PageRoom). r
     ∙ ap (λ (r : PageRoom). is_lt (nat_cmp (get_or shapes (k + 1) none).number r.number)) (get_or-map (room_on size) shapes k none d before)
     ∙ up k none low inside)
 
--- ---- what is made of them
+-- ---- the statistics
 
 pub bars_is : (db : Database) (size : PageSize) (shapes : List PageShape) (bars : List ℕ) → size ≡ db.size → shapes ≡ map_list (shape_of db) (map.entries db.pages)
     → bars ≡ map_list (λ i. count_by (λ (s : PageShape). tenth size s.filled == i) shapes) (range_with_len 0 10)
@@ -194,7 +194,7 @@ wide_is db ok n bytes counted is pag are = ap (λ (b : ℕ). n * b) is ∙ lengt
 pub holes_is : (db : Database) (n used : ℕ) → IsPageCount db n → used ≤ n → IsPageCount db (used + (n - used))
 holes_is db n used counted h = let sum : n ≡ used + (n - used) = omega arith in subst (IsPageCount db) sum counted
 
--- the pairs of all pages are as many as those of the map
+-- the pairs of all pages are as numerous as the entries of the map
 pub count_is : (db : Database) → IsDatabase db → (t : PairTotals) → t ≡ totals_of (pairs_of db) → t.count ≡ map.len (map_of db)
 count_is db ok t is =
     ap (λ (x : PairTotals). x.count) is

@@ -1,4 +1,4 @@
--- How many words have a bit that is set.
+-- The number of words whose bit is 1.
 use Rattle.std.proofs.Common.{◌≡◌, ◌≢◌, ℕ, zero, suc, ◌+◌, ◌*◌, ◌/◌, ◌^◌, ◌<◌, ◌≤◌, ◌||◌, List, length, get_or, Bool, true, false, cond, inl, inr, ◌⊎◌, refl, sym, ap, ◌∙◌, subst, arith, lit<, add-one}
 use Rattle.std.proofs.lemmas.Bool.{cases_lt, true≢false, false_from_ne_true}
 use Rattle.std.proofs.Math.Nat.{pow-le-pow_right}
@@ -12,7 +12,7 @@ use Rattle.sdbm_dir.specs.Bitmap.{splits_below, splits_of}
 use Rattle.sdbm_dir.proofs.BitmapLemmas.{word_number-word_of, contains-splits_of}
 use Rattle.sdbm_dir.proofs.FileLemmas.{unset_zero}
 
--- the words below n have smaller numbers
+-- a word with a number of at least n is not among the words below n
 unlike_above : (bytes : List ℕ) (w : Word) (n : ℕ) → n ≤ word_number w → set.contains (splits_below bytes n) w ≡ false
 unlike_above bytes w zero h = set.contains-empty word_cmp w
 unlike_above bytes w (suc n) h = at (bit_of bytes n) (unlike_above bytes w n (omega arith))
@@ -46,7 +46,7 @@ none_more bytes m (suc k) none =
     ∙ ap (λ b. cond b (set.insert (splits_below bytes (m + k)) (word_of (m + k))) (splits_below bytes (m + k))) (none k (omega arith))
     ∙ none_more bytes m k (λ j h. none j (omega arith))
 
--- a byte that is zero has no bit
+-- a zero byte has no bit that is 1
 pub no_bits : (bytes : List ℕ) (i : ℕ) → get_or bytes i 0 ≡ 0 → splits_below bytes (8 * i + 8) ≡ splits_below bytes (8 * i)
 no_bits bytes i zeros = none_more bytes (8 * i) 8 (λ j h. let byte : (8 * i + j) / 8 ≡ i = omega arith in unset_zero bytes (8 * i + j) (ap (λ k. get_or bytes k 0) byte ∙ zeros))
 

@@ -1,4 +1,4 @@
--- The numbers of pairs, and of more of them.
+-- Laws of totals over pairs.
 use Rattle.std.proofs.Common.{◌≡◌, ℕ, ◌+◌, ◌*◌, ◌<◌, ◌≤◌, max, List, [], ◌∷◌, ◌++◌, length, take, get_or, map as map_list, refl, sym, ap, ◌∙◌, subst, arith, length-append}
 use Rattle.std.proofs.lemmas.List.{take_more, take_all, get_or-map, length-map, append-nil}
 use Rattle.std.proofs.lemmas.List.Concat.{flat_map-append}
@@ -39,7 +39,7 @@ totals_more pairs i t one h is this =
     ap (λ (x : PairTotals). joined x one) is ∙ ap (joined (totals_of (take i pairs))) this
     ∙ sym (totals-append (take i pairs) (get_or pairs i ([], []) ∷ [])) ∙ ap totals_of (sym (take_more pairs i ([], []) h))
 
--- the sums are those of parts of what the pairs take
+-- each sum is at most the space of the pairs
 pub totals_below : (pairs : List Pair) (n : ℕ) → sum_by footprint pairs ≤ n → AreBelow (totals_of pairs) n
 totals_below pairs n h =
     let few : 4 * length pairs ≤ sum_by footprint pairs = few_pairs pairs in
@@ -64,7 +64,7 @@ part_below size pairs i t laid is =
     let part = sum_by-take-le footprint pairs i in
     subst (λ (x : PairTotals). AreBelow x 8192) (sym is) (totals_below (take i pairs) 8192 (omega arith))
 
--- the pairs of the first pages, and of one page more
+-- the totals over the first pages and one more page
 pub all_more : (db : Database) (shapes : List PageShape) (pages : List (ℕ × List Pair)) (i : ℕ) (t : PairTotals) (d : PageShape) → i < length shapes → shapes ≡ map_list (shape_of db) pages
     → t ≡ totals_of (flat_map (λ (e : ℕ × List Pair). e.1) (take i pages))
     → joined t (get_or shapes i d).totals ≡ totals_of (flat_map (λ (e : ℕ × List Pair). e.1) (take (i + 1) pages))
@@ -85,7 +85,7 @@ all_more db shapes pages i t d h are so_far =
         sym (ap (flat_map (λ (e : ℕ × List Pair). e.1)) (take_more pages i (0, []) inside) ∙ flat_map-append (λ (e : ℕ × List Pair). e.1) (take i pages) (page ∷ [])
         ∙ ap (λ (ps : List Pair). flat_map (λ (e : ℕ × List Pair). e.1) (take i pages) ++ ps) (append-nil page.1))
 
--- both together
+-- bounds add up when totals are joined
 pub below_joined : (t u r : PairTotals) (m n k : ℕ) → r ≡ joined t u → m + n ≡ k → AreBelow t m → AreBelow u n → AreBelow r k
 below_joined t u r m n k is sums a b = subst (λ (x : PairTotals). AreBelow x k) (sym is) (record {
   count = omega (arith, a.count, b.count);
@@ -99,7 +99,7 @@ all_pages db shapes pages i t h are is =
     let long : length shapes ≡ length pages = ap length are ∙ length-map pages (shape_of db) in
     is ∙ ap (λ (xs : List (ℕ × List Pair)). totals_of (flat_map (λ (e : ℕ × List Pair). e.1) xs)) (take_all i pages (omega arith))
 
--- what the pairs take is what they have in bytes and in offsets
+-- the space of pairs is the sum of their bytes and their offsets
 pub footprint_parts : (pairs : List Pair) → sum_by footprint pairs ≡ 4 * length pairs + (sum_by (λ (e : Pair). length e.0) pairs + sum_by (λ (e : Pair). length e.1) pairs)
 footprint_parts [] = refl
 footprint_parts (e ∷ es) =

@@ -1,4 +1,4 @@
--- The pages that have pairs, found number by number.
+-- The pages that have pairs, enumerated by number.
 use Rattle.std.proofs.Common.{◌≡◌, ◌≢◌, ℕ, zero, suc, ◌+◌, ◌-◌, ◌<◌, ◌≤◌, Bool, true, false, cond, ◌&&◌, T, List, [], ◌∷◌, ◌++◌, length, get_or, map as map_list, Option, Some, None, unwrap_or, ◌⊎◌, inl, inr, refl, sym, ap, ◌∙◌, subst, arith, add-one}
 use Rattle.std.proofs.lemmas.Bool.{cases_eq, cases_lt, true≢false, false_from_ne_true}
 use Rattle.std.proofs.lemmas.List.{append-nil, length-append}
@@ -20,17 +20,17 @@ abbrev pub page_there : ℕ → Option (List Pair) → List (ℕ × List Pair)
 page_there n None = []
 page_there n (Some pairs) = (n, pairs) ∷ []
 
--- the pages with numbers below n, in their order
+-- the pages with numbers below n, in order
 abbrev pub pages_below : Pages → ℕ → List (ℕ × List Pair)
 pages_below pages zero = []
 pages_below pages (suc n) = pages_below pages n ++ page_there n (map.get pages n)
 
--- ---- what is found among them
+-- ---- look-ups among them
 
 other_number : (n k : ℕ) → n ≢ k → eq_by_cmp nat_cmp n k ≡ false
 other_number n k other = false_from_ne_true _ (λ t. other (same_number n k t))
 
--- one number more
+-- a look-up with one more number
 find_more : (es : List (ℕ × List Pair)) (n q : ℕ) (o : Option (List Pair)) → map.find nat_cmp n es ≡ None
     → map.find nat_cmp q (es ++ page_there n o) ≡ cond (eq_by_cmp nat_cmp q n) o (map.find nat_cmp q es)
 find_more es n q (Some pairs) new = find-append nat_cmp nat_cmp_total es n pairs q new
@@ -109,7 +109,7 @@ below_push : (n m : ℕ) (pairs : List Pair) (es : List (ℕ × List Pair)) → 
 below_push n m pairs [] h low = (h, tt)
 below_push n m pairs (e ∷ es) h low = (low.0, below_push n m pairs es h low.1)
 
--- the numbers rise, and are below n
+-- the numbers ascend and are below n
 record Rising (n : ℕ) (es : List (ℕ × List Pair)) : Type 0 where
   sorted : T (is_sorted nat_cmp es)
   low : AllBelow n es
@@ -125,7 +125,7 @@ rising : (pages : Pages) (n : ℕ) → Rising n (pages_below pages n)
 rising pages zero = record { sorted = tt; low = tt }
 rising pages (suc n) = rising_more n (pages_below pages n) (map.get pages n) (rising pages n)
 
--- ---- all of them
+-- ---- all pages
 
 none_past : (db : Database) → IsDatabase db → (n q : ℕ) → IsPageCount db n → n ≤ q → map.get db.pages q ≡ None
 none_past db ok n q counted h = at (map.get db.pages q) refl
@@ -145,11 +145,11 @@ all_below db ok n counted =
     at q (inl l) = found_below db.pages n q l ∙ map.get-entries db.pages q
     at q (inr l) = absent_above db.pages n q l ∙ sym (none_past db ok n q counted l) ∙ map.get-entries db.pages q
 
--- one number more
+-- one more number
 pub below_next : (pages : Pages) (n : ℕ) (o : Option (List Pair)) → map.get pages n ≡ o → pages_below pages (n + 1) ≡ pages_below pages n ++ page_there n o
 below_next pages n o is = ap (pages_below pages) (add-one n) ∙ ap (λ (x : Option (List Pair)). pages_below pages n ++ page_there n x) is
 
--- they are at most as many as numbers
+-- n numbers have at most n pages
 pub few_below : (pages : Pages) (n : ℕ) → length (pages_below pages n) ≤ n
 few_below pages zero = omega arith
 few_below pages (suc n) = at (map.get pages n) (few_below pages n)

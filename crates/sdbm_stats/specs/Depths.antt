@@ -1,10 +1,10 @@
--- How deep pages lie.
+-- The depths of pages.
 use Rattle.std.specs.Prelude.{ℕ, min, List, slice_index_or}
 use Rattle.std.specs.List.{fold, sum}
 use Rattle.sdbm_stats.specs.Totals.{greatest}
 use Rattle.sdbm_stats.specs.declared.depths.Depths.{Depths}
 
--- the least of some numbers, and 0 of none
+-- the least of the numbers, or 0 if there are none
 abbrev pub least : List ℕ → ℕ
 least ns = fold (λ a n. min a n) (slice_index_or ns 0 0) ns
 

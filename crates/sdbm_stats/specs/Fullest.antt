@@ -1,4 +1,4 @@
--- The pages that are nearest to full.
+-- The fullest pages.
 use Rattle.std.specs.Prelude.{◌≡◌, ℕ, ◌+◌, ◌-◌, ◌<◌, ◌≤◌, List, length, slice_index_or, take}
 use Rattle.std.specs.List.Sorted.{IsPermutation, IsNonDecreasingBy}
 use Rattle.sdbm_addr.specs.declared.PageSize.{PageSize}
@@ -10,7 +10,7 @@ use Rattle.sdbm_stats.specs.declared.totals.PageShape.{PageShape}
 abbrev pub room_on : PageSize → PageShape → PageRoom
 room_on size s = record { number = s.number; free = page_bytes size - s.filled }
 
--- The first five of pages in the order of their free bytes, and of two with as many the one with the lower number first.
+-- The first five pages by ascending number of free bytes; of two pages with the same number, the lower page number comes first.
 pub record AreFullest (rooms fullest : List PageRoom) : Type 0 where
   pub sorted : List PageRoom
   pub same : IsPermutation rooms sorted

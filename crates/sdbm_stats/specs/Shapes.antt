@@ -1,4 +1,4 @@
--- Pages in numbers.
+-- Measures of pages.
 use Rattle.std.specs.Prelude.{ℕ, ◌+◌, ◌*◌, ◌/◌, min, List}
 use Rattle.std.specs.List.{sum_by}
 use Rattle.sdbm_addr.specs.declared.PageSize.{PageSize}
@@ -8,15 +8,15 @@ use Rattle.sdbm_addr.specs.Database.{Database}
 use Rattle.sdbm_stats.specs.Totals.{totals_of}
 use Rattle.sdbm_stats.specs.declared.totals.PageShape.{PageShape}
 
--- how many bytes of a page are not free: those of its pairs and offsets, and of the count of offsets
+-- the number of bytes of a page that are not free: its pairs, their offsets, and the count of offsets
 abbrev pub filled : List Pair → ℕ
 filled pairs = sum_by footprint pairs + 2
 
--- the tenth of a page that is filled last, the first being 0; a page that is full is in the last one
+-- the tenth up to which a page is filled, counting from 0; a full page is in the last tenth
 abbrev pub tenth : PageSize → ℕ → ℕ
 tenth size bytes = min (10 * bytes / page_bytes size) 9
 
--- How many bits of a hash lead to page n where it has pairs: the number is a hash that leads there, too.
+-- The number of hash bits that lead to page n if it has pairs: the page number is itself a hash that leads to the page.
 abbrev pub page_depth : Database → ℕ → ℕ
 page_depth db n = depth_of db.splits n
 

@@ -1,4 +1,4 @@
--- What a database has, in numbers.
+-- Statistics of a database.
 use Rattle.std.specs.Prelude.{◌≡◌, ℕ, ◌+◌, ◌==◌, List, length, map as map_list}
 use Rattle.std.specs.List.{count_by, range_with_len}
 use Rattle.std.specs.FinMap as map
@@ -18,14 +18,14 @@ use Rattle.sdbm_stats.specs.declared.Stats.{Stats}
 abbrev pub used_pages : Database → List (ℕ × List Pair)
 used_pages db = map.entries db.pages
 
--- how many pages are filled to each tenth
+-- the number of pages filled to each tenth
 abbrev pub bars : Database → List ℕ
 bars db = map_list (λ i. count_by (λ (e : ℕ × List Pair). tenth db.size (filled e.1) == i) (used_pages db)) (range_with_len 0 10)
 
 pub record AreStats {A : Type 0} (db : Database) (s : Stats A) : Type 0 where
   pub pairs : s.pairs ≡ totals_of (pairs_of db)
   pub used : s.used ≡ map.len db.pages
-  -- `.pag` has so many pages
+  -- `.pag` has this number of pages
   pub holes : IsPageCount db (s.used + s.holes)
   pub dir_bytes : (dir : List ℕ) → AreDirectoryBytes db.splits dir → s.dir_bytes ≡ length dir
   pub pag_bytes : (pag : List ℕ) → ArePagBytes db pag → s.pag_bytes ≡ length pag

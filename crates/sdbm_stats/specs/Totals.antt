@@ -1,14 +1,14 @@
--- Pairs in numbers.
+-- Totals over pairs.
 use Rattle.std.specs.Prelude.{ℕ, ◌+◌, ◌≤◌, max, List, length}
 use Rattle.std.specs.List.{fold, sum_by}
 use Rattle.sdbm_addr.specs.Pairs.{Pair}
 use Rattle.sdbm_stats.specs.declared.totals.PairTotals.{PairTotals}
 
--- the greatest number that f gives of some, and 0 of none
+-- the greatest value of f on the list, or 0 if the list is empty
 abbrev pub greatest : {X : Type 0} → (X → ℕ) → List X → ℕ
 greatest f xs = fold (λ a x. max a (f x)) 0 xs
 
--- how many pairs there are, the bytes of their keys and values, and those of the longest key and of the longest pair
+-- the number of pairs, the lengths of all keys and of all values, and the lengths of the longest key and of the longest pair
 abbrev pub totals_of : List Pair → PairTotals
 totals_of pairs = record {
   count = length pairs;
@@ -18,7 +18,7 @@ totals_of pairs = record {
   longest_pair = greatest (λ e. length e.0 + length e.1) pairs;
 }
 
--- the numbers of pairs and of others together
+-- the totals over two lists of pairs together
 abbrev pub joined : PairTotals → PairTotals → PairTotals
 joined a b = record {
   count = a.count + b.count;
@@ -28,7 +28,7 @@ joined a b = record {
   longest_pair = max a.longest_pair b.longest_pair;
 }
 
--- the sums are at most so large
+-- the number of pairs and the sums of lengths are at most n
 pub record AreBelow (t : PairTotals) (n : ℕ) : Type 0 where
   pub count : t.count ≤ n
   pub key_bytes : t.key_bytes ≤ n

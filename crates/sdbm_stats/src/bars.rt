@@ -1,4 +1,4 @@
-//! How full pages are, by tenths.
+//! Counts pages by how full they are, in tenths.
 ghost use Rattle.std.specs.Prelude.{◌≡◌, ◌≤◌, ◌==◌, ◌^◌, IfOk, length, map as map_list};
 ghost use Rattle.std.specs.List.{count_by, range_with_len};
 ghost use Rattle.sdbm_stats.specs.Shapes.{tenth};
@@ -7,10 +7,10 @@ use crate::totals::PageShape;
 use sdbm_addr::PageSize;
 use std::alloc::{AllocError, Allocator};
 
-/// How many pages there are of each tenth, from the emptiest on.
+/// The number of pages in each tenth, beginning with the emptiest.
 ///
 /// # Errors
-/// `AllocError` where no memory is left for ten numbers.
+/// `AllocError` if allocation of ten numbers fails.
 pub fn bars_of<A: Allocator>(
     alloc: A,
     shapes: &[PageShape],
@@ -26,7 +26,7 @@ pub fn bars_of<A: Allocator>(
     Ok(bars)
 }
 
-// How many pages there are of a tenth.
+// The number of pages in a tenth.
 fn count_tenth(shapes: &[PageShape], size: PageSize, i: u64) -> u32
     requires { length shapes.now ≤ 2 ^ 31 }
     ensures { result ≡ count_by (λ (s : PageShape). tenth size s.filled == i) shapes.now }
@@ -40,7 +40,7 @@ fn count_tenth(shapes: &[PageShape], size: PageSize, i: u64) -> u32
     count
 }
 
-// The tenth of a page of which so many bytes are not free.
+// The tenth of a page with `filled` bytes in use.
 fn tenth(filled: u32, size: PageSize) -> u64
     ensures { result ≡ tenth size filled }
 {

@@ -1,10 +1,10 @@
-//! How deep pages lie: by how many bits of a hash.
+//! The depths of pages: the number of bits of a hash that lead to each.
 ghost use Rattle.std.specs.Prelude.{◌≡◌, ◌≤◌, ◌^◌, length, map as map_list};
 ghost use Rattle.sdbm_stats.specs.Depths.{depths_of};
 
 use crate::totals::PageShape;
 
-/// How many bits of a hash lead to pages: the fewest, the most, and the sum over all pages. All are 0 where there is no page.
+/// The number of hash bits that lead to pages: the least, the greatest, and the sum over all pages. All are 0 if there is no page.
 #[derive(Clone, Copy, Debug, PartialEq, Eq)]
 pub struct Depths {
     pub least: u8,
@@ -12,7 +12,7 @@ pub struct Depths {
     pub sum: u64,
 }
 
-/// How deep pages lie.
+/// The depths of pages.
 pub fn depths_of(shapes: &[PageShape]) -> Depths
     requires { length shapes.now ≤ 2 ^ 32 }
     ensures { result ≡ depths_of (map_list (λ (s : PageShape). s.depth) shapes.now) }
@@ -24,7 +24,7 @@ pub fn depths_of(shapes: &[PageShape]) -> Depths
     }
 }
 
-// The least depth, and 0 of no page.
+// The least depth, or 0 if there is no page.
 fn least(shapes: &[PageShape]) -> u8
     ensures { result ≡ (depths_of (map_list (λ (s : PageShape). s.depth) shapes.now)).least }
 {
@@ -38,7 +38,7 @@ fn least(shapes: &[PageShape]) -> u8
     least
 }
 
-// The greatest depth, and 0 of no page.
+// The greatest depth, or 0 if there is no page.
 fn greatest(shapes: &[PageShape]) -> u8
     ensures { result ≡ (depths_of (map_list (λ (s : PageShape). s.depth) shapes.now)).greatest }
 {

@@ -1,4 +1,4 @@
-//! The pages that are nearest to full.
+//! Finds the fullest pages.
 ghost use Rattle.std.specs.Prelude.{◌≡◌, IfOk, map as map_list};
 ghost use Rattle.std.specs.List.Sorted.{IsSortedByKey};
 ghost use Rattle.std.specs.Ordering.{nat_cmp};
@@ -8,21 +8,21 @@ use crate::totals::PageShape;
 use sdbm_addr::PageSize;
 use std::alloc::{AllocError, Allocator};
 
-// So many pages are named at most.
+// The greatest number of pages in the result.
 const MOST: usize = 5;
 
-/// A page, and how many of its bytes are free.
+/// A page and the number of its free bytes.
 #[derive(Clone, Copy, Debug, PartialEq, Eq)]
 pub struct PageRoom {
     pub number: u32,
     pub free: u32,
 }
 
-/// The pages nearest to full, five at most, of pages in the order of their numbers: the fullest first, and of two that are as full
-/// the one with the lower number.
+/// The fullest pages, at most five, of pages in the order of their numbers: the fullest page is first, and of two pages with equally
+/// many free bytes the one with the lower number.
 ///
 /// # Errors
-/// `AllocError` where no memory is left to sort them.
+/// `AllocError` if allocation fails while sorting.
 pub fn fullest_of<A: Allocator + Copy>(
     alloc: A,
     shapes: &[PageShape],

@@ -1,4 +1,4 @@
-//! What a database has, in numbers: its pairs and their bytes, how full its pages are, and how deep its directory is.
+//! Statistics of a database: its pairs and their bytes, how full its pages are, and how deep its directory is.
 #![tactic(auto)]
 
 ghost use Rattle.std.specs.Prelude.{◌≡◌, ◌≤◌, ◌^◌, IfOk, length};
@@ -26,36 +26,36 @@ use std::alloc::{AllocError, Allocator};
 pub use totals::PairTotals;
 use totals::{PageShape, all_totals};
 
-/// What a database has, in numbers.
+/// Statistics of a database.
 #[derive(Drop)]
 pub struct Stats<A: Allocator> {
-    /// Its pairs.
+    /// Number and lengths of the pairs.
     pub pairs: PairTotals,
     /// The number of pages that have pairs.
     pub used: u32,
-    /// The number of pages without pairs in front of the last one that has some: they stand in `.pag` as zeros.
+    /// The number of pages without pairs before the last page that has pairs. They are written to `.pag` as zeros.
     pub holes: u32,
-    /// The bytes of the `.dir` file.
+    /// The length of the `.dir` file in bytes.
     pub dir_bytes: u64,
-    /// The bytes of the `.pag` file.
+    /// The length of the `.pag` file in bytes.
     pub pag_bytes: u64,
-    /// The bytes that the `.pag` file has once the database is widened.
+    /// The length of the `.pag` file in bytes after the database is widened.
     pub wide_bytes: u64,
-    /// How many pages that have pairs are filled to less than a tenth, from there to less than two tenths, and so on; a page that
-    /// is full counts among the last ones.
+    /// The number of pages that are filled to less than a tenth, from one to less than two tenths, and so on. Pages without pairs are
+    /// not counted; a full page counts in the last tenth.
     pub bars: Vec<u32, A>,
-    /// The pages nearest to full, five at most: the fullest first, and of two that are as full the one with the lower number.
+    /// The fullest pages, at most five: the fullest page is first, and of two equally full pages the one with the lower number.
     pub fullest: Vec<PageRoom, A>,
-    /// The number of prefixes that are split, which is that of the bits that are set in the `.dir` file.
+    /// The number of split prefixes, which is the number of bits that are 1 in the `.dir` file.
     pub splits: u64,
-    /// How deep the pages lie that have pairs.
+    /// The depths of the pages that have pairs.
     pub depths: Depths,
 }
 
-/// The numbers of a database. Each pair is looked at once, and each page a few times.
+/// Computes the statistics of a database. Reads each pair once, and each page a few times.
 ///
 /// # Errors
-/// `AllocError` where no memory is left for some forty bytes a page.
+/// `AllocError` if allocation fails; about forty bytes are allocated for each page.
 pub fn stats_of<A: Allocator + Copy>(alloc: A, image: &Image<A>) -> Result<Stats<A>, AllocError>
     ensures stats { IfOk result (AreStats image.now) }
     ensures count { IfOk result (λ stats. stats.pairs.count ≡ map.len (map_of image.now)) }
@@ -83,7 +83,7 @@ pub fn stats_of<A: Allocator + Copy>(alloc: A, image: &Image<A>) -> Result<Stats
     })
 }
 
-// How many pages have pairs.
+// The number of pages that have pairs.
 fn used_of(shapes: &[PageShape]) -> u32
     requires { length shapes.now ≤ 2 ^ 31 }
     ensures { result ≡ length shapes.now }

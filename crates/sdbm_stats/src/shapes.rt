@@ -1,4 +1,4 @@
-//! The pages that have pairs, each in a few numbers.
+//! Measures the pages that have pairs.
 ghost use Rattle.std.specs.Prelude.{◌≡◌, Some, IfOk, IfSome, option_map, map as map_list};
 ghost use Rattle.std.specs.List.{All};
 ghost use Rattle.std.specs.FinMap as map;
@@ -11,10 +11,10 @@ use sdbm_files::Image;
 use sdbm_page::{Page, SharedPage};
 use std::alloc::{AllocError, Allocator};
 
-/// The pages that have pairs, in the order of their numbers.
+/// Measures the pages that have pairs, in the order of their numbers.
 ///
 /// # Errors
-/// `AllocError` where no memory is left for as many.
+/// `AllocError` if allocation fails.
 pub fn shapes_of<A: Allocator + Copy>(
     alloc: A,
     image: &Image<A>,
@@ -31,7 +31,7 @@ pub fn shapes_of<A: Allocator + Copy>(
     Ok(shapes)
 }
 
-// The page with a number, where it has pairs.
+// Measures the page with a number, or returns `None` if it has no pairs.
 fn shape_at<A: Allocator + Copy>(image: &Image<A>, number: u32) -> Option<PageShape>
     ensures shape { result ≡ option_map (λ pairs. shape_of image.now (number, pairs)) (map.get image.now.pages number) }
     ensures small { IfSome result (λ shape. AreBelow shape.totals 8192) }
@@ -42,7 +42,7 @@ fn shape_at<A: Allocator + Copy>(image: &Image<A>, number: u32) -> Option<PageSh
     }
 }
 
-// A page that has pairs.
+// Measures a page that has pairs.
 fn page_shape<A: Allocator + Copy>(image: &Image<A>, number: u32, page: &SharedPage<A>) -> PageShape
     requires there { map.get image.now.pages number ≡ Some page.now.pairs }
     requires database { IsDatabase image.now }
@@ -58,7 +58,7 @@ fn page_shape<A: Allocator + Copy>(image: &Image<A>, number: u32, page: &SharedP
     }
 }
 
-// How many bytes of a page are not free.
+// The number of bytes of a page that are not free.
 fn filled<A: Allocator>(page: &Page<A>) -> u32
     ensures { result ≡ filled page.now.pairs }
 {

@@ -1,11 +1,11 @@
-//! How many prefixes a directory splits.
+//! Counts the split prefixes of a directory.
 ghost use Rattle.std.specs.Prelude.{◌≡◌, ◌≤◌, ◌<◌, ◌^◌, ◌*◌, ◌+◌, length, ℕ};
 ghost use Rattle.std.specs.FinSet as set;
 ghost use Rattle.sdbm_addr.specs.Directory.{Splits};
 ghost use Rattle.sdbm_addr.specs.DirectoryFile.{bit_of, SpellsDirectory};
 ghost use Rattle.sdbm_dir.specs.Bitmap.{splits_below};
 
-/// How many prefixes the bytes of a directory split: as many as bits are set.
+/// The number of prefixes that the bytes of a directory split, which is the number of their bits that are 1.
 pub fn count_splits(bytes: &[u8]) -> u64
     requires short { length bytes.now < 2 ^ 32 }
     ensures count { (d : Splits) → SpellsDirectory bytes.now d → result ≡ set.len d }
@@ -17,7 +17,7 @@ pub fn count_splits(bytes: &[u8]) -> u64
     count
 }
 
-// How many bits of one byte are set.
+// The number of bits that are 1 in one byte.
 fn count_bits(bytes: &[u8], index: usize) -> u64
     requires inside { index < length bytes.now }
     ensures few { result ≤ 8 }
@@ -33,7 +33,7 @@ fn count_bits(bytes: &[u8], index: usize) -> u64
     count
 }
 
-// 1 where bit k of one byte is set, and else 0.
+// Bit k of one byte, as a number.
 fn count_bit(bytes: &[u8], index: usize, k: u32) -> u64
     requires inside { index < length bytes.now }
     requires bit { k < 8 }
@@ -43,7 +43,7 @@ fn count_bit(bytes: &[u8], index: usize, k: u32) -> u64
     if is_set(bytes, index, k) { 1 } else { 0 }
 }
 
-// Whether bit k of one byte is set.
+// Bit k of one byte.
 fn is_set(bytes: &[u8], index: usize, k: u32) -> bool
     requires inside { index < length bytes.now }
     requires bit { k < 8 }

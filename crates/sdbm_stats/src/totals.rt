@@ -1,4 +1,4 @@
-//! Pairs in numbers: how many there are, their bytes, and the longest ones.
+//! Totals over pairs: their number, their bytes, and the longest ones.
 ghost use Rattle.std.specs.Prelude.{◌≡◌, ◌≤◌, ◌+◌, ◌^◌, ◌∷◌, [], ℕ, List, length, map as map_list};
 ghost use Rattle.std.specs.List.{All, flat_map};
 ghost use Rattle.sdbm_addr.specs.Pairs.{Pair};
@@ -9,22 +9,22 @@ ghost use Rattle.sdbm_stats.specs.Shapes.{shape_of};
 use sdbm_page::Page;
 use std::alloc::Allocator;
 
-/// Pairs in numbers.
+/// Totals over pairs. Lengths are in bytes.
 #[derive(Clone, Copy, Debug, PartialEq, Eq)]
 pub struct PairTotals {
-    /// How many there are.
+    /// The number of pairs.
     pub count: u64,
-    /// The bytes of all keys.
+    /// The sum of the lengths of all keys.
     pub key_bytes: u64,
-    /// The bytes of all values.
+    /// The sum of the lengths of all values.
     pub value_bytes: u64,
-    /// The bytes of the longest key.
+    /// The length of the longest key.
     pub longest_key: u64,
-    /// The bytes of the longest pair, its key and its value together.
+    /// The length of the longest pair, its key and its value together.
     pub longest_pair: u64,
 }
 
-// The numbers of no pairs.
+// The totals over no pairs.
 const NONE: PairTotals = PairTotals {
     count: 0,
     key_bytes: 0,
@@ -33,7 +33,7 @@ const NONE: PairTotals = PairTotals {
     longest_pair: 0,
 };
 
-// The numbers of one pair.
+// The totals over one pair.
 fn pair_totals(key: &[u8], value: &[u8]) -> PairTotals
     ensures { result ≡ totals_of ((key.now, value.now) ∷ []) }
 {
@@ -46,7 +46,7 @@ fn pair_totals(key: &[u8], value: &[u8]) -> PairTotals
     }
 }
 
-// The numbers of pairs and of others together.
+// Combines the totals over two disjoint sets of pairs.
 fn join(first: PairTotals, second: PairTotals) -> PairTotals
     requires first { AreBelow first (2 ^ 62) }
     requires second { AreBelow second (2 ^ 62) }
@@ -61,7 +61,7 @@ fn join(first: PairTotals, second: PairTotals) -> PairTotals
     }
 }
 
-/// The numbers of a page's pairs.
+/// The totals over the pairs of a page.
 pub fn page_totals<A: Allocator>(page: &Page<A>) -> PairTotals
     ensures totals { result ≡ totals_of page.now.pairs }
     ensures small { AreBelow result 8192 }
@@ -73,7 +73,7 @@ pub fn page_totals<A: Allocator>(page: &Page<A>) -> PairTotals
     totals
 }
 
-/// The numbers of the pairs of all pages.
+/// The totals over the pairs of all pages.
 pub fn all_totals(shapes: &[PageShape]) -> PairTotals
     requires small { All (λ (s : PageShape). AreBelow s.totals 8192) shapes.now }
     requires few { length shapes.now ≤ 2 ^ 32 }
@@ -87,13 +87,13 @@ pub fn all_totals(shapes: &[PageShape]) -> PairTotals
     totals
 }
 
-/// A page that has pairs, in numbers.
+/// Measures of a page that has pairs.
 #[derive(Clone, Copy, Debug, PartialEq, Eq)]
 pub struct PageShape {
     pub number: u32,
-    /// How many bits of a hash lead to it.
+    /// The number of hash bits that lead to the page.
     pub depth: u8,
-    /// How many of its bytes are not free.
+    /// The number of bytes that are not free.
     pub filled: u32,
     pub totals: PairTotals,
 }

@@ -7,7 +7,7 @@ use Rattle.sdbm_split.proofs.Plans.{twins_along, Leads-own, IsPlan-from, ArePage
 use Rattle.sdbm_split.proofs.Refusals.{IsOwnPlace-found, not_refused_at}
 use Rattle.sdbm_split.proofs.plan_store.Goals as goal
 
--- the pages and bits along the path, which is the key's hash
+-- the pages and bits along the path of the key's hash
 leaf_along : (kind : KeyBytes) (page : Content) (key value : List ℕ) (h t path : ℕ) (leaf : Content) → path ≡ hash_of kind key
     → leaf ≡ record { size = page.size; pairs = on_page kind path h t (path % 2 ^ h) (stored page.pairs key value) }
     → leaf ≡ record { size = page.size; pairs = on_page kind (hash_of kind key) h t (hash_of kind key % 2 ^ h) (stored page.pairs key value) }

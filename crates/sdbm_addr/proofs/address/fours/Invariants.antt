@@ -2,6 +2,6 @@ use Rattle.std.proofs.Common.{◌≡◌, ◌+◌, ◌*◌, ◌%◌, ◌^◌, dro
 use Rattle.sdbm_addr.specs.Hash.{weighted_sum}
 use Rattle.sdbm_addr.proofs.address.fours.Given as goal
 
--- the sum so far, under the power that the bytes left give it, and what they add
+-- the sum so far times 65599 to the number of bytes left, plus the sum of the bytes left, is the whole sum modulo 2^32
 abbrev pub invariant-loop-i : goal.invariant-loop-i
 invariant-loop-i l = (l.sum * 65599 ^ length (drop (4 * l.i) l.bytes) + weighted_sum l.kind (drop (4 * l.i) l.bytes)) % 2 ^ 32 ≡ weighted_sum l.kind l.bytes % 2 ^ 32

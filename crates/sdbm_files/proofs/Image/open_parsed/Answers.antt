@@ -59,7 +59,7 @@ returns-in-Some-misplaced-clause-none g c =
     subst (λ (r : PagRead). faults.Misplaced c.in-Some-misplaced.number ≢ faults.NoMemory → SpellsNoDatabase c.args.kind r.size c.args.dir.now r.bytes) c.pag.view_is
     (no_database c.args.kind c.pag.inside.size c.args.dir.now c.pag.inside.told.bytes (faults.Misplaced c.in-Some-misplaced.number) (misled g c))
 
--- all pages are parsed, and all keys lead to theirs
+-- all pages are parsed, and all keys lead to their pages
 record Sound (kind : KeyBytes) (size : PageSize) (d : Splits) (entries : List (ℕ × Content)) (count : ℕ) (pag : List ℕ) : Type 0 where
   whole : length pag % page_bytes size ≡ 0
   are : AreParsed size entries count None pag

@@ -7,7 +7,7 @@ use Rattle.sdbm_files.specs.Installed.{put_all}
 use Rattle.sdbm_files.proofs.WideningLemmas.{IsFoundIn}
 use Rattle.sdbm_files.proofs.opening.copy_pages.Given as goal
 
--- with the pages left put in, they are all
+-- the pages copied and those left make up all pages
 abbrev pub invariant-loop-number : goal.invariant-loop-number
 invariant-loop-number g l =
     (goal.iterator-loop-number g).can_next l.number-iterator ×

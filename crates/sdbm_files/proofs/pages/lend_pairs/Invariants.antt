@@ -5,7 +5,7 @@ use Rattle.sdbm_addr.specs.Pairs.{Content}
 use Rattle.sdbm_files.specs.Lent.{pairs_lent}
 use Rattle.sdbm_files.proofs.pages.lend_pairs.Given as goal
 
--- the pairs lent and those of the pages left are all
+-- the pairs borrowed and those of the pages left make up all pairs
 abbrev pub invariant-loop-page : goal.invariant-loop-page
 invariant-loop-page g l =
     (goal.iterator-loop-page g).can_next l.page-iterator ×

@@ -7,7 +7,7 @@ use Rattle.sdbm_files.proofs.pages.store_pair.Goals as goal
 pub store_in_place-requires-clause-distinct : goal.store_in_place-requires-clause-distinct
 store_in_place-requires-clause-distinct g c = subst HasDistinctKeys (pairs_found c.args.pages.now.entries c.args.number c.in-Some.page.now (sym c.in-Some.ensures.value)) c.requires.distinct
 
--- the entries once the page is written
+-- the entries after the page is changed
 has_page : (g : _) (c : goal.After-pages-in-Some-1 g) → (content : Content) → c.store_in_place.new.page ≡ content → HasAt c.args.pages.now.entries (c.get_mut.follows.lender c.store_in_place.new.page).entries c.args.number (Some content)
 has_page g c content is = subst (λ (x : Content). HasAt c.args.pages.now.entries (c.get_mut.follows.lender c.store_in_place.new.page).entries c.args.number (Some x)) is ((c.get_mut.follows.holds c.store_in_place.new.page).3 (subst IsSome c.in-Some.ensures.value refl)).0
 

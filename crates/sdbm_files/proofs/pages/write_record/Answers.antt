@@ -12,7 +12,7 @@ pub write_record-requires-clause-long : goal.write_record-requires-clause-long
 write_record-requires-clause-long g c =
     subst (λ (ps : List Pair). length c.args.value.now ≡ length (value_at ps c.args.i)) (pairs_found c.args.pages.now.entries c.args.number c.in-Some.page.now (sym c.in-Some.ensures.value)) c.requires.long
 
--- the entries once the page is written
+-- the entries after the page is changed
 has_page : (g : _) (c : goal.After-pages-in-Some-1 g) → (content : Content) → c.write_record.new.self ≡ content → HasAt c.args.pages.now.entries (c.get_mut.follows.lender c.write_record.new.self).entries c.args.number (Some content)
 has_page g c content is = subst (λ (x : Content). HasAt c.args.pages.now.entries (c.get_mut.follows.lender c.write_record.new.self).entries c.args.number (Some x)) is ((c.get_mut.follows.holds c.write_record.new.self).3 (subst IsSome c.in-Some.ensures.value refl)).0
 

@@ -2,6 +2,6 @@ use Rattle.std.proofs.Common.{◌≡◌, drop}
 use Rattle.sdbm_addr.specs.Pairs.{value_of}
 use Rattle.sdbm_page.proofs.Page.find_by_key.Given as goal
 
--- the key is not in front of place i
+-- the key is not before place i
 abbrev pub invariant-loop-i : goal.invariant-loop-i
 invariant-loop-i g l = value_of (drop l.i l.self.pairs) l.key ≡ value_of l.self.pairs l.key

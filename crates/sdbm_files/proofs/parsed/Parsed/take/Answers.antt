@@ -22,7 +22,7 @@ returns-then-is_some-clause-err g c =
     on_err_weaker c.keep_bytes.result
     (λ same pag are. taken_same c.args.size old.pages.entries old.pages.entries (raw_under old.raw.entries) (raw_under c.keep_bytes.new.raw.entries) old.count old.bad c.args.number pag refl same are) c.keep_bytes.ensures.err
 
--- what is known of an error
+-- a property of the fault of a result
 of_error : {T : Type 0} (P : PageFault → Type 0) (r : Result T PageFault) (fault : PageFault) → r ≡ Err fault → IfErr r P → P fault
 of_error {T} P r fault is h = subst (λ (x : Result T PageFault). IfErr x P) is h
 

@@ -13,7 +13,7 @@ nothing n = omega arith
 pub loop-index-init : goal.loop-index-init
 loop-index-init g c = piece_none c.args.self.now c.args.piece.now _ (nothing (page_bytes c.args.self.now.size))
 
--- how large a page is
+-- the page size
 size_is : (g : given.Over) (c : goal.After-push_page-arg-in-loop-index-1 g) → c.bytes-size.result ≡ page_bytes c.args.self.now.size
 size_is g c = c.bytes-size.ensures ∙ ap (λ (r : PagRead). page_bytes r.size) c.self.view_is
 

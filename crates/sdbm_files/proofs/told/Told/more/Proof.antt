@@ -1,4 +1,4 @@
--- `more` makes a value of no bytes, whose ghost field is the other's with the slice after it.
+-- `more` makes a value without bytes; its ghost field is the previous one followed by the slice.
 use Rattle.std.proofs.Common.{[], ◌∷◌, ◌++◌, refl}
 use mir.Val.{Val, vstruct, vnil}
 use base.Fml.{Fml}

@@ -1,4 +1,4 @@
--- `none` makes a value of no bytes, whose ghost field is empty.
+-- `none` makes a value without bytes; its ghost field is empty.
 use Rattle.std.proofs.Common.{[], ◌∷◌, refl}
 use mir.Val.{Val, vstruct, vnil}
 use base.Fml.{Fml}

@@ -1,5 +1,5 @@
--- How a part of a small page's bytes is lent. The bytes are cut in three, the middle is lent, and when it comes back the three are
--- one array again. The check does not do so by itself for a part of an array.
+-- Proof of the borrow of a part of a small page's bytes: the bytes are split in three, the middle is borrowed, and when the borrow ends
+-- the three are joined into one array. The checker does not do this by itself for a part of an array.
 use Rattle.std.proofs.Common.{◌≡◌, ℕ, zero, ◌+◌, ◌-◌, ◌^◌, ◌<◌, ◌≤◌, List, [], ◌∷◌, ◌++◌, length, take, drop as past, refl, sym, ap, ◌∙◌, subst, arith, length-append, length-drop, w8, w64}
 use Rattle.std.proofs.lemmas.List.{take-append-drop, length-take-le}
 use Rattle.std.proofs.raw_atomic.Walks.{proved}
@@ -46,7 +46,7 @@ use Rattle.sdbm_page.proofs.Writing.{written_at}
 use Rattle.sdbm_page.proofs.small.SmallBytes.part_mut.Statement.{statement}
 use Rattle.sdbm_page.proofs.small.SmallBytes.part_mut.Code as code
 
--- the one field, and where it lies in a struct that lies at o
+-- the only field, and its offset in a struct at o
 abbrev field : List Member
 field = record { row = Array u8 1024; ty = ty_array (ty_int w8) 1024 } ∷ []
 
@@ -57,7 +57,7 @@ abbrev run : List ℕ → ℕ → ℕ → Fml
 run bytes b o = cells (mem u8) bytes b o
 
 module _ {M : Type 1} {𝓤 : Ura M} (𝓛 : Logic 𝓤) where
-  -- three runs side by side, where the second begins at m, are one
+  -- three adjacent runs, the second beginning at m, are one run
   cut_in_three : (x y z : List ℕ) (b o m : ℕ) → length x + o ≡ m
       → ent 𝓤 (sem 𝓛 (run (x ++ (y ++ z)) b o)) (sep 𝓤 (sem 𝓛 (run x b o)) (sep 𝓤 (sem 𝓛 (run y b m)) (sem 𝓛 (run z b (length y + m)))))
   cut_in_three x y z b o m here =
@@ -76,7 +76,7 @@ module _ {M : Type 1} {𝓤 : Ura M} (𝓛 : Logic 𝓤) where
       rewrite ! 0 (λ (k : ℕ). ‵ (run (y ++ z) b k)) (sym (at_byte o (length x) ∙ here)) refl $ move ! (1 ∷ 0 ∷ []) $
       by ! (join_app 𝓛 (mem u8) x (y ++ z) b o)
 
-  -- what a struct's memory has beside its field
+  -- the memory of a struct except its field
   abbrev shell : ℕ → ℕ → SProp 𝓤
   shell b o = 𝓛.H.left full_share (ty_struct [] (raw_tys field)) (raw_tys field) b o
 
@@ -103,7 +103,7 @@ module _ {M : Type 1} {𝓤 : Ura M} (𝓛 : Logic 𝓤) where
       use2 𝓛 (‵ (part_at (Struct (shape small_type)) full_share (small.bytes, tt) b o)) (left_Struct 𝓛 full_share small_type.name field (small.bytes, tt) b o) $
       rewrite ! 0 (λ (held : Fml). ‵ held) (sym (Recorded-part (Struct (shape small_type)) small_type.D small_type.to small_type.to_one full_share small b o)) refl $ done !
 
--- where the byte at a place lies
+-- the offset in memory of the byte at a place
 abbrev byte_at : ℕ → ℕ → ℕ
 byte_at place o = place + home o
 
@@ -120,7 +120,7 @@ module _ (small : SmallBytes) (start end : ℕ) where
   three : small.bytes ≡ front ++ (middle ++ behind)
   three = rw (take-append-drop (end - start) (past start small.bytes), take-append-drop start small.bytes) refl
 
-  -- the middle as a slice at (b, o), lent under the name δ, where the machine counts n bytes
+  -- the middle as a slice at (b, o), borrowed under the name δ; the machine counts n bytes
   abbrev slice : Lft → GName → ℕ → ℕ → ℕ → Fml
   slice κ δ b o n = (MutSlice (named 0) κ u8).own_val (record { ref_ptr = (b, o); ghost_name = δ; now = middle }) (slice_val (b, o) n ∷ [])
 
@@ -131,7 +131,7 @@ module _ (small : SmallBytes) (start end : ℕ) where
     middle_at : (o : ℕ) → length front + home o ≡ byte_at start o
     middle_at o = ap (λ (k : ℕ). k + home o) (length-take-le start small.bytes (omega arith))
 
-    -- with as many others in the middle's place
+    -- with another list of the same length in place of the middle
     with_is : (new : List ℕ) → length new ≡ length middle → (small_with small start new).bytes ≡ front ++ (new ++ behind)
     with_is new same = written_at (length small.bytes) start small.bytes front middle behind new three refl (sym (length-take-le start small.bytes (omega arith))) same
 
@@ -149,7 +149,7 @@ module _ (small : SmallBytes) (start end : ℕ) where
         )
 
     module _ {M : Type 1} {𝓤 : Ura M} (𝓛 : Logic 𝓤) (b o : ℕ) where
-      -- what stays with the struct while the middle is lent
+      -- the part of the struct that remains while the middle is borrowed
       abbrev stays : SProp 𝓤
       stays = sep 𝓤 (sem 𝓛 (run front b (home o))) (sep 𝓤 (sem 𝓛 (run behind b (length middle + byte_at start o))) (shell 𝓛 b o))
 
@@ -163,7 +163,7 @@ module _ (small : SmallBytes) (start end : ℕ) where
           feq_i ! ℕ (length (small_with small start new).bytes) 1024 (with_long new same ∙ long) $ fjoin ! $
           by ! (shut 𝓛 (small_with small start new) b o)
 
--- no parameter is handed back
+-- no parameter is returned
 abbrev left : Stays f.ended.signature.params f.ended.kept
 left = (stay_dropped (mut_ref_to (0 ∷ []) tt (plain (λ _. Small))) no, (stay_dropped (plain (λ _. usize)) yes, (stay_dropped (plain (λ _. usize)) yes, tt)))
 

@@ -221,7 +221,8 @@ pub extern "C" fn boddurci_submit_stock(
     }
 }
 
-/// Assembles the text of a program into an image in `room`. On a fault, sets its line and writes its text to `room`.
+/// Assembles the text of a program into `image`, and sets the image's length, even if it does not fit. On a fault, sets its
+/// line and writes its text to `room`.
 #[unsafe(no_mangle)]
 pub extern "C" fn boddurci_assemble(
     alloc: Global,

@@ -6,7 +6,7 @@ use Rattle.sdbm_addr.specs.Pairs.{Content}
 use Rattle.sdbm_split.specs.Planned.{PageChange}
 use Rattle.sdbm_addr.specs.Database.{Database, pairs_at, coded_kind, coded_size, coded_pairs, coded_database}
 
--- a number is marked exactly if it is in the list, which has it once
+-- a number is marked if and only if it is in the list, which has it once
 pub record AreMarked (marked : List Bool) (numbers : List ℕ) : Type 0 where
   pub only : (n : ℕ) → get_or marked n false ≡ true → Contains numbers n
   pub each : (i : ℕ) → i < length numbers → get_or marked (get_or numbers i 0) false ≡ true

@@ -58,7 +58,7 @@ held_by-push_other t (x ∷ xs) h y =
       | false ↦ held_by-push_other t xs h y
     ]
 
--- a ticket that is not kept is not open
+-- an option that is not `Some` is `None`
 pub not_some : {X : Type 0} (o : Option X) → (IsSome o → false ≡ true) → o ≡ None
 not_some None h = refl
 not_some (Some x) h = absurd (false≢true (h refl))

@@ -48,7 +48,7 @@ pub record StartsWith {A : Type 0} (db : Database) (limit : ℕ) (s : DeskState 
 abbrev pub page_led : {A : Type 0} → DeskState A → Command A → ℕ
 page_led s command = page_of s.database.splits (hash_of s.database.kind (key_of command))
 
--- true if another hold on that page conflicts with this mode
+-- true if an existing hold on that page conflicts with this mode
 abbrev pub is_barred_in : {A : Type 0} → DeskState A → ℕ → Option Hold → Bool
 is_barred_in s page None = false
 is_barred_in s page (Some mode) = list_any (bars page mode) s.holds
@@ -176,7 +176,7 @@ pub record Abandons {A : Type 0} (s : DeskState A) (t : ℕ) (s' : DeskState A) 
   pub entries : s'.entries ≡ s.entries
   pub closes : Closes s t s'
 
--- true if the holds of other tickets bar a change of the command's page
+-- true if existing holds bar a change of the command's page
 abbrev pub is_held : {A : Type 0} → DeskState A → Command A → Bool
 is_held s command = list_any (bars (page_led s command) Exclusive) s.holds
 

@@ -156,8 +156,8 @@ impl<A: Allocator + Copy> Desk<A> {
     /// next.
     ///
     /// # Errors
-    /// Each `AskFault` except `NoMemory` exactly if its condition holds; `NoMemory` only if no other condition holds. The desk
-    /// is unchanged, and the command is returned.
+    /// Each `AskFault` except `NoMemory` if and only if its condition holds; `NoMemory` only if no other condition holds. The
+    /// desk is unchanged, and the command is returned.
     pub fn ask(
         &mut self,
         session: u64,
@@ -328,7 +328,7 @@ impl<A: Allocator + Copy> Desk<A> {
     /// Makes a ticket's update hold exclusive. Allocates nothing.
     ///
     /// # Errors
-    /// Each `ConvertFault` exactly if its condition holds. The desk is unchanged.
+    /// Each `ConvertFault` if and only if its condition holds. The desk is unchanged.
     pub fn convert(&mut self, ticket: Ticket) -> Result<(), ConvertFault>
         ensures ok { OnOk result (Converts self.old ticket.0 self.new) }
         ensures refused { IfErr result (IsConvertFault self.old ticket.0) }
@@ -349,7 +349,7 @@ impl<A: Allocator + Copy> Desk<A> {
     /// Closes a ticket without committing. Allocates nothing.
     ///
     /// # Errors
-    /// `NoTicket` exactly if the ticket is not open. The desk is unchanged.
+    /// `NoTicket` if and only if the ticket is not open. The desk is unchanged.
     pub fn abandon(&mut self, ticket: Ticket) -> Result<(), NoTicket>
         ensures ok { OnOk result (Abandons self.old ticket.0 self.new) }
         ensures refused { OnErr result (ticket_of self.old ticket.0 ≡ None) }
@@ -366,8 +366,8 @@ impl<A: Allocator + Copy> Desk<A> {
     /// Commits a computed command and closes its ticket. Allocates nothing if no page changes.
     ///
     /// # Errors
-    /// Each `FinishFault` except `NoMemory` exactly if its condition holds; `NoMemory` only if no other condition holds and a
-    /// page changes. The desk is unchanged, and the computed command is returned.
+    /// Each `FinishFault` except `NoMemory` if and only if its condition holds; `NoMemory` only if no other condition holds and
+    /// a page changes. The desk is unchanged, and the computed command is returned.
     pub fn finish(&mut self, done: Done<A>) -> Result<Reply<A>, (FinishFault, Done<A>)>
         ensures ok { IfOk result (λ reply. Finishes self.old done reply self.new) }
         ensures refused { IfErr result (λ refused. IsFinishFault self.old done refused.0) }

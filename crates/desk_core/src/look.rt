@@ -158,9 +158,9 @@ impl<A: Allocator + Copy> Desk<A> {
     ///
     /// # Errors
     /// Checked in this order; the desk is unchanged, and the command is returned.
-    /// - `Refused` exactly if `ask` refuses the command for a reason other than memory.
-    /// - `Changed` exactly if the page of the key has changed, or the page size or hash kind of the database is another.
-    /// - `Refused(Busy)` exactly if the command changes a page that a ticket holds.
+    /// - `Refused` if and only if `ask` refuses the command for a reason other than memory.
+    /// - `Changed` if and only if the page of the key has changed, or the page size or hash kind of the database is another.
+    /// - `Refused(Busy)` if and only if the command changes a page that a ticket holds.
     /// - `Refused(NoMemory)` if out of memory.
     pub fn put(&mut self, seen: Seen<A>) -> Result<Stepped<A>, (PutFault, SharedCommand<A>)>
         ensures ok { IfOk result (λ stepped. Steps self.old seen.session seen.command stepped.reply self.new) }

@@ -25,7 +25,7 @@ use Rattle.store_moves.specs.Works.{PageResult, works, fetched, is_kept, stored_
 use Rattle.store_moves.specs.declared.worked.Site.{Site}
 use Rattle.store_moves.specs.Worked.{stored_on, takes_memory, is_change}
 
--- a store that is not refused is not kept back
+-- if a store is not refused, `is_kept` is false
 pub not_kept : (mode : Mode) (pairs : List Pair) (key : List ℕ) → (IsRefused mode pairs key → ⊥) → is_kept mode (value_of pairs key) ≡ false
 not_kept Replace pairs key allowed = refl
 not_kept Insert pairs key allowed = at (value_of pairs key) refl

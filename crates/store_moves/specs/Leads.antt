@@ -58,8 +58,8 @@ IsSameBeside old number new = (key : List ℕ) (place : Place) → IsPlaceOf old
 abbrev pub FillsNone : Database → Database → Type 0
 FillsNone old new = (n : ℕ) → pairs_at old n ≡ [] → pairs_at new n ≡ []
 
--- A page's result is installable, leaves the other places unchanged, and has a change exactly if its reply says so. Installed,
--- it is one move; for a run, only if the run ends.
+-- A page's result is installable, leaves the other places unchanged, and has a change if and only if its reply says so.
+-- Installed, it is one move; for a run, only if the run ends.
 pub record LeadsTo {A : Type 0} (db : Database) (session : ℕ) (command : Command A) (number : ℕ) (result : PageResult A) : Type 0 where
   pub may : MayChange db number result.change
   pub move : HasEnd (pairs_at db number) session command → Moves (state_of db) (record { session = session; command = command; reply = result.reply }) (state_of (changed_by db number result.change))

@@ -76,7 +76,7 @@ abbrev pub is_kept : Mode → Option (List ℕ) → Bool
 is_kept Insert there = is_some there
 is_kept Replace there = false
 
--- a store, which the first argument refuses
+-- a store; the first argument is true if it is refused
 abbrev pub stored_unless : {A : Type 0} → Bool → KeyBytes → Content → List ℕ → List ℕ → ℕ → PageResult A
 stored_unless true kind page key value h = record { reply = Exists; change = None }
 stored_unless false kind page key value h = placed kind page key value h (least_splits page.size (neighbors kind page.pairs key) key value h)

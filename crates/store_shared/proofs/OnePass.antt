@@ -77,7 +77,7 @@ followed_more {A} entries handed counts i at next e c distinct more long there i
 pub among : {A : Type 0} (handed : List (CallsState A)) (at : ℕ) (c : CallsState A) (session : ℕ) → slice_get handed at ≡ Some c → session ≡ c.number → is_among session handed ≡ true
 among {A} handed at c session there is = any_passes_from_place (λ (calls : CallsState A). session == calls.number) handed at c there (eq-eqb _ _ is)
 
--- all entries are counted
+-- calls that were counted completely agree with the trail
 pub agree_all : {A : Type 0} (entries : List (Entry A)) (handed : List (CallsState A)) (counts : List ℕ) → AreFollowed entries handed counts → AreWhole handed counts (length handed) → All (Agrees entries) handed
 agree_all entries handed counts followed whole k d within =
     let f = followed k d within in

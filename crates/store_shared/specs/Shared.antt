@@ -104,7 +104,7 @@ ClosesTicket (Commit done) s None s' = ⊥
 ClosesTicket (Commit done) s (Some reply) s' = Finishes s done reply s'
 ClosesTicket (GiveUp ticket) s reply s' = Abandons s ticket.0 s' ⊎ ((ticket_of s ticket.0 ≡ None) × (s' ≡ s))
 
--- Why a call is refused: for a size exactly if that size is too large, and for the pair before the argument.
+-- Why a call is refused: for a size if and only if that size is too large, and for the pair before the argument.
 abbrev pub IsRefusal : {A : Type 0} → PageSize → Command A → Refusal → Type 0
 IsRefusal size command PairTooLarge = ¬ (FitsPair size command)
 IsRefusal size command ArgTooLong = FitsPair size command × ¬ (FitsArgument command)

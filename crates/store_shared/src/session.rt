@@ -121,7 +121,7 @@ impl<'a, A: Allocator + Copy, G: Gate> Session<'a, A, G> {
     /// sessions read it.
     ///
     /// # Errors
-    /// `PairTooLarge` exactly if key and value together are longer than a pair of the store may be: 1,008 or 8,008 bytes.
+    /// `PairTooLarge` if and only if key and value together are longer than a pair of the store may be: 1,008 or 8,008 bytes.
     pub fn store<R: Wait>(
         &mut self,
         rt: &R,
@@ -166,9 +166,9 @@ impl<'a, A: Allocator + Copy, G: Gate> Session<'a, A, G> {
     /// not copied; the call adds an owner. Waits like `store`.
     ///
     /// # Errors
-    /// `PairTooLarge` exactly if key and blank together are longer than a pair of the store may be, 1,008 or 8,008 bytes;
-    /// otherwise `ArgTooLong` exactly if the argument is longer than 1,024 bytes. `NoMemory` also if the program's owner count
-    /// is at its maximum.
+    /// `PairTooLarge` if and only if key and blank together are longer than a pair of the store may be, 1,008 or 8,008 bytes;
+    /// otherwise `ArgTooLong` if and only if the argument is longer than 1,024 bytes. `NoMemory` also if the program's owner
+    /// count is at its maximum.
     pub fn run<R: Wait>(
         &mut self,
         rt: &R,

@@ -189,7 +189,7 @@ sized_all {A} {W} session size old new count kept sized w x here =
     some_at (λ (v : W). (session x).size ≡ (session v).size) (slice_get old w) y was (some_at (λ (u : W). IfSome (slice_get old w) (λ v. (session u).size ≡ (session v).size)) (slice_get new w) x here (kept w))
     ∙ all_at (λ (v : W). (session v).size ≡ size) old w y was sized
 
--- the element of a list at an index, if the list belongs to a crew
+-- the list at an index is that of the worker there, if the lists are those of a crew
 pub view_at : {S W Y : Type 0} (view : S → Y) (f : W → Y) (lists : List S) (crew : List W) → map view lists ≡ map f crew → (w : ℕ) (d : S) (x : W) → slice_get crew w ≡ Some x → view (slice_index_or lists w d) ≡ f x
 view_at view f lists crew same w d x here =
     let near : w < length crew = slice_get_within crew w x here in

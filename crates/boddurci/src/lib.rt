@@ -1,21 +1,23 @@
-//! Boddurci as a library: a key-value store in the two files of sdbm, which many threads share, and on whose records small programs run
-//! in place. This crate is the door: it hands on what a service calls, and has nothing of its own.
+//! Boddurci as a library: a key-value store in the two files of sdbm, shared by many threads, with small programs that run on
+//! its records in place. This crate only re-exports the API that a service calls.
 //!
-//! A service goes through it in this order:
+//! A service uses it in this order:
 //!
-//! 1. [`Image::open`] makes a database of the bytes of `.dir` and `.pag`, and of no bytes an empty one.
-//! 2. [`assemble`] and [`verify`] make a [`Program`] of a text. What is accepted is safe on each record and argument, and ends.
-//! 3. [`Store::open`] puts a lock round the database, and [`Store::session`] gives each thread a [`Session`] of its own.
-//! 4. `fetch`, `store`, `delete`, `count` and `run` of a session are one step each, whatever the other threads do. Many at once cost less
-//!    by [`Session::call_all`], which takes [`SharedCommand`]s. A [`Gate`] lets you look on or stand between; [`NoGate`] does neither, and is faster.
-//! 5. [`Session::into_calls`] ends a session, and [`Store::close`] takes the calls of all and gives the database back, with a log of every
-//!    answered call in the order in which they happened.
+//! 1. [`Image::open`] makes a database from the bytes of `.dir` and `.pag`; empty files give an empty database.
+//! 2. [`assemble`] and [`verify`] make a [`Program`] from a text. An accepted program is safe on every record and argument, and
+//!    terminates.
+//! 3. [`Store::open`] puts a lock around the database, and [`Store::session`] gives each thread its own [`Session`].
+//! 4. `fetch`, `store`, `delete`, `count` and `run` of a session are atomic with respect to all other threads.
+//!    [`Session::call_all`] makes many calls at a lower cost; it takes [`SharedCommand`]s. A [`Gate`] lets you observe or delay
+//!    calls; [`NoGate`] does neither, and is faster.
+//! 5. [`Session::into_calls`] ends a session. [`Store::close`] takes the calls of all sessions and returns the database, with a
+//!    log of every answered call in order.
 //! 6. [`Image::write`] writes both files into two [`Sink`]s.
 //!
-//! [`run_jobs`] does 3 to 5 for a list of [`Task`]s: workers run one program on the records of many keys. A [`Registry`] keeps programs by
-//! number and judges a program image that it knows only once.
+//! [`run_jobs`] does steps 3 to 5 for a list of [`Task`]s: workers run one program on the records of many keys. A [`Registry`]
+//! stores programs by number and verifies each distinct program image only once.
 //!
-//! `docs/THREADS.md` tells it at length, and `crates/example_threads` is such a service.
+//! `docs/THREADS.md` is the guide, and `crates/example_threads` is an example service.
 #![tactic(auto)]
 
 pub use bpf_asm::{AsmFault, FaultKind, assemble, disassemble};

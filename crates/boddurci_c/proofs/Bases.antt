@@ -1,4 +1,4 @@
--- An open database: its base, and the pages that it does not share with it.
+-- An open database: its base, and the pages that differ from it.
 use Rattle.std.proofs.Common.{◌≡◌, ◌<◌, ◌≤◌, ◌+◌, ◌*◌, ◌/◌, ℕ, List, [], length, get_or, Bool, true, false, inl, inr, refl, sym, ap, ◌∙◌, subst, arith}
 use Rattle.std.specs.Prelude.{slice_get, IfOk, OnOk, OnErr, Option, Some}
 use Rattle.std.specs.List.{Contains}
@@ -27,7 +27,7 @@ use Rattle.boddurci_marks.specs.Marks.{DifferOn, DifferOn-prop}
 abbrev with : (d : Db) (image : Database) (marks : List ℕ) → DifferOn marks d.base.database image → Db
 with d image marks differ = record { image = image; registry = d.registry; marks = marks; limit = d.limit; base = d.base; differ = differ }
 
--- a database with the parts of another is that one
+-- a database with the parts of another is equal to it
 pub same_db : (d : Db) (image : Database) (marks : List ℕ) (differ : DifferOn marks d.base.database image) → image ≡ d.image → marks ≡ d.marks
     → with d image marks differ ≡ d
 same_db d image marks differ same_image same_marks =
@@ -50,7 +50,7 @@ pub differ_unless : (done : Bool) (base image image' : Database) (marks marks' :
 differ_unless true base image image' marks marks' ok err kept differ = ok refl base differ
 differ_unless false base image image' marks marks' ok err kept differ = differ_same base image image' marks marks' (err refl) (kept refl) differ
 
--- ---- commands on a database that is the one before
+-- ---- commands that leave the database unchanged
 
 pub does_again : (result : Result (Reply Global) Status) (command command' : Command Global) (d d1 d' : Db) → d1 ≡ d → command' ≡ command → IfOk result (λ reply. Does d1 command' reply d') → IfOk result (λ reply. Does d command reply d')
 does_again result command command' d d1 d' same is does =
@@ -61,7 +61,7 @@ pub runs_again : (result : Result (Reply Global) Status) (number : ℕ) (key arg
 runs_again (Ok reply) number key arg blank now d d' program there does = record { program = program; there = there; does = does }
 runs_again (Err status) number key arg blank now d d' program there does = tt
 
--- ---- what an unmarked page of the opened file reads as
+-- ---- the bytes of an unmarked page in the opened file
 
 counted : (size : PageSize) (count : ℕ) → count * page_bytes size / page_bytes size ≡ count
 counted Small count = omega arith

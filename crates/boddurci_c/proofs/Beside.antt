@@ -1,4 +1,4 @@
--- A file that was read beside the base of a database.
+-- A file that was read next to the base of a database.
 use Rattle.std.proofs.Common.{ℕ, List, sym, subst}
 use Rattle.sdbm_addr.specs.declared.PageSize.{PageSize}
 use Rattle.sdbm_addr.specs.Pairs.{Pair}
@@ -10,7 +10,7 @@ use Rattle.boddurci_handles.specs.declared.opened.Db.{Db}
 use Rattle.boddurci_marks.specs.Marks.{AreAmong}
 use Rattle.boddurci_c.specs.Plans.{IsReadBeside}
 
--- it has each other page as it is written for the database
+-- the file has every other page as a save of the database would write it
 pub read_marked : (d : Db) (old : Marked) → AreAmong d.marks old.numbers.now → (pag : List ℕ) → IsReadBeside d.base.database old.len old.numbers.now old.pages.now pag → IsMarkedIn old d.image pag
 read_marked d old among pag read = record {
   long = read.long;

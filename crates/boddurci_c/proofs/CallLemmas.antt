@@ -1,4 +1,4 @@
--- What calls do with a handle.
+-- The effects of calls on a handle.
 use Rattle.std.proofs.Common.{◌≡◌, ℕ, ◌*◌, ◌%◌, List, [], Option, Some, None, unwrap_or, length, refl, sym, ap, ◌∙◌, subst}
 use Rattle.std.specs.FinMap as map
 use Rattle.std.proofs.Math.Nat.{mul-mod_left}
@@ -37,7 +37,7 @@ pub whole : (kind : KeyBytes) (size : PageSize) (dir pag : List ℕ) (d : Db) �
 whole kind size dir pag d is =
     ap (λ n. n % page_bytes size) (is.spells.pages.long ∙ ap (λ s. is.spells.count * page_bytes s) is.size_is) ∙ mul-mod_left is.spells.count (page_bytes size)
 
--- the value of a key stands on the page to which it leads
+-- the value of a key is on the page of the key
 module _ (db : Database) (ok : IsDatabase db) (key : List ℕ) (n : ℕ) (leads : n ≡ page_of db.splits (hash_of db.kind key)) where
   on_page : (page : Option (List Pair)) → page ≡ map.get db.pages n → value_of (unwrap_or page []) key ≡ map.get (map_of db) key
   on_page page e = ap (λ o. value_of (unwrap_or o []) key) e ∙ ap (λ k. value_of (pairs_at db k) key) leads ∙ sym (get-map_of db ok key)

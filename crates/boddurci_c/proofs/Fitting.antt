@@ -1,4 +1,4 @@
--- Databases that the longest `.pag` has room for, before and after what calls do.
+-- Databases within the longest `.pag`, before and after calls.
 use Rattle.std.proofs.Common.{◌≡◌, ℕ, ◌≤◌, List, [], ◌∷◌, length, inl, inr, sym, subst, arith}
 use Rattle.sdbm_addr.specs.Database.{Database}
 use Rattle.sdbm_saves.specs.declared.disk.File.TheVariants.{Pages}
@@ -11,11 +11,11 @@ use Rattle.boddurci_handles.specs.declared.opened.Db.{Db}
 use Rattle.boddurci_c.specs.Calls.{HasFiles}
 use Rattle.boddurci_c.specs.Plans.{IsPlanFor, pages_left}
 
--- the bytes of both files that are written
+-- the written bytes of both files
 pub has_files : (d : Db) (dir pag : List ℕ) → AreFiles d.image dir pag → SpellsDatabase d.image dir pag → HasFiles dir pag d
 has_files d dir pag files spells = record { files = files; spells = spells; short = short_fitting d.image spells.database pag files.pages }
 
--- a plan of a save, and none where the files are those of the database
+-- a plan of a save; it is empty if the files are those of the database
 pub is_plan : (db : Database) (plan dir pag : List ℕ) → IsSaving db plan pag dir → IsPlanFor db plan dir pag
 is_plan db plan dir pag saving = record { makes = inl saving; short = at plan saving }
   where

@@ -1,4 +1,4 @@
--- What is told of files that may look small.
+-- The answer about files that may look small.
 use Rattle.std.proofs.Common.{◌≡◌, ◌↔◌, ℕ, List, Bool, true, false, cond, inl, inr, refl}
 use Rattle.std.specs.Prelude.{IsTrue, IfOk, IfErr}
 use Rattle.std.specs.declared.alloc.AllocError.{AllocError}

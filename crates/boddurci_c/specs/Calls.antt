@@ -1,4 +1,4 @@
--- What calls do with a handle, which is closed or has an open database with its programs (own).
+-- The effects of calls on a handle, which is closed or has an open database with its programs (own).
 use Rattle.std.specs.Prelude.{◌≡◌, ◌≢◌, ◌==◌, ◌⊎◌, ◌<◌, ◌≤◌, ◌/◌, ℕ, cond, length, take, drop, List, [], Option, Some, None, IsSome, Result, Ok, Err, slice_get, unwrap_or, Contains}
 use Rattle.std.specs.declared.alloc.Global.{Global}
 use Rattle.std.specs.FinMap as map
@@ -42,7 +42,7 @@ use Rattle.boddurci_marks.specs.Marks.{HasMore}
 
 -- ---- a handle before a call and after it
 
--- It was open and is open, and the database after the call is so beside the one before.
+-- The handle was open and is open, and P relates the databases before and after the call.
 pub record At (old new : Option Db) (P : Db → Db → Type 0) : Type 0 where
   pub before : Db
   pub after : Db
@@ -50,14 +50,14 @@ pub record At (old new : Option Db) (P : Db → Db → Type 0) : Type 0 where
   pub new_is : new ≡ Some after
   pub is : P before after
 
--- It was open, and stays as it is; so is its database.
+-- The handle was open and has not changed, and P holds of its database.
 pub record Shows (old new : Option Db) (P : Db → Type 0) : Type 0 where
   pub db : Db
   pub old_is : old ≡ Some db
   pub same : new ≡ old
   pub is : P db
 
--- Why nothing is done: the handle is closed, or its database denies it for a reason of P.
+-- Why nothing is done: the handle is closed, or its database denies the call for a reason of P.
 abbrev pub Why : (Db → Status → Type 0) → Option Db → Status → Type 0
 Why P None status = status ≡ Closed
 Why P (Some d) status = P d status
@@ -75,8 +75,8 @@ Never d status = ⊥
 
 -- ---- commands
 
--- A command is done as session 0, and the programs stay, and the limit, and the base, and each page that was marked. A database for which the
--- longest `.pag` has room stays one, and so does one that is within the limit.
+-- A command is executed as session 0. The programs, the limit, the base and all marks stay. A database that fits in the longest
+-- `.pag` still fits, and one within the limit stays within it.
 pub record Does (d : Db) (command : Command Global) (reply : Reply Global) (d' : Db) : Type 0 where
   pub acts : Acts d.image (record { session = 0; command = command; reply = reply }) d'.image
   pub fits : FitsFiles d.image → FitsFiles d'.image
@@ -86,7 +86,7 @@ pub record Does (d : Db) (command : Command Global) (reply : Reply Global) (d' :
   pub base : d'.base ≡ d.base
   pub marks : HasMore d.marks d'.marks
 
--- a command is not taken for its size; or memory ran out for one that is, or `.pag` would be too long
+-- a command's size is invalid; or its size is valid, and memory ran out or `.pag` would be too long
 abbrev pub DeniesBy : Db → Command Global → Status → Type 0
 DeniesBy d command Done = ⊥
 DeniesBy d command Missing = ⊥
@@ -108,29 +108,29 @@ DeniesBy d command TooLong = IsSmall d.image.size command × Outgrows d.limit d.
 DeniesBy d command NoTicket = ⊥
 DeniesBy d command NoStock = ⊥
 
--- a command is done, and the status is that of its reply
+-- a command is executed, and the status is that of its reply
 pub record Answers (command : Command Global) (old : Option Db) (code : ℕ) (new : Option Db) : Type 0 where
   pub reply : Reply Global
   pub code_is : code ≡ code_of (status_of reply)
   pub does : At old new (λ d d'. Does d command reply d')
 
--- what a call says of a command
+-- the answer of a call to a command
 abbrev pub Says : Command Global → Option Db → ℕ → Option Db → Type 0
 Says command old code new = Answers command old code new ⊎ Denies (λ d status. DeniesBy d command status) old code new
 
--- what a store does where its key is there
+-- the mode of a store whose key exists
 abbrev pub mode_for : ℕ → Mode
 mode_for replace = cond (replace == 0) Insert Replace
 
--- ---- rooms
+-- ---- buffers
 
--- bytes, or numbers, stand in the first places of a room, and the rest is as it was
+-- bytes or numbers are written to the front of a buffer; the rest is unchanged
 pub record IsFilled {X : Type 0} (bytes old new : List X) : Type 0 where
   pub fits : length bytes ≤ length old
   pub filled : take (length bytes) new ≡ bytes
   pub rest : drop (length bytes) new ≡ drop (length bytes) old
 
--- They stand there, or the room is too short and as it was. Their number is told either way.
+-- They are written, or the buffer is too short and unchanged. Their number is set either way.
 abbrev pub IsCopied : {X : Type 0} → List X → List X → List X → ℕ → Status → Type 0
 IsCopied bytes old new len Done = (len ≡ length bytes) × IsFilled bytes old new
 IsCopied bytes old new len Missing = ⊥
@@ -152,18 +152,19 @@ IsCopied bytes old new len TooLong = ⊥
 IsCopied bytes old new len NoTicket = ⊥
 IsCopied bytes old new len NoStock = ⊥
 
--- The text of a fault stands in a room, or the room is too short for it.
+-- The text of a fault is written to a buffer, or the buffer is too short for it.
 pub record IsTold (text old new : List ℕ) (len : ℕ) : Type 0 where
   pub status : Status
   pub copied : IsCopied text old new len status
 
--- A fault is told under its status with its text. If memory ran out for the text, the status says that, and none is told.
+-- A fault is reported by its status and its text. If there is no memory for the text, the status says that, and no text is
+-- written.
 abbrev pub IsToldAs : Status → List ℕ → List ℕ → List ℕ → ℕ → Status → Type 0
 IsToldAs status text old new len result = ((result ≡ status) × IsTold text old new len) ⊎ ((result ≡ NoMemory) × ((new ≡ old) × (len ≡ 0)))
 
 -- ---- a fetch
 
--- what a fetch of an open database tells
+-- the answer of a fetch on an open database
 abbrev pub FetchesIn : List ℕ → Db → Status → List ℕ → List ℕ → ℕ → ℕ → Type 0
 FetchesIn key d status room_old room_new len_old len =
     ((value : List ℕ) × ((map.get (map_of d.image) key ≡ Some value) × IsCopied value room_old room_new len status))
@@ -182,14 +183,14 @@ pub record Counts (old : Option Db) (code : ℕ) (new : Option Db) (count : ℕ)
 
 -- ---- programs
 
--- all but the programs stays
+-- only the programs differ
 pub record IsSameBesidePrograms (d d' : Db) : Type 0 where
   pub image : d'.image ≡ d.image
   pub marks : d'.marks ≡ d.marks
   pub limit : d'.limit ≡ d.limit
   pub base : d'.base ≡ d.base
 
--- a program image has its number, or is refused for a fault, and all else stays
+-- a program image gets its number, or is refused for a fault; everything else stays
 abbrev pub Submits : List ℕ → Result ProgId RegFault → Db → Db → Type 0
 Submits image (Ok id) d d' = Gives d.registry image id.0 d'.registry × IsSameBesidePrograms d d'
 Submits image (Err fault) d d' = Refuses d.registry image fault d'.registry × IsSameBesidePrograms d d'
@@ -206,7 +207,7 @@ pub record Numbers (image : List ℕ) (old : Option Db) (code : ℕ) (new : Opti
   pub code_is : code ≡ code_of Done
   pub submits : At old new (Submits image (Ok (record { 0 = id })))
 
--- a program image is refused; the unit and the text of the fault are told
+-- a program image is refused; the unit and the text of the fault are reported
 pub record Rejects (image : List ℕ) (old : Option Db) (code : ℕ) (new : Option Db) (unit : ℕ) (room_old room_new : List ℕ) (len : ℕ) : Type 0 where
   pub fault : RegFault
   pub unit_is : unit ≡ unwrap_or (unit_in fault) nowhere
@@ -225,8 +226,8 @@ pub record RunsBy (number : ℕ) (key arg : List ℕ) (blank : Option ℕ) (now 
   pub there : slice_get d.registry.programs number ≡ Some program
   pub does : Does d (commands.Run key program.code arg blank now) reply d'
 
--- A run is denied: there is no such program, or else it is not taken for its sizes; or of one that is, memory ran out, or `.pag` would be too
--- long.
+-- A run is denied: there is no such program; or otherwise its sizes are invalid; or they are valid, and memory ran out or
+-- `.pag` would be too long.
 abbrev pub DeniesRun : ℕ → List ℕ → List ℕ → Option ℕ → ℕ → Db → Status → Type 0
 DeniesRun number key arg blank now d Done = ⊥
 DeniesRun number key arg blank now d Missing = ⊥
@@ -250,8 +251,8 @@ DeniesRun number key arg blank now d TooLong =
 DeniesRun number key arg blank now d NoTicket = ⊥
 DeniesRun number key arg blank now d NoStock = ⊥
 
--- a run is not asked: there is no such program, or else it is not taken for its sizes; or of one that is, memory ran out. What it would come to
--- is not known yet, so `.pag` is never too long.
+-- a run is not requested: there is no such program; or otherwise its sizes are invalid; or they are valid, and memory ran out.
+-- Its result is not known yet, so the reason is never that `.pag` is too long.
 abbrev pub DeniesAsk : ℕ → List ℕ → List ℕ → Option ℕ → ℕ → Db → Status → Type 0
 DeniesAsk number key arg blank now d Done = ⊥
 DeniesAsk number key arg blank now d Missing = ⊥
@@ -273,7 +274,7 @@ DeniesAsk number key arg blank now d TooLong = ⊥
 DeniesAsk number key arg blank now d NoTicket = ⊥
 DeniesAsk number key arg blank now d NoStock = ⊥
 
--- the number with which a run ended, and its word, are told; where it did not run they are zeros
+-- the exit number of a run and its reply word; zeros if it did not run
 abbrev pub IsEnd : Reply Global → ℕ → ℕ → Type 0
 IsEnd (replies.Ran c w) code word = (code ≡ c) × (word ≡ w)
 IsEnd (replies.Found value) code word = (code ≡ 0) × (word ≡ 0)
@@ -292,7 +293,8 @@ pub record Runs (number : ℕ) (key arg : List ℕ) (blank : Option ℕ) (now : 
 
 -- ---- files
 
--- The bytes of both files stand in their rooms, or one room is too short and both are as they were. Their numbers are told either way.
+-- The bytes of both files are written to their buffers, or one buffer is too short and both are unchanged. Both lengths are set
+-- either way.
 abbrev pub AreCopied : List ℕ → List ℕ → List ℕ → List ℕ → List ℕ → List ℕ → Status → Type 0
 AreCopied dir pag dir_old dir_new pag_old pag_new Done = IsFilled dir dir_old dir_new × IsFilled pag pag_old pag_new
 AreCopied dir pag dir_old dir_new pag_old pag_new Missing = ⊥
@@ -314,7 +316,7 @@ AreCopied dir pag dir_old dir_new pag_old pag_new TooLong = ⊥
 AreCopied dir pag dir_old dir_new pag_old pag_new NoTicket = ⊥
 AreCopied dir pag dir_old dir_new pag_old pag_new NoStock = ⊥
 
--- The bytes of both files of a database. Its `.pag` is no longer than the longest where that has room for it.
+-- The bytes of both files of a database. If the database fits in the longest `.pag`, its `.pag` is no longer than that.
 pub record HasFiles (dir pag : List ℕ) (d : Db) : Type 0 where
   pub files : AreFiles d.image dir pag
   pub short : FitsFiles d.image → length pag ≤ pag_limit
@@ -336,13 +338,13 @@ LacksMemory d status = status ≡ NoMemory
 
 -- ---- marks
 
--- the numbers of the pages that may have changed stand in a room, or the room is too short
+-- the numbers of the pages that may have changed are written to a buffer, or the buffer is too short
 pub record Lists (old : Option Db) (code : ℕ) (new : Option Db) (numbers_old numbers_new : List ℕ) (count : ℕ) : Type 0 where
   pub status : Status
   pub code_is : code ≡ code_of status
   pub is : Shows old new (λ d. IsCopied d.marks numbers_old numbers_new count status)
 
--- these pages are marked beside the others, and all else stays
+-- these pages are marked in addition to the earlier ones, and everything else stays
 pub record HasMarked (numbers : List ℕ) (d d' : Db) : Type 0 where
   pub image : d'.image ≡ d.image
   pub registry : d'.registry ≡ d.registry
@@ -357,7 +359,7 @@ pub record Remarks (numbers : List ℕ) (old : Option Db) (code : ℕ) (new : Op
 
 -- ---- a limit
 
--- commands may make `.pag` have the whole pages of so many bytes, and all else stays
+-- the limit is the number of whole pages in these bytes, and everything else stays
 pub record HasLimit (bytes : ℕ) (d d' : Db) : Type 0 where
   pub limit : d'.limit ≡ bytes / page_bytes d.image.size
   pub image : d'.image ≡ d.image
@@ -371,19 +373,19 @@ pub record Limits (bytes : ℕ) (old : Option Db) (code : ℕ) (new : Option Db)
 
 -- ---- opening
 
--- no programs, and no verdicts
+-- no programs and no verdicts
 abbrev pub empty_registry : Registered
 empty_registry = record { programs = []; recent = record { verdicts = []; recalls = 0 } }
 
--- how keys hash, and how large pages are
+-- the hash kind and the page size
 abbrev pub kind_for : ℕ → KeyBytes
 kind_for unsigned_keys = cond (unsigned_keys == 0) Signed Unsigned
 
 abbrev pub size_for : ℕ → PageSize
 size_for wide = cond (wide == 0) Small Wide
 
--- the one database that the bytes of both files spell, with no programs, whose `.pag` may grow to the longest. It is its own base, and each page
--- that is not marked stands in the file as it is written for it.
+-- the unique database in the bytes of both files, without programs; its `.pag` may grow to the longest. It is its own base, and
+-- the file has each unmarked page exactly as a save would write it.
 pub record IsOpened (kind : KeyBytes) (size : PageSize) (dir pag : List ℕ) (d : Db) : Type 0 where
   pub spells : SpellsDatabase d.image dir pag
   pub kind_is : d.image.kind ≡ kind
@@ -395,11 +397,11 @@ pub record IsOpened (kind : KeyBytes) (size : PageSize) (dir pag : List ℕ) (d 
   pub base : d.base.database ≡ d.image
   pub reads : (n : ℕ) → (Contains d.marks n → ⊥) → ReadsPage size pag n (bytes_of_page size (pairs_at d.image n))
 
--- Each whole page of a file that is not marked reads as it is written for a database.
+-- Each whole page of a file that is not marked reads as a save of the database would write it.
 abbrev pub ReadsUnmarked : Database → List ℕ → List ℕ → Type 0
 ReadsUnmarked db pag marks = (n : ℕ) → n < length pag / page_bytes db.size → (Contains marks n → ⊥) → ReadsPage db.size pag n (bytes_of_page db.size (pairs_at db n))
 
--- a closed handle is open
+-- a closed handle was opened
 pub record Opens (kind : KeyBytes) (size : PageSize) (dir pag : List ℕ) (old : Option Db) (code : ℕ) (new : Option Db) : Type 0 where
   pub db : Db
   pub code_is : code ≡ code_of Done
@@ -407,7 +409,7 @@ pub record Opens (kind : KeyBytes) (size : PageSize) (dir pag : List ℕ) (old :
   pub new_is : new ≡ Some db
   pub is : IsOpened kind size dir pag db
 
--- the status of a fault of the files
+-- the status of a fault in the files
 abbrev pub status_of_open : OpenFault → Status
 status_of_open open_faults.PagLength = BadFiles
 status_of_open (open_faults.Page n fault) = BadFiles
@@ -415,7 +417,7 @@ status_of_open (open_faults.Dir fault) = BadFiles
 status_of_open (open_faults.Misplaced n) = BadFiles
 status_of_open open_faults.NoMemory = NoMemory
 
--- the bytes have a fault, and its text is told; the handle stays closed
+-- the bytes have a fault, and its text is reported; the handle stays closed
 pub record Faults (kind : KeyBytes) (size : PageSize) (dir pag : List ℕ) (old : Option Db) (code : ℕ) (new : Option Db) (room_old room_new : List ℕ) (len : ℕ) : Type 0 where
   pub fault : OpenFault
   pub status : Status
@@ -426,7 +428,7 @@ pub record Faults (kind : KeyBytes) (size : PageSize) (dir pag : List ℕ) (old 
   pub none : fault ≢ open_faults.NoMemory → SpellsNoDatabase kind size dir pag
   pub text : IsToldAs (status_of_open fault) (open_text fault) room_old room_new len status
 
--- nothing is opened: memory ran out, or the handle is open already
+-- nothing is opened: memory ran out, or the handle is already open
 pub record OpensNot (old : Option Db) (code : ℕ) (new : Option Db) : Type 0 where
   pub same : new ≡ old
   pub why : ((code ≡ code_of NoMemory) × (old ≡ None)) ⊎ ((code ≡ code_of Open) × IsSome old)
@@ -436,7 +438,7 @@ OpensOr kind size dir pag old code new room_old room_new len_old len =
     Opens kind size dir pag old code new
     ⊎ (Faults kind size dir pag old code new room_old room_new len ⊎ (OpensNot old code new × ((room_new ≡ room_old) × (len ≡ len_old))))
 
--- whether a handle is open, as a number
+-- 1 if a handle is open, otherwise 0
 abbrev pub open_word : Option Db → ℕ
 open_word None = 0
 open_word (Some db) = 1

@@ -15,29 +15,29 @@ use Rattle.boddurci_handles.specs.Statuses.{code_of}
 use Rattle.boddurci_c.specs.Calls.{At, IsCopied}
 use Rattle.boddurci_marks.specs.Marks.{AreAmong}
 
--- the `.pag` that a plan leaves, which without bytes is the one that was there
+-- the `.pag` after a plan; unchanged if the plan is empty
 abbrev pub pages_left : List ℕ → List ℕ → List ℕ
 pages_left [] pag = pag
 pages_left (b ∷ bs) pag = renewed Pages (b ∷ bs) pag
 
--- A plan makes the old files those of a database, and knows them; or there are no bytes, where they are those already. Of a database that
--- fits the `.pag` is then no longer than the longest.
+-- A plan turns the old files into those of a database, which it knows; or it is empty, and they are those already. If the
+-- database fits, the `.pag` is then no longer than the longest.
 pub record IsPlanFor (db : Database) (plan dir pag : List ℕ) : Type 0 where
   pub makes : IsSaving db plan pag dir ⊎ ((plan ≡ []) × AreFilesFor db pag dir)
   pub short : FitsFiles db → length (pages_left plan pag) ≤ pag_limit
 
--- A file of so many bytes reads as these bytes on the pages with these numbers, one page after the other, and has each other page as it is
--- written for the base. A byte past its end counts as zero.
+-- A file of this length has these bytes on the pages with these numbers, page after page, and has every other page as a save of
+-- the base would write it. A byte past its end counts as zero.
 pub record IsReadBeside (base : Database) (pag_length : ℕ) (numbers pages pag : List ℕ) : Type 0 where
   pub long : length pag ≡ pag_length
   pub reads : ReadPages base.size numbers pages pag
   pub rest : (n : ℕ) → (Contains numbers n → ⊥) → ReadsPage base.size pag n (bytes_of_page base.size (pairs_at base n))
 
--- the plan for each `.pag` that was read so
+-- the plan is valid for each `.pag` that was read like this
 abbrev pub PlansFor : List ℕ → ℕ → List ℕ → List ℕ → Db → List ℕ → Type 0
 PlansFor dir pag_length numbers pages d plan = (pag : List ℕ) → IsReadBeside d.base.database pag_length numbers pages pag → IsPlanFor d.image plan dir pag
 
--- the database is its own base, and all else stays
+-- the database is its own base, and everything else stays
 pub record IsPlanned (d d' : Db) : Type 0 where
   pub image : d'.image ≡ d.image
   pub registry : d'.registry ≡ d.registry
@@ -45,11 +45,11 @@ pub record IsPlanned (d d' : Db) : Type 0 where
   pub base : d'.base.database ≡ d.image
   pub marks : d'.marks ≡ []
 
--- each page that is marked is among the numbers, and the bytes are those of so many pages
+-- each marked page is among the numbers, and the number of bytes is that of these pages
 abbrev pub HasRead : Db → List ℕ → List ℕ → Type 0
 HasRead d numbers pages = AreAmong d.marks numbers × (length pages ≡ length numbers * page_bytes d.image.size)
 
--- the plan stands in a room, and the database is its own base; or the room is too short, and the database is as it was
+-- the plan is written to a buffer, and the database is its own base; or the buffer is too short, and the database is unchanged
 pub record PlansOn (dir : List ℕ) (pag_length : ℕ) (numbers pages : List ℕ) (d : Db) (room_old room_new : List ℕ) (len : ℕ) (status : Status) (d' : Db) : Type 0 where
   pub plan : List ℕ
   pub read : HasRead d numbers pages
@@ -58,8 +58,8 @@ pub record PlansOn (dir : List ℕ) (pag_length : ℕ) (numbers pages : List ℕ
   pub planned : status ≡ Done → IsPlanned d d'
   pub stays : status ≡ ShortRoom → d' ≡ d
 
--- Why there is no plan: a page that is marked is not among the numbers, or the bytes are not those of so many pages; or a file is too long
--- or would be, or the numbers are more than such a file has pages; or memory ran out.
+-- Why there is no plan: a marked page is not among the numbers, or the number of bytes does not match them; or a file is or
+-- would be too long, or there are more numbers than such a file has pages; or memory ran out.
 abbrev pub DeniesPlan : List ℕ → ℕ → List ℕ → List ℕ → Db → Status → Type 0
 DeniesPlan dir pag_length numbers pages d status =
     ((status ≡ Stale) × ((AreAmong d.marks numbers → ⊥) ⊎ (length pages ≢ length numbers * page_bytes d.image.size)))

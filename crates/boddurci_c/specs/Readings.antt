@@ -1,4 +1,4 @@
--- A `.pag` that is read piece by piece, and then opened (own).
+-- A `.pag` that is read in pieces and then opened (own).
 use Rattle.std.specs.Prelude.{◌≡◌, ◌⊎◌, ℕ, List, Option, None, IsSome}
 use Rattle.sdbm_addr.specs.declared.PageSize.{PageSize}
 use Rattle.boddurci_handles.specs.declared.opened.Db.{Db}
@@ -13,6 +13,6 @@ pub record ReadsOr (size : PageSize) (piece : List ℕ) (old : Option Pieces) (c
   pub code_is : code ≡ code_of status
   pub is : ReadsPiece size piece old new status
 
--- A reading is free if its pages were opened, and else as it was.
+-- A reading is free if its pages were opened, and otherwise unchanged.
 abbrev pub IsSpent : Option Db → Option Db → Option Pieces → Option Pieces → Type 0
 IsSpent held_old held_new old new = ((held_old ≡ None) × (IsSome held_new × (new ≡ None))) ⊎ ((held_new ≡ held_old) × (new ≡ old))

@@ -1,4 +1,4 @@
--- Whether files that are to be opened with wide pages look like those of a database with small ones (own).
+-- Files to be opened with wide pages that look like those of a database with small pages (own).
 use Rattle.std.specs.Prelude.{◌≡◌, ◌⊎◌, ℕ, List}
 use Rattle.sdbm_addr.specs.declared.KeyBytes.{KeyBytes}
 use Rattle.sdbm_sizes.specs.Sizes.{FileLooksSmall, SpellsNoSmall}
@@ -6,11 +6,11 @@ use Rattle.boddurci_handles.specs.declared.status.Status.{Status}
 use Rattle.boddurci_handles.specs.declared.status.Status.TheVariants.{Done, NoMemory}
 use Rattle.boddurci_handles.specs.Statuses.{code_of}
 
--- 1 if they do; 0 if not, and then no database of small pages is in them
+-- 1 if they look like that; 0 if not, and then they contain no database of small pages
 abbrev pub Looks : KeyBytes → List ℕ → List ℕ → ℕ → Type 0
 Looks kind dir pag looks = ((looks ≡ 1) × FileLooksSmall kind dir pag) ⊎ ((looks ≡ 0) × ((FileLooksSmall kind dir pag → ⊥) × SpellsNoSmall kind dir pag))
 
--- that number is told; or memory ran out, and nothing is
+-- that number is set; or memory ran out, and it is unchanged
 abbrev pub IsLook : KeyBytes → List ℕ → List ℕ → ℕ → ℕ → Status → Type 0
 IsLook kind dir pag looks_old looks status = ((status ≡ Done) × Looks kind dir pag looks) ⊎ ((status ≡ NoMemory) × (looks ≡ looks_old))
 

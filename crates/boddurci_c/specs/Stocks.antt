@@ -1,4 +1,4 @@
--- Stock programs that are submitted by name (own).
+-- Stock programs submitted by name (own).
 use Rattle.std.specs.Prelude.{◌≡◌, ◌⊎◌, ℕ, List, Option, Some, None, IsSome, Err}
 use Rattle.bpf_insn.specs.Code.{IsImage}
 use Rattle.prog_registry.specs.declared.fault.RegFault.{RegFault}
@@ -10,7 +10,7 @@ use Rattle.boddurci_handles.specs.declared.status.Status.TheVariants.{NoMemory, 
 use Rattle.boddurci_handles.specs.Statuses.{code_of}
 use Rattle.boddurci_c.specs.Calls.{At, Denies, Numbers, Submits, status_of_fault}
 
--- an image is that of the proved code of the stock program with a name
+-- the image is that of the proved code of the stock program with a name
 pub record IsStockImage (name image : List ℕ) : Type 0 where
   pub stock : Stock
   pub named : stock_named name ≡ Some stock

@@ -14,7 +14,7 @@ use Rattle.boddurci_handles.specs.Statuses.{code_of}
 use Rattle.boddurci_handles.specs.declared.status.Status.{Status}
 use Rattle.boddurci_handles.specs.declared.status.Status.TheVariants.{BadText, NoMemory}
 
--- the program image of the one code that the text denotes
+-- the program image of the unique code that the text denotes
 pub record IsTextImage (text image : List ℕ) : Type 0 where
   pub code : List Insn
   pub denotes : Denotes text code
@@ -47,7 +47,7 @@ abbrev pub text_of : TextFault → List ℕ
 text_of NotText = codes "NotText"
 text_of (Line fault) = fault_text fault
 
--- a text has no program image; the line and the text of the fault are told
+-- a text has no program image; the line and the text of the fault are reported
 pub record Garbles (text : List ℕ) (code : ℕ) (line : ℕ) (room_old room_new : List ℕ) (len : ℕ) : Type 0 where
   pub fault : TextFault
   pub is : IsTextFault text fault
@@ -56,7 +56,7 @@ pub record Garbles (text : List ℕ) (code : ℕ) (line : ℕ) (room_old room_ne
   pub line_is : line ≡ line_of fault
   pub told : IsToldAs (status_of_text fault) (text_of fault) room_old room_new len status
 
--- the program image of a text stands in a room, or the room is too short
+-- the program image of a text is written to a buffer, or the buffer is too short
 pub record Assembles (text : List ℕ) (code : ℕ) (room_old room_new : List ℕ) (len : ℕ) : Type 0 where
   pub image : List ℕ
   pub is : IsTextImage text image

@@ -1,4 +1,4 @@
--- Runs that are asked, worked and finished one after another (own).
+-- Runs in three steps: ask, work, finish (own).
 use Rattle.std.specs.Prelude.{◌≡◌, ◌⊎◌, ℕ, true, List, Option, Some, None, IsSome, slice_get}
 use Rattle.std.specs.declared.alloc.Global.{Global}
 use Rattle.store_cmd.specs.declared.Command.TheVariants as commands
@@ -11,25 +11,25 @@ use Rattle.boddurci_handles.specs.Statuses.{code_of, status_of}
 use Rattle.boddurci_c.specs.Calls.{At, Shows, Denies, DeniesAsk, Does, IsEnd}
 use Rattle.boddurci_handles.specs.Asked.{Asked, IsAskedOf, DeniesFinish, worked_out}
 
--- the run of the program with a number is asked of a database
+-- the run of the program with a number is requested of a database
 pub record IsRunAsked (number : ℕ) (key arg : List ℕ) (blank : Option ℕ) (now : ℕ) (d : Db) (a : Asked) : Type 0 where
   pub program : Accepted
   pub there : slice_get d.registry.programs number ≡ Some program
   pub asked : IsAskedOf d.image (commands.Run key program.code arg blank now) a
 
--- it stands under the ticket
+-- the run is put under the ticket
 pub record Asks (number : ℕ) (key arg : List ℕ) (blank : Option ℕ) (now : ℕ) (old : Option Db) (code : ℕ) (new : Option Db) (ticket : Option Asked) : Type 0 where
   pub code_is : code ≡ code_of Done
   pub asked : Asked
   pub ticket_is : ticket ≡ Some asked
   pub is : Shows old new (λ d. IsRunAsked number key arg blank now d asked)
 
--- it is not asked, and the ticket is as it was
+-- the run is not requested, and the ticket is unchanged
 pub record AsksNot (number : ℕ) (key arg : List ℕ) (blank : Option ℕ) (now : ℕ) (old : Option Db) (code : ℕ) (new : Option Db) (ticket_old ticket_new : Option Asked) : Type 0 where
   pub same : ticket_new ≡ ticket_old
   pub denied : Denies (DeniesAsk number key arg blank now) old code new
 
--- what stands under a ticket is worked; or nothing is asked under it, or memory ran out, and it is as it was
+-- the run under a ticket is computed; or the ticket is free, or memory ran out, and it is unchanged
 pub record Works (old : Option Asked) (code : ℕ) (new : Option Asked) : Type 0 where
   pub asked : Asked
   pub code_is : code ≡ code_of Done
@@ -40,7 +40,7 @@ pub record WorksNot (old : Option Asked) (code : ℕ) (new : Option Asked) : Typ
   pub same : new ≡ old
   pub why : ((code ≡ code_of NoTicket) × (old ≡ None)) ⊎ ((code ≡ code_of NoMemory) × IsSome old)
 
--- what was worked under a ticket is done as one command on a database as it stands, and the ticket is free
+-- the computed run of a ticket is executed as one command on the current database, and the ticket is free
 pub record FinishesOn (d : Db) (old : Option Asked) (reply : Reply Global) (d' : Db) (new : Option Asked) : Type 0 where
   pub asked : Asked
   pub old_is : old ≡ Some asked
@@ -48,7 +48,7 @@ pub record FinishesOn (d : Db) (old : Option Asked) (reply : Reply Global) (d' :
   pub does : Does d asked.command reply d'
   pub free : new ≡ None
 
--- why it is not
+-- why the run is not finished
 abbrev pub WhyNot : Option Asked → Db → Status → Type 0
 WhyNot None d status = status ≡ NoTicket
 WhyNot (Some a) d status = DeniesFinish d.limit d.image a status
@@ -59,7 +59,7 @@ pub record Finishes (old : Option Db) (code : ℕ) (new : Option Db) (ticket_old
   pub does : At old new (λ d d'. FinishesOn d ticket_old reply d' ticket_new)
   pub told : IsEnd reply end word
 
--- nothing is finished, and the ticket is as it was
+-- nothing is finished, and the ticket is unchanged
 pub record FinishesNot (old : Option Db) (code : ℕ) (new : Option Db) (ticket_old ticket_new : Option Asked) : Type 0 where
   pub same : ticket_new ≡ ticket_old
   pub denied : Denies (WhyNot ticket_old) old code new

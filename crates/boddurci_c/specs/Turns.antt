@@ -1,4 +1,4 @@
--- Pairs in turn (own): a cursor goes over the pages in the order of their numbers, and over the pairs of each in theirs.
+-- Iteration over all pairs (own): a cursor visits the pages in the order of their numbers, and the pairs of each page in order.
 use Rattle.std.specs.Prelude.{◌≡◌, ◌≢◌, ◌⊎◌, ◌<◌, ◌≤◌, ◌+◌, ℕ, length, List, [], Option}
 use Rattle.sdbm_addr.specs.Pairs.{key_at, value_at}
 use Rattle.sdbm_addr.specs.Database.{Database, pairs_at}
@@ -10,25 +10,25 @@ use Rattle.boddurci_handles.specs.declared.opened.Db.{Db}
 use Rattle.boddurci_handles.specs.Statuses.{code_of}
 use Rattle.boddurci_c.specs.Calls.{AreCopied, Shows}
 
--- before the first pair, on the way to the number above all pages that have pairs
+-- before the first pair; the end is the number above all pages that have pairs
 pub record IsStart (db : Database) (cursor : Cursor) : Type 0 where
   pub page : cursor.page ≡ 0
   pub pair : cursor.pair ≡ 0
   pub end : IsPageCount db cursor.end
 
--- no page of these has pairs
+-- none of these pages has pairs
 abbrev pub AreBare : Database → ℕ → ℕ → Type 0
 AreBare db from end = (k : ℕ) → from ≤ k → k < end → pairs_at db k ≡ []
 
--- the first page of these that has pairs
+-- the first of these pages that has pairs
 pub record IsFirstFrom (db : Database) (from end n : ℕ) : Type 0 where
   pub low : from ≤ n
   pub high : n < end
   pub bare : AreBare db from n
   pub has : pairs_at db n ≢ []
 
--- Pair i of page n is the next: the one at the cursor, or where its page has no such, the first of the first page after it that has
--- pairs.
+-- Pair i of page n is the next pair: the pair at the cursor, or, if its page has no such pair, the first pair of the next page
+-- that has pairs.
 pub record IsNext (db : Database) (cursor : Cursor) (n i : ℕ) : Type 0 where
   pub before : cursor.page < cursor.end
   pub there : i < length (pairs_at db n)
@@ -43,7 +43,7 @@ IsOver db cursor = (cursor.end ≤ cursor.page) ⊎ ((length (pairs_at db cursor
 abbrev pub behind : Cursor → ℕ → ℕ → Cursor
 behind cursor n i = record { page = n; end = cursor.end; pair = i + 1 }
 
--- the next pair is told, and the cursor stands after it; or a room is too short, and the cursor stays
+-- the next pair is written, and the cursor is after it; or a buffer is too short, and the cursor is unchanged
 pub record Tells (db : Database) (old new : Cursor) (key_old key_new : List ℕ) (key_len : ℕ) (value_old value_new : List ℕ) (value_len : ℕ) (status : Status) : Type 0 where
   pub n : ℕ
   pub i : ℕ
@@ -54,7 +54,7 @@ pub record Tells (db : Database) (old new : Cursor) (key_old key_new : List ℕ)
   pub moves : status ≡ Done → new ≡ behind old n i
   pub stays : status ≡ ShortRoom → new ≡ old
 
--- no pair is left, and nothing is told
+-- no pair is left, and nothing is written
 pub record Ends (db : Database) (old new : Cursor) (key_old key_new value_old value_new : List ℕ) (status : Status) : Type 0 where
   pub over : IsOver db old
   pub status_is : status ≡ Missing

@@ -1,4 +1,4 @@
--- At which unit a program image is at fault (own).
+-- The offending unit of an invalid program image (own).
 use Rattle.std.specs.Prelude.{◌^◌, ◌-◌, ℕ, Option, Some, None}
 use Rattle.bpf_insn.specs.declared.fault.DecodeFault.{DecodeFault}
 use Rattle.bpf_insn.specs.declared.fault.DecodeFault.TheVariants as decoding
@@ -6,7 +6,7 @@ use Rattle.bpf_verify.specs.Fault.{place_of}
 use Rattle.prog_registry.specs.declared.fault.RegFault.{RegFault}
 use Rattle.prog_registry.specs.declared.fault.RegFault.TheVariants as faults
 
--- the unit of a program image at which the decoder is at fault
+-- the unit at which decoding a program image fails
 abbrev pub unit_decoded : DecodeFault → Option ℕ
 unit_decoded decoding.NoMemory = None
 unit_decoded decoding.Length = None
@@ -16,13 +16,13 @@ unit_decoded (decoding.HalfWide at) = Some at
 unit_decoded (decoding.Register at) = Some at
 unit_decoded (decoding.Reserved at) = Some at
 
--- the unit at which a program image is at fault, if it is at one
+-- the unit at which a program image is invalid, if the fault has one
 abbrev pub unit_in : RegFault → Option ℕ
 unit_in faults.NoMemory = None
 unit_in (faults.Decode fault) = unit_decoded fault
 unit_in (faults.Verify fault) = place_of fault
 unit_in faults.Full = None
 
--- the number that stands for no unit
+-- the number for no unit
 abbrev pub nowhere : ℕ
 nowhere = 2 ^ 64 - 1

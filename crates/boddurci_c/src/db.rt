@@ -1,4 +1,4 @@
-//! What is done with an open database.
+//! Operations on an open database.
 ghost use Rattle.std.specs.Prelude.{◌≡◌, ◌⊎◌, IfOk, IfErr, OnErr};
 ghost use Rattle.std.specs.Arc.{arc_value};
 ghost use Rattle.std.specs.declared.alloc.Global.{Global};
@@ -22,7 +22,7 @@ use std::sync::Arc;
 use store_cmd::{Command, Program, Reply, check_pair, check_run};
 use store_moves::{key_in, work_at};
 
-// Does a command about a key whose size is taken, if `.pag` has room within its limit for the pages that it puts in.
+// Executes a command about a key, whose size must be valid, if the pages that it puts in keep `.pag` within its limit.
 fn perform(alloc: Global, db: &mut Db, command: Command<Global>) -> Result<Reply<Global>, Status>
     requires keyed { HasKey command }
     requires small { IsSmall db.old.image.size command }
@@ -45,7 +45,7 @@ fn perform(alloc: Global, db: &mut Db, command: Command<Global>) -> Result<Reply
     }
 }
 
-/// Stores a value for a key.
+/// Stores a value under a key.
 pub fn store(
     alloc: Global,
     db: &mut Db,
@@ -77,7 +77,7 @@ pub fn store(
     perform(alloc, db, command)
 }
 
-/// Takes a key and its value out.
+/// Removes a key and its value.
 pub fn delete(alloc: Global, db: &mut Db, key: &[u8]) -> Result<Reply<Global>, Status>
     ensures ok { IfOk result (λ reply. Does db.old (Delete key.now) reply db.new) }
     ensures err { OnErr result (db.new ≡ db.old) }
@@ -89,7 +89,8 @@ pub fn delete(alloc: Global, db: &mut Db, key: &[u8]) -> Result<Reply<Global>, S
     perform(alloc, db, Command::Delete { key })
 }
 
-/// Fetches the value of a key into a room, and sets its length, also if it does not fit. If the key is missing both stay as they were.
+/// Fetches the value of a key into `room`, and sets its length, even if it does not fit. If the key is missing, both are
+/// unchanged.
 pub fn fetch(db: &Db, key: &[u8], room: &mut [u8], len: &mut usize) -> Status
     ensures { FetchesIn key.now db.now result room.old room.new len.old len.new }
 {
@@ -153,7 +154,7 @@ pub fn run(
     perform(alloc, db, command)
 }
 
-/// Asks the run of the program with a number, and works nothing yet.
+/// Requests the run of the program with a number. Computes nothing yet.
 pub fn ask(
     alloc: Global,
     db: &Db,
@@ -196,7 +197,7 @@ pub fn files(alloc: Global, db: &Db) -> Result<(MemSink<Global>, MemSink<Global>
     }
 }
 
-/// The number with which a run ended, and its word, or zeros where it did not run.
+/// The exit number and reply word of a run, or zeros if it did not run.
 pub fn end_of(reply: &Reply<Global>) -> (u64, u64)
     ensures { IsEnd reply.now result.0 result.1 }
 {

@@ -1,5 +1,5 @@
-//! The store for C: handles, and one export for each thing that is done with one. It keeps no global state, takes no lock, starts no
-//! thread, and reads and writes no file.
+//! The store for C: handles, and an export for each operation. The library keeps no global state, takes no locks, starts no
+//! threads, and does no file I/O.
 #![tactic(auto)]
 
 ghost use Rattle.std.specs.Prelude.{◌≡◌, ◌≢◌, ◌⊎◌, Option, Some, None, IfOk, IfErr, OnOk, OnErr};
@@ -45,7 +45,7 @@ use texts::image_of;
 use turns::{Cursor, turn};
 use units::unit_of;
 
-// What a store does where its key is there.
+// The mode of a store: replace or keep an existing value.
 fn mode_of(replace: u32) -> Mode
     ensures { result ≡ mode_for replace }
 {
@@ -56,7 +56,7 @@ fn mode_of(replace: u32) -> Mode
     }
 }
 
-/// Stores a value for a key.
+/// Stores a value under a key.
 #[unsafe(no_mangle)]
 pub extern "C" fn boddurci_store(
     alloc: Global,
@@ -78,7 +78,7 @@ pub extern "C" fn boddurci_store(
     }
 }
 
-/// Takes a key and its value out.
+/// Removes a key and its value.
 #[unsafe(no_mangle)]
 pub extern "C" fn boddurci_delete(alloc: Global, slot: &mut Handle, key: &[u8]) -> u32
     ensures { Says (Delete key.now) slot.old.held result slot.new.held }
@@ -94,7 +94,8 @@ pub extern "C" fn boddurci_delete(alloc: Global, slot: &mut Handle, key: &[u8]) 
     }
 }
 
-/// Fetches the value of a key into a room, and sets its length, also if it does not fit. If the key is missing both stay as they were.
+/// Fetches the value of a key into `room`, and sets its length, even if it does not fit. If the key is missing, both are
+/// unchanged.
 #[unsafe(no_mangle)]
 pub extern "C" fn boddurci_fetch(
     alloc: Global,
@@ -114,7 +115,7 @@ pub extern "C" fn boddurci_fetch(
     status.code()
 }
 
-/// Tells the number of pairs.
+/// Sets `count` to the number of pairs.
 #[unsafe(no_mangle)]
 pub extern "C" fn boddurci_count(alloc: Global, slot: &mut Handle, count: &mut usize) -> u32
     ensures { Counts slot.old.held result slot.new.held count.new ⊎ (Denies Never slot.old.held result slot.new.held × (count.new ≡ count.old)) }
@@ -127,8 +128,8 @@ pub extern "C" fn boddurci_count(alloc: Global, slot: &mut Handle, count: &mut u
     Status::Done.code()
 }
 
-/// Sets how many bytes commands may make `.pag` have. It counts in whole pages, and 1 GiB is the most and the default. Pages that lie above
-/// it stay.
+/// Sets the maximum length of `.pag` in bytes that commands may cause. It is rounded down to whole pages; the maximum and the
+/// default are 1 GiB. Existing pages above it stay.
 #[unsafe(no_mangle)]
 pub extern "C" fn boddurci_limit(alloc: Global, slot: &mut Handle, bytes: usize) -> u32
     ensures { Limits bytes slot.old.held result slot.new.held ⊎ Denies Never slot.old.held result slot.new.held }
@@ -142,7 +143,7 @@ pub extern "C" fn boddurci_limit(alloc: Global, slot: &mut Handle, bytes: usize)
     Status::Done.code()
 }
 
-// The status of a fault of a program image.
+// The status of a program image's fault.
 fn fault_status(fault: RegFault) -> Status
     ensures { result ≡ status_of_fault fault }
 {
@@ -154,7 +155,8 @@ fn fault_status(fault: RegFault) -> Status
     }
 }
 
-/// Submits the image of a program, and tells its number, or the unit at which it is at fault and the text of the fault in a room.
+/// Submits a program image, and sets its number. If the image is invalid, sets the offending unit and writes the text of the
+/// fault to `room`.
 #[unsafe(no_mangle)]
 pub extern "C" fn boddurci_submit(
     alloc: Global,
@@ -187,7 +189,7 @@ pub extern "C" fn boddurci_submit(
     }
 }
 
-/// Submits the stock program with a name, and sets its number. Returns `NoStock` if no stock program has the name.
+/// Submits the stock program with a name, and sets its number. Returns `NoStock` if there is no such program.
 #[unsafe(no_mangle)]
 pub extern "C" fn boddurci_submit_stock(
     alloc: Global,
@@ -219,7 +221,8 @@ pub extern "C" fn boddurci_submit_stock(
     }
 }
 
-/// Assembles the text of a program into an image in a room, or tells the line and the text of its fault.
+/// Assembles the text of a program into `image`, and sets the image's length, even if it does not fit. On a fault, sets its
+/// line and writes its text to `room`.
 #[unsafe(no_mangle)]
 pub extern "C" fn boddurci_assemble(
     alloc: Global,
@@ -250,9 +253,9 @@ fn blank_of(has_blank: u32, blank: usize) -> Option<usize>
     if has_blank == 0 { None } else { Some(blank) }
 }
 
-/// Runs the program with a number on the record of a key, or on so many zeros where the key is not there and there is a blank. It
-/// tells the number with which the program ended, and its word; both are 0 after MISSING and CROWDED, and
-/// as they were after any other refusal.
+/// Runs the program with a number on the record of a key. If the key is missing and a blank is given, the program runs on that
+/// number of zero bytes. Sets the program's exit number and its reply word; both are 0 after MISSING and CROWDED, and unchanged
+/// after any other refusal.
 #[unsafe(no_mangle)]
 pub extern "C" fn boddurci_run(
     alloc: Global,
@@ -284,8 +287,8 @@ pub extern "C" fn boddurci_run(
     }
 }
 
-/// Asks a run as `boddurci_run` does it, under a ticket: with the page of its key as it is now. Nothing is run yet, so `.pag` is never too long.
-/// What was under the ticket goes.
+/// Requests the run that `boddurci_run` would make, with a snapshot of the page of its key, and puts it under a ticket. Nothing
+/// runs yet, so the status is never that `.pag` is too long. Drops any earlier run under the ticket.
 #[unsafe(no_mangle)]
 pub extern "C" fn boddurci_ask(
     alloc: Global,
@@ -316,7 +319,7 @@ pub extern "C" fn boddurci_ask(
     }
 }
 
-/// Works out what was asked, on the page as it was then. It wants no handle.
+/// Computes the run under a ticket on its snapshot of the page. Needs no handle.
 #[unsafe(no_mangle)]
 pub extern "C" fn boddurci_work(alloc: Global, ticket: &mut Ticket) -> u32
     ensures { Works ticket.old.asked result ticket.new.asked ⊎ WorksNot ticket.old.asked result ticket.new.asked }
@@ -332,7 +335,7 @@ pub extern "C" fn boddurci_work(alloc: Global, ticket: &mut Ticket) -> u32
     }
 }
 
-// Does on a database what was worked under a ticket.
+// Executes the computed run of a ticket on a database.
 fn finish_on(alloc: Global, db: &mut Db, ticket: &mut Ticket) -> Result<Reply<Global>, Status>
     ensures ok { IfOk result (λ reply. FinishesOn db.old ticket.old.asked reply db.new ticket.new.asked) }
     ensures err { OnErr result (db.new ≡ db.old) }
@@ -351,8 +354,8 @@ fn finish_on(alloc: Global, db: &mut Db, ticket: &mut Ticket) -> Result<Reply<Gl
     }
 }
 
-/// Does what was worked under a ticket as one step of the database as it stands, where the page of its key is as it was asked, and
-/// tells as `boddurci_run` does how the run ended. The ticket is free then.
+/// Executes the computed run of a ticket as one step of the current database, if the page of its key is unchanged. Sets the
+/// exit number and reply word like `boddurci_run`. The ticket is then free.
 #[unsafe(no_mangle)]
 pub extern "C" fn boddurci_finish(
     alloc: Global,
@@ -378,7 +381,7 @@ pub extern "C" fn boddurci_finish(
     }
 }
 
-/// Gives up what is under a ticket, which is free then.
+/// Drops the run under a ticket. The ticket is then free.
 #[unsafe(no_mangle)]
 pub extern "C" fn boddurci_abandon(alloc: Global, ticket: &mut Ticket)
     ensures { ticket.new.asked ≡ None }
@@ -386,7 +389,7 @@ pub extern "C" fn boddurci_abandon(alloc: Global, ticket: &mut Ticket)
     let _ = ticket.take(alloc);
 }
 
-/// Begins a walk over all pairs.
+/// Begins an iteration over all pairs.
 #[unsafe(no_mangle)]
 pub extern "C" fn boddurci_first(alloc: Global, slot: &mut Handle, cursor: &mut Cursor) -> u32
     ensures { Begins slot.old.held result slot.new.held cursor.new ⊎ (Denies Never slot.old.held result slot.new.held × (cursor.new ≡ cursor.old)) }
@@ -403,7 +406,7 @@ pub extern "C" fn boddurci_first(alloc: Global, slot: &mut Handle, cursor: &mut 
     Status::Done.code()
 }
 
-/// Tells the next pair of a walk in two rooms, where both parts fit, and their lengths either way.
+/// Writes the next pair of an iteration to two buffers if both parts fit. Sets both lengths either way.
 #[unsafe(no_mangle)]
 pub extern "C" fn boddurci_next(
     alloc: Global,
@@ -426,7 +429,7 @@ pub extern "C" fn boddurci_next(
     status.code()
 }
 
-/// Writes the bytes of both files into rooms, where both fit, and tells how many they are.
+/// Writes the bytes of both files to buffers if both fit. Sets both lengths.
 #[unsafe(no_mangle)]
 pub extern "C" fn boddurci_files(
     alloc: Global,
@@ -455,7 +458,7 @@ pub extern "C" fn boddurci_files(
     }
 }
 
-/// Tells the numbers of the pages that may have changed since the files were opened, or since the last plan, in a room.
+/// Writes to `numbers` the pages that may have changed since the files were opened or since the last plan.
 #[unsafe(no_mangle)]
 pub extern "C" fn boddurci_changed(
     alloc: Global,
@@ -474,7 +477,7 @@ pub extern "C" fn boddurci_changed(
     status.code()
 }
 
-/// Marks pages as ones that may have changed, where a plan could not be done.
+/// Marks pages as possibly changed. Call it when a plan was not carried out.
 #[unsafe(no_mangle)]
 pub extern "C" fn boddurci_mark(alloc: Global, slot: &mut Handle, numbers: &[u32]) -> u32
     ensures { Remarks numbers.now slot.old.held result slot.new.held ⊎ Denies LacksMemory slot.old.held result slot.new.held }
@@ -491,9 +494,10 @@ pub extern "C" fn boddurci_mark(alloc: Global, slot: &mut Handle, numbers: &[u32
     }
 }
 
-/// Writes the plan that makes the files those of the database into a room, where it fits, and tells its length, which is 0 where they are
-/// that already. Of the files it is given the bytes of `.dir`, the length of `.pag`, and the pages with these numbers, among which are those
-/// of `boddurci_changed`; a byte past the end is zero. Once the plan is written no page counts as changed.
+/// Writes the plan that turns the files into those of the database, if it fits in `room`, and sets its length; the length is 0
+/// if they are equal already. The caller passes the bytes of `.dir`, the length of `.pag`, and the pages with these numbers,
+/// which must include those of `boddurci_changed`; a byte past the end of the file counts as zero. Once the plan is written, no
+/// page counts as changed.
 #[unsafe(no_mangle)]
 pub extern "C" fn boddurci_plan(
     alloc: Global,
@@ -522,7 +526,7 @@ pub extern "C" fn boddurci_plan(
     status.code()
 }
 
-// How keys hash, and how large pages are.
+// The hash kind and the page size.
 fn form_of(unsigned_keys: u32, wide: u32) -> (KeyBytes, PageSize)
     ensures kind { result.0 ≡ kind_for unsigned_keys }
     ensures size { result.1 ≡ size_for wide }
@@ -535,8 +539,8 @@ fn form_of(unsigned_keys: u32, wide: u32) -> (KeyBytes, PageSize)
     }
 }
 
-/// Returns whether files that are to be opened with wide pages look like those of a database with small ones, as 1 or 0 in a number. Opened
-/// with wide pages, such a database may be read by chance, and a change would destroy it.
+/// Sets a number to 1 if files to be opened with wide pages look like those of a database with small pages, otherwise to 0.
+/// Such a database may be readable with wide pages by chance, and a change would then destroy it.
 #[unsafe(no_mangle)]
 pub extern "C" fn boddurci_looks_small(
     alloc: Global,
@@ -551,9 +555,9 @@ pub extern "C" fn boddurci_looks_small(
     look(alloc, dir, pag, kind, looks).code()
 }
 
-/// Reads the next piece of a `.pag`. The first piece begins a file with pages of this size, which later ones do not change. Returns
-/// `BadFiles` if the pieces before end inside a page, and `TooLong` if there would be 2^63 bytes or more; the reading is then as it was.
-/// Returns `NoMemory` if memory runs out; the reading is then free.
+/// Reads the next piece of a `.pag`. The first piece sets the page size; later pieces do not change it. Returns `BadFiles` if
+/// the earlier pieces end inside a page, and `TooLong` if the total would be 2^63 bytes or more; the reading is then unchanged.
+/// Returns `NoMemory` if out of memory; the reading is then free.
 #[unsafe(no_mangle)]
 pub extern "C" fn boddurci_read(
     alloc: Global,
@@ -567,7 +571,7 @@ pub extern "C" fn boddurci_read(
     read_piece(alloc, reading, size, piece).code()
 }
 
-/// Drops what was read of a `.pag`. The reading is free then.
+/// Drops the pieces of a `.pag` that were read. The reading is then free.
 #[unsafe(no_mangle)]
 pub extern "C" fn boddurci_end_reading(alloc: Global, reading: &mut Reading)
     ensures { reading.new.read ≡ None }
@@ -575,7 +579,7 @@ pub extern "C" fn boddurci_end_reading(alloc: Global, reading: &mut Reading)
     let _ = reading.take(alloc);
 }
 
-/// Returns what `boddurci_looks_small` does, for a `.pag` that was read piece by piece.
+/// Like `boddurci_looks_small`, for a `.pag` that was read in pieces.
 #[unsafe(no_mangle)]
 pub extern "C" fn boddurci_reading_looks_small(
     alloc: Global,
@@ -591,7 +595,7 @@ pub extern "C" fn boddurci_reading_looks_small(
     look_at_reading(alloc, dir, reading, kind, looks).code()
 }
 
-/// Whether a handle is open, as 1 or 0.
+/// Returns 1 if a handle is open, otherwise 0.
 #[unsafe(no_mangle)]
 pub extern "C" fn boddurci_is_open(alloc: Global, slot: &mut Handle) -> u32
     ensures same { slot.new.held ≡ slot.old.held }
@@ -604,7 +608,7 @@ pub extern "C" fn boddurci_is_open(alloc: Global, slot: &mut Handle) -> u32
     1
 }
 
-// Opens a handle that is closed.
+// Opens a closed handle.
 fn open_at(
     alloc: Global,
     slot: &mut Handle,
@@ -631,7 +635,7 @@ fn open_at(
     }
 }
 
-// The status of a fault of files.
+// The status of a fault in the files.
 fn open_status(fault: OpenFault) -> Status
     ensures { result ≡ status_of_open fault }
 {
@@ -644,8 +648,8 @@ fn open_status(fault: OpenFault) -> Status
     }
 }
 
-/// Opens a closed handle on the database that the bytes of its files spell, or tells the text of their fault in a room. No bytes are
-/// an empty database.
+/// Opens a closed handle on the database in the bytes of its files. On a fault, writes its text to a buffer. Empty files are an
+/// empty database.
 #[unsafe(no_mangle)]
 pub extern "C" fn boddurci_open(
     alloc: Global,
@@ -672,7 +676,7 @@ pub extern "C" fn boddurci_open(
     }
 }
 
-// Opens a handle that is closed on the pages of a reading, which is free then.
+// Opens a closed handle on the pages of a reading, which is then free.
 fn open_reading_at(
     alloc: Global,
     slot: &mut Handle,
@@ -702,8 +706,8 @@ fn open_reading_at(
     }
 }
 
-/// Opens a closed handle as `boddurci_open` does on the bytes of a `.pag` that was read piece by piece. The reading is free then; after any
-/// refusal it is as it was. A free one is a file without bytes.
+/// Opens a closed handle like `boddurci_open`, with a `.pag` that was read in pieces. The reading is then free; after any
+/// refusal it is unchanged. A free reading counts as an empty file.
 #[unsafe(no_mangle)]
 pub extern "C" fn boddurci_open_reading(
     alloc: Global,
@@ -731,7 +735,7 @@ pub extern "C" fn boddurci_open_reading(
     }
 }
 
-/// Closes a handle, and lets go what it holds.
+/// Closes a handle and frees its database.
 #[unsafe(no_mangle)]
 pub extern "C" fn boddurci_close(alloc: Global, slot: &mut Handle)
     ensures { slot.new.held ≡ None }

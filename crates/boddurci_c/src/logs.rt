@@ -1,4 +1,4 @@
-//! The log of a base: which calls on its files C is to make.
+//! The log of a base: the calls that C must make on its files.
 ghost use Rattle.std.specs.Prelude.{◌≡◌};
 ghost use Rattle.boddurci_handles.specs.Statuses.{code_of};
 ghost use Rattle.boddurci_handles.specs.declared.status.Status.{Status};
@@ -8,11 +8,12 @@ use boddurci_logs::{LogPlace, close, open, read, save};
 use sdbm_log::LogFiles;
 use std::alloc::Global;
 
-/// Tells the steps that open the log of a base with at least this much room, and the log after them. They sync what was read, recover the data
-/// files if the redo file has its mark, and make the redo file an empty log. The data files are needed only if it has the mark.
+/// Writes the steps that open the log of a base with at least this much room, and the log after them. The steps sync the data
+/// that was read, recover the data files if the redo file has its mark, and make the redo file an empty log. The data files are
+/// needed only if it has the mark.
 ///
-/// Returns `ShortRoom` and writes nothing but the lengths if a room is too short; `BadFiles` if the redo file has no plan of these files;
-/// `Stale` if its log is damaged; `TooLong` if the room is over 2^30; or `NoMemory`.
+/// Returns `ShortRoom`, and sets only the lengths, if a buffer is too short; `BadFiles` if the redo file has no plan of these
+/// files; `Stale` if its log is damaged; `TooLong` if the room is over 2^30; or `NoMemory`.
 #[unsafe(no_mangle)]
 pub extern "C" fn boddurci_log_open(
     alloc: Global,
@@ -36,9 +37,10 @@ pub extern "C" fn boddurci_log_open(
     open(alloc, found, room, log, bytes, bytes_len, words, words_len).code()
 }
 
-/// Tells the steps that make copies of the data files what the files of a base mean: none if the redo file has no plan.
+/// Writes the steps that bring copies of the data files up to date with the files of a base. There are no steps if the redo
+/// file has no plan.
 ///
-/// Returns what `boddurci_log_open` does.
+/// Returns the same statuses as `boddurci_log_open`.
 #[unsafe(no_mangle)]
 pub extern "C" fn boddurci_log_read(
     alloc: Global,
@@ -60,11 +62,11 @@ pub extern "C" fn boddurci_log_read(
     read(alloc, found, bytes, bytes_len, words, words_len).code()
 }
 
-/// Tells the steps of a save in a log, how many words those have that commit it, and the log after all of them. `bytes` has room for 18 bytes
-/// and then the plan; the bytes before the plan are written.
+/// Writes the steps of a save in a log, and sets the number of words that commit it and the log after all steps. `bytes` has
+/// room for 18 bytes, followed by the plan; the bytes before the plan are written.
 ///
-/// Returns `ShortRoom` and writes nothing but the lengths if the room for words is too short; `BadFiles` if the bytes are no plan; `TooLong` if
-/// the plan has 3,000,000,000 bytes or more, or the log ends after 3,000,000,000; or `NoMemory`.
+/// Returns `ShortRoom`, and sets only the lengths, if the buffer for words is too short; `BadFiles` if the bytes are not a
+/// plan; `TooLong` if the plan has 3,000,000,000 bytes or more, or the log ends after 3,000,000,000; or `NoMemory`.
 #[unsafe(no_mangle)]
 pub extern "C" fn boddurci_log_save(
     alloc: Global,
@@ -79,9 +81,9 @@ pub extern "C" fn boddurci_log_save(
     save(alloc, log, bytes, words, words_len, committed).code()
 }
 
-/// Tells the steps that close a log: they sync both data files, and clear the mark. They write no bytes of a buffer.
+/// Writes the steps that close a log: they sync both data files and clear the mark. They write no bytes of a buffer.
 ///
-/// Returns `ShortRoom` if the room is too short, or `NoMemory`.
+/// Returns `ShortRoom` if the buffer is too short, or `NoMemory`.
 #[unsafe(no_mangle)]
 pub extern "C" fn boddurci_log_close(alloc: Global, words: &mut [u64], words_len: &mut usize) -> u32
     ensures { (status : Status) × ((result ≡ code_of status) × CloseAnswer words.old words.new words_len.new status) }

@@ -1,4 +1,4 @@
-//! A database from its files, of which `.pag` may be read piece by piece.
+//! Makes a database from its files. The `.pag` may have been read in pieces.
 ghost use Rattle.std.specs.Prelude.{◌≡◌, ◌≢◌, ◌*◌, ◌/◌, ◌≤◌, length, true, IfOk, IfErr};
 ghost use Rattle.sdbm_addr.specs.Pairs.{page_bytes};
 ghost use Rattle.sdbm_addr.specs.Layout.{bytes_of_page};
@@ -15,10 +15,10 @@ use sdbm_addr::{KeyBytes, PageSize};
 use sdbm_files::{BLOCK, Image, OpenFault, ReadPages};
 use std::alloc::{AllocError, Global};
 
-// The most bytes of a `.pag` until the caller sets a limit, and the highest limit that counts.
+// The default limit of a `.pag` in bytes, and the highest limit that takes effect.
 const LONGEST: usize = 1_073_741_824;
 
-/// The database that the bytes of both files spell, with no programs. Its `.pag` may grow to 1 GiB.
+/// The database in the bytes of both files, without programs. Its `.pag` may grow to 1 GiB.
 ///
 /// # Errors
 /// Those of `Image::open`.
@@ -45,7 +45,7 @@ pub fn open(
     open_read(alloc, registry, dir, &read, kind, size)
 }
 
-/// The same for the pages of a reading, which stays as it is. A free one has read no bytes.
+/// Like `open`, for the pages of a reading, which is unchanged. A free reading counts as an empty file.
 ///
 /// # Errors
 /// Those of `Image::open`.
@@ -72,7 +72,7 @@ pub fn open_reading(
     opened
 }
 
-// The same for pages that were read.
+// Like `open`, for pages that were read.
 fn open_read(
     alloc: Global,
     registry: Registry<Global>,
@@ -104,14 +104,14 @@ fn open_read(
     })
 }
 
-/// The number of whole pages of a size in a file of some bytes.
+/// The number of whole pages in a file of some bytes.
 pub fn pages_in(bytes: usize, size: PageSize) -> usize
     ensures { result ≡ bytes / page_bytes size }
 {
     bytes / size.bytes()
 }
 
-// The pages of a file whose bytes are not those that are written for its database.
+// The pages of a file whose bytes differ from those that a save of its database would write.
 fn foreign_pages(
     alloc: Global,
     image: &Image<Global>,
@@ -133,7 +133,7 @@ fn foreign_pages(
     Ok(marks)
 }
 
-// Whether a page of a file has the bytes that are written for its database.
+// Returns true if a page of a file has the bytes that a save of its database would write.
 fn is_own(image: &Image<Global>, pag: &ReadPages<Global>, number: u32) -> bool
     requires { IsDatabase image.now }
     ensures { result ≡ true → ReadsPage image.now.size pag.now.bytes number (bytes_of_page image.now.size (pairs_at image.now number)) }
@@ -149,7 +149,7 @@ fn is_own(image: &Image<Global>, pag: &ReadPages<Global>, number: u32) -> bool
     true
 }
 
-// Whether bytes are the same.
+// Returns true only if both slices are equal.
 fn is_same(one: &[u8], other: &[u8]) -> bool
     ensures { result ≡ true → one.now ≡ other.now }
 {

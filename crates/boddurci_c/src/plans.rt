@@ -9,9 +9,9 @@ use boddurci_marks::Marks;
 use sdbm_saves::{Marked, SavePlanFault, plan_marked};
 use std::alloc::{AllocError, Global};
 
-/// Writes the plan that makes files of which some pages were read those of a database into a room, where it fits, and tells its length; no
-/// bytes where they are that already. The database is then the base, and no page is marked. Of a database for which the longest `.pag` has
-/// room it leaves none that is longer.
+/// Writes the plan of a save to `room` if it fits, and sets its length. The plan turns the old files, of which some pages were
+/// read, into those of the database; it is empty if they are equal already. The database then becomes the base, and no page is
+/// marked. If the database fits in the longest `.pag`, the new `.pag` is no longer than that.
 pub fn plan(alloc: Global, db: &mut Db, old: Marked<'_>, room: &mut [u8], len: &mut usize) -> Status
     ensures { PlansOn old.entry.directory.now old.entry.len old.entry.numbers.now old.entry.pages.now db.old room.old room.new len.new result db.new
         ⊎ (DeniesPlan old.entry.directory.now old.entry.len old.entry.numbers.now old.entry.pages.now db.old result
@@ -32,7 +32,7 @@ pub fn plan(alloc: Global, db: &mut Db, old: Marked<'_>, room: &mut [u8], len: &
     }
 }
 
-// The bytes of that plan.
+// The bytes of the plan.
 fn plan_of(alloc: Global, db: &Db, old: Marked<'_>) -> Result<Vec<u8>, Status>
     ensures ok { IfOk result (λ plan. PlansFor old.entry.directory.now old.entry.len old.entry.numbers.now old.entry.pages.now db.now plan.items) }
     ensures read { OnOk result (HasRead db.now old.entry.numbers.now old.entry.pages.now) }
@@ -57,7 +57,7 @@ fn plan_of(alloc: Global, db: &Db, old: Marked<'_>) -> Result<Vec<u8>, Status>
     }
 }
 
-// Whether each mark is one of some numbers.
+// Returns true if each mark is one of some numbers.
 fn are_among(alloc: Global, marks: &Marks, numbers: &[u32]) -> Result<bool, AllocError>
     ensures { IfOk result (λ are. IsTrue are ↔ AreAmong marks.now numbers.now) }
 {

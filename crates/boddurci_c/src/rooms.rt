@@ -1,4 +1,4 @@
-//! Rooms that a caller lends for bytes.
+//! Buffers borrowed from the caller.
 ghost use Rattle.std.specs.Prelude.{◌≡◌, ℕ, List, Some};
 ghost use Rattle.boddurci_c.specs.Calls.{IsCopied, IsToldAs, AreCopied};
 
@@ -6,7 +6,7 @@ use boddurci_handles::Status;
 use std::alloc::Global;
 use std::fmt::Display;
 
-/// Writes bytes or numbers in the first places of a room where they fit, and tells how many they are.
+/// Writes bytes or numbers to the front of a buffer if they fit, and sets their number.
 pub fn copy_out<T: Copy>(items: &[T], room: &mut [T], len: &mut usize) -> Status
     ensures { IsCopied items.now room.old room.new len.new result }
 {
@@ -18,8 +18,8 @@ pub fn copy_out<T: Copy>(items: &[T], room: &mut [T], len: &mut usize) -> Status
     Status::Done
 }
 
-/// Writes the text of a fault in the first places of a room, as `copy_out` does, and returns the status of the fault. Returns `NoMemory` and
-/// sets the length to 0 if memory runs out for the text.
+/// Writes the text of a fault to the front of a buffer, like `copy_out`, and returns the status of the fault. If there is no
+/// memory for the text, returns `NoMemory` and sets the length to 0.
 pub fn tell<T: Display>(
     alloc: Global,
     fault: &T,
@@ -37,7 +37,7 @@ pub fn tell<T: Display>(
     status
 }
 
-/// Writes the bytes of two files in the first places of two rooms where both fit, and else none.
+/// Writes the bytes of two files to the front of two buffers if both fit, otherwise to neither.
 pub fn copy_both(dir: &[u8], pag: &[u8], dir_room: &mut [u8], pag_room: &mut [u8]) -> Status
     ensures { AreCopied dir.now pag.now dir_room.old dir_room.new pag_room.old pag_room.new result }
 {

@@ -1,4 +1,4 @@
-//! Whether files that are to be opened with wide pages have small ones.
+//! Checks files that are to be opened with wide pages for small pages.
 ghost use Rattle.std.specs.Prelude.{◌≡◌, cond, IfErr, IfOk};
 ghost use Rattle.boddurci_handles.specs.Pieces.{bytes_read};
 ghost use Rattle.boddurci_c.specs.Sizes.{IsLook};
@@ -8,8 +8,8 @@ use sdbm_addr::KeyBytes;
 use sdbm_sizes::{bytes_look_small, pages_look_small};
 use std::alloc::{AllocError, Global};
 
-/// Sets a number to 1 if files that are to be opened with wide pages look like those of a database with small ones, and else to 0. Returns
-/// `NoMemory` and leaves it if memory runs out.
+/// Sets a number to 1 if files to be opened with wide pages look like those of a database with small pages, otherwise to 0. If
+/// out of memory, returns `NoMemory` and leaves the number unchanged.
 pub fn look(alloc: Global, dir: &[u8], pag: &[u8], kind: KeyBytes, looks: &mut u32) -> Status
     ensures { IsLook kind dir.now pag.now looks.old looks.new result }
 {
@@ -17,7 +17,7 @@ pub fn look(alloc: Global, dir: &[u8], pag: &[u8], kind: KeyBytes, looks: &mut u
     set_looks(found, looks)
 }
 
-/// The same for the pages of a reading, which stays as it is. A free one has read no bytes.
+/// Like `look`, for the pages of a reading, which is unchanged. A free reading counts as an empty file.
 pub fn look_at_reading(
     alloc: Global,
     dir: &[u8],
@@ -36,7 +36,7 @@ pub fn look_at_reading(
     set_looks(found, looks)
 }
 
-// Sets the number to what was found, if memory was enough.
+// Sets the number to the result, unless memory ran out.
 fn set_looks(found: Result<bool, AllocError>, looks: &mut u32) -> Status
     ensures ok { IfOk found (λ small. (result ≡ Status.Done) × (looks.new ≡ cond small 1 0)) }
     ensures err { IfErr found (λ _. (result ≡ Status.NoMemory) × (looks.new ≡ looks.old)) }

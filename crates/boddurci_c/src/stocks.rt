@@ -6,7 +6,8 @@ use boddurci_handles::Status;
 use std::alloc::Global;
 use stock_names::Stock;
 
-/// Makes the image of the stock program with a name. Returns `NoStock` if there is none, and `NoMemory` if memory runs out.
+/// Makes the image of the stock program with a name. Returns `NoStock` if there is no such program, and `NoMemory` if out of
+/// memory.
 pub fn stock_image(alloc: Global, name: &[u8]) -> Result<Vec<u8>, Status>
     ensures ok { IfOk result (λ image. IsStockImage name.now image.items) }
     ensures err { IfErr result (DeniesStock name.now) }

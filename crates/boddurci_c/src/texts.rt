@@ -13,11 +13,11 @@ use std::fmt;
 pub enum TextFault {
     /// It is not UTF-8.
     NotText,
-    /// It denotes no program, or memory ran out.
+    /// The text is not a program, or memory ran out.
     Line(AsmFault),
 }
 
-/// The image of the program that a text denotes.
+/// The image of the program in a text.
 pub fn image_of(alloc: Global, text: &[u8]) -> Result<Vec<u8>, TextFault>
     ensures ok { IfOk result (λ image. IsTextImage text.now image.items) }
     ensures err { IfErr result (IsTextFault text.now) }
@@ -36,7 +36,7 @@ pub fn image_of(alloc: Global, text: &[u8]) -> Result<Vec<u8>, TextFault>
 }
 
 impl TextFault {
-    /// The status of the fault, and its line, counted from 1, or 0 where it has none.
+    /// The status of the fault and its line, counted from 1; the line is 0 if the fault has no line.
     pub fn told(&self) -> (Status, usize)
         ensures status { result.0 ≡ status_of_text self.now }
         ensures line { result.1 ≡ line_of self.now }

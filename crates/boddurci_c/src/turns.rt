@@ -1,4 +1,4 @@
-//! Pairs in turn: a cursor goes over the pages in the order of their numbers, and over the pairs of each in theirs.
+//! Iterates over all pairs: a cursor visits the pages in the order of their numbers, and the pairs of each page in order.
 ghost use Rattle.std.specs.Prelude.{◌≡◌, ◌↔◌, ◌<◌, ◌+◌, [], length, IsTrue, IfSome, IfNone};
 ghost use Rattle.sdbm_addr.specs.Database.{pairs_at};
 ghost use Rattle.sdbm_addr.specs.Pairs.{key_at, value_at};
@@ -9,7 +9,8 @@ use boddurci_handles::Status;
 use sdbm_files::Image;
 use std::alloc::Global;
 
-/// Where a walk over all pairs stands: at a page of which it has passed so many pairs, on the way to the number above all pages.
+/// The position of an iteration: a page, the number of its pairs already visited, and the number above all pages, at which the
+/// iteration ends.
 #[repr(C)]
 #[derive(Clone, Copy)]
 pub struct Cursor {
@@ -18,7 +19,7 @@ pub struct Cursor {
     pub pair: usize,
 }
 
-// A pair, and how many pairs of its page the walk has passed then.
+// A pair, and the number of pairs of its page visited after it.
 #[derive(Clone, Copy)]
 struct Met<'a> {
     key: &'a [u8],
@@ -26,7 +27,7 @@ struct Met<'a> {
     behind: usize,
 }
 
-// Whether a page has no pairs.
+// Returns true if a page has no pairs.
 fn is_bare(image: &Image<Global>, number: u32) -> bool
     ensures { IsTrue result ↔ (pairs_at image.now number ≡ []) }
 {
@@ -36,7 +37,7 @@ fn is_bare(image: &Image<Global>, number: u32) -> bool
     }
 }
 
-// Whether a page has a pair with a number.
+// Returns true if a page has a pair with an index.
 fn has_pair(image: &Image<Global>, number: u32, i: usize) -> bool
     ensures { IsTrue result ↔ (i < length (pairs_at image.now number)) }
 {
@@ -46,7 +47,7 @@ fn has_pair(image: &Image<Global>, number: u32, i: usize) -> bool
     }
 }
 
-// The first page from a number on, and below another, that has pairs.
+// The first page with pairs from `from` on and below `end`.
 fn next_page(image: &Image<Global>, from: u32, end: u32) -> Option<u32>
     ensures some { IfSome result (IsFirstFrom image.now from end) }
     ensures none { IfNone result (AreBare image.now from end) }
@@ -59,7 +60,7 @@ fn next_page(image: &Image<Global>, from: u32, end: u32) -> Option<u32>
     None
 }
 
-// The page and the number of the next pair.
+// The page and the index of the next pair.
 fn seek(image: &Image<Global>, cursor: Cursor) -> Option<(u32, usize)>
     ensures some { IfSome result (λ at. IsNext image.now cursor at.0 at.1) }
     ensures none { IfNone result (IsOver image.now cursor) }
@@ -95,7 +96,7 @@ fn pair_at(image: &Image<Global>, number: u32, i: usize) -> Met<'_>
     }
 }
 
-/// Writes the next pair into two rooms, where both parts fit, and moves the cursor past it; the lengths are told either way.
+/// Writes the next pair to two buffers if both parts fit, and advances the cursor past it. Sets both lengths either way.
 pub fn turn(
     image: &Image<Global>,
     cursor: &mut Cursor,

@@ -1,11 +1,11 @@
-//! At which unit a program image is at fault.
+//! The offending unit of an invalid program image.
 ghost use Rattle.std.specs.Prelude.{◌≡◌, unwrap_or};
 ghost use Rattle.boddurci_c.specs.Units.{unit_in, nowhere};
 
 use bpf_insn::DecodeFault;
 use prog_registry::RegFault;
 
-/// The unit of 8 bytes at which a program image is at fault, or the greatest number where it is at none.
+/// The unit of 8 bytes at which a program image is invalid, or the greatest number if the fault has no unit.
 pub fn unit_of(fault: RegFault) -> usize
     ensures { result ≡ unwrap_or (unit_in fault) nowhere }
 {

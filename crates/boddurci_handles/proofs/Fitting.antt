@@ -1,4 +1,4 @@
--- Databases that the longest `.pag` has room for, before and after what calls do.
+-- Databases within the longest `.pag`, before and after calls.
 use Rattle.std.proofs.Common.{◌≡◌, ◌≢◌, ℕ, ◌<◌, ◌≤◌, ◌||◌, nat_lt, List, [], ◌∷◌, Bool, true, false, cond, unwrap_or, Option, Some, None, refl, sym, ap, ◌∙◌, subst, arith, eqb}
 use Rattle.std.proofs.lemmas.Bool.{eqb-true}
 use Rattle.std.specs.List.{list_all}
@@ -28,7 +28,7 @@ use Rattle.store_moves.proofs.Acting.{Acts-on_page}
 use Rattle.store_moves.proofs.Lifting.{works_lead}
 use Rattle.boddurci_marks.specs.Growth.{FitsWithin, has_pairs, has_room, may_grow, most_in}
 
--- ---- pages that are put in
+-- ---- pages put in
 
 below : (n m : ℕ) → nat_lt n m ≡ true → n < m
 below n m t = grind arith
@@ -43,7 +43,7 @@ least limit most = at (nat_lt limit most) refl
     at true t = let low : limit < most = below limit most t in (omega (arith, low), omega arith)
     at false t = (omega arith, not_below limit most t)
 
--- each page that has pairs has a number below
+-- each page that has pairs has a number below `bound`
 abbrev AreBelow : ℕ → FinMap nat_cmp (List Pair) → Type 0
 AreBelow bound pages = (n : ℕ) → unwrap_or (map.get pages n) [] ≢ [] → n < bound
 
@@ -64,12 +64,12 @@ all_below most bound few pages (e ∷ es) t all =
     let parts = both (has_room most e) (list_all (has_room most) es) t in
     all_below most bound few (put_page pages e.0 e.1.pairs) es parts.1 (put_below bound pages e.0 e.1.pairs (placed most bound e.0 e.1.pairs few parts.0) all)
 
--- a page that had pairs before has its place still
+-- a page that had pairs before keeps its place
 place_stays : (most bound : ℕ) (before : List Pair) (number : ℕ) (leaf : Content) → most ≤ bound → (has_pairs before || has_room most (number, leaf)) ≡ true → (before ≢ [] → number < bound) → leaf.pairs ≢ [] → number < bound
 place_stays most bound [] number leaf few place low some = placed most bound number leaf.pairs few place some
 place_stays most bound (e ∷ es) number leaf few place low some = low (λ none. let no : e ∷ es ≡ [] = none in cc)
 
--- a change whose pages are among the first so many
+-- a change whose pages are among the first `most`
 within_changed : (db : Database) (number : ℕ) (change : Option PageChange) (most bound : ℕ) → most ≤ bound → may_grow most (has_pairs (pairs_at db number)) number change ≡ true → FitsWithin bound db → FitsWithin bound (changed_by db number change)
 within_changed db number None most bound few may fits = fits
 within_changed db number (Some change) most bound few may fits =
@@ -81,14 +81,14 @@ fits_changed : (db : Database) (number : ℕ) (change : Option PageChange) (limi
 fits_changed db number None limit may fits = fits
 fits_changed db number (Some change) limit may fits = within_changed db number (Some change) (most_in db.size limit) (most_pages db.size) (least limit (most_pages db.size)).0 may fits
 
--- a command that gave no page pairs
+-- a command that gave pairs to no page without pairs
 pub fits_filled : {A : Type 0} (old new : Database) (command : Command A) (reply : Reply A) → Acts old (record { session = 0; command = command; reply = reply }) new → FillsNone old new → FitsFiles old → FitsFiles new
 fits_filled old new command reply acts fills fits n some = subst (λ (size : PageSize). n < most_pages size) (sym acts.move.size) (fits n (λ none. some (fills n none)))
 
 pub within_filled : (bound : ℕ) (old new : Database) → FillsNone old new → FitsWithin bound old → FitsWithin bound new
 within_filled bound old new fills fits n some = fits n (λ none. some (fills n none))
 
--- what was worked on the page of its place, and put in
+-- a result that was computed on the page of its place, and put in
 module _ (db : Database) (ok : IsDatabase db) (place : Place) (command : Command Global) (keyed : HasKey command) (small : IsSmall db.size command) (leads : IsPlaceOf db (key_of command) place) (worked : Worked Global) (is : IsWorked (works place db.kind db.size (pairs_at db place.page) 0 command) worked) where
   pub may_put_worked : MayChange db place.page (option_map change_of worked.change)
   may_put_worked = subst (λ (x : Option PageChange). MayChange db place.page x) (sym is.change) (works_lead db ok place 0 command keyed small leads).may

@@ -1,4 +1,4 @@
--- What was worked on a page that stands as it was asked is one command of the database.
+-- A result computed on an unchanged page is the effect of one command on the database.
 use Rattle.std.proofs.Common.{◌≡◌, ℕ, List, true, false, sym, ap, ◌∙◌, subst}
 use Rattle.std.specs.Option.{option_map}
 use Rattle.std.specs.declared.alloc.Global.{Global}
@@ -18,7 +18,7 @@ use Rattle.boddurci_marks.specs.Growth.{FitsWithin, has_pairs, may_grow, most_in
 use Rattle.boddurci_handles.specs.Asked.{IsCurrent}
 use Rattle.boddurci_handles.proofs.Fitting.{may_put_worked, put_worked, fits_worked, within_worked}
 
--- what was asked of a database as it stands
+-- a command requested of the current database
 module _ (db : Database) (a : Asked) (now : IsCurrent db a) where
   result_now : result_of a ≡ works a.place db.kind db.size (pairs_at db a.place.page) 0 a.command
   result_now = ap (λ (k : KeyBytes). works a.place k a.page.size a.page.pairs 0 a.command) now.kind

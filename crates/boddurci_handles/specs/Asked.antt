@@ -1,4 +1,4 @@
--- A run that was asked, and the page of its key as it was (own).
+-- A requested run, and a snapshot of the page of its key (own).
 use Rattle.std.specs.Prelude.{◌≡◌, ◌⊎◌, ℕ, Bool, true, false, Option, IfSome}
 use Rattle.std.specs.declared.alloc.Global.{Global}
 use Rattle.sdbm_addr.specs.declared.KeyBytes.{KeyBytes}
@@ -14,7 +14,7 @@ use Rattle.boddurci_marks.specs.Growth.{Outgrows}
 use Rattle.boddurci_handles.specs.declared.status.Status.{Status}
 use Rattle.boddurci_handles.specs.declared.status.Status.TheVariants.{Changed, NoMemory, NoTicket, TooLong}
 
--- A command, the place of its key in a database whose keys hash so, the page there as it was, and whether it was worked on that page.
+-- A command, the place of its key, the hash kind of its database, a snapshot of the page, and true if the result was computed.
 pub record Asked : Type 0 where
   pub command : Command Global
   pub place : Place
@@ -22,39 +22,39 @@ pub record Asked : Type 0 where
   pub page : Content
   pub is_worked : Bool
 
--- what it comes to on that page
+-- the result on that page
 abbrev pub result_of : Asked → PageResult Global
 result_of a = works a.place a.kind a.page.size a.page.pairs 0 a.command
 
--- it came to that, and its program ended
+-- the result was computed, and its program ended
 pub record IsWorkedOut (a : Asked) (w : Worked Global) : Type 0 where
   pub is : IsWorked (result_of a) w
   pub ends : HasEnd a.page.pairs 0 a.command
 
--- it may be worked, and what it came to is that
+-- it can be computed, and its result, if any, is that
 pub record IsJob (a : Asked) (worked : Option (Worked Global)) : Type 0 where
   pub workable : IsWorkable a.place a.kind a.page.size a.page.pairs a.command
   pub done : IfSome worked (IsWorkedOut a)
 
--- a page as it was asked is the page of its key in a database, which has the same pages and hashes keys so
+-- the snapshot equals the page of the key in a database with the same page size and hash kind
 pub record IsCurrent (db : Database) (a : Asked) : Type 0 where
   pub place : IsPlaceOf db (key_of a.command) a.place
   pub kind : a.kind ≡ db.kind
   pub size : a.page.size ≡ db.size
   pub pairs : a.page.pairs ≡ pairs_at db a.place.page
 
--- a command is asked of a database, and not worked yet
+-- a command requested of a database, and not computed yet
 pub record IsAskedOf (db : Database) (command : Command Global) (a : Asked) : Type 0 where
   pub command_is : a.command ≡ command
   pub current : IsCurrent db a
   pub waits : a.is_worked ≡ false
 
--- the same, worked
+-- the same, computed
 abbrev pub worked_out : Asked → Asked
 worked_out a = record { command = a.command; place = a.place; kind = a.kind; page = a.page; is_worked = true }
 
--- why what was asked is not finished on a database: it was not worked; or its page is another; or else `.pag` would be too long, or memory
--- ran out
+-- why a requested command is not finished on a database: it was not computed; or its page has changed; or otherwise `.pag`
+-- would be too long, or memory ran out
 abbrev pub DeniesFinish : ℕ → Database → Asked → Status → Type 0
 DeniesFinish limit db a status =
     ((status ≡ NoTicket) × (a.is_worked ≡ false))

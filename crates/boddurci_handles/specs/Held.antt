@@ -1,4 +1,5 @@
--- What a handle owns: nothing where it is null, and else the box of an open database; so a ticket owns the box of a job, and a reading the box of pieces.
+-- The ownership of a handle: nothing if it is null; otherwise the box of an open database. Likewise a ticket owns the box of a
+-- job, and a reading the box of pieces.
 use Rattle.std.specs.Prelude.{Option, Some, None}
 use Rattle.std.specs.Coded.{Coded, coded_option}
 use base.Fml.{Fml, feq}
@@ -17,7 +18,7 @@ abbrev pub held_at : Global → Ptr → Option Db → Fml
 held_at a p None = feq Ptr p null_ptr
 held_at a p (Some db) = box_owns (ghosts.dealloc_token a) the_row p db
 
--- the code of what is held
+-- the code of a handle's contents
 abbrev pub coded_held : Coded (Option Db)
 coded_held = coded_option the_row.coded
 
@@ -25,7 +26,7 @@ abbrev pub asked_at : Global → Ptr → Option Job → Fml
 asked_at a p None = feq Ptr p null_ptr
 asked_at a p (Some job) = box_owns (ghosts.dealloc_token a) job_row p job
 
--- the code of what is asked
+-- the code of a ticket's contents
 abbrev pub coded_asked : Coded (Option Job)
 coded_asked = coded_option job_row.coded
 
@@ -33,6 +34,6 @@ abbrev pub read_at : Global → Ptr → Option Pieces → Fml
 read_at a p None = feq Ptr p null_ptr
 read_at a p (Some pieces) = box_owns (ghosts.dealloc_token a) pieces_row p pieces
 
--- the code of what is read
+-- the code of a reading's contents
 abbrev pub coded_read : Coded (Option Pieces)
 coded_read = coded_option pieces_row.coded

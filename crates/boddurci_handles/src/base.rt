@@ -1,4 +1,4 @@
-//! A database that clauses alone see.
+//! A ghost database: only contracts see it.
 ghost use Rattle.std.specs.Prelude.{◌≡◌};
 ghost use Rattle.sdbm_addr.specs.Database.{Database, coded_database};
 ghost use base.Fml.{ftrue};
@@ -7,7 +7,7 @@ use sdbm_files::Image;
 use std::alloc::Global;
 use std::marker::Model;
 
-/// The database that was opened, or of which the last plan was made. It takes no memory: clauses see it, and nothing else.
+/// The base: the database that was opened, or from which the last plan was made. Takes no memory, as it is a ghost value.
 pub struct Base {
     pub ghost database: { Database } by { coded_database },
 }
@@ -17,7 +17,7 @@ impl Model for Base {
 }
 
 impl Base {
-    /// A database as it is now.
+    /// Records the current database.
     pub fn of(image: &Image<Global>) -> Base
         ensures { result.database ≡ image.now }
     {
@@ -32,5 +32,5 @@ impl Drop for Base {
     }
 }
 
-// It holds nothing, so it may go to another thread.
+// It has no bytes, so it may move to another thread.
 unsafe impl Send for Base {}

@@ -9,7 +9,7 @@ use crate::opened::Db;
 use std::alloc::Global;
 use std::marker::Model;
 
-/// What C has of a database: closed, or the owner of an open one. C sees one pointer, which is null where it is closed.
+/// A database as seen by C: closed, or the owner of an open one. It is a single pointer, which is null if the handle is closed.
 #[repr(C)]
 pub struct Handle {
     at: *mut u8,
@@ -55,7 +55,7 @@ impl Handle {
         }
     }
 
-    /// Takes out what the handle holds. It is closed then.
+    /// Takes the database out. The handle is then closed.
     pub fn take(&mut self, alloc: Global) -> Option<Box<Db>>
         ensures some { IfSome result (λ db. self.old.held ≡ Some db.value) }
         ensures none { IfNone result (self.old.held ≡ None) }
@@ -84,5 +84,5 @@ impl Drop for Handle {
     }
 }
 
-// What a handle holds may go to another thread, and so may the handle.
+// The database may move to another thread, and so may the handle.
 unsafe impl Send for Handle {}

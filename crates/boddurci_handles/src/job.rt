@@ -1,5 +1,5 @@
-//! Runs that are asked, worked and finished one after another: what a program does to a record is worked out while others use the
-//! database, and put in where the page of its key is still as it was.
+//! Runs in three steps: ask, work, finish. A program's effect on a record is computed while the database is in use elsewhere,
+//! and put in if the page of its key is unchanged.
 ghost use Rattle.std.specs.Prelude.{◌≡◌, ◌↔◌, IsTrue, IfOk, IfErr, OnOk, OnErr, true};
 ghost use Rattle.sdbm_addr.specs.Database.{Database, IsDatabase};
 ghost use Rattle.store_cmd.specs.Command.{IsSmall};
@@ -21,8 +21,8 @@ use std::marker::Model;
 use store_cmd::{Command, Reply};
 use store_moves::{PageCopy, Worked, key_in, work_on};
 
-/// A command that was asked: the place of its key in a database whose keys hash so, and the page there as it was; and what it came to,
-/// once it is worked.
+/// A requested command: the place of its key, the hash kind of the database, a snapshot of the page, and, once computed, the
+/// result.
 #[derive(Drop)]
 pub struct Job {
     command: Command<Global>,
@@ -44,10 +44,11 @@ impl Model for Job {
 }
 
 impl Job {
-    /// Asks a command about a key, one that `check_sizes` takes for the page size of the database. The page is shared, and not copied.
+    /// Requests a command about a key; `check_sizes` must accept it for the page size of the database. The page is shared, not
+    /// copied.
     ///
     /// # Errors
-    /// `AllocError` where the page has as many owners as can be counted.
+    /// `AllocError` if the page's owner count is at its maximum.
     pub fn ask(image: &Image<Global>, command: Command<Global>) -> Result<Job, AllocError>
         requires keyed { HasKey command }
         requires small { IsSmall image.now.size command }
@@ -65,10 +66,10 @@ impl Job {
         })
     }
 
-    /// Works the command out on the page as it was asked, and touches nothing else. What was worked before is worked again, to the same.
+    /// Computes the command's result from the snapshot of the page; touches nothing else. Repeating it gives the same result.
     ///
     /// # Errors
-    /// `AllocError` where no memory is left for the reply or for the pages that change. The job is then as it was.
+    /// `AllocError` if there is no memory for the reply or for the changed pages. The job is unchanged.
     pub fn work(&mut self, alloc: Global) -> Result<(), AllocError>
         ensures ok { OnOk result (self.new ≡ worked_out self.old) }
         ensures err { OnErr result (self.new ≡ self.old) }
@@ -86,7 +87,7 @@ impl Job {
         Ok(())
     }
 
-    // Whether the page of the key is as it was asked, in a database whose keys hash so.
+    // Returns true if the page of the key is unchanged, in a database of the same hash kind.
     fn is_current(&self, image: &Image<Global>) -> bool
         ensures current { IsTrue result ↔ IsCurrent image.now self.now }
         ensures database { IsDatabase image.now }
@@ -101,11 +102,12 @@ impl Job {
         self.page.is_still(image, place.page)
     }
 
-    /// Does the command as one step of a database in which the page of its key is as it was asked, and whose `.pag` may have `limit` pages.
+    /// Executes the command as one step of a database in which the page of its key is unchanged. The `.pag` may have `limit`
+    /// pages.
     ///
     /// # Errors
-    /// `NoTicket` if it was not worked, `Changed` if the page is another, `TooLong` if `.pag` would have more pages than the limit or the
-    /// longest allows, and else `NoMemory`. The database and the job are then as they were.
+    /// `NoTicket` if the job was not computed; `Changed` if the page has changed; `TooLong` if `.pag` would have more pages
+    /// than the limit or the format allows; otherwise `NoMemory`. The database and the job are unchanged.
     pub fn finish(
         &mut self,
         image: &mut Image<Global>,
@@ -138,7 +140,7 @@ impl Job {
         }
     }
 
-    // Whether `.pag` has room within a limit for what it came to.
+    // Returns true if the result keeps `.pag` within the limit.
     fn may_grow(&self, limit: usize) -> bool
         ensures { self.now.is_worked ≡ true → result ≡ may_grow (most_in self.now.page.size limit) (has_pairs self.now.page.pairs) self.now.place.page (result_of self.now).change }
     {
@@ -152,7 +154,7 @@ impl Job {
         }
     }
 
-    // Puts in what it came to, which has room within a limit.
+    // Puts the result in, which must be within the limit.
     fn put(
         &mut self,
         image: &mut Image<Global>,

@@ -1,5 +1,5 @@
-//! What the library for C hands out: a handle, which owns an open database; a ticket, which owns a run; and a reading, which owns the pages of
-//! a `.pag` that were read. C sees each as one pointer. The calls that C makes are in `boddurci_c`.
+//! The objects of the library for C: a handle owns an open database, a ticket owns a run, and a reading owns the pages read
+//! from a `.pag`. C sees each as a single pointer. The calls for C are in `boddurci_c`.
 #![tactic(auto)]
 
 mod base;

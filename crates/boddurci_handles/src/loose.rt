@@ -16,7 +16,7 @@ impl<T, A: Allocator> Model for Loose<T, A> {
 }
 
 impl<T: Drop, A: Allocator> Loose<T, A> {
-    /// Takes the box apart. Nothing is freed: the holder of the parts owns the value.
+    /// Takes the box apart without freeing anything. The holder of the parts owns the value.
     pub fn of(value: Box<T, A>) -> Loose<T, A>
         ensures { result.value ≡ value.value }
     {
@@ -24,7 +24,7 @@ impl<T: Drop, A: Allocator> Loose<T, A> {
         Loose { at, alloc }
     }
 
-    /// The box again, of the same value.
+    /// Rebuilds the box, with the same value.
     pub fn into_box(self) -> Box<T, A>
         ensures { result.value ≡ self.value }
     {

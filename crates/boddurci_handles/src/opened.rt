@@ -7,8 +7,8 @@ use prog_registry::Registry;
 use sdbm_files::Image;
 use std::alloc::Global;
 
-/// An open database with its programs, the number of pages that commands may make `.pag` have, and the numbers of the pages that may differ
-/// from those of its base: the database that was opened, or of which the last plan was made.
+/// An open database with its programs, the maximum number of pages of its `.pag`, and the numbers of the pages that may differ
+/// from its base: the database that was opened, or from which the last plan was made.
 #[derive(Drop)]
 pub struct Db {
     pub image: Image<Global>,

@@ -1,4 +1,4 @@
-//! A `.pag` that is read piece by piece.
+//! Reads a `.pag` in pieces.
 ghost use Rattle.std.specs.Prelude.{◌≡◌, None, IfErr, OnOk};
 ghost use Rattle.boddurci_handles.specs.Pieces.{DeniesPiece, MayFollow, ReadsPiece};
 
@@ -8,19 +8,19 @@ use sdbm_addr::PageSize;
 use sdbm_files::ReadPages;
 use std::alloc::Global;
 
-// The most bytes of all pieces together.
+// The maximum number of bytes of all pieces together.
 const LONGEST: u64 = i64::MAX as u64;
 
-/// The pieces of a `.pag` that were read.
+/// The pieces read from a `.pag`.
 #[derive(Drop)]
 pub struct Pieces {
     pub pages: ReadPages<Global>,
 }
 
-/// Reads the next piece of a `.pag`. The first piece begins a file with pages of this size, which later ones do not change.
+/// Reads the next piece of a `.pag`. The first piece sets the page size; later pieces do not change it.
 ///
-/// Returns `BadFiles` if the pieces before end inside a page, and `TooLong` if there would be 2^63 bytes or more; the reading is then as it
-/// was. Returns `NoMemory` if memory runs out; the reading is then free.
+/// Returns `BadFiles` if the earlier pieces end inside a page, and `TooLong` if the total would be 2^63 bytes or more; the
+/// reading is then unchanged. Returns `NoMemory` if out of memory; the reading is then free.
 pub fn read_piece(alloc: Global, reading: &mut Reading, size: PageSize, piece: &[u8]) -> Status
     ensures { ReadsPiece size piece.now reading.old.read reading.new.read result }
 {
@@ -59,7 +59,7 @@ fn read_first(alloc: Global, reading: &mut Reading, size: PageSize, piece: &[u8]
     }
 }
 
-// Whether a piece may follow those that were read.
+// Checks that a piece may follow the earlier ones.
 fn may_follow(pages: &ReadPages<Global>, piece: &[u8]) -> Result<(), Status>
     ensures ok { OnOk result (MayFollow pages.now piece.now) }
     ensures err { IfErr result (DeniesPiece pages.now piece.now) }

@@ -9,7 +9,8 @@ use crate::pieces::Pieces;
 use std::alloc::Global;
 use std::marker::Model;
 
-/// A `.pag` that C reads: free, or the owner of the pieces that were read. C sees one pointer, which is null if it is free.
+/// A `.pag` being read by C: free, or the owner of the pieces read. It is a single pointer, which is null if the reading is
+/// free.
 #[repr(C)]
 pub struct Reading {
     at: *mut u8,
@@ -55,7 +56,7 @@ impl Reading {
         }
     }
 
-    /// Takes the pieces out. The reading is free then.
+    /// Takes the pieces out. The reading is then free.
     pub fn take(&mut self, alloc: Global) -> Option<Box<Pieces>>
         ensures some { IfSome result (λ pieces. self.old.read ≡ Some pieces.value) }
         ensures none { IfNone result (self.old.read ≡ None) }
@@ -68,7 +69,7 @@ impl Reading {
         }
     }
 
-    /// Puts pieces in; the reading drops those that it had.
+    /// Puts pieces in, and drops any earlier ones.
     pub fn put(&mut self, pieces: Box<Pieces>)
         ensures { self.new.read ≡ Some pieces.value }
     {

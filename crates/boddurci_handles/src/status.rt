@@ -1,55 +1,55 @@
-//! What calls answer.
+//! The statuses of calls.
 ghost use Rattle.std.specs.Prelude.{◌≡◌};
 ghost use Rattle.boddurci_handles.specs.Statuses.{code_of, status_of, status_of_size};
 
 use std::alloc::Global;
 use store_cmd::{Reply, SizeFault};
 
-/// What a call answers: that it is done, what is told of the database, or why nothing was done.
+/// The status of a call: success, a fact about the database, or why nothing was done.
 #[derive(Clone, Copy, Debug, PartialEq, Eq)]
 pub enum Status {
-    /// It is done: found, stored, deleted, counted, run, numbered, opened, written, asked or worked.
+    /// Success: found, stored, deleted, counted, run, numbered, opened, written, requested or computed.
     Done,
-    /// The key is not there, or no pair is left.
+    /// The key does not exist, or no pair is left.
     Missing,
-    /// The key is there, so that nothing was inserted.
+    /// The key exists, so nothing was inserted.
     Exists,
     /// There is no room for the pair, however often its page is split.
     Crowded,
-    /// A room is too short for its bytes. Their number is told.
+    /// The buffer is too short. The required length was set.
     ShortRoom,
-    /// The image is no accepted program, or there are as many as there may be.
+    /// The image is not an accepted program, or the maximum number of programs is reached.
     Refused,
-    /// The text is no program.
+    /// The text is not a program.
     BadText,
-    /// The bytes of the files are no database.
+    /// The bytes of the files are not a database.
     BadFiles,
-    /// The page of the key is another than it was when the run was asked.
+    /// The page of the key has changed since the run was requested.
     Changed,
-    /// A page that may have changed was not read for a plan, or the bytes of pages are not as many as their numbers.
+    /// A page that may have changed was not read for a plan, or the number of page bytes does not match the page numbers.
     Stale,
     /// The handle is closed.
     Closed,
-    /// The handle is open already.
+    /// The handle is already open.
     Open,
-    /// The key has more bytes together with the value, or with the blank, than a pair may have.
+    /// The key plus the value or the blank is longer than a pair may be.
     PairTooLarge,
-    /// The argument of a run has more bytes than one may have.
+    /// The argument of a run is longer than the limit.
     ArgTooLong,
-    /// No program has the number.
+    /// No program has this number.
     NoProgram,
-    /// Memory ran out.
+    /// Out of memory.
     NoMemory,
-    /// `.pag` would be longer than the longest that is written; or, of a plan, a file has 2^32 bytes or more.
+    /// `.pag` would be longer than can be written; or, of a plan, a file has 2^32 bytes or more.
     TooLong,
-    /// Under the ticket nothing is asked, or what is asked is not worked.
+    /// The ticket has no job, or its job is not computed.
     NoTicket,
-    /// No stock program has the name.
+    /// No stock program has this name.
     NoStock,
 }
 
 impl Status {
-    /// The number that C is given.
+    /// The number of the status in C.
     pub fn code(self) -> u32
         ensures { result ≡ code_of self }
     {
@@ -92,7 +92,7 @@ impl Status {
         }
     }
 
-    /// The status of a command that is refused for its size.
+    /// The status for an invalid size.
     pub fn of_size(fault: SizeFault) -> Status
         ensures { result ≡ status_of_size fault }
     {

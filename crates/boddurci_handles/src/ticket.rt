@@ -9,7 +9,7 @@ use crate::loose::Loose;
 use std::alloc::Global;
 use std::marker::Model;
 
-/// What C has of a run that was asked: free, or the owner of a job. C sees one pointer, which is null where it is free.
+/// A requested run as seen by C: free, or the owner of a job. It is a single pointer, which is null if the ticket is free.
 #[repr(C)]
 pub struct Ticket {
     at: *mut u8,
@@ -55,7 +55,7 @@ impl Ticket {
         }
     }
 
-    /// Takes out what the ticket has. It is free then.
+    /// Takes the job out. The ticket is then free.
     pub fn take(&mut self, alloc: Global) -> Option<Box<Job>>
         ensures some { IfSome result (λ job. self.old.asked ≡ Some job.value) }
         ensures none { IfNone result (self.old.asked ≡ None) }
@@ -68,7 +68,7 @@ impl Ticket {
         }
     }
 
-    /// Puts a job under the ticket; what was under it goes.
+    /// Puts a job under the ticket, and drops any earlier one.
     pub fn put(&mut self, job: Box<Job>)
         ensures { self.new.asked ≡ Some job.value }
     {
@@ -84,5 +84,5 @@ impl Drop for Ticket {
     }
 }
 
-// What a ticket has may go to another thread, and so may the ticket.
+// The job may move to another thread, and so may the ticket.
 unsafe impl Send for Ticket {}

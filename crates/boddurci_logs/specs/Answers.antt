@@ -1,4 +1,4 @@
--- What the calls of C answer about a log.
+-- The answers of the C calls about a log.
 use Rattle.std.specs.Prelude.{◌≡◌, ◌≢◌, ◌⊎◌, ◌<◌, ◌≤◌, ℕ, ◌^◌, List, ◌++◌, length, drop, get_or}
 use Rattle.sdbm_saves.specs.Acts.{seen_after}
 use Rattle.sdbm_saves.specs.Disk.{Image}
@@ -15,16 +15,16 @@ use Rattle.boddurci_handles.specs.declared.status.Status.TheVariants.{Done, Shor
 use Rattle.boddurci_logs.specs.declared.place.LogPlace.{LogPlace}
 use Rattle.boddurci_logs.specs.Words.{words_of}
 
--- items stand in the first places of a room
+-- items are written to the front of a buffer
 abbrev pub IsFilled : {X : Type 0} → List X → List X → List X → Type 0
 IsFilled items old new = (length items ≤ length old) × (new ≡ items ++ drop (length items) old)
 
--- a buffer and steps were handed out in two rooms
+-- a buffer and steps were written
 pub record AreHandedOut (buffer : List ℕ) (steps : List Step) (bytes_old bytes_new words_old words_new : List ℕ) : Type 0 where
   pub bytes : IsFilled buffer bytes_old bytes_new
   pub words : IsFilled (words_of steps) words_old words_new
 
--- a buffer and steps do not fit in two rooms
+-- a buffer and steps do not fit
 abbrev pub AreTooMany : List ℕ → List Step → List ℕ → List ℕ → Type 0
 AreTooMany buffer steps bytes words = (length bytes < length buffer) ⊎ (length words < length (words_of steps))
 
@@ -34,12 +34,12 @@ files_in pages directory redo = record { pages = pages; directory = directory; r
 abbrev pub log_at : LogPlace → Log
 log_at place = record { end = place.end; room = place.room; count = place.count }
 
--- an image of which this was read: the redo file, and if that has its mark, both data files
+-- an image that was read as `found`: its redo file, and, if that has its mark, both data files
 pub record ReadsLike (found image : Image) : Type 0 where
   pub redo : image.redo ≡ found.redo
   pub both : get_or found.redo 0 0 ≡ 1 → files image ≡ files found
 
--- steps that open the log of what was read, with the log after them: it has at least this much room
+-- steps that open the log that was read, with the log after them; it has at least this much room
 pub record AreOpenSteps (found : Image) (room : ℕ) (buffer : List ℕ) (steps : List Step) (log : LogPlace) : Type 0 where
   pub can : (image : Image) → ReadsLike found image → CanRecover image
   pub calls : (image : Image) → ReadsLike found image → AreOpenCalls image log.room (acts_of buffer steps)
@@ -47,15 +47,15 @@ pub record AreOpenSteps (found : Image) (room : ℕ) (buffer : List ℕ) (steps 
   pub end : log.end ≡ 0
   pub count : log.count ≡ 0
 
--- steps that make copies of the data files what was read means
+-- steps that make copies of the data files according to what was read
 abbrev pub AreReadSteps : Image → List ℕ → List Step → Type 0
 AreReadSteps found buffer steps = CanRecover found × ((image : Image) → ReadsLike found image → CanDo (acts_of buffer steps) image × (files (seen_after (acts_of buffer steps) image) ≡ files_of image))
 
--- steps of a save in a log by a plan, with the log after them; the first words are those that commit it
+-- steps of a save of a plan in a log, with the log after them; the first words are those that commit it
 pub record AreSaveSteps (plan : List ℕ) (old new : LogPlace) (buffer : List ℕ) (commit apply : List Step) : Type 0 where
   pub calls : AreSaveCalls (log_at old) (log_at new) plan (acts_of buffer commit) (acts_of buffer apply)
 
--- A buffer and steps are handed out if both rooms are long enough; their lengths are told either way.
+-- A buffer and steps are written if both fit; their lengths are set either way.
 pub record HandsOut (buffer : List ℕ) (steps : List Step) (bytes_old bytes_new : List ℕ) (bytes_len : ℕ) (words_old words_new : List ℕ) (words_len : ℕ) (status : Status) : Type 0 where
   pub done : status ≡ Done → AreHandedOut buffer steps bytes_old bytes_new words_old words_new
   pub untouched : status ≢ Done → (bytes_new ≡ bytes_old) × (words_new ≡ words_old)
@@ -80,7 +80,7 @@ pub record ReadAnswer (found : Image) (bytes_old bytes_new : List ℕ) (bytes_le
   pub short : status ≡ ShortRoom → (length bytes_old < bytes_len) ⊎ (length words_old < words_len)
   pub refused : (status ≡ BadFiles) ⊎ (status ≡ Stale) → CanRecover found → ⊥
 
--- The answer about steps of a save. The plan stands in the bytes after the first 18, and the steps write bytes of these.
+-- The answer about steps of a save. The plan follows the first 18 bytes, and the steps write bytes of the buffer.
 pub record SaveAnswer (log_old log_new : LogPlace) (bytes_old bytes_new words_old words_new : List ℕ) (words_len committed : ℕ) (status : Status) : Type 0 where
   pub done : status ≡ Done → (commit : List Step) × (apply : List Step) × (AreSaveSteps (drop 18 bytes_old) log_old log_new bytes_new commit apply
       × (IsFilled (words_of commit ++ words_of apply) words_old words_new × ((committed ≡ length (words_of commit)) × (words_len ≡ length (words_of commit ++ words_of apply)))))

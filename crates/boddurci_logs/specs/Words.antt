@@ -1,4 +1,4 @@
--- Steps as words of 64 bits, five a step: its kind, its file, its offset, its place in the buffer, and a length.
+-- Steps as words of 64 bits, five a step: its kind, its file, its offset in the file, its offset in the buffer, and a length.
 use Rattle.std.specs.Prelude.{ℕ, List, [], ◌∷◌, ◌++◌}
 use Rattle.sdbm_saves.specs.declared.disk.File.{File}
 use Rattle.sdbm_saves.specs.declared.disk.File.TheVariants.{Pages, Directory, Redo}

@@ -1,5 +1,5 @@
-//! The log of a base, for C: which calls on its files open it, save in it, close it, or say what it means to a reader. It makes none of them,
-//! and the exports are in `boddurci_c`.
+//! The log of a base, for C: the calls on its files that open it, save in it, close it, or read its contents. This crate only
+//! lists the calls; the exports are in `boddurci_c`.
 #![tactic(auto)]
 
 mod opening;

@@ -1,4 +1,4 @@
-//! Steps that open a log, and those for a reader.
+//! Steps that open a log, and the steps of a reader.
 ghost use Rattle.std.specs.Prelude.{◌≡◌};
 ghost use Rattle.boddurci_logs.specs.Answers.{OpenAnswer, ReadAnswer};
 ghost use Rattle.sdbm_log.specs.Saving.{image_in};
@@ -11,10 +11,10 @@ use sdbm_log::{LogFiles, open_steps, read_steps};
 use std::alloc::Global;
 use std::marker::Brand;
 
-// The most room that may be asked for.
+// The maximum room that may be requested.
 const MOST_ROOM: usize = 1 << 30;
 
-/// Hands out the steps that open a log.
+/// Writes the steps that open a log.
 pub fn open(
     alloc: Global,
     found: LogFiles<'_>,
@@ -44,7 +44,7 @@ pub fn open(
     }
 }
 
-/// Hands out the steps for a reader.
+/// Writes the steps for a reader.
 pub fn read(
     alloc: Global,
     found: LogFiles<'_>,

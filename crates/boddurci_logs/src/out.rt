@@ -1,4 +1,4 @@
-//! Rooms that C lends.
+//! Buffers borrowed from C.
 ghost use Rattle.std.specs.Prelude.{◌≡◌, ◌≢◌, ◌⊎◌, ◌<◌, ◌++◌, length};
 ghost use Rattle.boddurci_handles.specs.declared.status.Status.TheVariants.{Done, ShortRoom, NoMemory};
 ghost use Rattle.boddurci_logs.specs.Answers.{IsFilled, HandsOut};
@@ -8,7 +8,7 @@ use boddurci_handles::Status;
 use sdbm_log::Step;
 use std::alloc::Global;
 
-/// Writes items in the first places of a room if they fit, and tells how many they are.
+/// Writes items to the front of a buffer if they fit, and sets their number.
 pub fn copy_out<T: Copy>(items: &[T], room: &mut [T], len: &mut usize) -> Status
     ensures done { result ≡ Done → IsFilled items.now room.old room.new }
     ensures untouched { result ≢ Done → room.new ≡ room.old }
@@ -24,7 +24,7 @@ pub fn copy_out<T: Copy>(items: &[T], room: &mut [T], len: &mut usize) -> Status
     Status::Done
 }
 
-/// Hands out a buffer and the words of steps, if both rooms are long enough, and tells their lengths.
+/// Writes a buffer and the words of steps if both fit, and sets their lengths.
 pub fn hand_out(
     alloc: Global,
     made: (&[u8], &[Step]),
@@ -52,7 +52,7 @@ pub fn hand_out(
     Status::Done
 }
 
-/// Writes two lists of words, one after the other, in the first places of a room if they fit, and tells how many they are.
+/// Writes two lists of words in sequence to the front of a buffer if they fit, and sets their number.
 pub fn copy_joined(first: &[u64], rest: &[u64], room: &mut [u64], len: &mut usize) -> Status
     ensures done { result ≡ Done → IsFilled (first.now ++ rest.now) room.old room.new }
     ensures untouched { result ≢ Done → room.new ≡ room.old }

@@ -1,11 +1,11 @@
-//! The place of the next record, as C has it.
+//! The place of the next record, as C sees it.
 ghost use Rattle.std.specs.Prelude.{◌≡◌};
 ghost use Rattle.boddurci_logs.specs.Answers.{log_at};
 
 use sdbm_log::Log;
 
-/// The place of the next record in a log: where the records end, how much room they have, both counted from the end of the header, and how
-/// many changes the plans of the records have.
+/// The place of the next record in a log: the end of the records and the room for records, both in bytes from the end of the
+/// header, and the total number of changes in the records' plans.
 #[repr(C)]
 #[derive(Clone, Copy)]
 pub struct LogPlace {

@@ -1,4 +1,4 @@
-//! Steps of a save, and those that close a log.
+//! Steps of a save, and steps that close a log.
 ghost use Rattle.std.specs.Prelude.{◌≡◌};
 ghost use Rattle.boddurci_logs.specs.Answers.{SaveAnswer, CloseAnswer};
 
@@ -11,13 +11,13 @@ use sdbm_saves::is_plan;
 use std::alloc::Global;
 use std::marker::Brand;
 
-// A plan has fewer bytes than this, and the records of a log end before it.
+// A plan is shorter than this, and the records of a log end here at the latest.
 const MOST_BYTES: usize = 3_000_000_000;
 
-// Where a plan stands in the bytes of a save.
+// The offset of the plan in the bytes of a save.
 const PLAN_AT: usize = 18;
 
-/// Hands out the steps of a save, by the plan after the first 18 of these bytes.
+/// Writes the steps of a save. The plan follows the first 18 of these bytes.
 pub fn save(
     alloc: Global,
     log: &mut LogPlace,
@@ -58,7 +58,7 @@ pub fn save(
     }
 }
 
-/// Hands out the steps that close a log.
+/// Writes the steps that close a log.
 pub fn close(alloc: Global, words: &mut [u64], words_len: &mut usize) -> Status
     ensures { CloseAnswer words.old words.new words_len.new result }
 {

@@ -1,4 +1,4 @@
-//! Steps as words of 64 bits: five a step.
+//! Steps as words of 64 bits, five words a step.
 ghost use Rattle.std.specs.Prelude.{◌≡◌, ◌∷◌, ◌⊎◌, [], IfOk};
 ghost use Rattle.boddurci_handles.specs.declared.status.Status.TheVariants as status;
 ghost use Rattle.boddurci_logs.specs.Words.{number_of_file, words_of_step, words_of};
@@ -9,7 +9,7 @@ use sdbm_log::{LogFault, Step};
 use sdbm_saves::File;
 use std::alloc::{AllocError, Global};
 
-/// The words of steps: for each its kind, its file, its offset, its place in the buffer, and a length.
+/// The words of steps: for each its kind, its file, its offset in the file, its offset in the buffer, and a length.
 pub fn words_of(alloc: Global, steps: &[Step]) -> Result<Vec<u64>, AllocError>
     ensures { IfOk result (λ words. words.items ≡ words_of steps.now) }
 {

@@ -1,4 +1,4 @@
--- What stays the same on the pages that are not marked.
+-- Unmarked pages are unchanged.
 use Rattle.std.proofs.Common.{◌≡◌, ◌≢◌, ℕ, suc, ◌<◌, List, [], ◌∷◌, ◌++◌, length, get_or, Bool, true, false, cond, Option, Some, None, unwrap_or, inl, inr, refl, sym, ap, ◌∙◌, subst, arith, eqb, append_assoc}
 use Rattle.std.proofs.lemmas.Bool.{eqb-true}
 use Rattle.std.proofs.lemmas.List.{append-nil, get_or_default}
@@ -45,11 +45,11 @@ differ_more base db old new more differ = record {
   none = λ bare. differ.none (bare_before old more.more (sym more.is ∙ bare));
 }
 
--- each of some numbers is among the marks
+-- if each number of a list is marked, every member of it is marked
 pub each_there : (numbers marks : List ℕ) → ((k : ℕ) → k < length numbers → Contains marks (get_or numbers k 0)) → (n : ℕ) → Contains numbers n → Contains marks n
 each_there numbers marks each n there = subst (λ (m : ℕ). Contains marks m) (get_or_default numbers there.0 0 n there.1 ∙ there.2) (each there.0 there.1)
 
--- the pairs of a page that no twin changes
+-- the pairs of a page that no twin replaces
 twins_kept : (pages : FinMap nat_cmp (List Pair)) (es : List (ℕ × Content)) (n : ℕ) (old : List Pair) → unwrap_or (map.get pages n) [] ≡ old → All (λ (e : ℕ × Content). e.0 ≡ n → e.1.pairs ≡ old) es
     → unwrap_or (map.get (put_all pages es) n) [] ≡ old
 twins_kept pages [] n old is all = is
@@ -60,7 +60,7 @@ twins_kept pages (e ∷ es) n old is all =
     at true t = all 0 e (omega arith) (sym (eqb-true n e.0 t))
     at false t = is
 
--- a page that is not marked has after a change the pairs that it had
+-- a page without a mark has the same pairs after a change
 pub page_kept : (db : Database) (number : ℕ) (change : Option PageChange) (marks : List ℕ) → Covers db number change marks → (n : ℕ) → (Contains marks n → ⊥) → pairs_at (changed_by db number change) n ≡ pairs_at db n
 page_kept db number None marks covers n none = refl
 page_kept db number (Some change) marks covers n none =
@@ -86,7 +86,7 @@ unchanged db number None marks covers bare = refl
 unchanged db number (Some change) marks covers bare = absurd (nothing_in marks number bare covers.0)
 
 module _ (db db' : Database) (old new : List ℕ) (more : HasMore old new) where
-  -- what was put in is marked
+  -- the pages put in are marked
   pub differ_put : (number : ℕ) (change : Option PageChange) → db' ≡ changed_by db number change → Covers db number change new → (base : Database) → DifferOn old base db → DifferOn new base db'
   differ_put number change is covers base differ = record {
     kind = ap (λ (d : Database). d.kind) is ∙ (kind_kept db number change ∙ differ.kind);

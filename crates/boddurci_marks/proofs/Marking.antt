@@ -1,4 +1,4 @@
--- Numbers that are marked, with one more and with one less.
+-- Marking and unmarking a number.
 use Rattle.std.proofs.Common.{◌≡◌, ◌≢◌, ◌⊎◌, ℕ, zero, suc, ◌<◌, Bool, true, false, List, [], ◌∷◌, ◌++◌, length, get_or, set, inl, inr, refl, sym, ap, ◌∙◌, subst, arith, length-append, get_or-set_other, get_or-set_same}
 use Rattle.std.specs.List.{Contains}
 use Rattle.std.proofs.lemmas.Bool.{cases_eq, cases_lt, false_from_ne_true}
@@ -14,7 +14,7 @@ module _ (old new : List Bool) (numbers : List ℕ) where
     once = are.once;
   }
 
--- a place that is marked is one of the marks
+-- a marked index is within the list of marks
 pub in_marks : (marked : List Bool) (n : ℕ) → get_or marked n false ≡ true → n < length marked
 in_marks marked n is = elim (cases_lt n (length marked)) [
   | inl low ↦ low
@@ -28,11 +28,11 @@ one n m there = at there.0 there.1 there.2
     at zero low is = sym is
     at (suc k) low is = absurd (omega arith)
 
--- a number that is none of them is not marked
+-- a number that is not in the list is not marked
 pub unmarked : (marked : List Bool) (numbers : List ℕ) (n : ℕ) → AreMarked marked numbers → (Contains numbers n → ⊥) → get_or marked n false ≡ false
 unmarked marked numbers n are none = false_from_ne_true (get_or marked n false) (λ is. none (are.only n is))
 
--- one of some numbers and one more
+-- a member of a list with one more number
 pub only_more : (numbers : List ℕ) (n m : ℕ) → Contains (numbers ++ n ∷ []) m → Contains numbers m ⊎ (m ≡ n)
 only_more numbers n m there = elim (Contains-append_cases numbers (n ∷ []) m there) [ inl before ↦ inl before | inr last ↦ inr (one n m last) ]
 

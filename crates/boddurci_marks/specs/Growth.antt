@@ -1,4 +1,4 @@
--- How far commands may make `.pag` grow (own): to the longest that is written, or to a limit below that.
+-- The maximum growth of `.pag` (own): the longest that can be written, or a lower limit.
 use Rattle.std.specs.Prelude.{◌≡◌, ◌≢◌, ◌<◌, ◌&&◌, ◌||◌, ℕ, nat_lt, Bool, true, false, cond, List, [], length, Option, Some, None}
 use Rattle.std.specs.List.{list_all}
 use Rattle.std.specs.declared.alloc.Global.{Global}
@@ -12,30 +12,29 @@ use Rattle.store_cmd.specs.declared.Command.{Command}
 use Rattle.store_moves.specs.Leads.{IsPlaceOf}
 use Rattle.store_moves.specs.Works.{works, key_of}
 
--- whether there are pairs
+-- true if there are pairs
 abbrev pub has_pairs : List Pair → Bool
 has_pairs pairs = nat_lt 0 (length pairs)
 
--- how many pages `.pag` may have: a limit, or those that the longest has room for where these are fewer
+-- the maximum number of pages of a `.pag`: a limit, or the format's maximum if that is less
 abbrev pub most_in : PageSize → ℕ → ℕ
 most_in size limit = cond (nat_lt limit (most_pages size)) limit (most_pages size)
 
--- a page under its number is one of the first so many, or has no pairs and takes no place
+-- a page under its number is one of the first `most`, or has no pairs and takes no place
 abbrev pub has_room : ℕ → ℕ × Content → Bool
 has_room most e = is_bare e.1.pairs || nat_lt e.0 most
 
--- each page that has pairs is one of the first so many
+-- each page that has pairs is one of the first `most`
 abbrev pub FitsWithin : ℕ → Database → Type 0
 FitsWithin most db = (n : ℕ) → pairs_at db n ≢ [] → n < most
 
--- Each page that a change of the page with a number puts in is one of the first so many. A page that had pairs before has its place,
--- wherever it ends.
+-- Each page that a change puts in is one of the first `most`. A page that had pairs before has its place already, even above
+-- `most`.
 abbrev pub may_grow : ℕ → Bool → ℕ → Option PageChange → Bool
 may_grow most there number None = true
 may_grow most there number (Some change) = (there || has_room most (number, change.leaf)) && list_all (has_room most) change.twins
 
--- what a command comes to on the page of its key has a page that is new and is not one of the first that the limit and the longest `.pag`
--- have room for
+-- the result of a command on the page of its key has a new page that exceeds the limit or the longest `.pag`
 pub record Outgrows (limit : ℕ) (db : Database) (command : Command Global) : Type 0 where
   pub place : Place
   pub leads : IsPlaceOf db (key_of command) place

@@ -1,4 +1,4 @@
-//! What changes a database, with a mark on each page to which it gives other pairs.
+//! Changes of a database, which mark every page whose pairs change.
 ghost use Rattle.std.specs.Prelude.{◌≡◌, ◌+◌, ◌≤◌, length, IfErr, IfSome, IfNone, OnOk, OnErr, true, false};
 ghost use Rattle.std.specs.Option.{option_map};
 ghost use Rattle.std.specs.Arc.{arc_value};
@@ -26,7 +26,7 @@ use std::sync::Arc;
 use store_cmd::Reply;
 use store_moves::{RunInput, act_run, act_store, put_in, ran};
 
-// Whether a page that is put in under a number has no pairs, and that number had none.
+// Returns true if a page to be put in under a number has no pairs, and neither had that number.
 fn stays_bare(image: &Image<Global>, number: u32, page: &SharedPage<Global>) -> bool
     ensures { result ≡ true → page.now.pairs ≡ pairs_at image.now number }
 {
@@ -36,7 +36,7 @@ fn stays_bare(image: &Image<Global>, number: u32, page: &SharedPage<Global>) -> 
     !has_pairs(image, number)
 }
 
-// Marks the pages to which a change gives other pairs: the one with a number, and the twins after it.
+// Marks the pages whose pairs a change replaces: the page with this number, and its twins.
 fn mark_change(
     image: &Image<Global>,
     marks: &mut Marks,
@@ -59,10 +59,10 @@ fn mark_change(
     Ok(())
 }
 
-/// Puts in what becomes of the page of a place as `put_in` does, and marks the pages to which that gives other pairs.
+/// Puts in the change of a place's page like `put_in`, and marks the pages whose pairs change.
 ///
 /// # Errors
-/// `AllocError` where no memory is left. Nothing is changed then, and the plan comes back.
+/// `AllocError` if out of memory. Nothing is changed, and the plan is returned.
 pub fn put_marked(
     image: &mut Image<Global>,
     marks: &mut Marks,
@@ -91,8 +91,9 @@ pub fn put_marked(
     }
 }
 
-/// Stores a pair as `act_store` does, marks its page, and returns whether it did. Returns `false` and changes nothing if `act_store` does, or
-/// if the mark needs memory and there is none. A page without pairs is not marked, so the mark takes no more memory than `.pag` has pages.
+/// Stores a pair like `act_store`, marks its page, and returns true if it was stored. Returns `false` and changes nothing if
+/// `act_store` does, or if there is no memory for the mark. A page without pairs is not marked, so the marks take no more
+/// memory than `.pag` has pages.
 pub fn store_there(
     image: &mut Image<Global>,
     marks: &mut Marks,
@@ -123,8 +124,8 @@ pub fn store_there(
     false
 }
 
-/// Runs a program on a record in place as `act_run` does, marks its page, and returns the reply. Returns `None` and changes nothing if
-/// `act_run` does, or if the mark needs memory and there is none. A page without pairs is not marked, as in `store_there`.
+/// Runs a program on a record in place like `act_run`, marks its page, and returns the reply. Returns `None` and changes
+/// nothing if `act_run` does, or if there is no memory for the mark. A page without pairs is not marked, as in `store_there`.
 pub fn run_there(
     image: &mut Image<Global>,
     marks: &mut Marks,

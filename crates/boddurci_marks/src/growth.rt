@@ -1,4 +1,4 @@
-//! Whether what a command comes to keeps `.pag` within its limit.
+//! Checks that the result of a command keeps `.pag` within its limit.
 ghost use Rattle.std.specs.Prelude.{◌≡◌};
 ghost use Rattle.std.specs.List.{list_all};
 ghost use Rattle.std.specs.Option.{option_map};
@@ -13,7 +13,7 @@ use sdbm_page::{Page, SharedPage};
 use sdbm_split::Plan;
 use std::alloc::Global;
 
-// The number of pages of a size in the longest `.pag`.
+// The maximum number of pages of this size in a `.pag`.
 fn longest(size: PageSize) -> u32
     ensures { result ≡ most_pages size }
 {
@@ -23,7 +23,7 @@ fn longest(size: PageSize) -> u32
     }
 }
 
-/// The number of pages that `.pag` may have: the limit, or what the longest `.pag` has room for if that is less.
+/// The maximum number of pages of a `.pag`: the limit, or the format's maximum if that is less.
 pub fn most_pages(size: PageSize, limit: usize) -> u32
     ensures { result ≡ most_in size limit }
 {
@@ -34,8 +34,8 @@ pub fn most_pages(size: PageSize, limit: usize) -> u32
     most
 }
 
-/// Returns whether each page that a change of the page with a number puts in is one of the first `most`. One that was there before has
-/// its place, and one that is left without pairs takes none.
+/// Returns true if each page that a change puts in is one of the first `most`. A page with pairs before the change (`there`)
+/// has its place already, and a page without pairs takes none.
 pub fn may_grow(most: u32, there: bool, number: u32, change: &Option<Plan<Global>>) -> bool
     ensures { result ≡ may_grow most there number (option_map change_of change.now) }
 {
@@ -47,7 +47,7 @@ pub fn may_grow(most: u32, there: bool, number: u32, change: &Option<Plan<Global
     }
 }
 
-/// Whether the page with a number has pairs.
+/// Returns true if the page with a number has pairs.
 pub fn has_pairs(image: &Image<Global>, number: u32) -> bool
     ensures { result ≡ has_pairs (pairs_at image.now number) }
 {
@@ -57,7 +57,7 @@ pub fn has_pairs(image: &Image<Global>, number: u32) -> bool
     }
 }
 
-/// Whether a page that is lent, if one is, has pairs.
+/// Returns true if there is a page and it has pairs.
 pub fn lends_pairs(page: Option<&Page<Global>>) -> bool
     ensures { result ≡ has_pairs (pairs_lent page.entry) }
 {
@@ -67,14 +67,14 @@ pub fn lends_pairs(page: Option<&Page<Global>>) -> bool
     }
 }
 
-// Whether the page under a number is one of the first `most`, or has no pairs.
+// Returns true if the page under a number is one of the first `most`, or has no pairs.
 fn has_room(most: u32, number: u32, page: &SharedPage<Global>) -> bool
     ensures { result ≡ has_room most (number, page.now) }
 {
     page.page().is_empty() || number < most
 }
 
-// The same of each of some pages, under their numbers.
+// Like `has_room`, for each of some pages under their numbers.
 fn have_room(most: u32, twins: &[(u32, SharedPage<Global>)]) -> bool
     ensures { result ≡ list_all (has_room most) twins.now }
 {

@@ -1,5 +1,5 @@
-//! Stores, runs and other changes of the database of a C handle. Each marks the pages to which it gives other pairs (`Marks`), so a save
-//! reads and writes those alone; `may_grow` says whether a change fits within the limit of `.pag`.
+//! Stores, runs and other changes of the database behind a C handle. Each marks the pages whose pairs change (`Marks`), so a
+//! save reads and writes only those. `may_grow` checks that a change fits within the limit of `.pag`.
 #![tactic(auto)]
 
 mod changes;

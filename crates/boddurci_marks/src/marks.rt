@@ -1,11 +1,11 @@
-//! Which pages may differ.
+//! The set of pages that may differ from the saved database.
 ghost use Rattle.std.specs.Prelude.{◌≡◌, ◌↔◌, ◌⊎◌, ◌<◌, ℕ, false, List, [], length, take, get_or, IsTrue, OnOk, OnErr, Contains};
 ghost use Rattle.boddurci_marks.specs.Marks.{HasMore};
 
 use std::alloc::{AllocError, Global};
 use std::marker::Model;
 
-/// Numbers of pages, in the order in which they were added, each once. A number is looked up in one step.
+/// A set of page numbers, in order of insertion. Look-up takes constant time.
 #[derive(Drop)]
 pub struct Marks {
     marked: Vec<bool>,
@@ -23,7 +23,7 @@ impl Model for Marks {
     ghost invariant = { λ a. AreMarked a.marked.items a.numbers.items };
 }
 
-// Makes room for the mark of a number. Each number is marked as before.
+// Makes room for the mark of a number. The existing marks are unchanged.
 fn grow(marked: &mut Vec<bool>, number: u32) -> Result<(), AllocError>
     ensures same { (n : ℕ) → get_or marked.new.items n false ≡ get_or marked.old.items n false }
     ensures ok { OnOk result (number < length marked.new.items) }
@@ -36,7 +36,7 @@ fn grow(marked: &mut Vec<bool>, number: u32) -> Result<(), AllocError>
 }
 
 impl Marks {
-    /// No numbers. It takes no memory.
+    /// Makes an empty set. Allocates nothing.
     pub fn new(alloc: Global) -> Marks
         ensures { result ≡ [] }
     {
@@ -53,7 +53,7 @@ impl Marks {
         self.numbers.as_slice()
     }
 
-    /// Whether a number is among them.
+    /// Returns true if the set has a number.
     pub fn has(&self, number: u32) -> bool
         ensures { IsTrue result ↔ Contains self.now number }
     {
@@ -63,10 +63,10 @@ impl Marks {
         }
     }
 
-    /// Adds a number, where it is not among them.
+    /// Adds a number, unless it is in the set.
     ///
     /// # Errors
-    /// `AllocError` where no memory is left. The numbers are then as they were.
+    /// `AllocError` if out of memory. The set is unchanged.
     pub fn add(&mut self, number: u32) -> Result<(), AllocError>
         ensures more { HasMore self.old self.new }
         ensures only { (n : ℕ) → Contains self.new n → Contains self.old n ⊎ (n ≡ number) }
@@ -82,10 +82,10 @@ impl Marks {
         Ok(())
     }
 
-    /// Adds each of some numbers that is not among them.
+    /// Adds each of some numbers that is not in the set.
     ///
     /// # Errors
-    /// `AllocError` where no memory is left. The numbers are then as they were.
+    /// `AllocError` if out of memory. The set is unchanged.
     pub fn add_all(&mut self, numbers: &[u32]) -> Result<(), AllocError>
         ensures more { HasMore self.old self.new }
         ensures ok { OnOk result ((n : ℕ) → Contains numbers.now n → Contains self.new n) }
@@ -101,7 +101,7 @@ impl Marks {
         Ok(())
     }
 
-    /// Takes out those that were added last, so that so many are left.
+    /// Keeps the first `len` numbers and removes those added later.
     pub fn cut(&mut self, len: usize)
         ensures { self.new ≡ take len self.old }
     {

@@ -1,4 +1,4 @@
--- What a call has done, from what was done to the parts of a desk.
+-- The effect of a call, from the changes of the parts of a desk.
 use Rattle.std.proofs.Common.{◌≡◌, ◌+◌, ℕ, Bool, true, false, cond, ◌&&◌, List, [], ◌∷◌, ◌++◌, refl, sym, ap, subst, ◌∙◌, Option, Some, None, is_some, inl, inr, ◌⊎◌}
 use Rattle.std.specs.Prelude.{IsSome, slice_index_or, count_by}
 use Rattle.slab.specs.Slab.{Slab, Updates}
@@ -27,7 +27,7 @@ use Rattle.desk_core.proofs.Ties.{led_there, tied_leads, tied_acts, unchanged_by
 
 -- ---- finish
 
--- what may be finished, under another name of the state and of what was worked
+-- a command that may be finished, in an equal state
 pub MayFinish-at : {A : Type 0} (s s' : DeskState A) (d d' : Ticketed A) → s ≡ s' → d ≡ d' → MayFinish s' d' → MayFinish s d
 MayFinish-at {A} s s' d d' state done may = subst (λ (x : DeskState A). MayFinish x d) (sym state) (subst (λ (x : Ticketed A). MayFinish s' x) (sym done) may)
 
@@ -35,11 +35,11 @@ module _ {A : Type 0} (s : DeskState A) (d : Ticketed A) (sound : IsSound s) (ma
   tie : IsTied s.database s.holds d.ticket d.asked
   tie = subst (λ (x : Option (Open A)). Ties s.database s.holds d.ticket x) may.own (sound.tied d.ticket)
 
-  -- what was worked may be put in
+  -- the result may be installed
   pub may_finish_in : MayChange s.database d.asked.place.page (worked d.asked).change
   may_finish_in = (tied_leads s.database sound.database s.holds d.ticket d.asked tie).may
 
-  -- it was put in, its entry added, and the ticket closed
+  -- the result was installed, its entry added, and the ticket closed
   pub finished : HasEnd d.asked.page.pairs d.asked.session d.asked.command → (reply copy : Reply A) (db : Database) (entries : List (Entry A)) (tickets : List (Option (Open A))) (next : ℕ) (holds : List Held) → reply ≡ (worked d.asked).reply → copy ≡ (worked d.asked).reply
       → db ≡ changed_by s.database d.asked.place.page (worked d.asked).change → entries ≡ s.entries ++ record { session = d.asked.session; command = d.asked.command; reply = copy } ∷ []
       → Changes s.tickets tickets d.ticket None → next ≡ d.ticket → count_by is_some tickets + 1 ≡ open_count s → holds ≡ without (the_ticket d.ticket) s.holds
@@ -77,11 +77,11 @@ module _ {A : Type 0} (s : DeskState A) (session : ℕ) (command : Command A) (p
   held_so : is_held s command ≡ taken
   held_so = ap (λ (n : ℕ). list_any (bars n Exclusive) s.holds) (sym (led_there s command place sound.database leads))
 
-  -- what a step comes to may be put in
+  -- the result of a step may be installed
   pub may_step_in : MayChange s.database place.page result.change
   may_step_in = lead.may
 
-  -- why it is refused where memory is wanted, or the page is held
+  -- the reason for a refusal, when memory is needed or the page is held
   pub step_refused : (changes : Bool) → changes ≡ is_some result.change → (b : Bool) → (changes && taken) ≡ b → IsStepFault s session command (cond b Busy NoMemory)
   step_refused changes is true e =
       let both = both_so changes taken e in
@@ -95,13 +95,13 @@ module _ {A : Type 0} (s : DeskState A) (session : ℕ) (command : Command A) (p
           let clash : true ≡ false = sym there ∙ not_both changes taken e so in
           cc
 
-  -- why it is refused where memory is wanted to work it
+  -- the reason for a refusal when there is no memory to compute it
   pub memory_refused : (IsRun command × (is_change command ≡ false)) ⊎ (is_change command ≡ is_some result.change) → (b : Bool) → (is_change command && taken) ≡ b → IsStepFault s session command (cond b Busy NoMemory)
   memory_refused (inr is) b e = step_refused (is_change command) is b e
   memory_refused (inl run) true e = let clash : true ≡ false = sym (both_so (is_change command) taken e).0 ∙ run.1 in absurd cc
   memory_refused (inl run) false e = (may, inl run.0)
 
-  -- it was put in, and its entry added
+  -- the result was installed, and its entry added
   pub stepped : HasEnd (pairs_at s.database place.page) session command → (reply copy : Reply A) (db : Database) (mid entries : List (Entry A)) → reply ≡ result.reply → copy ≡ reply → (is_some result.change && taken) ≡ false
       → db ≡ changed_by s.database place.page result.change → mid ≡ s.entries → entries ≡ mid ++ record { session = session; command = command; reply = copy } ∷ []
       → Steps s session command reply (record s { database = db; entries = entries })
@@ -121,7 +121,7 @@ module _ {A : Type 0} (s : DeskState A) (session : ℕ) (command : Command A) (p
         limit_is = refl;
       }
 
-  -- it was done at once, on a page that nobody else holds
+  -- it was executed in place, on a page without other holds
   pub stepped_at_once : (reply copy : Reply A) (db : Database) (mid entries : List (Entry A)) → IsPutIn s.database place session command reply db → copy ≡ reply → taken ≡ false → mid ≡ s.entries
       → entries ≡ mid ++ record { session = session; command = command; reply = copy } ∷ [] → Steps s session command reply (record s { database = db; entries = entries })
   stepped_at_once reply copy db mid entries done copy_is free same more = stepped done.ends reply copy db mid entries done.reply_is copy_is (at (is_some result.change) taken free) done.database same more
@@ -140,7 +140,7 @@ abandoned s t tickets next holds there changes is_next counted released =
 
 -- ---- ask
 
--- the page of a command that may be asked can be held
+-- the page of a command that may be requested can be held
 pub free_for : {A : Type 0} (s : DeskState A) (command : Command A) (place : Place) (mode : Hold) → IsSound s → MayAsk s command → first_hold command ≡ Some mode → IsPlaceOf s.database (key_of command) place → list_any (bars place.page mode) s.holds ≡ false
 free_for s command place mode sound may first leads =
     ap (λ (n : ℕ). list_any (bars n mode) s.holds) (led_there s command place sound.database leads) ∙ sym (ap (λ (m : Option Hold). is_barred_in s (page_led s command) m) first) ∙ may.free
@@ -169,7 +169,7 @@ opened s t own mode entries tickets next holds first is_next fresh same changes 
   count = counted;
 }
 
--- what stands under the ticket is what its job has
+-- the open command of the ticket is that of its job
 pub asked_so : {A : Type 0} (s s' : DeskState A) (session t : ℕ) (command : Command A) (own o : Open A) → MayAsk s command → IsAsked s session command own → Opens s own.command (record { ticket = t; asked = own }) s' → own ≡ o
     → MayAsk s command × (IsAsked s session command o × Opens s command (record { ticket = t; asked = o }) s')
 asked_so {A} s s' session t command own o may asked opens same = (

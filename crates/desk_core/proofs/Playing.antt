@@ -1,4 +1,4 @@
--- Events that are played one after another.
+-- Events played in order.
 use Rattle.std.proofs.Common.{◌≡◌, ℕ, List, [], ◌∷◌, ◌++◌, refl, sym, ap, ◌∙◌, subst, append_assoc}
 use Rattle.std.proofs.lemmas.List.{append-nil}
 use Rattle.sdbm_addr.specs.declared.KeyBytes.{KeyBytes}
@@ -19,7 +19,7 @@ use Rattle.store_moves.specs.Acts.{Acts, ActsInTurn}
 use Rattle.desk_core.specs.Events.{Hands, Does, Plays, GoesOn, OnAsk, OnConvert, OnFinish, OnAbandon}
 use Rattle.store_moves.proofs.Acting.{Acts-count}
 
--- one event more
+-- one more event
 pub Plays-push : {A : Type 0} (s mid s' : DeskState A) (h held h' : Hands A) (es : List (Event A)) (outs : List (EventOutcome A)) (e : Event A) (out : EventOutcome A)
     → Plays s h es outs mid held → Does mid held e out s' h' → IsSound s' → Plays s h (es ++ e ∷ []) (outs ++ out ∷ []) s' h'
 Plays-push {A} s mid s' h held h' [] [] e out p d ok =
@@ -30,13 +30,13 @@ Plays-push s mid s' h held h' (f ∷ es) [] e out p d ok = absurd p
 Plays-push s mid s' h held h' (f ∷ es) (o ∷ outs) e out p d ok =
     (p.0, (p.1.0, (p.1.1.0, (p.1.1.1.0, Plays-push p.0 mid s' p.1.0 held h' es outs e out p.1.1.1.1 d ok))))
 
--- ---- entries that are added
+-- ---- added entries
 
 ActsInTurn-append : {A : Type 0} (db mid db' : Database) (es more : List (Entry A)) → ActsInTurn db es mid → ActsInTurn mid more db' → ActsInTurn db (es ++ more) db'
 ActsInTurn-append {A} db mid db' [] more p q = subst (λ (d : Database). ActsInTurn d more db') p q
 ActsInTurn-append db mid db' (e ∷ es) more p q = (p.0, (p.1.0, ActsInTurn-append p.0 mid db' es more p.1.1 q))
 
--- what is done in turn is a legal history
+-- entries executed in order are a legal history
 pub History-acts_in_turn : {A : Type 0} (db db' : Database) (es : List (Entry A)) → ActsInTurn db es db' → History db.size db.kind (map_of db) es (map_of db')
 History-acts_in_turn db db' [] p = ap map_of p
 History-acts_in_turn {A} db db' (e ∷ es) p =
@@ -133,7 +133,7 @@ does s s' h h' (event.Convert t) out p = on_convert s s' t.0 out p.0
 does s s' h h' (event.Finish t) out p = on_finish s s' h h' t.0 out p
 does s s' h h' (event.Abandon t) out p = on_abandon s s' t.0 out p.0
 
--- what is played adds entries in turn
+-- playing events adds entries in order
 pub GoesOn-from_Plays : {A : Type 0} (s s' : DeskState A) (h h' : Hands A) (es : List (Event A)) (outs : List (EventOutcome A)) → Plays s h es outs s' h' → GoesOn s s'
 GoesOn-from_Plays s s' h h' [] [] p = same s s' p.0
 GoesOn-from_Plays s s' h h' [] (o ∷ outs) p = absurd p

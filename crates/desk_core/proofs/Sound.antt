@@ -1,4 +1,4 @@
--- Each call leaves a desk sound.
+-- Every call leaves a desk sound.
 use Rattle.std.proofs.Common.{◌≡◌, ◌≢◌, ℕ, ◌+◌, true, false, List, [], ◌∷◌, ◌++◌, refl, sym, ap, subst, ◌∙◌, arith, length-append, Option, Some, None, is_some, length}
 use Rattle.std.proofs.lemmas.Bool.{eq-eqb}
 use Rattle.std.specs.Prelude.{◌==◌}
@@ -36,7 +36,7 @@ use Rattle.desk_core.proofs.Ties.{either_way, Ties-same, held_by-push_here, held
 
 -- ---- histories
 
--- one entry more on a legal history
+-- one more entry on a legal history
 pub History-acts : {A : Type 0} (db db' : Database) (start : Map) (es es' : List (Entry A)) (e : Entry A) → History db.size db.kind start es (map_of db) → Acts db e db' → es' ≡ es ++ e ∷ []
     → History db'.size db'.kind start es' (map_of db')
 History-acts {A} db db' start es es' e legal acts more =
@@ -50,14 +50,14 @@ History-acts {A} db db' start es es' e legal acts more =
 abbrev start_of : {A : Type 0} → DeskState A → Map
 start_of s = map.from_entries {R = key_cmp} s.opening
 
--- the desk's history with an entry more
+-- the desk's history with one more entry
 legal_more : {A : Type 0} (s s' : DeskState A) (e : Entry A) → IsSound s → Acts s.database e s'.database → s'.entries ≡ s.entries ++ e ∷ [] → s'.opening ≡ s.opening
     → History s'.database.size s'.database.kind (start_of s') s'.entries (map_of s'.database)
 legal_more s s' e sound acts more same =
     subst (λ (op : List Pair). History s'.database.size s'.database.kind (map.from_entries {R = key_cmp} op) s'.entries (map_of s'.database)) (sym same)
     (History-acts s.database s'.database (start_of s) s.entries s'.entries e sound.legal acts more)
 
--- the history where neither database nor trail has changed
+-- the history if neither database nor trail has changed
 legal_same : {A : Type 0} (s s' : DeskState A) → IsSound s → s'.database ≡ s.database → s'.entries ≡ s.entries → s'.opening ≡ s.opening
     → History s'.database.size s'.database.kind (start_of s') s'.entries (map_of s'.database)
 legal_same {A} s s' sound db es op =
@@ -65,11 +65,11 @@ legal_same {A} s s' sound db es op =
     (subst (λ (xs : List (Entry A)). History s.database.size s.database.kind (start_of s') xs (map_of s.database)) (sym es)
     (subst (λ (ps : List Pair). History s.database.size s.database.kind (map.from_entries {R = key_cmp} ps) s.entries (map_of s.database)) (sym op) sound.legal))
 
--- so many entries there are with one more
+-- the number of entries with one more
 longer : {A : Type 0} (es es' : List (Entry A)) (e : Entry A) → es' ≡ es ++ e ∷ [] → length es' ≡ length es + 1
 longer es es' e more = ap length more ∙ length-append es (e ∷ [])
 
--- a database with a change that may be put in is one
+-- a database with an installable change is a valid database
 pub changed_database : (db : Database) (n : ℕ) (change : Option PageChange) → IsDatabase db → MayChange db n change → IsDatabase (changed_by db n change)
 changed_database db n None ok may = ok
 changed_database db n (Some change) ok may = may.database
@@ -89,7 +89,7 @@ StartsWith-sound {A} db limit s ok starts = record {
 
 -- ---- ask
 
--- the tie of a ticket that is opened
+-- the tie of a newly opened ticket
 opened_tie : {A : Type 0} (s s' : DeskState A) (session : ℕ) (command : Command A) (j : Ticketed A) → IsSound s → MayAsk s command → IsAsked s session command j.asked → Opens s command j s' → IsTied s.database s'.holds j.ticket j.asked
 opened_tie {A} s s' session command j sound may asked opens =
     let same : Command A = j.asked.command in
@@ -158,7 +158,7 @@ Converts-sound {A} s s' t sound converts obeys =
 
 -- ---- closing
 
--- the other tickets' ties stay where theirs do in the database
+-- the ties of the remaining tickets stay if they stay in the database
 closed_ties : {A : Type 0} (s s' : DeskState A) (t : ℕ) → IsSound s → Closes s t s' → ((u : ℕ) → u ≢ t → (q : Open A) → IsTied s.database s.holds u q → IsTied s'.database s.holds u q)
     → (u : ℕ) → Ties s'.database s'.holds u (ticket_of s' u)
 closed_ties {A} s s' t sound closes beside u = either_way u t (Ties s'.database s'.holds u (ticket_of s' u))
@@ -204,7 +204,7 @@ Finishes-sound {A} s s' d reply sound finishes obeys =
 
 -- ---- one call
 
--- ties stay where the tickets and holds do, and where theirs do in the database
+-- ties stay if tickets and holds stay, and ties stay in the database
 kept_ties : {A : Type 0} (s s' : DeskState A) → IsSound s → s'.tickets ≡ s.tickets → s'.holds ≡ s.holds → ((u : ℕ) (q : Open A) → IsTied s.database s.holds u q → IsTied s'.database s.holds u q)
     → (u : ℕ) → Ties s'.database s'.holds u (ticket_of s' u)
 kept_ties {A} s s' sound tickets holds beside u =
@@ -215,7 +215,7 @@ kept_ties {A} s s' sound tickets holds beside u =
     at None h = h
     at (Some q) h = beside u q h
 
--- what is there after one entry more, where tickets and holds stay
+-- soundness after one more entry, if tickets and holds stay
 more_sound : {A : Type 0} (s s' : DeskState A) (e : Entry A) → IsSound s → MayAsk s e.command → Acts s.database e s'.database → s'.entries ≡ s.entries ++ e ∷ [] → s'.opening ≡ s.opening
     → s'.tickets ≡ s.tickets → s'.holds ≡ s.holds → s'.limit ≡ s.limit → IsDatabase s'.database → ((u : ℕ) (q : Open A) → IsTied s.database s.holds u q → IsTied s'.database s.holds u q) → IsSound s'
 more_sound {A} s s' e sound may acts entries opening tickets holds limit ok beside = record {
@@ -227,7 +227,7 @@ more_sound {A} s s' e sound may acts entries opening tickets holds limit ok besi
   tied = kept_ties s s' sound tickets holds beside;
 }
 
--- a step that is on a page
+-- a step on a page
 on_page_sound : {A : Type 0} (s s' : DeskState A) (session : ℕ) (command : Command A) (reply : Reply A) → HasKey command → IsSound s → Steps s session command reply s'
     → IsOnPage s.database (record { session = session; command = command; reply = reply }) s'.database → IsSound s'
 on_page_sound {A} s s' session command reply keyed sound steps on =

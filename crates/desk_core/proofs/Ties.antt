@@ -1,4 +1,4 @@
--- Open tickets and what they hold.
+-- Open tickets and their holds.
 use Rattle.std.proofs.Common.{◌≡◌, ◌≢◌, ℕ, true, false, List, [], ◌∷◌, ◌++◌, refl, sym, ap, subst, ◌∙◌, Option, Some, None, is_some}
 use Rattle.std.proofs.lemmas.Bool.{eqb-true, eq-eqb, false≢true}
 use Rattle.std.specs.Prelude.{◌==◌, ◌||◌, if◌then◌else◌, IsSome}
@@ -58,7 +58,7 @@ held_by-push_other t (x ∷ xs) h y =
       | false ↦ held_by-push_other t xs h y
     ]
 
--- a ticket that is not kept is not open, in a state of another name
+-- an option that is not `Some` is `None`
 pub not_some : {X : Type 0} (o : Option X) → (IsSome o → false ≡ true) → o ≡ None
 not_some None h = refl
 not_some (Some x) h = absurd (false≢true (h refl))
@@ -71,7 +71,7 @@ either_way u t P same other =
       | false ↦ λ is. other (λ e. absurd (let y : true ≡ false = sym (eq-eqb t u (sym e)) ∙ is in cc)) is
     ]) refl
 
--- a tie reads the holds through its own ticket alone
+-- a tie depends only on its own ticket's hold
 pub Ties-same : {A : Type 0} (db : Database) (hs hs' : List Held) (t : ℕ) (o : Option (Open A)) → held_by (the_ticket t) hs' ≡ held_by (the_ticket t) hs → Ties db hs t o → Ties db hs' t o
 Ties-same db hs hs' t None e h = e ∙ h
 Ties-same db hs hs' t (Some o) e h =
@@ -110,7 +110,7 @@ exclusive_is h p m e y =
 
 -- ---- places
 
--- the page of a place is the one to which the key leads
+-- the page of a place is the page of the key
 pub led_there : {A : Type 0} (s : DeskState A) (command : Command A) (place : Place) → IsDatabase s.database → IsPlaceOf s.database (key_of command) place → place.page ≡ page_led s command
 led_there s command place ok leads =
     leads.low_bits ∙ sym (page_of_depth s.database.splits ok.directory (hash_of s.database.kind (key_of command)) place.depth leads.depth)
@@ -120,20 +120,20 @@ led_there s command place ok leads =
 pub free_ticket : {A : Type 0} (s : DeskState A) (t : ℕ) → IsSound s → ticket_of s t ≡ None → held_by (the_ticket t) s.holds ≡ None
 free_ticket {A} s t sound fresh = subst (λ (x : Option (Open A)). Ties s.database s.holds t x) fresh (sound.tied t)
 
--- an open ticket comes to what its command comes to on the page as it stands
+-- the result of an open ticket is the result of its command on the current page
 tied_works : {A : Type 0} (db : Database) (hs : List Held) (t : ℕ) (o : Open A) → IsTied db hs t o → worked o ≡ works o.place db.kind db.size (pairs_at db o.place.page) o.session o.command
 tied_works db hs t o tie =
     ap (λ (k : KeyBytes). works o.place k o.page.size o.page.pairs o.session o.command) tie.kind
     ∙ ap (λ (s : PageSize). works o.place db.kind s o.page.pairs o.session o.command) tie.size
     ∙ ap (λ (ps : List Pair). works o.place db.kind db.size ps o.session o.command) tie.pairs
 
--- what an open ticket comes to, installed, is one move
+-- the result of an open ticket, once installed, is one move
 pub tied_leads : {A : Type 0} (db : Database) → IsDatabase db → (hs : List Held) (t : ℕ) (o : Open A) → IsTied db hs t o → LeadsTo db o.session o.command o.place.page (worked o)
 tied_leads {A} db ok hs t o tie =
     subst (λ (r : PageResult A). LeadsTo db o.session o.command o.place.page r) (sym (tied_works db hs t o tie))
     (works_lead db ok o.place o.session o.command (keyed_may o.command tie.mode tie.may) tie.small tie.place)
 
--- and is what its command does
+-- and it is the effect of its command
 pub tied_acts : {A : Type 0} (db db' : Database) → IsDatabase db → (hs : List Held) (t : ℕ) (o : Open A) → IsTied db hs t o → HasEnd o.page.pairs o.session o.command → (r : Reply A) → r ≡ (worked o).reply
     → db' ≡ changed_by db o.place.page (worked o).change → Acts db (record { session = o.session; command = o.command; reply = r }) db'
 tied_acts {A} db db' ok hs t o tie ends r is installed =
@@ -143,7 +143,7 @@ tied_acts {A} db db' ok hs t o tie ends r is installed =
     (is ∙ ap (λ (x : PageResult A). x.reply) same)
     (installed ∙ ap (λ (x : PageResult A). changed_by db o.place.page x.change) same)
 
--- another ticket's page stays
+-- another ticket's page is unchanged
 pub tied_still : {A : Type 0} (db : Database) (n : ℕ) (change : Option PageChange) (hs : List Held) (u : ℕ) (q : Open A) → IsSameBeside db n (changed_by db n change)
     → (is_some change ≡ true → q.place.page ≢ n) → IsTied db hs u q → IsTied (changed_by db n change) hs u q
 tied_still db n None hs u q beside other tie = tie
@@ -151,20 +151,20 @@ tied_still db n (Some change) hs u q beside other tie =
     let stays = beside (key_of q.command) q.place tie.place (other refl) in
     record { mode = tie.mode; held = tie.held; may = tie.may; small = tie.small; kind = tie.kind; place = stays.0; size = tie.size; pairs = tie.pairs ∙ sym stays.1 }
 
--- ---- pages of others
+-- ---- pages of different tickets
 
 compatible_none : (m : Hold) → are_compatible m Exclusive ≡ false
 compatible_none Read = refl
 compatible_none Update = refl
 compatible_none Exclusive = refl
 
--- a page that nobody holds is no open ticket's
+-- a page without holds belongs to no open ticket
 pub not_held : {A : Type 0} (db : Database) (hs : List Held) (n u : ℕ) (q : Open A) → list_any (bars n Exclusive) hs ≡ false → IsTied db hs u q → q.place.page ≢ n
 not_held db hs n u q free tie same =
     let away : (q.place.page == n) ≡ false = no_two (q.place.page == n) (are_compatible tie.mode Exclusive) (barred_by n Exclusive (the_ticket u) hs q.place.page tie.mode free tie.held) (compatible_none tie.mode) in
     let z : true ≡ false = sym (eq-eqb q.place.page n same) ∙ away in cc
 
--- the page that one ticket holds alone is no other ticket's
+-- a page held exclusively by one ticket belongs to no other ticket
 pub held_apart : {A : Type 0} (db : Database) (hs : List Held) (t u : ℕ) (o q : Open A) → obeys_rule hs ≡ true → u ≢ t → exclusive_in (held_by (the_ticket t) hs) ≡ true → IsTied db hs t o → IsTied db hs u q
     → q.place.page ≢ o.place.page
 held_apart db hs t u o q obeys differ alone tie other same =
@@ -182,6 +182,6 @@ pub unchanged_by : (db : Database) (n : ℕ) (o : Option PageChange) → is_some
 unchanged_by db n None e = refl
 unchanged_by db n (Some change) e = absurd (cc)
 
--- an entry that was added, by what it is
+-- an added entry equals any entry that is equal to it
 pub entered : {A : Type 0} (before after : List (Entry A)) (e e' : Entry A) → after ≡ before ++ e ∷ [] → e ≡ e' → after ≡ before ++ e' ∷ []
 entered {A} before after e e' added is = added ∙ ap (λ (x : Entry A). before ++ x ∷ []) is

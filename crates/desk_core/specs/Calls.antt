@@ -1,4 +1,4 @@
--- What the calls of a desk do.
+-- The effects of a desk's calls.
 use Rattle.std.specs.Prelude.{◌≡◌, ◌≢◌, ◌⊎◌, ℕ, ◌+◌, ◌<◌, ◌≤◌, Bool, true, false, List, [], ◌∷◌, ◌++◌, length, Option, Some, None, IsSome, is_some, slice_index_or, ◌&&◌}
 use Rattle.std.specs.List.{list_any}
 use Rattle.std.specs.FinMap as map
@@ -34,7 +34,7 @@ use Rattle.store_moves.specs.Acts.{Acts}
 use Rattle.store_moves.specs.Leads.{changed_by, does_change, is_there, IsPlaceOf}
 use Rattle.desk_core.specs.Desk.{DeskState, open_count, ticket_of, the_ticket, first_hold}
 
--- a desk that was just opened
+-- a newly opened desk
 pub record StartsWith {A : Type 0} (db : Database) (limit : ℕ) (s : DeskState A) : Type 0 where
   pub database : s.database ≡ db
   pub opening : s.opening ≡ map.entries (map_of db)
@@ -44,11 +44,11 @@ pub record StartsWith {A : Type 0} (db : Database) (limit : ℕ) (s : DeskState 
   pub holds : s.holds ≡ []
   pub limit_is : s.limit ≡ limit
 
--- the page to which a command's key leads
+-- the page of a command's key
 abbrev pub page_led : {A : Type 0} → DeskState A → Command A → ℕ
 page_led s command = page_of s.database.splits (hash_of s.database.kind (key_of command))
 
--- whether that page may not be held so
+-- true if an existing hold on that page conflicts with this mode
 abbrev pub is_barred_in : {A : Type 0} → DeskState A → ℕ → Option Hold → Bool
 is_barred_in s page None = false
 is_barred_in s page (Some mode) = list_any (bars page mode) s.holds
@@ -56,7 +56,7 @@ is_barred_in s page (Some mode) = list_any (bars page mode) s.holds
 abbrev pub is_barred : {A : Type 0} → DeskState A → Command A → Bool
 is_barred s command = is_barred_in s (page_led s command) (first_hold command)
 
--- a command that may be asked
+-- a command that may be requested
 pub record MayAsk {A : Type 0} (s : DeskState A) (command : Command A) : Type 0 where
   pub small : IsSmall s.database.size command
   pub room : length s.entries + open_count s < s.limit
@@ -67,7 +67,7 @@ abbrev pub refusal_of : SizeFault → AskFault
 refusal_of PairTooLarge = af.PairTooLarge
 refusal_of ArgTooLong = af.ArgTooLong
 
--- when each refusal comes
+-- the condition of each refusal
 abbrev pub IsAskFault : {A : Type 0} → DeskState A → Command A → AskFault → Type 0
 IsAskFault s command af.PairTooLarge = ¬ (FitsPair s.database.size command)
 IsAskFault s command af.ArgTooLong = FitsPair s.database.size command × ¬ (FitsArgument command)
@@ -75,7 +75,7 @@ IsAskFault s command af.TrailFull = IsSmall s.database.size command × (s.limit 
 IsAskFault s command af.Busy = IsSmall s.database.size command × ((length s.entries + open_count s < s.limit) × (is_barred s command ≡ true))
 IsAskFault s command af.NoMemory = MayAsk s command
 
--- the place of a command's key and how its page is held at first; none for a count
+-- the place of a command's key and its page's first hold; `None` for a count
 abbrev pub IsWanted : {A : Type 0} → DeskState A → Command A → Option Wanted → Type 0
 IsWanted s command None = command ≡ Count
 IsWanted s command (Some wanted) = (first_hold command ≡ Some wanted.mode) × IsPlaceOf s.database (key_of command) wanted.place
@@ -85,7 +85,7 @@ pub record Changes {A : Type 0} (old new : List (Option (Open A))) (t : ℕ) (to
   pub here : slice_index_or new t None ≡ to
   pub others : (u : ℕ) → u ≢ t → slice_index_or new u None ≡ slice_index_or old u None
 
--- what stands under a new ticket
+-- the open command of a new ticket
 pub record IsAsked {A : Type 0} (s : DeskState A) (session : ℕ) (command : Command A) (o : Open A) : Type 0 where
   pub session_is : o.session ≡ session
   pub command_is : o.command ≡ command
@@ -94,7 +94,7 @@ pub record IsAsked {A : Type 0} (s : DeskState A) (session : ℕ) (command : Com
   pub size : o.page.size ≡ s.database.size
   pub pairs : o.page.pairs ≡ pairs_at s.database o.place.page
 
--- the ticket is opened that is next, which was not open
+-- the next ticket, which was not open, is opened
 pub record Opens {A : Type 0} (s : DeskState A) (command : Command A) (j : Ticketed A) (s' : DeskState A) : Type 0 where
   pub mode : Hold
   pub mode_is : first_hold command ≡ Some mode
@@ -119,12 +119,12 @@ pub record Counts {A : Type 0} (s : DeskState A) (session : ℕ) (reply : Reply 
   pub holds : s'.holds ≡ s.holds
   pub limit_is : s'.limit ≡ s.limit
 
--- what an ask gives
+-- the result of a request
 abbrev pub Asks : {A : Type 0} → DeskState A → ℕ → Command A → Asked A → DeskState A → Type 0
 Asks s session command (asked.Job j) s' = MayAsk s command × (IsAsked s session command j.asked × Opens s command j s')
 Asks s session command (asked.Answered reply) s' = MayAsk s command × ((command ≡ Count) × Counts s session reply s')
 
--- the ticket is closed, to be the next that is opened, and its hold released
+-- the ticket is closed and its hold released; it is the next to be opened
 pub record Closes {A : Type 0} (s : DeskState A) (t : ℕ) (s' : DeskState A) : Type 0 where
   pub tickets : Changes s.tickets s'.tickets t None
   pub next : s'.next ≡ t
@@ -145,16 +145,16 @@ IsConvertFault s t cf.NoTicket = ticket_of s t ≡ None
 IsConvertFault s t cf.NotUpdating = IsSome (ticket_of s t) × (is_updating (the_ticket t) s.holds ≡ false)
 IsConvertFault s t cf.Busy = IsSome (ticket_of s t) × ((is_updating (the_ticket t) s.holds ≡ true) × (is_shared (the_ticket t) s.holds ≡ true))
 
--- whether a ticket holds its page alone
+-- true if a ticket's hold is exclusive
 abbrev pub is_exclusive : {A : Type 0} → DeskState A → ℕ → Bool
 is_exclusive s t = exclusive_in (held_by (the_ticket t) s.holds)
 
--- what was worked under an open ticket, which holds its page alone where that changes
+-- a computed command of an open ticket, whose hold is exclusive if the page changes
 pub record MayFinish {A : Type 0} (s : DeskState A) (d : Ticketed A) : Type 0 where
   pub own : ticket_of s d.ticket ≡ Some d.asked
   pub alone : is_some (worked d.asked).change ≡ true → is_exclusive s d.ticket ≡ true
 
--- what was worked under the ticket is what its command does: it is installed, its entry added, and the ticket closed
+-- the result of the ticket is the effect of its command: it is installed, its entry is added, and the ticket is closed
 pub record Finishes {A : Type 0} (s : DeskState A) (d : Ticketed A) (reply : Reply A) (s' : DeskState A) : Type 0 where
   pub may : MayFinish s d
   pub reply_is : reply ≡ (worked d.asked).reply
@@ -169,28 +169,28 @@ IsFinishFault {A} s d ff.Foreign = (own : Open A) × ((ticket_of s d.ticket ≡ 
 IsFinishFault s d ff.NotExclusive = (ticket_of s d.ticket ≡ Some d.asked) × ((is_some (worked d.asked).change ≡ true) × (is_exclusive s d.ticket ≡ false))
 IsFinishFault s d ff.NoMemory = (ticket_of s d.ticket ≡ Some d.asked) × ((is_some (worked d.asked).change ≡ true) × (is_exclusive s d.ticket ≡ true))
 
--- the ticket is closed, and nothing committed
+-- the ticket is closed and nothing is committed
 pub record Abandons {A : Type 0} (s : DeskState A) (t : ℕ) (s' : DeskState A) : Type 0 where
   pub there : IsSome (ticket_of s t)
   pub database : s'.database ≡ s.database
   pub entries : s'.entries ≡ s.entries
   pub closes : Closes s t s'
 
--- the page of a command may not be changed beside the holds that there are
+-- true if existing holds bar a change of the command's page
 abbrev pub is_held : {A : Type 0} → DeskState A → Command A → Bool
 is_held s command = list_any (bars (page_led s command) Exclusive) s.holds
 
--- what a command comes to on the page of a place as it stands
+-- the result of a command on the current page of a place
 abbrev pub works_there : {A : Type 0} → DeskState A → ℕ → Command A → Place → PageResult A
 works_there s session command place = works place s.database.kind s.database.size (pairs_at s.database place.page) session command
 
--- a command asks for a change on the page of its place
+-- a command that would change the page of its place
 pub record WouldChange {A : Type 0} (s : DeskState A) (session : ℕ) (command : Command A) : Type 0 where
   pub place : Place
   pub leads : IsPlaceOf s.database (key_of command) place
   pub change : is_some (works_there s session command place).change ≡ true
 
--- the command is done on the database, and one entry more; tickets and holds stay, and only a page that nobody holds changes
+-- the command is executed on the database and adds one entry; tickets and holds stay, and only a page without holds changes
 pub record Steps {A : Type 0} (s : DeskState A) (session : ℕ) (command : Command A) (reply : Reply A) (s' : DeskState A) : Type 0 where
   pub may : MayAsk s command
   pub alone : does_change (is_there s.database command) reply ≡ true → is_held s command ≡ false
@@ -203,9 +203,9 @@ pub record Steps {A : Type 0} (s : DeskState A) (session : ℕ) (command : Comma
   pub holds : s'.holds ≡ s.holds
   pub limit_is : s'.limit ≡ s.limit
 
--- When each refusal of a step comes: as of an ask, and Busy also where other tickets hold a page that would change. Memory is
--- wanted only where neither is so; but a program has to run before it is known whether it changes its page, and the page on which
--- it runs takes memory.
+-- The condition of each refusal of a step: as of a request, and Busy also if other tickets hold a page that would change.
+-- Memory is needed only if neither applies. A run is an exception: its program runs, on a page that needs memory, before it is
+-- known whether the page changes.
 abbrev pub IsStepFault : {A : Type 0} → DeskState A → ℕ → Command A → AskFault → Type 0
 IsStepFault s session command af.PairTooLarge = IsAskFault s command af.PairTooLarge
 IsStepFault s session command af.ArgTooLong = IsAskFault s command af.ArgTooLong
@@ -215,21 +215,22 @@ IsStepFault s session command af.NoMemory = MayAsk s command × (IsRun command �
 
 -- ---- looks
 
--- what was asked is the page of its key as it stands, in a database with such pages whose keys hash so
+-- the open command's page is the current page of its key, in a database of the same page size and hash kind
 abbrev pub IsStill : {A : Type 0} → DeskState A → Open A → Type 0
 IsStill s o = IsAsked s o.session o.command o
 
--- what it comes to may be put in: its page is as it was, and no ticket holds that where it changes
+-- its result may be put in: its page is unchanged, and no ticket holds the page if the command changes it
 pub record MayPut {A : Type 0} (s : DeskState A) (o : Open A) : Type 0 where
   pub may : MayAsk s o.command
   pub still : IsStill s o
   pub free : (is_some (worked o).change && list_any (bars o.place.page Exclusive) s.holds) ≡ false
 
--- what it comes to is a change of a page that a ticket holds
+-- its result changes a page that a ticket holds
 abbrev pub IsInTheWay : {A : Type 0} → DeskState A → Open A → Type 0
 IsInTheWay s o = (is_some (worked o).change && list_any (bars o.place.page Exclusive) s.holds) ≡ true
 
--- When each refusal comes: as of an ask; or the page is another; or it is still so, and a ticket holds it, or memory is wanted.
+-- The condition of each refusal: as of a request; or the page has changed; or it is unchanged, and a ticket holds it or memory
+-- is needed.
 abbrev pub IsPutFault : {A : Type 0} → DeskState A → Open A → PutFault → Type 0
 IsPutFault s o (pf.Refused af.PairTooLarge) = IsAskFault s o.command af.PairTooLarge
 IsPutFault s o (pf.Refused af.ArgTooLong) = IsAskFault s o.command af.ArgTooLong

@@ -1,4 +1,4 @@
-//! Lists of events on a desk, one after another.
+//! Lists of events, played on a desk in order.
 ghost use Rattle.std.specs.Prelude.{◌≡◌, ◌+◌, ◌≤◌, nat_eq, IfOk, IfErr, IfSome, IfNone, OnErr, Some, None, true, false};
 ghost use Rattle.std.specs.HashMap.{get, spare};
 ghost use Rattle.desk_core.specs.Calls.{IsAskFault, Asks};
@@ -11,69 +11,70 @@ use std::collections::HashMap;
 use std::hash::{BuildHasherDefault, FoldHasher};
 use store_cmd::{Reply, SharedCommand};
 
-/// What is done with a desk.
+/// An operation on a desk.
 #[derive(Drop)]
 pub enum Event<A: Allocator> {
-    /// A session asks a command.
+    /// A session requests a command.
     Ask(u64, SharedCommand<A>),
-    /// The job in hand under a ticket is worked.
+    /// Computes the job in hand under a ticket.
     Work(Ticket),
-    /// A ticket's hold is made exclusive.
+    /// Makes a ticket's hold exclusive.
     Convert(Ticket),
-    /// What was worked and is in hand under a ticket is finished.
+    /// Finishes the computed command in hand under a ticket.
     Finish(Ticket),
-    /// A ticket is closed.
+    /// Closes a ticket.
     Abandon(Ticket),
 }
 
-/// What comes of an event.
+/// The outcome of an event.
 #[derive(Drop)]
 pub enum EventOutcome<A: Allocator> {
     /// A ticket was opened, and its job is in hand.
     Asked(Ticket),
-    /// The command was answered at once.
+    /// The command was answered immediately.
     Answered(Reply<A>),
     /// The command was refused.
     AskRefused(AskFault),
-    /// What was a job in hand is done.
+    /// The job in hand was computed.
     Worked,
-    /// No memory was left to work it, and the job is still in hand.
+    /// Out of memory; the job is still in hand.
     WorkRefused,
-    /// The hold is exclusive.
+    /// The hold is now exclusive.
     Converted,
-    /// The hold stays as it was.
+    /// The hold is unchanged.
     ConvertRefused(ConvertFault),
-    /// The command was committed, and nothing is in hand under its ticket.
+    /// The command was committed, and its ticket has nothing in hand.
     Finished(Reply<A>),
-    /// It was not, and what was done is still in hand.
+    /// The command was not committed, and is still in hand.
     FinishRefused(FinishFault),
     /// The ticket was closed.
     Abandoned,
     /// The ticket is not open.
     AbandonRefused,
-    /// No job to be worked, or nothing done to be finished, is in hand under the ticket.
+    /// The ticket has no job in hand to compute, or no computed command to finish.
     NoHand,
 }
 
-/// What is in hand under a ticket.
+/// A command in hand under a ticket.
 #[derive(Drop)]
 pub enum InHand<A: Allocator> {
-    /// A command to be worked.
+    /// A command to compute.
     Job(Job<A>),
-    /// A command that was worked.
+    /// A computed command.
     Done(Done<A>),
 }
 
-// What is in hand, by ticket.
+// The commands in hand, by ticket.
 type ByTicket<A> = HashMap<usize, InHand<A>, BuildHasherDefault<FoldHasher>, A>;
 
 impl<A: Allocator + Copy> Desk<A> {
-    /// Does what a list of events says, one after another, and gives what comes of each. An asked job is in hand under its ticket,
-    /// in place of anything there, and nothing is in hand at first; what a command takes is refused in its event's outcome.
-    /// Tickets that are open at the end stay open.
+    /// Plays a list of events in order and returns their outcomes. Initially nothing is in hand. A requested job is in hand
+    /// under its ticket and replaces any earlier one there. If an event's command is refused, its outcome says so. Tickets that
+    /// are open at the end stay open.
     ///
     /// # Errors
-    /// `AllocError` where no memory is left for the outcomes and what is in hand, which is taken first. The desk is then as it was.
+    /// `AllocError` if there is no memory for the outcomes and the commands in hand, which is allocated first. The desk is then
+    /// unchanged.
     pub fn play(&mut self, events: &[Event<A>]) -> Result<Vec<EventOutcome<A>, A>, AllocError>
         ensures plays { IfOk result (λ outcomes. (last : Hands A) × Plays self.old no_hands events.now outcomes.items self.new last) }
         ensures goes_on { IfOk result (λ _. GoesOn self.old self.new) }
@@ -84,13 +85,13 @@ impl<A: Allocator + Copy> Desk<A> {
         for event in events {
             let outcome = self.happen(&mut hands, event);
             outcomes.push_reserved(outcome);
-            // What is always so of a desk is so again.
+            // Restores the invariant of the desk.
             let _ = &self.alloc;
         }
         Ok(outcomes)
     }
 
-    // Does what one event says.
+    // Plays one event.
     fn happen(&mut self, hands: &mut ByTicket<A>, event: &Event<A>) -> EventOutcome<A>
         requires { 1 ≤ spare hands.old }
         ensures does { Does self.old (get nat_eq hands.old) event.now result self.new (get nat_eq hands.new) }
@@ -111,7 +112,7 @@ impl<A: Allocator + Copy> Desk<A> {
         }
     }
 
-    // Asks a command, and takes the job in hand.
+    // Requests a command, and takes its job in hand.
     fn ask_in_hand(
         &mut self,
         hands: &mut ByTicket<A>,
@@ -133,7 +134,7 @@ impl<A: Allocator + Copy> Desk<A> {
         }
     }
 
-    // Asks a command, with one owner more.
+    // Requests a command, adding an owner to it.
     fn ask_shared(&mut self, session: u64, command: &SharedCommand<A>) -> Result<Asked<A>, AskFault>
         ensures ok { IfOk result (λ asked. Asks self.old session command.now asked self.new) }
         ensures refused { IfErr result (λ fault. IsAskFault self.old command.now fault) }
@@ -149,7 +150,7 @@ impl<A: Allocator + Copy> Desk<A> {
         }
     }
 
-    // Finishes what is done and in hand under a ticket.
+    // Finishes the computed command in hand under a ticket.
     fn finish_in_hand(&mut self, hands: &mut ByTicket<A>, ticket: Ticket) -> EventOutcome<A>
         requires { 1 ≤ spare hands.old }
         ensures does { OnFinish self.old (get nat_eq hands.old) ticket.0 result self.new (get nat_eq hands.new) }
@@ -168,7 +169,7 @@ impl<A: Allocator + Copy> Desk<A> {
     }
 }
 
-// Works the job in hand under a ticket.
+// Computes the job in hand under a ticket.
 fn work_in_hand<A: Allocator + Copy>(hands: &mut ByTicket<A>, ticket: Ticket) -> EventOutcome<A>
     requires { 1 ≤ spare hands.old }
     ensures does { OnWork (get nat_eq hands.old) ticket.0 result (get nat_eq hands.new) }
@@ -189,7 +190,7 @@ fn work_in_hand<A: Allocator + Copy>(hands: &mut ByTicket<A>, ticket: Ticket) ->
     }
 }
 
-// Takes what is in hand under a ticket, in place of anything there, where there is room for it.
+// Puts a command in hand under a ticket, replacing any other. There must be room for it.
 fn put<A: Allocator + Copy>(hands: &mut ByTicket<A>, ticket: Ticket, what: InHand<A>)
     requires { 1 ≤ spare hands.old }
     ensures put { Put (get nat_eq hands.old) ticket.0 (Some what) (get nat_eq hands.new) }
@@ -201,7 +202,7 @@ fn put<A: Allocator + Copy>(hands: &mut ByTicket<A>, ticket: Ticket, what: InHan
     }
 }
 
-// The job in hand under a ticket, which is then out of hand.
+// Removes and returns the job in hand under a ticket.
 fn take_job<A: Allocator + Copy>(hands: &mut ByTicket<A>, ticket: Ticket) -> Option<Job<A>>
     ensures some { IfSome result (λ job. get nat_eq hands.old ticket.0 ≡ Some (InHand.Job job)) }
     ensures taken { IfSome result (λ _. Put (get nat_eq hands.old) ticket.0 None (get nat_eq hands.new)) }
@@ -217,7 +218,7 @@ fn take_job<A: Allocator + Copy>(hands: &mut ByTicket<A>, ticket: Ticket) -> Opt
     }
 }
 
-// The same of what is done.
+// Removes and returns the computed command in hand under a ticket.
 fn take_done<A: Allocator + Copy>(hands: &mut ByTicket<A>, ticket: Ticket) -> Option<Done<A>>
     ensures some { IfSome result (λ done. get nat_eq hands.old ticket.0 ≡ Some (InHand.Done done)) }
     ensures taken { IfSome result (λ _. Put (get nat_eq hands.old) ticket.0 None (get nat_eq hands.new)) }
@@ -233,7 +234,7 @@ fn take_done<A: Allocator + Copy>(hands: &mut ByTicket<A>, ticket: Ticket) -> Op
     }
 }
 
-// Whether a job is in hand under a ticket.
+// Returns true if a job is in hand under a ticket.
 fn has_job<A: Allocator>(hands: &ByTicket<A>, ticket: Ticket) -> bool
     ensures { result ≡ is_job (get nat_eq hands.now ticket.0) }
 {
@@ -243,7 +244,7 @@ fn has_job<A: Allocator>(hands: &ByTicket<A>, ticket: Ticket) -> bool
     }
 }
 
-// Whether something done is in hand under a ticket.
+// Returns true if a computed command is in hand under a ticket.
 fn has_done<A: Allocator>(hands: &ByTicket<A>, ticket: Ticket) -> bool
     ensures { result ≡ is_done (get nat_eq hands.now ticket.0) }
 {

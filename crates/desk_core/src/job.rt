@@ -1,4 +1,4 @@
-//! What is open: commands that were asked and not yet answered.
+//! Open commands: requested, but not yet answered.
 ghost use Rattle.std.specs.Prelude.{◌≡◌, ◌↔◌, IsTrue, IfOk, IfErr, OnOk, is_some};
 ghost use Rattle.desk_core.specs.Jobs.{worked, was_there, IsJob};
 ghost use Rattle.store_moves.specs.Works.{HasEnd};
@@ -14,8 +14,8 @@ use std::marker::Model;
 use store_cmd::{Reply, SharedCommand};
 use store_moves::{PageCopy, Worked, work_on};
 
-/// What stands under an open ticket: who asked what, the place to which the key leads in a database whose keys hash so, and the
-/// page as it was.
+/// A command under an open ticket: the session, the command, the place of its key, the hash kind of the database, and a
+/// snapshot of the page.
 #[derive(Drop)]
 pub(crate) struct Open<A: Allocator> {
     pub session: u64,
@@ -26,7 +26,7 @@ pub(crate) struct Open<A: Allocator> {
 }
 
 impl<A: Allocator> Open<A> {
-    /// Whether session, command, place, kind of key bytes and page are the same.
+    /// Returns true if session, command, place, hash kind and page are equal.
     pub fn equals(&self, other: &Open<A>) -> bool
         ensures { IsTrue result ↔ (self.now ≡ other.now) }
     {
@@ -46,7 +46,7 @@ impl<A: Allocator> Open<A> {
     }
 }
 
-/// A command that was asked, to be worked without the desk, seen as its ticket and what stands under it.
+/// A requested command, to be computed without the desk. Seen as its ticket and the open command.
 #[derive(Drop)]
 pub struct Job<A: Allocator> {
     pub(crate) alloc: A,
@@ -64,7 +64,7 @@ impl<A: Allocator> Model for Job<A> {
     ghost invariant = { λ a. IsJob a.asked };
 }
 
-/// A command that was worked, seen as its ticket and what stands under it. What it comes to follows from that.
+/// A computed command, seen as its ticket and the open command, which determine its result.
 #[derive(Drop)]
 pub struct Done<A: Allocator> {
     pub(crate) ticket: Ticket,
@@ -85,7 +85,7 @@ impl<A: Allocator> Model for Done<A> {
 }
 
 impl<A: Allocator> Job<A> {
-    /// The ticket under which it was asked.
+    /// The ticket of the command.
     pub fn ticket(&self) -> Ticket
         ensures { result.0 ≡ self.now.ticket }
     {
@@ -99,10 +99,10 @@ impl<A: Allocator> Job<A> {
         self.asked.place.page
     }
 
-    /// Works the command out on the page as it was asked, and touches nothing else.
+    /// Computes the result from the snapshot of the page; touches nothing else.
     ///
     /// # Errors
-    /// `AllocError` where no memory is left for the reply or for the pages that change. The job comes back.
+    /// `AllocError` if there is no memory for the reply or for the changed pages. The job is returned.
     pub fn work(self) -> Result<Done<A>, (AllocError, Job<A>)>
     where
         A: Copy,
@@ -128,7 +128,7 @@ impl<A: Allocator> Job<A> {
     }
 }
 
-// What a command that was asked comes to.
+// Computes the result of an open command.
 pub(crate) fn work_asked<A: Allocator + Copy>(
     alloc: A,
     asked: &Open<A>,
@@ -149,22 +149,22 @@ pub(crate) fn work_asked<A: Allocator + Copy>(
 }
 
 impl<A: Allocator> Done<A> {
-    /// The ticket under which it was asked.
+    /// The ticket of the command.
     pub fn ticket(&self) -> Ticket
         ensures { result.0 ≡ self.now.ticket }
     {
         self.ticket
     }
 
-    // What stands under it.
+    // The open command.
     pub(crate) fn asked(&self) -> &Open<A>
         ensures { result.now ≡ self.now.asked }
     {
         &self.asked
     }
 
-    /// Whether it changes its page, as exactly a store that stores, a delete that deletes, and a run that saves its record, or that
-    /// deletes the pair of a key that was there.
+    /// Returns true if the command changes its page. Exactly three commands do: a store that stores, a delete that deletes, and
+    /// a run that saves its record or deletes the pair of an existing key.
     pub fn changes(&self) -> bool
         ensures change { result ≡ is_some (worked self.now.asked).change }
         ensures reply { result ≡ does_change (was_there self.now.asked) (worked self.now.asked).reply }
@@ -172,7 +172,7 @@ impl<A: Allocator> Done<A> {
         self.change.is_some()
     }
 
-    /// The reply, which is what a `finish` answers. Where the command is a run, its program has ended.
+    /// The reply that `finish` will return. If the command is a run, its program has ended.
     pub fn reply(&self) -> &Reply<A>
         ensures value { result.now ≡ (worked self.now.asked).reply }
         ensures ends { HasEnd self.now.asked.page.pairs self.now.asked.session self.now.asked.command }

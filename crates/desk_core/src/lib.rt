@@ -1,5 +1,5 @@
-//! The core of a store: commands by ticket on a database, and the trail of the answers, which is always a legal history of a plain
-//! map.
+//! The core of a store: commands by ticket on a database, and the trail of their answers, which is always a legal history of a
+//! plain map.
 #![tactic(auto)]
 
 ghost use Rattle.std.specs.Prelude.{◌≡◌, ◌≢◌, ◌≤◌, ◌+◌, ◌++◌, ◌∷◌, [], true, false, Some, None, IfOk, IfErr, OnOk, OnErr, vec_len, vec_capacity};
@@ -35,8 +35,8 @@ pub use step::Stepped;
 use store_cmd::{Command, KeptEntry, Opening, Reply, SharedCommand, SizeFault, Trail, check_sizes};
 use store_moves::{PageCopy, key_in, put_in};
 
-/// The core of a store, seen as its database, the opening and the entries of its trail, what is open under each ticket, the ticket
-/// that is opened next, the holds, and the most entries and open tickets that there may be.
+/// The core of a store, seen as its database, the opening and the entries of its trail, the open command under each ticket, the
+/// next ticket to open, the holds, and the maximum number of entries and open tickets.
 #[derive(Drop)]
 pub struct Desk<A: Allocator> {
     alloc: A,
@@ -64,42 +64,42 @@ impl<A: Allocator> Model for Desk<A> {
         × (vec_len a.trail.entries + slab_len a.tickets ≤ vec_capacity a.trail.entries) };
 }
 
-/// Why a command is refused. They are tested in this order.
+/// Why a command is refused. Checked in this order.
 #[derive(Clone, Copy, Debug, PartialEq, Eq)]
 pub enum AskFault {
-    /// The key and the value to be stored, or the blank, have more bytes together than a pair may have.
+    /// The key plus the value or the blank is longer than a pair may be.
     PairTooLarge,
-    /// The argument of a run has more bytes than one may have.
+    /// The argument of a run is longer than the limit.
     ArgTooLong,
-    /// Entries and open tickets are as many as there may be.
+    /// The number of entries and open tickets is at its limit.
     TrailFull,
-    /// Another ticket holds the page so that it cannot be held.
+    /// Another ticket's hold on the page conflicts.
     Busy,
-    /// No memory is left for the command.
+    /// Out of memory.
     NoMemory,
 }
 
-/// Why a hold is not made exclusive. They are tested in this order.
+/// Why a hold is not made exclusive. Checked in this order.
 #[derive(Clone, Copy, Debug, PartialEq, Eq)]
 pub enum ConvertFault {
     /// The ticket is not open.
     NoTicket,
-    /// It does not hold for update.
+    /// The ticket's hold is not an update hold.
     NotUpdating,
     /// Another ticket reads the page.
     Busy,
 }
 
-/// Why what was worked is not finished. They are tested in this order.
+/// Why a computed command is not finished. Checked in this order.
 #[derive(Clone, Copy, Debug, PartialEq, Eq)]
 pub enum FinishFault {
     /// The ticket is not open.
     NoTicket,
-    /// Session, command, place or page are not those of the ticket.
+    /// Session, command, place or page differ from the ticket's.
     Foreign,
-    /// It changes the page, and the ticket does not hold it alone.
+    /// The command changes the page, but the ticket's hold is not exclusive.
     NotExclusive,
-    /// No memory is left to install it.
+    /// There is no memory to install the change.
     NoMemory,
 }
 
@@ -107,16 +107,16 @@ pub enum FinishFault {
 #[derive(Clone, Copy, Debug, PartialEq, Eq)]
 pub struct NoTicket;
 
-/// What an ask gives.
+/// The result of a request.
 #[derive(Drop)]
 pub enum Asked<A: Allocator> {
-    /// A command to be worked.
+    /// A command to compute.
     Job(Job<A>),
-    /// A count, which is answered at once.
+    /// A count, answered immediately.
     Answered(Reply<A>),
 }
 
-/// What a command wants that is about a key: the page of its place, and how to hold it at first.
+/// The requirements of a command about a key: its place, and its first hold on the page there.
 #[derive(Clone, Copy)]
 pub(crate) struct Wanted {
     pub(crate) place: Place,
@@ -126,10 +126,11 @@ pub(crate) struct Wanted {
 impl<A: Allocator + Copy> Desk<A> {
     ghost use Rattle.desk_core.specs.Calls.{StartsWith, MayAsk, IsWanted, IsAsked, Counts, Asks, Opens, IsAskFault, Converts, IsConvertFault, MayFinish, Finishes, IsFinishFault, Abandons};
 
-    /// A desk over a database, whose trail begins with its pairs. The limit is the most entries and open tickets together.
+    /// Opens a desk on a database. Its trail begins with the pairs of the database. `limit` is the maximum number of entries
+    /// and open tickets together.
     ///
     /// # Errors
-    /// `AllocError` where no memory is left for the opening. The image comes back.
+    /// `AllocError` if there is no memory for the opening. The image is returned.
     pub fn open(alloc: A, image: Image<A>, limit: usize) -> Result<Self, (AllocError, Image<A>)>
         ensures ok { IfOk result (λ desk. StartsWith image limit desk) }
         ensures sound { IfOk result (λ desk. IsSound desk) }
@@ -151,11 +152,12 @@ impl<A: Allocator + Copy> Desk<A> {
         })
     }
 
-    /// Opens a ticket for a session's command, or answers it at once. The ticket that was closed last is opened next.
+    /// Opens a ticket for a session's command, or answers it immediately. Tickets are reused: the ticket closed last is opened
+    /// next.
     ///
     /// # Errors
-    /// Each `AskFault` but `NoMemory` exactly where it says, and `NoMemory` where none of them is. The desk is then as it was, and
-    /// the command comes back.
+    /// Each `AskFault` except `NoMemory` if and only if its condition holds; `NoMemory` only if no other condition holds. The
+    /// desk is unchanged, and the command is returned.
     pub fn ask(
         &mut self,
         session: u64,
@@ -172,7 +174,7 @@ impl<A: Allocator + Copy> Desk<A> {
         }
     }
 
-    // What a command wants that may be asked, or why it may not, but for memory.
+    // Checks that a command may be requested, and returns its requirements. Does not check memory.
     fn may_ask(&self, command: &SharedCommand<A>) -> Result<Option<Wanted>, AskFault>
         ensures ok { OnOk result (MayAsk self.now command.now) }
         ensures wanted { IfOk result (IsWanted self.now command.now) }
@@ -196,7 +198,7 @@ impl<A: Allocator + Copy> Desk<A> {
         Ok(Some(Wanted { place, mode }))
     }
 
-    // Asks a command that may be asked.
+    // Requests a command that passed `may_ask`.
     fn admit(
         &mut self,
         session: u64,
@@ -258,7 +260,7 @@ impl<A: Allocator + Copy> Desk<A> {
         }))
     }
 
-    // What stands under a ticket for a command. That has one owner more then.
+    // Makes the open command of a ticket. Adds an owner to the command.
     fn asked_of(
         &self,
         session: u64,
@@ -280,7 +282,7 @@ impl<A: Allocator + Copy> Desk<A> {
         })
     }
 
-    // Opens the next ticket for what may be asked, with its page held.
+    // Opens the next ticket for an open command, and holds its page.
     fn enter(&mut self, own: Open<A>, mode: Hold) -> Result<Ticket, AllocError>
         requires may { MayAsk self.old own.command }
         requires mode { first_hold own.command ≡ Some mode }
@@ -301,7 +303,7 @@ impl<A: Allocator + Copy> Desk<A> {
         Ok(ticket)
     }
 
-    // Answers a count at once.
+    // Answers a count immediately.
     fn answer_count(
         &mut self,
         session: u64,
@@ -323,10 +325,10 @@ impl<A: Allocator + Copy> Desk<A> {
         Ok(Reply::Count(counted))
     }
 
-    /// Makes a ticket's update hold exclusive. It takes no memory.
+    /// Makes a ticket's update hold exclusive. Allocates nothing.
     ///
     /// # Errors
-    /// Each `ConvertFault` exactly where it says. The desk is then as it was.
+    /// Each `ConvertFault` if and only if its condition holds. The desk is unchanged.
     pub fn convert(&mut self, ticket: Ticket) -> Result<(), ConvertFault>
         ensures ok { OnOk result (Converts self.old ticket.0 self.new) }
         ensures refused { IfErr result (IsConvertFault self.old ticket.0) }
@@ -344,10 +346,10 @@ impl<A: Allocator + Copy> Desk<A> {
         Ok(())
     }
 
-    /// Closes a ticket, and commits nothing. It takes no memory.
+    /// Closes a ticket without committing. Allocates nothing.
     ///
     /// # Errors
-    /// `NoTicket` exactly where the ticket is not open. The desk is then as it was.
+    /// `NoTicket` if and only if the ticket is not open. The desk is unchanged.
     pub fn abandon(&mut self, ticket: Ticket) -> Result<(), NoTicket>
         ensures ok { OnOk result (Abandons self.old ticket.0 self.new) }
         ensures refused { OnErr result (ticket_of self.old ticket.0 ≡ None) }
@@ -361,11 +363,11 @@ impl<A: Allocator + Copy> Desk<A> {
         Ok(())
     }
 
-    /// Commits what was worked under a ticket, and closes it. What changes no page takes no memory.
+    /// Commits a computed command and closes its ticket. Allocates nothing if no page changes.
     ///
     /// # Errors
-    /// Each `FinishFault` but `NoMemory` exactly where it says, and `NoMemory` where none of them is and a page changes. The desk is
-    /// then as it was, and what was worked comes back.
+    /// Each `FinishFault` except `NoMemory` if and only if its condition holds; `NoMemory` only if no other condition holds and
+    /// a page changes. The desk is unchanged, and the computed command is returned.
     pub fn finish(&mut self, done: Done<A>) -> Result<Reply<A>, (FinishFault, Done<A>)>
         ensures ok { IfOk result (λ reply. Finishes self.old done reply self.new) }
         ensures refused { IfErr result (λ refused. IsFinishFault self.old done refused.0) }
@@ -388,7 +390,7 @@ impl<A: Allocator + Copy> Desk<A> {
         self.commit(done)
     }
 
-    // Installs what was worked under an open ticket, adds its entry, and closes the ticket.
+    // Installs the result of an open ticket, adds its entry, and closes the ticket.
     fn commit(&mut self, done: Done<A>) -> Result<Reply<A>, (FinishFault, Done<A>)>
         requires { MayFinish self.old done }
         ensures ok { IfOk result (λ reply. Finishes self.old done reply self.new) }
@@ -428,21 +430,21 @@ impl<A: Allocator + Copy> Desk<A> {
     /// The pairs of the map, sorted by the bytes of their keys.
     ///
     /// # Errors
-    /// `AllocError` where no memory is left for them.
+    /// `AllocError` if out of memory.
     pub fn pairs(&self) -> Result<Vec<(Bytes<A>, Bytes<A>), A>, AllocError>
         ensures { IfOk result (λ pairs. pairs.items ≡ map.entries (map_of self.now.database)) }
     {
         self.image.pairs()
     }
 
-    /// The database as it stands.
+    /// The current database.
     pub fn image(&self) -> &Image<A>
         ensures { result.now ≡ self.now.database }
     {
         &self.image
     }
 
-    /// What the desk began with, and what was answered since.
+    /// The desk's initial pairs and the commands answered since.
     pub fn trail(&self) -> &Trail<A>
         ensures opening { result.now.opening ≡ self.now.opening }
         ensures entries { result.now.entries.items ≡ self.now.entries }
@@ -451,7 +453,7 @@ impl<A: Allocator + Copy> Desk<A> {
         &self.trail
     }
 
-    /// The database and the trail. Open tickets vanish.
+    /// Returns the database and the trail. Discards open tickets.
     pub fn into_parts(self) -> (Image<A>, Trail<A>)
         ensures image { result.0 ≡ self.database }
         ensures opening { result.1.opening ≡ self.opening }
@@ -475,7 +477,7 @@ fn opening_of<A: Allocator + Copy>(alloc: A, image: &Image<A>) -> Result<Opening
     }
 }
 
-// How a command's page is held at first.
+// A command's first hold on its page.
 fn hold_for<A: Allocator>(command: &Command<A>) -> Option<Hold>
     ensures { result ≡ first_hold command.now }
 {
@@ -488,7 +490,7 @@ fn hold_for<A: Allocator>(command: &Command<A>) -> Option<Hold>
     }
 }
 
-// The refusal of a command for its size.
+// The refusal for an invalid size.
 fn ask_fault(fault: SizeFault) -> AskFault
     ensures { result ≡ refusal_of fault }
 {
@@ -498,7 +500,7 @@ fn ask_fault(fault: SizeFault) -> AskFault
     }
 }
 
-// Takes all the memory that one more ticket needs, and its hold.
+// Allocates all memory that one more ticket and its hold need.
 fn make_room<A: Allocator + Copy>(
     entries: &mut Vec<KeptEntry<A>, A>,
     tickets: &mut Slab<Open<A>, A>,

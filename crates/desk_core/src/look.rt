@@ -1,5 +1,5 @@
-//! Commands that are worked without a ticket: looked up on the desk, worked on the page of their key as it was, and put in where that
-//! page still is so.
+//! Commands computed without a ticket: looked up on the desk, computed on a snapshot of their page, and put in if that page is
+//! unchanged.
 ghost use Rattle.std.specs.Prelude.{◌≡◌, ◌↔◌, IsTrue, IfOk, IfErr, OnOk, OnErr, is_some};
 ghost use Rattle.store_moves.specs.Works.{HasKey, HasEnd, key_of};
 ghost use Rattle.store_moves.specs.Leads.{IsPlaceOf};
@@ -15,8 +15,8 @@ use std::marker::Model;
 use store_cmd::SharedCommand;
 use store_moves::{PageCopy, Worked};
 
-/// A command that was looked up, to be worked without the desk, seen as what would stand under its ticket. It has none: it holds no page
-/// and no room in the trail.
+/// A command that was looked up, to be computed without the desk. Seen as the open command that its ticket would have. It has
+/// no ticket, so it holds no page and reserves no room in the trail.
 #[derive(Drop)]
 pub struct Look<A: Allocator> {
     alloc: A,
@@ -34,7 +34,7 @@ impl<A: Allocator> Model for Look<A> {
     ghost invariant = { λ a. IsJob a.asked };
 }
 
-/// A look that was worked, seen as the look. What it comes to follows from that.
+/// A computed look, seen as the look, which determines its result.
 #[derive(Drop)]
 pub struct Seen<A: Allocator> {
     asked: Open<A>,
@@ -52,20 +52,20 @@ impl<A: Allocator> Model for Seen<A> {
     ghost invariant = { λ a. IsSeen a.asked a.worked };
 }
 
-/// Why what was worked without a ticket is not put in.
+/// Why a computed look is not put in.
 #[derive(Clone, Copy, Debug, PartialEq, Eq)]
 pub enum PutFault {
-    /// The command is refused for this.
+    /// The command is refused for this reason.
     Refused(AskFault),
-    /// The page of its key is another than it was when the command was looked up.
+    /// The page of the command's key has changed since the look.
     Changed,
 }
 
 impl<A: Allocator> Look<A> {
-    /// Works the command out on the page as it was, and touches nothing else.
+    /// Computes the result from the snapshot of the page; touches nothing else.
     ///
     /// # Errors
-    /// `AllocError` where no memory is left for the reply or for the pages that change. The look comes back.
+    /// `AllocError` if there is no memory for the reply or for the changed pages. The look is returned.
     pub fn work(self) -> Result<Seen<A>, (AllocError, Look<A>)>
     where
         A: Copy,
@@ -82,14 +82,14 @@ impl<A: Allocator> Look<A> {
 }
 
 impl<A: Allocator> Seen<A> {
-    // Whether it changes its page.
+    // Returns true if the command changes its page.
     fn changes(&self) -> bool
         ensures { result ≡ is_some (worked self.now).change }
     {
         self.worked.change.is_some()
     }
 
-    // What stands under it.
+    // The open command.
     fn asked(&self) -> &Open<A>
         ensures value { result.now ≡ self.now }
         ensures keyed { HasKey self.now.command }
@@ -99,11 +99,11 @@ impl<A: Allocator> Seen<A> {
 }
 
 impl<A: Allocator + Copy> Desk<A> {
-    /// Looks a session's command about a key up, to be worked without the desk. No memory is taken, and nothing is held: others may
-    /// change the page meanwhile.
+    /// Looks up a session's command about a key, to be computed without the desk. Allocates nothing and holds nothing: other
+    /// sessions may change the page in the meantime.
     ///
     /// # Errors
-    /// Those of `ask`; `NoMemory` only where the page has as many owners as can be counted. The command comes back.
+    /// Those of `ask`; `NoMemory` only if the page's owner count is at its maximum. The command is returned.
     pub fn look(
         &self,
         session: u64,
@@ -122,7 +122,7 @@ impl<A: Allocator + Copy> Desk<A> {
         }
     }
 
-    // The same for a command that may be asked, at the place of its key.
+    // Like `look`, for a command that may be requested, at the place of its key.
     fn look_at(
         &self,
         session: u64,
@@ -153,13 +153,15 @@ impl<A: Allocator + Copy> Desk<A> {
         })
     }
 
-    /// Puts in what a look came to, as one `step` of its command, where the page of its key is still as it was. Its reply comes twice, as
-    /// of `step_twice`.
+    /// Puts in the result of a look, like one `step` of its command, if the page of its key is unchanged. Returns the reply
+    /// twice, like `step_twice`.
     ///
     /// # Errors
-    /// `Refused` as `ask` is, exactly where that says so but for memory. Then `Changed` exactly where the page of its key is another, or
-    /// is in a database with other pages or whose keys hash otherwise. Then `Refused` for `Busy` exactly where it comes to a change of a
-    /// page that a ticket holds, and else for `NoMemory`. The desk is then as it was, and the command comes back.
+    /// Checked in this order; the desk is unchanged, and the command is returned.
+    /// - `Refused` if and only if `ask` refuses the command for a reason other than memory.
+    /// - `Changed` if and only if the page of the key has changed, or the page size or hash kind of the database is another.
+    /// - `Refused(Busy)` if and only if the command changes a page that a ticket holds.
+    /// - `Refused(NoMemory)` if out of memory.
     pub fn put(&mut self, seen: Seen<A>) -> Result<Stepped<A>, (PutFault, SharedCommand<A>)>
         ensures ok { IfOk result (λ stepped. Steps self.old seen.session seen.command stepped.reply self.new) }
         ensures reply { IfOk result (λ stepped. stepped.reply ≡ (worked seen).reply) }
@@ -186,7 +188,7 @@ impl<A: Allocator + Copy> Desk<A> {
         }
     }
 
-    // Why a look is not put in, but for memory.
+    // Why a look is not put in, apart from memory.
     fn may_put(&self, seen: &Seen<A>) -> Result<(), PutFault>
         ensures ok { OnOk result (MayPut self.now seen.now) }
         ensures refused { IfErr result (IsPutFault self.now seen.now) }
@@ -199,7 +201,7 @@ impl<A: Allocator + Copy> Desk<A> {
         }
     }
 
-    // The same for one that may be asked, whose key leads to this place.
+    // Like `may_put`, for a command that may be requested, whose key has this place.
     fn may_put_at(&self, seen: &Seen<A>, place: Place) -> Result<(), PutFault>
         requires may { MayAsk self.now seen.now.command }
         requires place { IsPlaceOf self.now.database (key_of seen.now.command) place }
@@ -216,7 +218,7 @@ impl<A: Allocator + Copy> Desk<A> {
         Ok(())
     }
 
-    // Whether what was asked is the page of its key as it stands, where that key leads to this place.
+    // Returns true if the open command's page is the current page of its key, whose place is `place`.
     fn is_still(&self, asked: &Open<A>, place: Place) -> bool
         requires { IsPlaceOf self.now.database (key_of asked.now.command) place }
         ensures { IsTrue result ↔ IsStill self.now asked.now }

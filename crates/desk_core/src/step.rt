@@ -21,7 +21,7 @@ use std::alloc::{AllocError, Allocator};
 use store_cmd::{Command, KeptEntry, Reply, SharedCommand};
 use store_moves::{Worked, is_run, put_in, ran, run_in_place, work_at};
 
-/// What a step leaves: its reply, twice.
+/// The reply of a step, twice.
 #[derive(Drop)]
 pub struct Stepped<A: Allocator> {
     pub reply: Reply<A>,
@@ -32,9 +32,9 @@ impl<A: Allocator + Copy> Desk<A> {
     /// Answers a session's command in one call, without a ticket.
     ///
     /// # Errors
-    /// Those of `ask`, and `Busy` also where the command comes to a change of a page that another ticket holds; `NoMemory` only
-    /// where it does not, or where it is a run, which takes memory before it is known whether it does. The desk is then as it was,
-    /// and the command comes back.
+    /// Those of `ask`, and `Busy` also if the command would change a page that another ticket holds. `NoMemory` only if it
+    /// would not, or if the command is a run: a run allocates before it is known whether its page changes. The desk is
+    /// unchanged, and the command is returned.
     pub fn step(
         &mut self,
         session: u64,
@@ -51,10 +51,11 @@ impl<A: Allocator + Copy> Desk<A> {
         }
     }
 
-    /// Answers as `step` does, and gives the reply twice, so that the asker can keep one. Both are made before the desk changes.
+    /// Answers like `step`, but returns the reply twice, so that the caller can keep one. Both are made before the desk
+    /// changes.
     ///
     /// # Errors
-    /// Those of `step`, with the same left as it was.
+    /// Those of `step`; the desk is unchanged, and the command is returned.
     pub fn step_twice(
         &mut self,
         session: u64,
@@ -73,7 +74,7 @@ impl<A: Allocator + Copy> Desk<A> {
         }
     }
 
-    // The same for a count.
+    // Like `step_twice`, for a count.
     fn step_count(
         &mut self,
         session: u64,
@@ -93,7 +94,7 @@ impl<A: Allocator + Copy> Desk<A> {
         }
     }
 
-    // The same for a command that has a key, on its page as it stands.
+    // Like `step_twice`, for a command about a key, on its current page.
     fn step_on(
         &mut self,
         session: u64,
@@ -115,8 +116,8 @@ impl<A: Allocator + Copy> Desk<A> {
         }
     }
 
-    // The same for a run on a short record of a page that nobody else holds or reads, which takes the memory of its entry alone. Any
-    // other command comes back, and nothing is done.
+    // Like `step_twice`, for a run on a short record of a page that is neither held nor read elsewhere. Allocates only its
+    // entry. Any other command is returned, and nothing changes.
     fn step_in_place(
         &mut self,
         session: u64,
@@ -150,7 +151,7 @@ impl<A: Allocator + Copy> Desk<A> {
         })
     }
 
-    // The same for a command that has a key, by what is worked out first.
+    // Like `step_twice`, for a command about a key: computes its result first.
     fn step_by_plan(
         &mut self,
         session: u64,
@@ -179,7 +180,7 @@ impl<A: Allocator + Copy> Desk<A> {
         }
     }
 
-    // What a command comes to on its page as it stands.
+    // Computes the result of a command on its current page.
     fn work_there(
         &self,
         session: u64,
@@ -197,7 +198,7 @@ impl<A: Allocator + Copy> Desk<A> {
         work_at(self.alloc, &self.image, place, session, command.command())
     }
 
-    // Puts in what a command came to on its page, and adds its entry.
+    // Puts in a command's result on its page, and adds its entry.
     pub(crate) fn put_step(
         &mut self,
         session: u64,
@@ -235,7 +236,7 @@ impl<A: Allocator + Copy> Desk<A> {
         Ok(Stepped { reply, copy })
     }
 
-    // Why a command is refused for which no memory is left.
+    // The refusal of a command that ran out of memory.
     fn refusal(&self, page: u32, changes: bool) -> AskFault
         ensures { result ≡ cond (changes && list_any (bars page Exclusive) self.now.holds) AskFault.Busy AskFault.NoMemory }
     {
@@ -245,7 +246,7 @@ impl<A: Allocator + Copy> Desk<A> {
         AskFault::NoMemory
     }
 
-    // Whether another ticket holds a page that is to be changed.
+    // Returns true if another ticket holds a page that is to be changed.
     pub(crate) fn is_in_the_way(&self, page: u32, changes: bool) -> bool
         ensures { result ≡ (changes && list_any (bars page Exclusive) self.now.holds) }
     {
@@ -256,7 +257,7 @@ impl<A: Allocator + Copy> Desk<A> {
     }
 }
 
-// A number of pairs as a reply, twice. It takes no memory.
+// The reply to a count, twice. Allocates nothing.
 fn twice<A: Allocator>(reply: Reply<A>) -> Stepped<A>
     requires { (n : ℕ) × (reply ≡ replies.Count n) }
     ensures reply { result.reply ≡ reply }
@@ -271,7 +272,8 @@ fn twice<A: Allocator>(reply: Reply<A>) -> Stepped<A>
     }
 }
 
-// Whether a command takes memory only where it changes its page. A program runs before it is known whether it does.
+// Returns true if a command allocates only when it changes its page. A run is not one: its program runs before it is known
+// whether the page changes.
 fn is_change<A: Allocator>(command: &SharedCommand<A>) -> bool
     ensures { result ≡ worked.is_change command.now }
 {

@@ -8,11 +8,11 @@ use Rattle.bpf_helpers.specs.Runs.{Outcome, Ends, IsInput}
 use Rattle.store_cmd.specs.Answers.{saves, removes}
 use Rattle.stock_histories.specs.Turns.{Turn, NeverFalls}
 
--- The record after a run on it, or on a blank if there is none.
+-- The record after a run on it, or on a blank if it is missing.
 abbrev pub left_at : Option (List ℕ) → Outcome → Option (List ℕ)
 left_at r o = cond (saves o.code) (Some o.bytes) (cond (removes o.code) None r)
 
--- A run is given the record, or zeros if there is none.
+-- A run is given the record, or zeros if it is missing.
 abbrev pub IsGiven : Option (List ℕ) → List ℕ → Type 0
 IsGiven r given = (r ≡ Some given) ⊎ ((r ≡ None) × ((n : ℕ) × (given ≡ replicate n 0)))
 

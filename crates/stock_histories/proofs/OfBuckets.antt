@@ -49,7 +49,7 @@ first_pour r r' t room s names one =
       | inr (inr (inr g)) ↦ let c : s.outcome.code ≡ 0 = g.code_is in absurd (omega arith)
     ]
 
--- a run takes its cost, or the bucket stays as it is
+-- a run takes its cost, or the bucket is unchanged
 record Step (r' : Option (List ℕ)) (t : Turn) (full room : ℕ) : Type 0 where
   next : ℕ
   taken : ℕ

@@ -67,7 +67,7 @@ may_not : (bytes argument : List ℕ) (now who end : ℕ) → Seen bytes who end
 may_not bytes argument now who end s before other (inl over) = let u : until bytes ≡ end = s.until_is in omega arith
 may_not bytes argument now who end s before other (inr own) = other (sym own ∙ s.owner_is)
 
--- and it stays as it is, unless the owner is granted it anew or gives it back
+-- and it is unchanged, unless the owner is granted it again or gives it back
 stays : (r r' : Option (List ℕ)) (t : Turn) (who end : ℕ) → RunsTo lease r t r' → Holds r who end → t.now < end
     → (Grants who t → ⊥) → Keeps who t → Holds r' who end
 stays r r' t who end s h before not_granted keeps =
@@ -97,7 +97,7 @@ not_before r r' t who end s h one other = elim (cases_lt t.now end) [
       ]
 ]
 
--- What the test of `last_end` decides.
+-- The meaning of the test of `last_end`.
 record Decided (t : Turn) (who : ℕ) (b : Bool) : Type 0 where
   yes : b ≡ true → Grants who t
   no : b ≡ false → Grants who t → ⊥

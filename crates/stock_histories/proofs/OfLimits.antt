@@ -106,7 +106,7 @@ not_over : (bytes argument : List ℕ) (now start length : ℕ) → began bytes 
 not_over bytes argument now start length b w after before (inl back) = omega arith
 not_over bytes argument now start length b w after before (inr over) = omega arith
 
--- a turn is admitted, or the window stays as it is
+-- a turn is admitted, or the window is unchanged
 record Passes (r' : Option (List ℕ)) (t : Turn) (start count number : ℕ) : Type 0 where
   more : ℕ
   adds : cond (t.code == 1) 1 0 ≡ more

@@ -1,4 +1,4 @@
--- A legal history in which runs of one program alone change a key is a chain of turns of that key.
+-- A legal history that changes a key only by runs of one program is a chain of turns of that key.
 use Rattle.std.proofs.Common.{ℕ, zero, suc, ◌≡◌, ◌≢◌, ◌⊎◌, inl, inr, ◌<◌, ◌≤◌, ◌^◌, refl, sym, ap, ◌∙◌, subst, List, [], ◌∷◌, ◌++◌, length, replicate, Option, Some, None, Bool, true, false, cond, arith, lit<}
 use Rattle.std.specs.Option.{option_to_list}
 use Rattle.std.specs.FinMap as map

@@ -11,7 +11,7 @@ use Rattle.stock_programs.specs.BoundedAdd.{bounded_add, bound}
 use Rattle.stock_programs.specs.BoundedCounter.{bounded_counter, floor, ceiling}
 use Rattle.stock_histories.specs.Turns.{Turn, turns_of, IsAlone}
 
--- The number in the record, if there is one, is from the one bound to the other.
+-- The number in the record, if there is one, is within both bounds.
 abbrev pub IsBetween : ℕ → ℕ → Option (List ℕ) → Type 0
 IsBetween low high r = (value : List ℕ) → r ≡ Some value → 8 ≤ length value → (low ≤ number_at 0 value) × (number_at 0 value ≤ high)
 
@@ -27,7 +27,7 @@ StaysBetween A =
     → IsAlone bounded_counter size kind m es m' key → AllByRecursion (NamesWithin low high) (turns_of key es)
     → IsBetween low high (map.get m key) → IsBetween low high (map.get m' key)
 
--- The same of bounded add, whose runs name one bound.
+-- The same for bounded add, whose runs name one bound.
 abbrev pub NamesBelow : ℕ → Turn → Type 0
 NamesBelow high t = bound t.argument ≤ high
 

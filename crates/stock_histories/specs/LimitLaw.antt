@@ -18,7 +18,7 @@ abbrev pub admitted_in : List Turn → ℕ
 admitted_in [] = 0
 admitted_in (t ∷ ts) = cond (t.code == 1) 1 0 + admitted_in ts
 
--- The turn is the first that its window admits: the word says that all others are left.
+-- The turn is the first that its window admits: its word says that the rest of the number is left.
 abbrev pub Begins : ℕ → Turn → Type 0
 Begins number t = (t.code ≡ 1) × (t.word + 1 ≡ number)
 

@@ -67,11 +67,11 @@ abbrev pub HaveWords : {A : Type 0} → List (Entry A) → Type 0
 HaveWords [] = Unit {0}
 HaveWords (e ∷ es) = HasWords e.command × ((e.session < 2 ^ 64) × HaveWords es)
 
--- The value of the key, if any, is bytes, at most as many as a record may have.
+-- The value of the key, if any, is bytes and no longer than a record may be.
 abbrev pub IsRecord : Option (List ℕ) → Type 0
 IsRecord r = (value : List ℕ) → r ≡ Some value → AreBytes value × (length value ≤ record_limit)
 
--- The premises that all laws share: a legal history, in which runs of one program alone change the key.
+-- The premises that all laws share: a legal history that changes the key only by runs of one program.
 pub record IsAlone {A : Type 0} (program : List Insn) (size : PageSize) (kind : KeyBytes) (m : Map) (es : List (Entry A)) (m' : Map) (key : List ℕ)
     : Type 0 where
   pub legal : History size kind m es m'

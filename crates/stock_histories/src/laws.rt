@@ -1,4 +1,4 @@
-//! The laws. Each holds in every legal history in which runs of one program alone change a key; the premises are in `specs/`.
+//! The laws. Each holds in every legal history that changes a key only by runs of one program; the premises are in `specs/`.
 ghost use Rattle.stock_histories.specs.BoundsLaw.{StaysBelow, StaysBetween};
 ghost use Rattle.stock_histories.specs.BucketLaw.{PoursAtMost};
 ghost use Rattle.stock_histories.specs.CounterLaw.{LosesNoRun};

@@ -21,9 +21,10 @@ use sdbm_addr::Bytes;
 use std::alloc::Allocator;
 use store_cmd::{Command, KeptEntry, Program, Reply, Trail};
 
-/// Tests the premises of the laws on the trail of a closed store: runs of this program alone change the key, the times of its runs never
-/// fall, and the value at the start has at most 8,008 bytes, as in each file. Fetches, counts and commands on other keys are allowed. That
-/// the history is legal is a promise of the store that closed. It takes no memory, and time in the pairs and entries.
+/// Tests the premises of the laws on the trail of a closed store: only runs of this program change the key, the times of its
+/// runs never fall, and the value at the start has at most 8,008 bytes, as in every file. Fetches, counts and commands on other
+/// keys are allowed. The closed store guarantees that the history is legal. Allocates nothing; time is linear in the pairs and
+/// entries.
 pub fn has_premises<A: Allocator>(trail: &Trail<A>, program: &Code<A>, key: &[u8]) -> bool
     ensures tested { IsTrue result ↔ (RunsAlone program.now key.now trail.now.entries.items × (NeverFalls 0 (turns_of key.now trail.now.entries.items) × IsRecord (map.get (map.from_entries {R = key_cmp} trail.now.opening) key.now))) }
     ensures words { IsTrue result → HaveWords trail.now.entries.items }
@@ -38,7 +39,7 @@ pub fn has_premises<A: Allocator>(trail: &Trail<A>, program: &Code<A>, key: &[u8
     opens_with_record(trail.opening.as_slice(), key)
 }
 
-/// Tests whether runs of this program alone change the key in the entries of a trail. It takes no memory.
+/// Tests whether only runs of this program change the key in the entries of a trail. Allocates nothing.
 pub fn is_alone<A: Allocator>(entries: &[KeptEntry<A>], program: &Code<A>, key: &[u8]) -> bool
     ensures alone { IsTrue result ↔ RunsAlone program.now key.now entries.now }
     ensures words { IsTrue result → HaveWords entries.now }
@@ -52,7 +53,7 @@ pub fn is_alone<A: Allocator>(entries: &[KeptEntry<A>], program: &Code<A>, key: 
     true
 }
 
-/// Tests whether the times of the runs on a key never fall from one to the next. It takes no memory.
+/// Tests whether the times of the runs on a key never fall. Allocates nothing.
 pub fn never_falls<A: Allocator>(entries: &[KeptEntry<A>], key: &[u8]) -> bool
     ensures { IsTrue result ↔ NeverFalls 0 (turns_of key.now entries.now) }
 {
@@ -68,7 +69,7 @@ pub fn never_falls<A: Allocator>(entries: &[KeptEntry<A>], key: &[u8]) -> bool
     true
 }
 
-/// Tests whether the value of a key in an opening, if there is one, has at most 8,008 bytes. It takes no memory.
+/// Tests whether the value of a key in an opening, if there is one, has at most 8,008 bytes. Allocates nothing.
 pub fn opens_with_record<A: Allocator>(pairs: &[(Bytes<A>, Bytes<A>)], key: &[u8]) -> bool
     ensures { IsTrue result ↔ IsRecord (map.get (map.from_entries {R = key_cmp} pairs.now) key.now) }
 {
@@ -80,7 +81,7 @@ pub fn opens_with_record<A: Allocator>(pairs: &[(Bytes<A>, Bytes<A>)], key: &[u8
     true
 }
 
-// Whether bytes may be a record.
+// Returns true if the bytes may be a record.
 fn is_record(bytes: &[u8]) -> bool
     ensures { IsTrue result ↔ (AreBytes bytes.now × (length bytes.now ≤ record_limit)) }
 {
@@ -88,7 +89,7 @@ fn is_record(bytes: &[u8]) -> bool
     bytes.len() <= RECORD_LIMIT
 }
 
-// Whether a command leaves the key alone or is a run of the program.
+// Returns true if a command does not change the key or is a run of the program.
 fn only_runs<A: Allocator>(command: &Command<A>, program: &Code<A>, key: &[u8]) -> bool
     ensures alone { IsTrue result ↔ OnlyRuns program.now key.now command.now }
     ensures words { HasWords command.now }
@@ -115,7 +116,7 @@ fn only_runs<A: Allocator>(command: &Command<A>, program: &Code<A>, key: &[u8]) 
     }
 }
 
-// Whether an accepted program is this code.
+// Returns true if an accepted program is this code.
 fn is_of<A: Allocator>(prog: &Program<A>, program: &Code<A>) -> bool
     ensures { IsTrue result ↔ (prog.now ≡ program.now) }
 {

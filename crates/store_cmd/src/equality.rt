@@ -1,4 +1,4 @@
-//! Whether commands are the same.
+//! Equality of commands.
 ghost use Rattle.std.specs.Prelude.{◌≡◌, ◌↔◌, IsTrue};
 ghost use Rattle.store_cmd.specs.declared.Command.TheVariants.{Fetch, Store, Delete, Run, Count};
 
@@ -8,7 +8,7 @@ use sdbm_addr::{Bytes, Mode};
 use std::alloc::Allocator;
 
 impl<A: Allocator> Command<A> {
-    /// Whether two commands are the same. No memory is taken.
+    /// Returns true if both commands are equal. Allocates nothing.
     pub fn equals(&self, other: &Self) -> bool
         ensures { IsTrue result ↔ (self.now ≡ other.now) }
     {
@@ -27,7 +27,7 @@ impl<A: Allocator> Command<A> {
         }
     }
 
-    // Whether it is the fetch of a key.
+    // Returns true if this is a fetch of `key`.
     fn is_fetch(&self, key: &Bytes<A>) -> bool
         ensures { IsTrue result ↔ (self.now ≡ Fetch key.now) }
     {
@@ -37,7 +37,7 @@ impl<A: Allocator> Command<A> {
         }
     }
 
-    // Whether it is this store.
+    // Returns true if this is a store of `value` under `key` in this mode.
     fn is_store(&self, key: &Bytes<A>, value: &Bytes<A>, mode: Mode) -> bool
         ensures { IsTrue result ↔ (self.now ≡ Store key.now value.now mode) }
     {
@@ -58,7 +58,7 @@ impl<A: Allocator> Command<A> {
         *how == mode
     }
 
-    // Whether it is the delete of a key.
+    // Returns true if this is a delete of `key`.
     fn is_delete(&self, key: &Bytes<A>) -> bool
         ensures { IsTrue result ↔ (self.now ≡ Delete key.now) }
     {
@@ -68,7 +68,7 @@ impl<A: Allocator> Command<A> {
         }
     }
 
-    // Whether it is this run.
+    // Returns true if this is a run with these operands.
     fn is_run(
         &self,
         key: &Bytes<A>,
@@ -104,7 +104,7 @@ impl<A: Allocator> Command<A> {
         *now == time
     }
 
-    // Whether it is a count.
+    // Returns true if this is a count.
     fn is_count(&self) -> bool
         ensures { IsTrue result ↔ (self.now ≡ Count) }
     {

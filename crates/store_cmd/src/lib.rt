@@ -1,5 +1,5 @@
-//! Commands on a store, their replies, and the trail of what was answered; in `specs/` what a plain map answers, what a command
-//! does to the directory, and which histories are legal.
+//! Commands on a store, their replies, and the trail of answered commands. `specs/` defines the answers of a plain map, the
+//! effect of a command on the directory, and legal histories.
 #![tactic(auto)]
 
 ghost use Rattle.std.specs.Prelude.{◌≡◌, ◌↔◌, ◌≤◌, ◌+◌, IfOk, IfErr, IsOk, length};
@@ -20,84 +20,85 @@ use sdbm_addr::{Bytes, Mode, PageSize};
 pub use shared::{KeptEntry, SharedCommand};
 use std::alloc::{AllocError, Allocator};
 
-/// What a session asks of the store.
+/// A session's command to the store.
 #[derive(Drop)]
 #[derive_where(PartialEq)]
 pub enum Command<A: Allocator> {
-    /// The value of a key.
+    /// Returns the value of a key.
     Fetch {
         key: Bytes<A>,
     },
-    /// A value for a key.
+    /// Stores a value under a key.
     Store {
         key: Bytes<A>,
         value: Bytes<A>,
         mode: Mode,
     },
-    /// That a key be gone.
+    /// Removes a key.
     Delete {
         key: Bytes<A>,
     },
-    /// That a program be run on a key's record in place, or on a blank of so many zeros where the key isn't there.
+    /// Runs a program on a key's record in place. If the key is missing, the program runs on a record of `blank` zero bytes
+    /// instead.
     Run {
         key: Bytes<A>,
         prog: Program<A>,
         arg: Bytes<A>,
         blank: Option<usize>,
-        /// The time that the program is told.
+        /// The time that the program sees.
         now: u64,
     },
-    /// The number of pairs.
+    /// Returns the number of pairs.
     Count,
 }
 
-/// What the store answers.
+/// The store's reply to a command.
 #[derive(Drop)]
 #[derive_where(PartialEq)]
 pub enum Reply<A: Allocator> {
     /// To a fetch: the key's value.
     Found(Bytes<A>),
-    /// To a fetch, a delete or a run without a blank: the key isn't there.
+    /// To a fetch, a delete or a run without a blank: the key does not exist.
     Missing,
-    /// To a store: the key has the value now.
+    /// To a store: the key now has the value.
     Stored,
-    /// To a store that inserts: the key was there.
+    /// To a store that inserts: the key exists already.
     Exists,
-    /// To a store, or a run whose blank is to be stored: there is no room, and all is as it was.
+    /// To a store, or a run that saves its blank: the pair does not fit, and nothing has changed.
     Crowded,
-    /// To a delete: the key was there and is gone.
+    /// To a delete: the key existed and has been removed.
     Deleted,
-    /// To a run: the number with which the program ended, and the reply word that it set.
+    /// To a run: the program's exit number, and the reply word that it set.
     Ran { code: u64, word: u64 },
     /// To a count: the number of pairs.
     Count(usize),
 }
 
-/// Why a command is refused for its size.
+/// Why a command's size is invalid.
 #[derive(Clone, Copy, Debug, PartialEq, Eq)]
 pub enum SizeFault {
-    /// The key and the value to be stored, or the blank, have more bytes together than a pair may have.
+    /// The key plus the value or the blank is longer than a pair may be.
     PairTooLarge,
-    /// The argument of a run has more bytes than one may have.
+    /// The argument of a run is longer than the limit.
     ArgTooLong,
 }
 
-/// Why a call of a session is refused.
+/// Why a session's call is refused.
 #[derive(Clone, Copy, Debug, PartialEq, Eq)]
 pub enum Refusal {
-    /// The key and the value, or the blank, have more bytes together than a pair may have.
+    /// The key plus the value or the blank is longer than a pair may be.
     PairTooLarge,
-    /// The argument of a run has more bytes than one may have.
+    /// The argument of a run is longer than the limit.
     ArgTooLong,
-    /// The trail has as many entries as it may have.
+    /// The trail is full.
     TrailFull,
-    /// No memory is left for the call.
+    /// Out of memory.
     NoMemory,
-    /// The desk does not know the ticket that the call took.
+    /// The desk does not know the ticket that the call used.
     Strayed,
 }
 
-/// A command that was answered. A trail has it as a `KeptEntry`.
+/// An answered command. A trail stores it as a `KeptEntry`.
 #[derive(Drop)]
 pub struct Entry<A: Allocator> {
     pub session: u64,
@@ -105,16 +106,16 @@ pub struct Entry<A: Allocator> {
     pub reply: Reply<A>,
 }
 
-/// What the store began with, sorted by the bytes of the keys, and what was answered since.
+/// The store's initial pairs, sorted by the bytes of their keys, and the commands answered since.
 #[derive(Drop)]
 pub struct Trail<A: Allocator> {
     pub opening: Opening<A>,
     pub entries: Vec<KeptEntry<A>, A>,
 }
 
-/// Tests a command's size, for a database of pages of this size: `PairTooLarge` where the key has more bytes together with the
-/// value to be stored, or with the blank of a run, than a pair may have, and then `ArgTooLong` where the argument of a run has
-/// more than 1,024. No memory is taken.
+/// Checks a command's size against the page size of a database. Returns `PairTooLarge` if the key plus the stored value or the
+/// blank is longer than a pair may be; otherwise `ArgTooLong` if the argument of a run is longer than 1,024 bytes. Allocates
+/// nothing.
 pub fn check_sizes<A: Allocator>(command: &Command<A>, size: PageSize) -> Result<(), SizeFault>
     ensures ok { IsOk result ↔ IsSmall size command.now }
     ensures err { IfErr result (IsSizeFault size command.now) }
@@ -135,8 +136,8 @@ pub fn check_sizes<A: Allocator>(command: &Command<A>, size: PageSize) -> Result
     }
 }
 
-/// Tests the size of a pair, the value by its length: `PairTooLarge` where key and value have more bytes together than a pair may
-/// have.
+/// Checks the size of a pair whose value has `value_len` bytes. Returns `PairTooLarge` if key and value together are longer
+/// than a pair may be.
 pub fn check_pair(key: &[u8], value_len: usize, size: PageSize) -> Result<(), SizeFault>
     ensures ok { IsOk result ↔ (length key.now + value_len ≤ pair_limit size) }
     ensures err { IfErr result (λ fault. fault ≡ SizeFault.PairTooLarge) }
@@ -148,8 +149,8 @@ pub fn check_pair(key: &[u8], value_len: usize, size: PageSize) -> Result<(), Si
     Ok(())
 }
 
-/// Tests the sizes of a run: `PairTooLarge` where key and blank have more bytes together than a pair may have, and then `ArgTooLong`
-/// where the argument has more than 1,024.
+/// Checks the sizes of a run. Returns `PairTooLarge` if key and blank together are longer than a pair may be; otherwise
+/// `ArgTooLong` if the argument is longer than 1,024 bytes.
 pub fn check_run(
     key: &[u8],
     arg: &[u8],
@@ -169,7 +170,7 @@ pub fn check_run(
 }
 
 impl<A: Allocator + Copy> Command<A> {
-    /// An equal command, or the error where no memory is left for it.
+    /// Clones the command. Returns an error if out of memory.
     pub fn try_clone(&self, alloc: A) -> Result<Self, AllocError>
         ensures { IfOk result (λ copy. copy ≡ self.now) }
     {
@@ -210,7 +211,7 @@ impl<A: Allocator + Copy> Command<A> {
 }
 
 impl<A: Allocator + Copy> Reply<A> {
-    /// An equal reply, or the error where no memory is left for it.
+    /// Clones the reply. Returns an error if out of memory.
     pub fn try_clone(&self, alloc: A) -> Result<Self, AllocError>
         ensures { IfOk result (λ copy. copy ≡ self.now) }
     {
@@ -231,7 +232,7 @@ impl<A: Allocator + Copy> Reply<A> {
 }
 
 impl<A: Allocator + Copy> Trail<A> {
-    /// An equal trail, or the error where no memory is left for it.
+    /// Clones the trail. Returns an error if out of memory.
     pub fn try_clone(&self, alloc: A) -> Result<Self, AllocError>
         ensures opening { IfOk result (λ copy. copy.opening ≡ self.now.opening) }
         ensures entries { IfOk result (λ copy. copy.entries.items ≡ self.now.entries.items) }
@@ -243,7 +244,7 @@ impl<A: Allocator + Copy> Trail<A> {
     }
 }
 
-// Equal bytes of both.
+// Clones both slices of bytes.
 fn clone_both<A: Allocator + Copy>(
     alloc: A,
     one: &Bytes<A>,
@@ -256,7 +257,7 @@ fn clone_both<A: Allocator + Copy>(
     Ok((one, other))
 }
 
-// Equal entries, in the same order.
+// Clones the entries in their order.
 fn clone_entries<A: Allocator + Copy>(
     alloc: A,
     entries: &[KeptEntry<A>],

@@ -6,7 +6,7 @@ use std::alloc::{AllocError, Allocator};
 use std::marker::Model;
 use std::sync::Arc;
 
-/// Pairs that are only read, seen as their list. A further owner takes no memory, and the pairs go with the last one.
+/// A shared, read-only list of pairs. Another owner allocates nothing; the last owner frees the pairs.
 #[derive(Drop)]
 pub struct Opening<A: Allocator> {
     owned: Arc<Vec<(Bytes<A>, Bytes<A>), A>, A>,
@@ -23,7 +23,7 @@ impl<A: Allocator> Model for Opening<A> {
 }
 
 impl<A: Allocator> Opening<A> {
-    /// Pairs with one owner. Where no memory is left for that, the pairs come back.
+    /// Makes pairs with a single owner. If out of memory, returns the pairs as the error.
     pub fn new(
         alloc: A,
         pairs: Vec<(Bytes<A>, Bytes<A>), A>,
@@ -44,7 +44,7 @@ impl<A: Allocator> Opening<A> {
         (*self.owned).as_slice()
     }
 
-    /// One owner more, or the error where there are as many as can be counted. It takes no memory.
+    /// Adds an owner, without allocating. Returns an error if the owner count is at its maximum.
     pub fn try_clone(&self) -> Result<Self, AllocError>
         ensures { IfOk result (λ copy. copy ≡ self.now) }
     {

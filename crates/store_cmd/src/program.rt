@@ -1,4 +1,4 @@
-//! Programs that commands hand over.
+//! Programs that commands carry.
 ghost use Rattle.std.specs.Prelude.{◌≡◌, ◌↔◌, IsTrue, IfOk};
 ghost use Rattle.std.specs.Arc.{arc_value};
 
@@ -7,7 +7,7 @@ use std::alloc::{AllocError, Allocator};
 use std::marker::Model;
 use std::sync::Arc;
 
-/// An accepted program that commands share, seen as the list of its instructions. It is only read, and goes with its last owner.
+/// An accepted program shared by commands, seen as its list of instructions. It is read-only; the last owner frees it.
 #[derive(Drop)]
 pub struct Program<A: Allocator> {
     owned: Arc<Verified<A>, A>,
@@ -24,28 +24,28 @@ impl<A: Allocator> Model for Program<A> {
 }
 
 impl<A: Allocator> Program<A> {
-    /// The program that an owner has. It takes no memory.
+    /// Wraps an owner of a program. Allocates nothing.
     pub fn new(owned: Arc<Verified<A>, A>) -> Self
         ensures { result ≡ (arc_value owned).code }
     {
         Program { owned }
     }
 
-    /// The program, to be run.
+    /// The program, ready to run.
     pub fn verified(&self) -> &Verified<A>
         ensures { result.now.code ≡ self.now }
     {
         &*self.owned
     }
 
-    /// Whether the programs have the same instructions. It takes no memory.
+    /// Returns true if both programs have the same instructions. Allocates nothing.
     pub fn equals(&self, other: &Self) -> bool
         ensures { IsTrue result ↔ (self.now ≡ other.now) }
     {
         *self.owned == *other.owned
     }
 
-    /// One owner more, or the error where there are as many as can be counted. It takes no memory.
+    /// Adds an owner, without allocating. Returns an error if the owner count is at its maximum.
     pub fn try_clone(&self) -> Result<Self, AllocError>
         ensures { IfOk result (λ copy. copy ≡ self.now) }
     {
@@ -65,7 +65,7 @@ impl<A: Allocator> PartialEq for Program<A> {
 
     ghost laws = { on_per image_of (partial_equiv_from_equiv nat_list_eq_equiv) };
 
-    /// Whether the programs have the same instructions. No memory is taken.
+    /// Returns true if both programs have the same instructions. Allocates nothing.
     fn eq(&self, other: &Self) -> bool
         ensures exact { IsTrue result ↔ (self.now ≡ other.now) }
         ensures value { result ≡ bytes_eq (image_of self.now) (image_of other.now) }

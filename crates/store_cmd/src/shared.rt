@@ -1,4 +1,4 @@
-//! Commands with several owners, and entries with such a command.
+//! Commands with several owners, and entries that hold them.
 ghost use Rattle.std.specs.Prelude.{◌≡◌, ◌↔◌, IsTrue, IfOk, IfErr};
 
 use crate::{Command, Reply};
@@ -6,7 +6,7 @@ use std::alloc::{AllocError, Allocator};
 use std::marker::Model;
 use std::sync::Arc;
 
-/// A command that is only read, seen as the command. A further owner takes no memory, and the command goes with the last one.
+/// A shared, read-only command. Another owner allocates nothing; the last owner frees the command.
 #[derive(Drop)]
 pub struct SharedCommand<A: Allocator> {
     owned: Arc<Command<A>, A>,
@@ -22,7 +22,7 @@ impl<A: Allocator> Model for SharedCommand<A> {
 }
 
 impl<A: Allocator> SharedCommand<A> {
-    /// A command with one owner. Where no memory is left for it, the command comes back.
+    /// Makes a command with a single owner. If out of memory, returns the command as the error.
     pub fn new(alloc: A, command: Command<A>) -> Result<Self, Command<A>>
         ensures ok { IfOk result (λ shared. shared ≡ command) }
         ensures returned { IfErr result (λ refused. refused ≡ command) }
@@ -40,14 +40,14 @@ impl<A: Allocator> SharedCommand<A> {
         &*self.owned
     }
 
-    /// Whether two owners have the same command. It takes no memory.
+    /// Returns true if both owners hold equal commands. Allocates nothing.
     pub fn equals(&self, other: &Self) -> bool
         ensures { IsTrue result ↔ (self.now ≡ other.now) }
     {
         self.command().equals(other.command())
     }
 
-    /// One owner more, or the error where there are as many as can be counted. It takes no memory.
+    /// Adds an owner, without allocating. Returns an error if the owner count is at its maximum.
     pub fn try_clone(&self) -> Result<Self, AllocError>
         ensures { IfOk result (λ copy. copy ≡ self.now) }
     {
@@ -56,7 +56,7 @@ impl<A: Allocator> SharedCommand<A> {
     }
 }
 
-/// An answered command as a trail and its session keep it, seen as the entry. They own the command together.
+/// An answered command as a trail and its session store it, seen as an `Entry`. Both own the command.
 #[derive(Drop)]
 pub struct KeptEntry<A: Allocator> {
     session: u64,
@@ -105,7 +105,7 @@ impl<A: Allocator> KeptEntry<A> {
         &self.reply
     }
 
-    /// Whether session, command and reply are the same. No memory is taken.
+    /// Returns true if session, command and reply are equal. Allocates nothing.
     pub fn equals(&self, other: &Self) -> bool
         ensures { IsTrue result ↔ (self.now ≡ other.now) }
     {
@@ -118,7 +118,7 @@ impl<A: Allocator> KeptEntry<A> {
         self.reply == other.reply
     }
 
-    /// An equal entry, whose command has one owner more, or the error where no memory is left for its reply.
+    /// Clones the entry and adds an owner to its command. Returns an error if there is no memory for the reply.
     pub fn try_clone(&self, alloc: A) -> Result<Self, AllocError>
     where
         A: Copy,

@@ -1,4 +1,4 @@
--- What one command does is one move, and one alone.
+-- The effect of a command is one move, and it is unique.
 use Rattle.std.proofs.Common.{◌≡◌, ℕ, ◌%◌, ◌^◌, List, refl, sym, ap, ◌∙◌, subst}
 use Rattle.std.specs.FinMap as map
 use Rattle.sdbm_addr.specs.declared.KeyBytes.{KeyBytes}
@@ -30,7 +30,7 @@ keyed_run (Delete key) r = absurd r
 keyed_run (Run key program argument blank now) r = tt
 keyed_run Count r = absurd r
 
--- a command about a key may be worked on the page of its place
+-- a command about a key can be computed on the page of its place
 pub workable : {A : Type 0} (db : Database) → IsDatabase db → (place : Place) (kind : KeyBytes) (size : PageSize) (pairs : List Pair) (command : Command A) → HasKey command
     → IsSmall db.size command → kind ≡ db.kind → IsPlaceOf db (key_of command) place → size ≡ db.size → pairs ≡ pairs_at db place.page → IsWorkable place kind size pairs command
 workable {A} db ok place kind size pairs command keyed small is_kind p is_size is_pairs =
@@ -57,7 +57,7 @@ keyed_exact db (Delete key) e db' keyed on = on
 keyed_exact db (Run key program argument blank now) e db' keyed on = on
 keyed_exact db Count e db' keyed on = absurd keyed
 
--- a command that was worked on the page of its place, and put in
+-- a command that was computed on the page of its place and installed
 pub Acts-on_page : {A : Type 0} (db db' : Database) → IsDatabase db → (place : Place) (session : ℕ) (command : Command A) (answer : Reply A) → HasKey command → IsSmall db.size command → IsPlaceOf db (key_of command) place
     → HasEnd (pairs_at db place.page) session command
     → answer ≡ (works place db.kind db.size (pairs_at db place.page) session command).reply

@@ -13,11 +13,11 @@ pairs = (1 ∷ [], 10 ∷ []) ∷ (2 ∷ [], 20 ∷ 21 ∷ []) ∷ (3 ∷ [], []
 abbrev ended : ℕ → Outcome
 ended code = record { code = code; word = 9; bytes = 7 ∷ 8 ∷ []; steps = 4 }
 
--- the value changes in its place, and no other does; a key that is not there changes nothing
+-- only the key's value changes, in place; a missing key changes nothing
 its_place : (in_place (2 ∷ []) (7 ∷ 8 ∷ []) pairs ≡ (1 ∷ [], 10 ∷ []) ∷ (2 ∷ [], 7 ∷ 8 ∷ []) ∷ (3 ∷ [], []) ∷ []) × (in_place (4 ∷ []) (7 ∷ 8 ∷ []) pairs ≡ pairs)
 its_place = (refl, refl)
 
--- a run that ends with 1 saves its record, one that ends with 2 takes the pair out, and any other leaves the page
+-- exit number 1 saves the record, 2 removes the pair, and any other leaves the page unchanged
 after_one : left_on Small pairs (2 ∷ []) (ended 1) ≡ Some (leaf_alone Small ((1 ∷ [], 10 ∷ []) ∷ (2 ∷ [], 7 ∷ 8 ∷ []) ∷ (3 ∷ [], []) ∷ []))
 after_one = refl
 

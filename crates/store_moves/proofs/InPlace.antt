@@ -1,4 +1,4 @@
--- The value of a pair written over in its place.
+-- Overwriting the value of a pair in place.
 use Rattle.std.proofs.Common.{◌≡◌, ℕ, zero, suc, ◌+◌, ◌<◌, ◌≤◌, List, [], ◌∷◌, length, Bool, true, false, cond, Some, None, refl, sym, ap, ◌∙◌, subst, arith}
 use Rattle.std.proofs.lemmas.Bool.{true≢false}
 use Rattle.std.proofs.lemmas.List.Sums.{sum_by-cons}
@@ -18,14 +18,14 @@ use Rattle.sdbm_files.specs.Installed.{IsInstallable}
 use Rattle.sdbm_files.proofs.PutLemmas.{IsPage-pairs_at, IsInstallable-with_key, map_of-with_key}
 use Rattle.store_moves.specs.Works.{in_place}
 
--- where the key is absent nothing is written
+-- if the key is absent nothing is written
 in_place-absent : (es : List Pair) (key value : List ℕ) → value_of es key ≡ None → in_place key value es ≡ es
 in_place-absent [] key value none = refl
 in_place-absent (e ∷ es) key value none =
     let parts = absent_parts e es key none in
     ap (λ b. cond b (e.0, value) e ∷ in_place key value es) parts.0 ∙ ap (λ xs. e ∷ xs) (in_place-absent es key value parts.1)
 
--- to write over the value of the pair where a key stands is to write over the key's
+-- overwriting the value of the pair at the key's index overwrites the key's value
 pub slice_set-in_place : (es : List Pair) (key value : List ℕ) (i : ℕ) → i < length es → key_at es i ≡ key → HasDistinctKeys es → slice_set es i (key_at es i, value) ≡ in_place key value es
 slice_set-in_place [] key value i h k d = absurd (omega arith)
 slice_set-in_place (e ∷ es) key value zero h k d =
@@ -39,7 +39,7 @@ slice_set-in_place (e ∷ es) key value (suc i) h k d =
 
 -- ---- look-ups
 
--- what is found is the new value, where one was found before
+-- a look-up finds the new value if it found a value of the key before
 value_of-in_place : (es : List Pair) (key value q : List ℕ) → value_of (in_place key value es) q ≡ cond (same_key q key) (option_map (λ old. value) (value_of es q)) (value_of es q)
 value_of-in_place [] key value q = at (same_key q key)
   where
@@ -78,7 +78,7 @@ distinct-in_place (e ∷ es) key value d = at (same_key key e.0) (none_in_place 
     at true none rest = (none, rest)
     at false none rest = (none, rest)
 
--- each value of the key has so many bytes
+-- each value of the key has n bytes
 abbrev AreLong : List ℕ → ℕ → List Pair → Type 0
 AreLong key n [] = Unit {0}
 AreLong key n (e ∷ es) = (same_key key e.0 ≡ true → length e.1 ≡ n) × AreLong key n es
@@ -130,7 +130,7 @@ IsPage-in_place size es key old value there same page =
 
 -- ---- databases
 
--- what is found is the new value, where the key was there
+-- a look-up of the key, which exists, finds the new value
 found-in_place : (es : List Pair) (key old value : List ℕ) → value_of es key ≡ Some old → (q : List ℕ) → value_of (in_place key value es) q ≡ cond (same_key q key) (Some value) (value_of es q)
 found-in_place es key old value there q = value_of-in_place es key value q ∙ at (same_key q key) refl
   where
@@ -142,11 +142,11 @@ module _ (db : Database) (ok : IsDatabase db) (n : ℕ) (key old value : List �
   page-written : IsPage db.size (in_place key value (pairs_at db n))
   page-written = IsPage-in_place db.size (pairs_at db n) key old value there same (IsPage-pairs_at db ok n)
 
-  -- a plan without splits that writes the value of a key over
+  -- a plan without splits that overwrites the value of a key
   pub IsInstallable-written : IsInstallable db n (record { size = db.size; pairs = in_place key value (pairs_at db n) }) [] []
   IsInstallable-written = IsInstallable-with_key db ok n key leads (Some value) (in_place key value (pairs_at db n)) page-written (found-in_place (pairs_at db n) key old value there)
 
-  -- its map has the new value
+  -- the map of the database then has the new value
   pub map_of-written : map_of (with_page db n (in_place key value (pairs_at db n))) ≡ map.insert (map_of db) key value
   map_of-written =
       map_of-with_key db ok n key leads (Some value) (in_place key value (pairs_at db n)) page-written (found-in_place (pairs_at db n) key old value there) (map.insert (map_of db) key value)

@@ -1,4 +1,4 @@
--- What a page makes of a command, installed, is a move of the whole database.
+-- A page's result for a command, once installed, is a move of the whole database.
 use Rattle.std.proofs.Common.{◌≡◌, ◌≢◌, ℕ, zero, suc, ◌+◌, ◌%◌, ◌^◌, ◌<◌, ◌≤◌, ◌||◌, ◌&&◌, List, [], ◌∷◌, length, replicate, get_or, Bool, true, false, cond, Option, Some, None, is_some, refl, sym, ap, ◌∙◌, subst, arith, eqb, inl, inr, ◌⊎◌}
 use Rattle.std.proofs.lemmas.List.{length-replicate}
 use Rattle.std.proofs.lemmas.Bool.{eqb-true, cond-false, true≢false, false_from_ne_true}
@@ -47,7 +47,7 @@ leads_to db key = page_of db.splits (hash_of db.kind key)
 depth_is : (db : Database) → IsDatabase db → (hash h : ℕ) → IsDepth db.splits hash h → h ≡ depth_of db.splits hash
 depth_is db ok hash h p = IsDepth-unique db.splits hash h (depth_of db.splits hash) p (depth_of-IsDepth db.splits ok.directory hash)
 
--- what is on the page of a key is in the map
+-- a value on the page of a key is in the map
 value_on_page : (db : Database) → IsDatabase db → (key : List ℕ) (h : ℕ) → IsDepth db.splits (hash_of db.kind key) h → map.get (map_of db) key ≡ value_of (pairs_at db (hash_of db.kind key % 2 ^ h)) key
 value_on_page db ok key h p = get-map_of db ok key ∙ ap (λ n. value_of (pairs_at db n) key) (page_of_depth db.splits ok.directory (hash_of db.kind key) h p)
 
@@ -93,7 +93,7 @@ found_at (e ∷ es) (suc k) d l none = at (same_key (get_or es k d).0 e.0) none 
     at true g r = let no : Some e.1 ≡ None = g in cc
     at false g r = r g
 
--- all keys of the page of a place lead to it
+-- every key on the page of a place leads to that place
 pub keys_lead : (db : Database) → IsDatabase db → (hash h n : ℕ) → IsDepth db.splits hash h → n ≡ hash % 2 ^ h → All (λ (e : Pair). hash_of db.kind e.0 % 2 ^ h ≡ n) (pairs_at db n)
 keys_lead db ok hash h n p is k d l =
     let e = hash_of db.kind (get_or (pairs_at db n) k d).0 in
@@ -103,7 +103,7 @@ keys_lead db ok hash h n p is k d l =
     let same : g ≡ h = same_place db.splits e hash g h (there ∙ is) deep p in
     ap (λ j. e % 2 ^ j) (sym same) ∙ there
 
--- ---- what stays
+-- ---- parts that stay unchanged
 
 same_beside : (db : Database) (n : ℕ) → IsSameBeside db n db
 same_beside db n = λ key place p other. (p, refl)
@@ -297,11 +297,11 @@ module _ (A : Type 0) (db : Database) (ok : IsDatabase db) (session : ℕ) (key 
         clash some = true≢false (sym some ∙ ap is_some is)
     there_leads (Some o) is = ran_leads o is (saves o.code) (removes o.code) refl refl
 
-  -- on neither a value nor a blank
+  -- on neither a value nor a blank: the key is missing
   nothing_leads : blank ≡ None → map.get (map_of db) key ≡ None → LeadsTo {A = A} db session command n (record { reply = reply.Missing; change = None })
   nothing_leads is_none absent = record { may = tt; move = λ e. record { changes = (record { absent = absent; blank_is = is_none; map_is = refl }, refl); kind = refl; size = refl }; beside = same_beside db n; changes = refl }
 
-  -- on a blank, where nothing is stored
+  -- on a blank that is not stored
   module _ (len : ℕ) (is_blank : blank ≡ Some len) (absent : map.get (map_of db) key ≡ None) where
     unsaved_leads : (o : Outcome) → outcome_anew session program argument now len ≡ Some o → saves o.code ≡ false → LeadsTo {A = A} db session command n (record { reply = reply.Ran o.code o.word; change = None })
     unsaved_leads o is unsaved = record {
@@ -430,7 +430,7 @@ module _ (A : Type 0) (db : Database) (ok : IsDatabase db) (session : ℕ) (key 
 
 -- ---- all commands
 
--- a command worked on the page of its place, and installed there
+-- a command computed on the page of its place, and installed there
 pub works_lead : {A : Type 0} (db : Database) → IsDatabase db → (place : Place) (session : ℕ) (command : Command A) → HasKey command → IsSmall db.size command → IsPlaceOf db (key_of command) place
     → LeadsTo db session command place.page (works place db.kind db.size (pairs_at db place.page) session command)
 works_lead {A} db ok place session (Fetch key) keyed small p =

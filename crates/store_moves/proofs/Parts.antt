@@ -1,4 +1,4 @@
--- One command on a database of which the page of its key alone is known, and on the whole one.
+-- One command on a partial database, which knows only the page of the command's key, and on the whole database.
 use Rattle.std.proofs.Common.{◌≡◌, ◌≢◌, ℕ, ◌%◌, ◌^◌, ◌≤◌, List, [], ◌∷◌, Bool, true, false, cond, Option, Some, None, unwrap_or, refl, sym, ap, ◌∙◌, subst, eqb}
 use Rattle.std.specs.Ordering.{nat_cmp}
 use Rattle.std.specs.FinMap as map
@@ -25,7 +25,7 @@ use Rattle.store_moves.specs.Acts.{Acts, IsExactFor, IsOnPage}
 use Rattle.store_moves.proofs.Lifting.{works_lead}
 use Rattle.store_moves.proofs.Acting.{Acts-on_page, IsPlaceOf-unique}
 
--- two databases that are alike in all but their pages, and alike on one of these
+-- two databases that agree on everything except their pages, and on one of these
 pub record IsAlikeAt (number : ℕ) (part db : Database) : Type 0 where
   pub kind : part.kind ≡ db.kind
   pub size : part.size ≡ db.size
@@ -55,7 +55,7 @@ on_page db (Delete key) e db' keyed exact = exact
 on_page db (Run key program argument blank now) e db' keyed exact = exact
 on_page db Count e db' keyed exact = absurd keyed
 
--- what is done on the one is done on the other
+-- a command executed on the partial database is executed on the whole one alike
 pub acts_alike : {A : Type 0} (part db : Database) → IsDatabase db → (number : ℕ) → IsAlikeAt number part db → (e : Entry A) (part' : Database) → HasKey e.command → (place : Place) → IsPlaceOf part (key_of e.command) place → place.page ≡ number
     → Acts part e part' → (db' : Database) × (Acts db e db' × IsChangedAlike number part db part' db')
 acts_alike {A} part db ok number alike e part' keyed place leads page acts =
@@ -84,7 +84,7 @@ acts_alike {A} part db ok number alike e part' keyed place leads page acts =
     } in
     (after, (done, both))
 
--- nothing is done on either
+-- neither database changes
 pub unchanged_alike : (number : ℕ) (part db : Database) → IsChangedAlike number part db part db
 unchanged_alike number part db = record { change = None; part_is = refl; db_is = refl; may = tt; beside = λ key place p other. (p, refl) }
 
@@ -106,12 +106,12 @@ same_changed number part db (Some change) n same =
     same_put_all (put_page part.pages number change.leaf.pairs) (put_page db.pages number change.leaf.pairs) change.twins n (same_put part.pages db.pages number change.leaf.pairs n same)
 
 module _ (number : ℕ) (part db part' db' : Database) (ok : IsDatabase db) (alike : IsAlikeAt number part db) (changed : IsChangedAlike number part db part' db') where
-  -- a page that is the same in both is the same afterwards
+  -- a page that was equal in both databases is equal afterwards
   pub pairs_alike : (n : ℕ) → pairs_at part n ≡ pairs_at db n → pairs_at part' n ≡ pairs_at db' n
   pairs_alike n same =
       ap (λ (d : Database). pairs_at d n) changed.part_is ∙ same_changed number part db changed.change n same ∙ sym (ap (λ (d : Database). pairs_at d n) changed.db_is)
 
-  -- another page that has pairs stays
+  -- any other page with pairs is unchanged
   pub pairs_beside : (n : ℕ) → n ≢ number → (e : Pair) (es : List Pair) → pairs_at db n ≡ e ∷ es → pairs_at db' n ≡ pairs_at db n
   pairs_beside n other e es is = ap (λ (k : ℕ). pairs_at db' k) (sym page) ∙ (changed.beside e.0 place leads (λ h. other (sym page ∙ h))).1 ∙ ap (λ (k : ℕ). pairs_at db k) page
     where

@@ -1,4 +1,4 @@
--- What a run comes to whose record is written back where it stands.
+-- The result of a run whose record is written back in place.
 use Rattle.std.proofs.Common.{◌≡◌, ℕ, ◌+◌, ◌≤◌, List, [], ◌++◌, length, take, Bool, true, cond, Option, Some, None, is_some, remove, sym, ap, ◌∙◌, subst, arith}
 use Rattle.std.proofs.lemmas.List.{take_at, length-append}
 use Rattle.sdbm_addr.specs.Pairs.{Pair, value_at, IsPlace}
@@ -73,7 +73,7 @@ module _ {A : Type 0} (db : Database) (ok : IsDatabase db) (place : Place) (comm
   reply_so : (answer : Reply A) → answer ≡ Ran copied.ended.code copied.ended.word → answer ≡ result.reply
   reply_so answer is = is ∙ ap (λ (n : ℕ). Ran n copied.ended.word) ran.code_is ∙ ap (λ (n : ℕ). Ran ran.outcome.code n) ran.word_is ∙ sym (ap (λ (r : PageResult A). r.reply) result_is)
 
-  -- the page once the record is saved, exactly where it stands
+  -- the exact page after the record was saved in place
   left_saved : saves ran.outcome.code ≡ true → result.change ≡ Some (record { leaf = rewritten (content_at db place.page) copied.i ran.outcome.bytes; twins = []; bits = [] })
   left_saved saved =
       ap (λ (r : PageResult A). r.change) result_is

@@ -1,4 +1,4 @@
--- What a run comes to on its page, case by case.
+-- The result of a run on its page, case by case.
 use Rattle.std.proofs.Common.{◌≡◌, ℕ, zero, suc, ◌+◌, ◌<◌, ◌≤◌, List, [], ◌∷◌, length, take, replicate, remove, Bool, true, false, cond, Option, Some, None, is_some, refl, sym, ap, ◌∙◌, subst, arith}
 use Rattle.std.proofs.lemmas.Bool.{eqb-true, eq-eqb, false_from_ne_true}
 use Rattle.std.specs.Prelude.{◌==◌, slice_set}
@@ -50,7 +50,7 @@ value_fits size pairs i small inside =
     let m : length (value_at pairs i) ≤ pair_limit size = value_small size pairs i small inside in
     omega arith
 
--- ---- numbers of ends
+-- ---- exit numbers
 
 pub saves_is : (code : ℕ) → code ≡ 1 → saves code ≡ true
 saves_is code e = eq-eqb code 1 e
@@ -64,7 +64,7 @@ removes_is code e = eq-eqb code 2 e
 pub removes_not : (code : ℕ) → (code ≡ 2 → ⊥) → removes code ≡ false
 removes_not code h = false_from_ne_true (removes code) (λ t. h (eqb-true code 2 t))
 
--- a pair taken out after its value was written over
+-- removing a pair after its value was overwritten
 remove_set : (xs : List Pair) (i : ℕ) (x : Pair) → remove (slice_set xs i x) i ≡ remove xs i
 remove_set [] zero x = refl
 remove_set [] (suc i) x = refl
@@ -73,7 +73,7 @@ remove_set (y ∷ ys) (suc i) x = ap (λ zs. y ∷ zs) (remove_set ys i x)
 
 -- ---- on the page
 
--- what a run is told, and the bytes on which it runs, by other names
+-- equal environments and equal bytes give the same outcome
 pub Ends-told : {A : Type 0} (input : RunInput A) (present : Bool) (bytes bytes' : List ℕ) (env : Env) (o : Outcome) → bytes ≡ bytes' → env ≡ env_of input.time present input.session → Ends input.program.now.code bytes input.arg.now env o
     → Ends input.program.now.code bytes' input.arg.now (env_of input.time present input.session) o
 Ends-told input present bytes bytes' env o same told ends =
@@ -86,7 +86,7 @@ module _ (A : Type 0) (page : Content) (i : ℕ) (input : RunInput A) (o : Outco
   same_long : (length o.bytes == length (value_at page.pairs i)) ≡ true
   same_long = eq-eqb (length o.bytes) (length (value_at page.pairs i)) (Ends-length input.program.now.code (value_at page.pairs i) input.arg.now (env_of input.time true input.session) o ends)
 
-  -- the page after the run, other being what would be there were the record of another length
+  -- the page after the run; `other` is the result if the record had another length
   abbrev pub page_after : List Pair → Content
   page_after other = record { size = page.size; pairs = cond (length o.bytes == length (value_at page.pairs i)) (slice_set page.pairs i (key_at page.pairs i, o.bytes)) other }
 
@@ -118,7 +118,7 @@ module _ (A : Type 0) (page : Content) (i : ℕ) (input : RunInput A) (o : Outco
   pub run_left : (worked : Worked A) → saves o.code ≡ false → removes o.code ≡ false → worked.reply ≡ reply.Ran o.code o.word → worked.change ≡ None → IsRunAt page i input worked
   run_left worked unsaved kept answer change = record { outcome = o; is = found; reply = answer; change = ap (option_map change_of) change ∙ sym (left_so false false unsaved kept) }
 
--- what becomes of the page, by the key
+-- the change of the page, by the key
 left_by_key : (page : Content) (i : ℕ) (key : List ℕ) (o : Outcome) → HasDistinctKeys page.pairs → IsPlace page.pairs key i → left_at page i o ≡ left_on page.size page.pairs key o
 left_by_key page i key o distinct place =
     ap (λ (ps : List Pair). cond (saves o.code) (Some (leaf_alone page.size ps)) (cond (removes o.code) (Some (leaf_alone page.size (remove page.pairs i))) None)) (slice_set-in_place page.pairs key o.bytes i place.in_range place.has_key distinct)

@@ -1,4 +1,4 @@
--- What a store comes to that is done where its page stands.
+-- The result of a store that is done in place.
 use Rattle.std.proofs.Common.{◌≡◌, ℕ, ◌+◌, ◌≤◌, List, [], length, Option, Some, sym, ap, ◌∙◌, subst, refl}
 use Rattle.std.specs.List.{All}
 use Rattle.sdbm_addr.specs.declared.Mode.{Mode}

@@ -1,4 +1,4 @@
--- What changes its page has a reply for which memory may be taken.
+-- If a command changes its page, its reply is one that may need memory.
 use Rattle.std.proofs.Common.{◌≡◌, Bool, true, is_some, Option, Some, None, refl}
 use Rattle.std.specs.Option.{option_map}
 use Rattle.store_cmd.specs.declared.Reply.{Reply}

@@ -1,4 +1,4 @@
--- What a command comes to on its page, case by case.
+-- The result of a command on its page, case by case.
 use Rattle.std.proofs.Common.{◌≡◌, ℕ, ◌+◌, ◌≤◌, List, [], ◌∷◌, length, Bool, true, false, Option, Some, None, is_some, remove, refl, sym, ap, ◌∙◌, arith, inl, inr, ◌⊎◌}
 use Rattle.std.specs.List.{All}
 use Rattle.std.specs.Borrow.{Bor}
@@ -25,7 +25,7 @@ use Rattle.store_moves.specs.Works.{PageResult, works, fetched, is_kept, stored_
 use Rattle.store_moves.specs.declared.worked.Site.{Site}
 use Rattle.store_moves.specs.Worked.{stored_on, takes_memory, is_change}
 
--- a store is let through exactly where it is not refused
+-- if a store is not refused, `is_kept` is false
 pub not_kept : (mode : Mode) (pairs : List Pair) (key : List ℕ) → (IsRefused mode pairs key → ⊥) → is_kept mode (value_of pairs key) ≡ false
 not_kept Replace pairs key allowed = refl
 not_kept Insert pairs key allowed = at (value_of pairs key) refl
@@ -59,14 +59,14 @@ pub change_of-planned : {A : Type 0} (kind : KeyBytes) (page : Content) (key val
     → IsPlanned kind page key value h t plan.leaf plan.twins.items plan.bits.items → change_of plan ≡ planned kind page key value h t
 change_of-planned kind page key value h t plan p = λ i. record { leaf = p.leaf i; twins = p.twins i; bits = p.bits i }
 
--- a page without the pair of a key
+-- the page after the pair of a key was deleted
 pub deleted-there : {A : Type 0} (size : PageSize) (pairs : List Pair) (key : List ℕ) (i : ℕ) → HasDistinctKeys pairs → IsPlace pairs key i
     → deleted {A = A} size pairs key (value_of pairs key) ≡ record { reply = reply.Deleted; change = Some (leaf_alone size (remove pairs i)) }
 deleted-there {A} size pairs key i distinct place =
     ap (λ (o : Option (List ℕ)). deleted {A = A} size pairs key o) place.has_value
     ∙ ap (λ (ps : List Pair). let r : PageResult A = record { reply = reply.Deleted; change = Some (leaf_alone size ps) } in r) (sym (remove-without pairs key i place.in_range place.has_key distinct))
 
--- the first pair of a page goes in without a split
+-- the first pair of a page fits without a split
 pub first_goes_on : (size : PageSize) (key value : List ℕ) → length key + length value ≤ pair_limit size → GoesOn (record { size = size; pairs = [] }) key value
 first_goes_on Small key value small = omega arith
 first_goes_on Wide key value small = omega arith
@@ -81,7 +81,7 @@ stored-first {A} mode kind size key value h shallow small =
     stored-fits {A = A} mode kind page key value h 0 (λ r. r.there refl) least
     ∙ ap (λ (c : Content). let r : PageResult A = record { reply = reply.Stored; change = Some (record { leaf = c; twins = []; bits = [] }) } in r) (sym leaf)
 
--- a store where there is no page
+-- a store at a place without a page
 pub stored_on-none : {A : Type 0} (site : Site) (page : Option (Bor Content)) (key value : List ℕ) (mode : Mode) → page ≡ None → site.place.depth ≤ 31 → length key + length value ≤ pair_limit site.size
     → stored_on {A = A} site (pairs_lent page) key value mode ≡ stored_first site.size key value
 stored_on-none {A} site page key value mode none shallow small =
@@ -89,7 +89,7 @@ stored_on-none {A} site page key value mode none shallow small =
 
 -- ---- replies
 
--- A command that takes memory and is neither a fetch nor a run changes its page, and a fetch changes none.
+-- A command that needs memory and is neither a fetch nor a run changes its page. A fetch changes nothing.
 pub works_change : {A : Type 0} (place : Place) (kind : KeyBytes) (size : PageSize) (pairs : List Pair) (session : ℕ) (command : Command A)
     → takes_memory (works place kind size pairs session command).reply ≡ true
     → (IsRun command × (is_change command ≡ false)) ⊎ (is_change command ≡ is_some (works place kind size pairs session command).change)

@@ -1,4 +1,4 @@
--- For which commands memory is wanted.
+-- The commands that need memory.
 use Rattle.std.specs.Prelude.{◌≡◌, ℕ, true}
 use Rattle.sdbm_addr.specs.Database.{Database, pairs_at}
 use Rattle.sdbm_dir.specs.declared.Place.{Place}
@@ -7,7 +7,7 @@ use Rattle.store_moves.specs.Works.{works, key_of, HasKey}
 use Rattle.store_moves.specs.Worked.{takes_memory}
 use Rattle.store_moves.specs.Leads.{IsPlaceOf}
 
--- a command about a key, with a reply for which memory may be taken
+-- a command about a key whose reply may need memory
 pub record WantsMemory {A : Type 0} (db : Database) (session : ℕ) (command : Command A) : Type 0 where
   pub keyed : HasKey command
   pub place : Place

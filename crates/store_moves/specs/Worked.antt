@@ -1,4 +1,4 @@
--- What was worked out.
+-- Results of commands.
 use Rattle.std.specs.Prelude.{◌≡◌, ℕ, Bool, true, false, cond, List, Option, Some, None, slice_set, remove}
 use Rattle.std.specs.Option.{option_map}
 use Rattle.sdbm_addr.specs.declared.Mode.{Mode}
@@ -15,13 +15,13 @@ use Rattle.store_moves.specs.declared.worked.Site.{Site}
 use Rattle.store_moves.specs.declared.runs.RunInput.{RunInput}
 use Rattle.store_moves.specs.Works.{PageResult, change_of, is_kept, stored_unless, leaf_alone, stored_by, run_on, EndsOn, outcome_there, outcome_anew}
 
--- exactly a result
+-- `worked` is exactly the result `wanted`
 pub record IsWorked {A : Type 0} (wanted : PageResult A) (worked : Worked A) : Type 0 where
   pub reply : worked.reply ≡ wanted.reply
   pub change : option_map change_of worked.change ≡ wanted.change
 
--- Whether a command with this reply may take memory to be worked: for the value that it found, for the pages that it changes, or for
--- the page on which a program runs.
+-- True if the reply may need memory: for the value that was found, for the changed pages, or for the page on which a program
+-- runs.
 abbrev pub takes_memory : {A : Type 0} → Reply A → Bool
 takes_memory (Found value) = true
 takes_memory Stored = true
@@ -32,7 +32,7 @@ takes_memory Exists = false
 takes_memory Crowded = false
 takes_memory (Count n) = false
 
--- Whether a command takes memory only where it changes its page.
+-- True if a command needs memory only when it changes its page.
 abbrev pub is_change : {A : Type 0} → Command A → Bool
 is_change (commands.Fetch key) = false
 is_change (commands.Store key value mode) = true
@@ -46,28 +46,28 @@ is_change commands.Count = false
 abbrev pub page_on : Site → List Pair → Content
 page_on site pairs = record { size = site.size; pairs = pairs }
 
--- what a store comes to on it
+-- the result of a store on that page
 abbrev pub stored_on : {A : Type 0} → Site → List Pair → List ℕ → List ℕ → Mode → PageResult A
 stored_on site pairs key value mode = stored_unless (is_kept mode (value_of pairs key)) site.kind (page_on site pairs) key value site.place.depth
 
 -- ---- runs
 
--- what a run comes to on the page of a site, on the value of its key or on its blank
+-- the result of a run on the page of a site, on the value of its key or on its blank
 abbrev pub run_by : {A : Type 0} → Site → List Pair → RunInput A → PageResult A
 run_by site pairs input = run_on site.kind (page_on site pairs) site.place.depth input.session input.key.now input.program.now.code input.arg.now input.time (value_of pairs input.key.now) input.blank
 
--- that run ends
+-- the run ends
 abbrev pub EndsBy : {A : Type 0} → List Pair → RunInput A → Type 0
 EndsBy pairs input = EndsOn input.session input.program.now.code input.arg.now input.time (value_of pairs input.key.now) input.blank
 
--- its outcome on a value, and on a blank
+-- the outcome of a run on a value, and on a blank
 abbrev pub outcome_on : {A : Type 0} → RunInput A → List ℕ → Option Outcome
 outcome_on input value = outcome_there input.session input.program.now.code input.arg.now input.time value
 
 abbrev pub outcome_of_blank : {A : Type 0} → RunInput A → ℕ → Option Outcome
 outcome_of_blank input len = outcome_anew input.session input.program.now.code input.arg.now input.time len
 
--- what becomes of a page after a run on the value of pair i
+-- the change of a page by a run on the value of pair i
 abbrev pub left_at : Content → ℕ → Outcome → Option PageChange
 left_at page i o =
     cond (saves o.code) (Some (leaf_alone page.size (slice_set page.pairs i (key_at page.pairs i, o.bytes))))
@@ -80,7 +80,7 @@ pub record IsRunAt {A : Type 0} (page : Content) (i : ℕ) (input : RunInput A) 
   pub reply : worked.reply ≡ Ran outcome.code outcome.word
   pub change : option_map change_of worked.change ≡ left_at page i outcome
 
--- what a run on a blank comes to that ends so, where its record is to be stored or not
+-- the result of a run on a blank with this outcome; `saved` is true if the record is to be stored
 abbrev pub stored_from : {A : Type 0} → Bool → Site → List Pair → RunInput A → Outcome → PageResult A
 stored_from saved site pairs input o = stored_by saved site.kind (page_on site pairs) input.key.now site.place.depth o
 

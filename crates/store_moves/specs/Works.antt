@@ -1,4 +1,4 @@
--- What a command comes to, from the page of its key alone.
+-- The result of a command, computed from the page of its key alone.
 use Rattle.std.specs.Prelude.{◌≡◌, ℕ, ◌%◌, ◌^◌, ◌≤◌, Bool, true, false, cond, is_some, List, [], ◌∷◌, map, replicate, Option, Some, None}
 use Rattle.std.specs.List.{All}
 use Rattle.std.specs.Option.{option_map}
@@ -23,7 +23,7 @@ use Rattle.store_cmd.specs.declared.Reply.TheVariants.{Found, Missing, Stored, E
 use Rattle.store_cmd.specs.Command.{IsSmall}
 use Rattle.store_cmd.specs.Answers.{env_of, saves, removes}
 
--- a command's reply, and what becomes of its page, where that changes
+-- a command's reply, and the change of its page, if any
 pub record PageResult (A : Type 0) : Type 0 where
   pub reply : Reply A
   pub change : Option PageChange
@@ -44,7 +44,7 @@ IsRun (Delete key) = ⊥
 IsRun (Run key program argument blank now) = Unit {0}
 IsRun Count = ⊥
 
--- that key
+-- the command's key
 abbrev pub key_of : {A : Type 0} → Command A → List ℕ
 key_of (Fetch key) = key
 key_of (Store key value mode) = key
@@ -52,7 +52,7 @@ key_of (Delete key) = key
 key_of (Run key program argument blank now) = key
 key_of Count = []
 
--- a fetch of a key that has a value, or none
+-- a fetch of a key, given its value if it has one
 abbrev pub fetched : {A : Type 0} → Option (List ℕ) → PageResult A
 fetched None = record { reply = Missing; change = None }
 fetched (Some value) = record { reply = Found value; change = None }
@@ -61,7 +61,7 @@ fetched (Some value) = record { reply = Found value; change = None }
 abbrev pub leaf_alone : PageSize → List Pair → PageChange
 leaf_alone size pairs = record { leaf = record { size = size; pairs = pairs }; twins = []; bits = [] }
 
--- a delete: the others stay in their order
+-- a delete; the remaining pairs keep their order
 abbrev pub deleted : {A : Type 0} → PageSize → List Pair → List ℕ → Option (List ℕ) → PageResult A
 deleted size pairs key None = record { reply = Missing; change = None }
 deleted size pairs key (Some value) = record { reply = Deleted; change = Some (leaf_alone size (without key pairs)) }
@@ -71,12 +71,12 @@ abbrev pub placed : {A : Type 0} → KeyBytes → Content → List ℕ → List 
 placed kind page key value h None = record { reply = Crowded; change = None }
 placed kind page key value h (Some t) = record { reply = Stored; change = Some (planned kind page key value h t) }
 
--- whether a store is refused for the value that is there
+-- true if a store is refused because the key has a value
 abbrev pub is_kept : Mode → Option (List ℕ) → Bool
 is_kept Insert there = is_some there
 is_kept Replace there = false
 
--- a store that is refused or not
+-- a store; the first argument is true if it is refused
 abbrev pub stored_unless : {A : Type 0} → Bool → KeyBytes → Content → List ℕ → List ℕ → ℕ → PageResult A
 stored_unless true kind page key value h = record { reply = Exists; change = None }
 stored_unless false kind page key value h = placed kind page key value h (least_splits page.size (neighbors kind page.pairs key) key value h)
@@ -87,30 +87,30 @@ stored_first size key value = record { reply = Stored; change = Some (leaf_alone
 
 -- ---- runs
 
--- the pairs with another value for a key, each in its place
+-- the pairs with another value for a key, each in its old position
 abbrev pub in_place : List ℕ → List ℕ → List Pair → List Pair
 in_place key value = map (λ e. cond (same_key key e.0) (e.0, value) e)
 
--- what becomes of the page after a run on the value of a key: its record is saved in its place, or its pair goes
+-- the change of a page by a run on the value of a key: the record is saved in place, or the pair is removed
 abbrev pub left_on : PageSize → List Pair → List ℕ → Outcome → Option PageChange
 left_on size pairs key o = cond (saves o.code) (Some (leaf_alone size (in_place key o.bytes pairs))) (cond (removes o.code) (Some (leaf_alone size (without key pairs))) None)
 
--- A run on the value of a key. One that does not end, as none of an accepted program, changes nothing.
+-- A run on the value of a key. A run that does not end changes nothing; every run of an accepted program ends.
 abbrev pub ran_on : {A : Type 0} → PageSize → List Pair → List ℕ → Option Outcome → PageResult A
 ran_on size pairs key None = record { reply = Ran 0 0; change = None }
 ran_on size pairs key (Some o) = record { reply = Ran o.code o.word; change = left_on size pairs key o }
 
--- a run's reply in the place of that of the store of its record, where there is room for it
+-- a run's reply if the store of its record fits; `Crowded` otherwise
 abbrev pub as_ran : {A : Type 0} → Reply A → Option PageChange → PageResult A
 as_ran reply None = record { reply = Crowded; change = None }
 as_ran reply (Some change) = record { reply = reply; change = Some change }
 
--- a run whose record is stored where it is saved, as an insert of it is
+-- a run whose record is stored like an insert if the program saves it
 abbrev pub stored_by : {A : Type 0} → Bool → KeyBytes → Content → List ℕ → ℕ → Outcome → PageResult A
 stored_by false kind page key h o = record { reply = Ran o.code o.word; change = None }
 stored_by true kind page key h o = as_ran (Ran o.code o.word) (option_map (planned kind page key o.bytes h) (least_splits page.size (neighbors kind page.pairs key) key o.bytes h))
 
--- a run on a blank, for a key that is not there
+-- a run on a blank, for a missing key
 abbrev pub ran_anew : {A : Type 0} → KeyBytes → Content → List ℕ → ℕ → Option Outcome → PageResult A
 ran_anew kind page key h None = record { reply = Ran 0 0; change = None }
 ran_anew kind page key h (Some o) = stored_by (saves o.code) kind page key h o
@@ -128,13 +128,13 @@ run_on kind page h session key program argument now (Some value) blank = ran_on 
 run_on kind page h session key program argument now None (Some len) = ran_anew kind page key h (outcome_anew session program argument now len)
 run_on kind page h session key program argument now None None = record { reply = Missing; change = None }
 
--- that run ends
+-- the run ends
 abbrev pub EndsOn : ℕ → List Insn → List ℕ → ℕ → Option (List ℕ) → Option ℕ → Type 0
 EndsOn session program argument now (Some value) blank = is_some (outcome_there session program argument now value) ≡ true
 EndsOn session program argument now None (Some len) = is_some (outcome_anew session program argument now len) ≡ true
 EndsOn session program argument now None None = Unit {0}
 
--- a command that is no run, or one that ends
+-- a command that is not a run, or a run that ends
 abbrev pub HasEnd : {A : Type 0} → List Pair → ℕ → Command A → Type 0
 HasEnd pairs session (Fetch key) = Unit {0}
 HasEnd pairs session (Store key value mode) = Unit {0}
@@ -144,8 +144,8 @@ HasEnd pairs session Count = Unit {0}
 
 -- ---- commands
 
--- What a session's command comes to on the page of its place, in a database of that kind and size: the pair of a key that is
--- deleted goes, and the new pair of one that is stored is the last. A count is about no page.
+-- The result of a session's command on the page of its place, in a database of this hash kind and page size. A delete removes
+-- its pair, and a store appends the new pair at the end. A count has no page.
 abbrev pub works : {A : Type 0} → Place → KeyBytes → PageSize → List Pair → ℕ → Command A → PageResult A
 works place kind size pairs session (Fetch key) = fetched (value_of pairs key)
 works place kind size pairs session (Store key value mode) = stored_unless (is_kept mode (value_of pairs key)) kind (record { size = size; pairs = pairs }) key value place.depth
@@ -153,21 +153,21 @@ works place kind size pairs session (Delete key) = deleted size pairs key (value
 works place kind size pairs session (Run key program argument blank now) = run_on kind (record { size = size; pairs = pairs }) place.depth session key program argument now (value_of pairs key) blank
 works place kind size pairs session Count = record { reply = Missing; change = None }
 
--- what a plan makes of pages
+-- a plan as the change of pages that it describes
 abbrev pub change_of : {A : Type 0} → Plan A → PageChange
 change_of plan = record { leaf = plan.leaf; twins = plan.twins.items; bits = plan.bits.items }
 
--- the pairs of a page that is lent, none where there is no page
+-- the pairs of a borrowed page; empty if there is no page
 abbrev pub pairs_lent : Option (Bor Content) → List Pair
 pairs_lent None = []
 pairs_lent (Some page) = page.now.pairs
 
--- the pairs of a page that is kept, none where there is no page
+-- the pairs of an owned page; empty if there is no page
 abbrev pub pairs_kept : Option Content → List Pair
 pairs_kept None = []
 pairs_kept (Some page) = page.pairs
 
--- a page and the place to which a key leads: all keys of the page lead there too
+-- a page and the place of a key: every key on the page leads to the same place
 pub record IsPageOfKey (place : Place) (kind : KeyBytes) (size : PageSize) (pairs : List Pair) (key : List ℕ) : Type 0 where
   pub shallow : place.depth ≤ 31
   pub bit : place.bit ≡ word_number (hash_prefix place.depth (hash_of kind key))
@@ -175,7 +175,7 @@ pub record IsPageOfKey (place : Place) (kind : KeyBytes) (size : PageSize) (pair
   pub keys_lead : All (λ e. hash_of kind e.0 % 2 ^ place.depth ≡ place.page) pairs
   pub page : IsPage size pairs
 
--- a command that may be worked on a page
+-- a command that can be computed on a page
 pub record IsWorkable {A : Type 0} (place : Place) (kind : KeyBytes) (size : PageSize) (pairs : List Pair) (command : Command A) : Type 0 where
   pub keyed : HasKey command
   pub small : IsSmall size command

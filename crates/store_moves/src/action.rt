@@ -1,4 +1,4 @@
-//! One command on a database: worked out, put in, or both.
+//! Executes one command on a database: computes the result, installs it, or both.
 ghost use Rattle.std.specs.Prelude.{◌≡◌, ◌+◌, ◌≤◌, ℕ, length, IfOk, IfErr, IfSome, IfNone, OnOk, OnErr, is_some, true, false};
 ghost use Rattle.std.specs.Option.{option_map};
 ghost use Rattle.sdbm_addr.specs.Database.{IsDatabase, pairs_at};
@@ -26,12 +26,12 @@ use sdbm_split::Plan;
 use std::alloc::{AllocError, Allocator};
 use store_cmd::{Command, Entry, Reply};
 
-/// Does a session's command on a database of which no trail is kept, and gives the entry that a trail would have. The command is
-/// one that `check_sizes` takes for the page size of the database.
+/// Executes a session's command on a database that keeps no trail. Returns the entry that a trail would record. `check_sizes`
+/// must accept the command for the page size of the database.
 ///
 /// # Errors
-/// `AllocError` where no memory is left, and never where the reply would be `Missing`, `Exists`, `Crowded` or a `Count`. The
-/// database is then as it was, and the command comes back.
+/// `AllocError` if out of memory, but never if the reply would be `Missing`, `Exists`, `Crowded` or a `Count`. The database is
+/// unchanged, and the command is returned.
 pub fn act<A: Allocator + Copy>(
     alloc: A,
     image: &mut Image<A>,
@@ -56,9 +56,9 @@ pub fn act<A: Allocator + Copy>(
     }
 }
 
-/// Stores a pair as `act` does a store, where that takes no memory, and says whether it did: on a page that has room for the pair and
-/// that nobody else shares, where the store is no insert of a key that is there. Else the database is as it was. No page gets pairs that
-/// had none, so its files grow no longer. The pair is one that `check_pair` takes for the page size of the database.
+/// Stores a pair as `act` does, if that needs no memory. Returns true if the pair was stored. It is stored if its page is not
+/// shared and has room for it, unless the store is an insert of an existing key. Otherwise the database is unchanged. No page
+/// without pairs gets any, so the files do not grow. `check_pair` must accept the pair for the page size of the database.
 pub fn act_store<A: Allocator + Copy>(
     image: &mut Image<A>,
     key: &[u8],
@@ -74,9 +74,10 @@ pub fn act_store<A: Allocator + Copy>(
     store_in_place(image, place, key, value, mode)
 }
 
-/// Does a run as `act` does it, where that takes no memory, and tells how its program ended: where the key is there with a value of at
-/// most 256 bytes, and the program's number changes nothing, or saves the record on a page that nobody else shares. Else it is `None` and
-/// the database is as it was. No page gets pairs that had none. The run is one that `check_run` takes for the page size of the database.
+/// Executes a run as `act` does, if that needs no memory, and returns how its program ended. The key must exist with a value of
+/// at most 256 bytes, and the program must either change nothing or save its record on a page that is not shared. Otherwise
+/// returns `None`, and the database is unchanged. No page without pairs gets any. `check_run` must accept the run for the page
+/// size of the database.
 pub fn act_run<A: Allocator + Copy>(image: &mut Image<A>, input: &RunInput<'_, A>) -> Option<Ended>
     requires small { IsSmall image.old.size (command_of input.now) }
     ensures done { IfSome result (λ ended. Acts image.old (record { session = input.now.session; command = command_of input.now; reply = Ran ended.code ended.word }) image.new) }
@@ -87,7 +88,7 @@ pub fn act_run<A: Allocator + Copy>(image: &mut Image<A>, input: &RunInput<'_, A
     run_input_in_place(image, place, input)
 }
 
-// The reply to a command, which is done.
+// Executes a command and returns its reply.
 fn reply_to<A: Allocator + Copy>(
     alloc: A,
     image: &mut Image<A>,
@@ -106,7 +107,7 @@ fn reply_to<A: Allocator + Copy>(
     }
 }
 
-// The same for a command about a key.
+// Like `reply_to`, for a command about a key.
 fn act_on_page<A: Allocator + Copy>(
     alloc: A,
     image: &mut Image<A>,
@@ -126,7 +127,7 @@ fn act_on_page<A: Allocator + Copy>(
     work_and_put(alloc, image, place, session, command)
 }
 
-// The same for a run.
+// Like `reply_to`, for a run.
 fn act_by_run<A: Allocator + Copy>(
     alloc: A,
     image: &mut Image<A>,
@@ -147,7 +148,7 @@ fn act_by_run<A: Allocator + Copy>(
     work_and_put(alloc, image, place, session, command)
 }
 
-// Puts in what a session's command comes to on its page, which is worked out first.
+// Computes a session's command on its page and installs the result.
 fn work_and_put<A: Allocator + Copy>(
     alloc: A,
     image: &mut Image<A>,
@@ -170,7 +171,7 @@ fn work_and_put<A: Allocator + Copy>(
     }
 }
 
-/// The key of a command, which for a count is empty.
+/// The key of a command; empty for a count.
 pub fn key_in<A: Allocator>(command: &Command<A>) -> &[u8]
     ensures { result.now ≡ key_of command.now }
 {
@@ -183,12 +184,12 @@ pub fn key_in<A: Allocator>(command: &Command<A>) -> &[u8]
     }
 }
 
-/// What a session's command comes to on its page as it stands; the database is only read. The command is no count and is one that
-/// `check_sizes` takes for the page size of the database, and the place is that to which its key leads (`Image::place`).
+/// Computes the result of a session's command on its current page. The database is only read. The command must not be a count,
+/// and `check_sizes` must accept it for the page size of the database. The place must be that of its key (`Image::place`).
 ///
 /// # Errors
-/// `AllocError` where no memory is left for the value that was found, for the pages that the command would change, or for the page
-/// on which a program runs. It never comes where the reply would be `Missing`, `Exists` or `Crowded`.
+/// `AllocError` if there is no memory for the value that was found, for the changed pages, or for the page on which a program
+/// runs. Never if the reply would be `Missing`, `Exists` or `Crowded`.
 pub fn work_at<A: Allocator + Copy>(
     alloc: A,
     image: &Image<A>,
@@ -210,11 +211,12 @@ pub fn work_at<A: Allocator + Copy>(
     work_on(alloc, page, place, kind, size, session, command)
 }
 
-/// Puts in what becomes of the page of a place: installs the plan, or does nothing where there is none. The plan is one that may be
-/// installed in the database as it stands, as what `work_at` gave of it and of that place is.
+/// Installs the change of a place's page; does nothing if there is no change. The plan must be installable in the current
+/// database, as one from `work_at` is for the same database and place.
 ///
 /// # Errors
-/// `AllocError` where no memory is left for the pages and the bits of a plan. The database is then as it was, and the plan comes back.
+/// `AllocError` if there is no memory for the pages and the bits of the plan. The database is unchanged, and the plan is
+/// returned.
 pub fn put_in<A: Allocator + Copy>(
     image: &mut Image<A>,
     place: Place,

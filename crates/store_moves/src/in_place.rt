@@ -1,5 +1,5 @@
-//! Stores and runs of programs that are done where the page of their key stands, on a page that nobody else shares, and without a copy
-//! of it: stores that need no split, and runs on short records.
+//! Stores and runs executed in place, on a page that is not shared, without copying it: stores that need no split, and runs on
+//! short records.
 ghost use Rattle.std.specs.Prelude.{◌≡◌, ◌+◌, ◌≤◌, ℕ, length, true, false, IfSome, IfNone};
 ghost use Rattle.sdbm_addr.specs.Database.{IsDatabase, pairs_at};
 ghost use Rattle.sdbm_addr.specs.Pairs.{pair_limit};
@@ -23,10 +23,10 @@ use sdbm_files::Image;
 use std::alloc::Allocator;
 use store_cmd::Command;
 
-// The most bytes of a record that is short.
+// The longest record, in bytes, that is run in place.
 const SHORT: usize = 256;
 
-/// A run on a copy of the value of a pair: which pair it is, how long its value, and how the run ended.
+/// A run on a copy of a pair's value: the index of the pair, the length of its value, and how the run ended.
 #[derive(Clone, Copy)]
 struct Copied {
     i: usize,
@@ -34,7 +34,7 @@ struct Copied {
     ended: Ended,
 }
 
-/// Whether a command is a run of a program.
+/// Returns true if a command is a run of a program.
 pub fn is_run<A: Allocator>(command: &Command<A>) -> bool
     ensures run { result ≡ true → IsRun command.now }
     ensures other { IsRun command.now → result ≡ true }
@@ -45,10 +45,10 @@ pub fn is_run<A: Allocator>(command: &Command<A>) -> bool
     }
 }
 
-/// Stores a pair without taking memory, and says whether it did: where its place has a page that nobody else shares, on which the pair
-/// goes beside those of other keys, and the store is no insert of a key that is there. Else the database is as it was; `work_at` and
-/// `put_in` do the store then. No page gets pairs that had none. The pair is small enough for the page size of the database, and the place is that to which its key leads
-/// (`Image::place`).
+/// Stores a pair without allocating. Returns true if the pair was stored. It is stored if its place has a page that is not
+/// shared, the pair fits next to those of other keys, and the store is not an insert of an existing key. Otherwise the database
+/// is unchanged; use `work_at` and `put_in` for the store. No page without pairs gets any. The pair must be small enough for
+/// the page size of the database, and the place must be that of its key (`Image::place`).
 pub fn store_in_place<A: Allocator + Copy>(
     image: &mut Image<A>,
     place: Place,
@@ -66,7 +66,7 @@ pub fn store_in_place<A: Allocator + Copy>(
     image.store_pair(place.page, key, value, mode)
 }
 
-/// The same for a command, which may be another than a store: nothing is done then.
+/// Like `store_in_place`, for a command. Does nothing if the command is not a store.
 pub fn try_store<A: Allocator + Copy>(
     image: &mut Image<A>,
     place: Place,
@@ -86,8 +86,8 @@ pub fn try_store<A: Allocator + Copy>(
     }
 }
 
-/// Does a session's run without taking memory, and tells how its program ended, as `run_input_in_place` does. The command is a run that
-/// `check_sizes` takes for the page size of the database.
+/// Executes a session's run like `run_input_in_place`. The command must be a run that `check_sizes` accepts for the page size
+/// of the database.
 pub fn run_in_place<A: Allocator + Copy>(
     image: &mut Image<A>,
     place: Place,
@@ -105,10 +105,10 @@ pub fn run_in_place<A: Allocator + Copy>(
     run_input_in_place(image, place, &input)
 }
 
-/// Does a run without taking memory, and tells how its program ended: where the key is there with a value of at most 256 bytes, and the
-/// program's number changes nothing, or saves the record on a page that nobody else shares. Else it is `None` and the database is as it
-/// was; `work_at` and `put_in` do the run then. No page gets pairs that had none. The run is one that `check_run` takes for the page size of the database, and the place is
-/// that to which its key leads (`Image::place`).
+/// Executes a run without allocating, and returns how its program ended. The key must exist with a value of at most 256 bytes,
+/// and the program must either change nothing or save its record on a page that is not shared. Otherwise returns `None`, and
+/// the database is unchanged; use `work_at` and `put_in` for the run. No page without pairs gets any. `check_run` must accept
+/// the run for the page size of the database, and the place must be that of its key (`Image::place`).
 pub fn run_input_in_place<A: Allocator + Copy>(
     image: &mut Image<A>,
     place: Place,
@@ -137,8 +137,8 @@ pub fn run_input_in_place<A: Allocator + Copy>(
     None
 }
 
-// Runs a program on a copy of the value of its key, which is made in the first of some bytes, where the key is on a page and its value
-// is no longer than they are.
+// Copies the value of the key into the start of `bytes` and runs the program on it. Returns `None` if the key has no pair on
+// the page or its value is longer than `bytes`.
 fn run_copied<A: Allocator + Copy>(
     image: &Image<A>,
     number: u32,

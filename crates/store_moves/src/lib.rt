@@ -1,4 +1,4 @@
-//! What one command does to a database: its reply, and the pages and bits that become others.
+//! The effect of one command on a database: its reply, and the changed pages and bits.
 #![tactic(auto)]
 
 mod action;

@@ -1,4 +1,4 @@
-//! The page of a place as it was.
+//! A snapshot of the page of a place.
 ghost use Rattle.std.specs.Prelude.{◌≡◌, ◌↔◌, IsTrue, IfOk, IfSome};
 ghost use Rattle.sdbm_addr.specs.Database.{pairs_at};
 ghost use Rattle.store_moves.specs.Works.{pairs_lent};
@@ -9,7 +9,7 @@ use sdbm_page::{Page, SharedPage};
 use std::alloc::{AllocError, Allocator};
 use std::marker::Model;
 
-/// The page of a place as it was, seen as its size and its pairs. Where it had none there is no page.
+/// A snapshot of the page of a place, seen as its size and its pairs. It has no page if the place had none.
 #[derive(Drop)]
 pub struct PageCopy<A: Allocator> {
     size: PageSize,
@@ -29,10 +29,10 @@ impl<A: Allocator> Model for PageCopy<A> {
 }
 
 impl<A: Allocator> PageCopy<A> {
-    /// The page with a number, as it is now. It takes no memory.
+    /// Takes a snapshot of the page with a number, without allocating.
     ///
     /// # Errors
-    /// `AllocError` where the page has as many owners as can be counted.
+    /// `AllocError` if the page's owner count is at its maximum.
     pub fn of(image: &Image<A>, number: u32) -> Result<Self, AllocError>
     where
         A: Copy,
@@ -52,10 +52,10 @@ impl<A: Allocator> PageCopy<A> {
         }
     }
 
-    /// The same page, with one owner more. It takes no memory.
+    /// Adds an owner to the page, without allocating.
     ///
     /// # Errors
-    /// `AllocError` where the page has as many owners as can be counted.
+    /// `AllocError` if the page's owner count is at its maximum.
     pub fn try_clone(&self) -> Result<Self, AllocError>
         ensures { IfOk result (λ copy. copy ≡ self.now) }
     {
@@ -74,14 +74,14 @@ impl<A: Allocator> PageCopy<A> {
         }
     }
 
-    /// How large the page is.
+    /// The size of the page.
     pub fn page_size(&self) -> PageSize
         ensures { result ≡ self.now.size }
     {
         self.size
     }
 
-    /// The page, where it has pairs.
+    /// The page, if it has pairs.
     pub fn page(&self) -> Option<&Page<A>>
         ensures pairs { pairs_lent result ≡ self.now.pairs }
         ensures size { IfSome result (λ page. page.now.size ≡ self.now.size) }
@@ -92,7 +92,7 @@ impl<A: Allocator> PageCopy<A> {
         }
     }
 
-    /// Whether the page with a number is still this one: it has the same size and the same pairs in the same order.
+    /// Returns true if the page with a number is unchanged: it has the same size and the same pairs in the same order.
     pub fn is_still(&self, image: &Image<A>, number: u32) -> bool
     where
         A: Copy,
@@ -109,7 +109,7 @@ impl<A: Allocator> PageCopy<A> {
         }
     }
 
-    /// Whether two copies have one size and the same pairs in the same order.
+    /// Returns true if both copies have the same size and the same pairs in the same order.
     pub fn equals(&self, other: &PageCopy<A>) -> bool
         ensures { IsTrue result ↔ (self.now ≡ other.now) }
     {

@@ -1,5 +1,5 @@
-//! What the run of a program comes to, on the page of its key. The program runs in place: on the value in a copy of the page, or on
-//! a blank, which is stored as an insert stores.
+//! The result of a program's run on the page of its key. The program runs in place, either on the value in a copy of the page,
+//! or on a blank. A saved blank is stored as an insert.
 ghost use Rattle.std.specs.Prelude.{◌≡◌, ◌+◌, ◌≤◌, ◌<◌, length, true, None, IfOk, IfSome, OnOk, OnErr};
 ghost use Rattle.std.specs.Option.{option_map};
 ghost use Rattle.sdbm_addr.specs.Pairs.{pair_limit, value_of, value_at};
@@ -20,13 +20,12 @@ use sdbm_page::{Page, SharedPage};
 use std::alloc::{AllocError, Allocator};
 use store_cmd::Reply;
 
-// The numbers with which a program ends that means to change something.
+// Exit numbers of a program that changes something.
 pub(crate) const SAVED: u64 = 1;
 
 pub(crate) const REMOVED: u64 = 2;
 
-/// What a run is told and lent: the session and the time, its key, its program and argument, and the length of the blank on which
-/// it runs where the key isn't there.
+/// The operands of a run. `blank` is the length of the record to run on if the key is missing.
 #[derive(Drop)]
 pub struct RunInput<'a, A: Allocator> {
     pub session: u64,
@@ -37,10 +36,10 @@ pub struct RunInput<'a, A: Allocator> {
     pub blank: Option<usize>,
 }
 
-/// A run on the value of its key, or on a blank of zeros where the key isn't there, as where the place has no page.
+/// Runs a program on the value of its key, or on a blank of zeros if the key is missing.
 ///
 /// # Errors
-/// `AllocError` where no memory is left for the page on which it runs, or for those that its record is stored on.
+/// `AllocError` if there is no memory for the page on which the program runs, or for the pages that store its record.
 pub fn run_on<A: Allocator + Copy>(
     alloc: A,
     page: Option<&Page<A>>,
@@ -64,7 +63,7 @@ pub fn run_on<A: Allocator + Copy>(
     run_anew(alloc, page, site, input, len)
 }
 
-/// What the helpers know of a run.
+/// The environment that helpers see in a run.
 pub(crate) fn env_of<A: Allocator>(input: &RunInput<'_, A>, present: bool) -> Env
     ensures { result ≡ env_of input.now.time present input.now.session }
 {
@@ -102,7 +101,7 @@ fn run_there<A: Allocator + Copy>(
     Ok(unchanged(ran(ended)))
 }
 
-// Runs a program on a blank for a key that isn't there, and stores the record where it is saved.
+// Runs a program on a blank for a missing key, and stores the record if the program saves it.
 fn run_anew<A: Allocator + Copy>(
     alloc: A,
     page: Option<&Page<A>>,
@@ -129,7 +128,7 @@ fn run_anew<A: Allocator + Copy>(
     Ok(as_ran(stored, ran(ended)))
 }
 
-// What the store of a record comes to, with the reply to its run where there is room for it.
+// Turns the result of storing a record into the result of its run: the reply is the run's, unless the store was crowded.
 fn as_ran<A: Allocator>(stored: Worked<A>, reply: Reply<A>) -> Worked<A>
     ensures { IsWorked (as_ran reply (option_map change_of stored.change)) result }
 {
@@ -143,7 +142,7 @@ fn as_ran<A: Allocator>(stored: Worked<A>, reply: Reply<A>) -> Worked<A>
     }
 }
 
-/// The reply to a run that ended so: its number and its reply word.
+/// The reply to a finished run: its exit number and its reply word.
 pub fn ran<A: Allocator>(ended: Ended) -> Reply<A>
     ensures { result ≡ Reply.Ran ended.code ended.word }
 {

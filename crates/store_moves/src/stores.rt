@@ -1,4 +1,4 @@
-//! Stores, worked out on the page of a place.
+//! Stores, computed on the page of a place.
 ghost use Rattle.std.specs.Prelude.{◌≡◌, ◌+◌, ◌≤◌, ◌<◌, length, true, IfOk, IfSome, OnErr, Some, None};
 ghost use Rattle.sdbm_addr.specs.Pairs.{pair_limit};
 ghost use Rattle.store_moves.specs.Works.{stored_first, IsPageOfKey, pairs_lent};
@@ -32,7 +32,7 @@ pub(crate) fn store_in<A: Allocator + Copy>(
     }
 }
 
-// The same on a page that has pairs.
+// Like `store_in`, on a page that has pairs.
 fn store_beside<A: Allocator + Copy>(
     alloc: A,
     page: &Page<A>,
@@ -58,7 +58,7 @@ fn store_beside<A: Allocator + Copy>(
     }
 }
 
-// The same where there is no page: its first pair has room, whatever it is.
+// Like `store_in`, if there is no page. The first pair always fits.
 fn store_first<A: Allocator + Copy>(
     alloc: A,
     size: PageSize,

@@ -1,4 +1,4 @@
-//! What a command comes to, from the page of its key alone: its reply, and what becomes of the page. Nothing is changed here.
+//! The result of a command, computed from the page of its key alone: its reply and the changed page. Nothing is modified here.
 ghost use Rattle.std.specs.Prelude.{◌≡◌, ◌+◌, ◌<◌, length, remove, true, IfOk, IfSome, OnOk, OnErr, Some};
 ghost use Rattle.sdbm_addr.specs.Pairs.{HasDistinctKeys, value_of};
 ghost use Rattle.store_cmd.specs.declared.Command.TheVariants.{Run};
@@ -14,13 +14,13 @@ use sdbm_page::{Page, SharedPage};
 use std::alloc::{AllocError, Allocator};
 use store_cmd::{Command, Reply};
 
-/// Works a session's command out on the page of its place, or on none where that has no pairs. The command is no count and is one
-/// that `check_sizes` takes for this page size; the place is that to which its key leads in a database whose keys hash so, and the page is
-/// the one there. Nothing is changed.
+/// Computes the result of a session's command on the page of its place; pass `None` if the place has no pairs. The command must
+/// not be a count, and `check_sizes` must accept it for this page size. The place must be that of its key in a database of this
+/// hash kind, and the page must be the one at that place. Nothing is modified.
 ///
 /// # Errors
-/// `AllocError` where no memory is left for the value that was found, for the pages that the command would change, or for the page
-/// on which a program runs. It never comes where the reply would be `Missing`, `Exists` or `Crowded`.
+/// `AllocError` if there is no memory for the value that was found, for the changed pages, or for the page on which a program
+/// runs. Never if the reply would be `Missing`, `Exists` or `Crowded`.
 pub fn work_on<A: Allocator + Copy>(
     alloc: A,
     page: Option<&Page<A>>,
@@ -53,7 +53,7 @@ pub fn work_on<A: Allocator + Copy>(
     }
 }
 
-/// What the run of a session's command is told and lent.
+/// The operands of a session's run command.
 pub(crate) fn input_of<A: Allocator>(session: u64, command: &Command<A>) -> RunInput<'_, A>
     requires { IsRun command.now }
     ensures session { result.session ≡ session }
@@ -78,7 +78,7 @@ pub(crate) fn input_of<A: Allocator>(session: u64, command: &Command<A>) -> RunI
     }
 }
 
-// The reply to a fetch, which copies the value alone.
+// The reply to a fetch. Copies only the value.
 fn fetch<A: Allocator + Copy>(
     alloc: A,
     page: Option<&Page<A>>,

@@ -1,4 +1,4 @@
-//! What a command comes to, and where.
+//! The result of a command, and the site of its page.
 ghost use Rattle.std.specs.Prelude.{◌≡◌, ◌+◌, ◌<◌, [], IfSome, IfNone, Some, None};
 ghost use Rattle.std.specs.Option.{option_map};
 ghost use Rattle.sdbm_addr.specs.Pairs.{IsPlace, value_of};
@@ -11,14 +11,14 @@ use sdbm_split::Plan;
 use std::alloc::Allocator;
 use store_cmd::Reply;
 
-/// What a command comes to: its reply, and what becomes of its page, where that changes.
+/// The result of a command: its reply, and the change of its page, if any.
 #[derive(Drop)]
 pub struct Worked<A: Allocator> {
     pub reply: Reply<A>,
     pub change: Option<Plan<A>>,
 }
 
-/// Where a page lies: its place, in a database whose keys hash so and whose pages are so large.
+/// The site of a page: its place, and the hash kind and page size of its database.
 #[derive(Clone, Copy)]
 pub struct Site {
     pub place: Place,
@@ -26,7 +26,7 @@ pub struct Site {
     pub size: PageSize,
 }
 
-// The page and the number of the pair of a key, where it has one.
+// The page and the index of a key's pair, if it exists.
 pub(crate) fn pair_of<'p, A: Allocator>(
     page: Option<&'p Page<A>>,
     key: &[u8],
@@ -44,7 +44,7 @@ pub(crate) fn pair_of<'p, A: Allocator>(
     }
 }
 
-// A reply that leaves the page as it is.
+// A reply that leaves the page unchanged.
 pub(crate) fn unchanged<A: Allocator>(reply: Reply<A>) -> Worked<A>
     ensures reply { result.reply ≡ reply }
     ensures change { result.change ≡ None }
@@ -55,7 +55,7 @@ pub(crate) fn unchanged<A: Allocator>(reply: Reply<A>) -> Worked<A>
     }
 }
 
-// A reply after which the page is another, without a split.
+// A reply with a changed page, without a split.
 pub(crate) fn changed<A: Allocator + Copy>(
     alloc: A,
     reply: Reply<A>,

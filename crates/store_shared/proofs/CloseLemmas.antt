@@ -24,7 +24,7 @@ among_numbers : {A : Type 0} (n : ℕ) (handed : List (CallsState A)) → list_a
 among_numbers n [] = refl
 among_numbers {A} n (c ∷ cs) = rw (among_numbers n cs) refl
 
--- one more of its own number
+-- one more session with its own number
 pub AreOwn-more : {A : Type 0} (made : ℕ) (handed : List (CallsState A)) (i : ℕ) (d : CallsState A) → i < length handed → AreOwn made (take i handed) → (slice_index_or handed i d).number < made → is_among (slice_index_or handed i d).number (take i handed) ≡ false → AreOwn made (take (i + 1) handed)
 AreOwn-more {A} made handed i d within own given new =
     let number : CallsState A → ℕ = λ c. c.number in
@@ -35,14 +35,14 @@ AreOwn-more {A} made handed i d within own given new =
       distinct = rw e (IsDistinct-push nat_eq_equiv (numbers_of (take i handed)) c.number own.distinct (among_numbers c.number (take i handed) ∙ new));
     }
 
--- none at all
+-- an empty list
 pub AreOwn-none : {A : Type 0} (made : ℕ) → AreOwn {A = A} made []
 unfolding IsDistinct
 AreOwn-none {A} made = record { given = All-nil (λ (c : CallsState A). c.number < made); distinct = tt }
 
 pub ruleset Here = (slice_get-get_or)
 
--- what follows a list
+-- the element after the front of a list
 slice_get-behind : {X : Type 0} (front : List X) (x : X) (rest : List X) → slice_get (front ++ x ∷ rest) (length front) ≡ Some x
 slice_get-behind [] x rest = refl
 slice_get-behind (y ∷ ys) x rest = slice_get-behind ys x rest
@@ -55,7 +55,7 @@ pub calls_more : {A : Type 0} (n : ℕ) (xs : List (Entry A)) (i : ℕ) (d : Ent
 calls_more {A} n xs i d h y_s =
     ap (calls_of n) (take_more xs i d h) ∙ (filter-append (λ (e : Entry A). e.session == n) (take i xs) (slice_index_or xs i d ∷ []) ∙ rw y_s refl)
 
--- an entry of the session stands in the trail after so many of its calls, and not in them: they are others
+-- the trail has an entry of the session after `at` of its calls that is not the next call: the calls differ
 pub calls_apart : {A : Type 0} (n : ℕ) (xs made : List (Entry A)) (i at : ℕ) (d : Entry A) → i < length xs → at ≤ length made → calls_of n (take i xs) ≡ take at made → ((slice_index_or xs i d).session == n) ≡ true → slice_get made at ≢ Some (slice_index_or xs i d) → calls_of n xs ≢ made
 calls_apart {A} n xs made i at d within few same its_own other whole =
     let p : Entry A → Bool = λ e. e.session == n in
@@ -66,13 +66,13 @@ calls_apart {A} n xs made i at d within few same its_own other whole =
     let seam : made ≡ take at made ++ x ∷ rest = parts ∙ append_assoc (take at made) (x ∷ []) rest in
     other (ap (λ ys. slice_get ys at) seam ∙ (ap (slice_get (take at made ++ x ∷ rest)) (sym (length-take-le at made few)) ∙ slice_get-behind (take at made) x rest))
 
--- fewer of them stand in the trail
+-- the trail has fewer of them
 pub calls_short : {A : Type 0} (n : ℕ) (xs made : List (Entry A)) (at : ℕ) → at < length made → calls_of n xs ≡ take at made → calls_of n xs ≢ made
 calls_short {A} n xs made at few same whole =
     let l : length made ≡ at = ap length (sym whole ∙ same) ∙ length-take-le at made (omega arith) in
     absurd (omega arith)
 
--- once every entry is counted, they are all those of the trail where their number is
+-- once every entry is counted, the calls are all those of their session in the trail
 pub calls_whole : {A : Type 0} (n : ℕ) (xs made : List (Entry A)) (i at : ℕ) → length xs ≤ i → at ≤ length made → calls_of n (take i xs) ≡ take at made → Decides (at == length made) (calls_of n xs ≡ made)
 calls_whole {A} n xs made i at over few same = (λ h. whole ∙ take_all at made (enough h), λ here. by_test here (at == length made) refl) where
   whole : calls_of n xs ≡ take at made
@@ -85,7 +85,7 @@ calls_whole {A} n xs made i at over few same = (λ h. whole ∙ take_all at made
   by_test here true is = refl
   by_test here false is = absurd (calls_short n xs made at (omega (arith, eqb-false at (length made) is)) whole here)
 
--- one more of them stands in the trail
+-- the trail has one more of them
 pub calls_next : {A : Type 0} (n : ℕ) (xs made : List (Entry A)) (i at : ℕ) (d : Entry A) → i < length xs → calls_of n (take i xs) ≡ take at made → ((slice_index_or xs i d).session == n) ≡ true → slice_get made at ≡ Some (slice_index_or xs i d) → (calls_of n (take (i + 1) xs) ≡ take (at + 1) made) × (at + 1 ≤ length made)
 calls_next {A} n xs made i at d within same its_own here =
     let x = slice_index_or xs i d in
@@ -94,13 +94,13 @@ calls_next {A} n xs made i at d within same its_own here =
       omega arith,
     )
 
--- whether two pairs are the same
+-- decides whether two pairs are equal
 pub same_pair : (a b : Pair) → Decides (bytes_eq a.0 b.0 && bytes_eq a.1 b.1) (a ≡ b)
 same_pair a b =
     let whole : (a.0 ≡ b.0) × (a.1 ≡ b.1) → a ≡ b = λ h. ap (λ x. (x, a.1)) h.0 ∙ ap (λ y. (b.0, y)) h.1 in
     Decides-like (bytes_eq a.0 b.0 && bytes_eq a.1 b.1) whole (λ e. (ap (λ p. p.0) e, ap (λ p. p.1) e)) (Decides-and (bytes_eq a.0 b.0) (bytes_eq a.1 b.1) (bytes_eq-Decides a.0 b.0) (bytes_eq-Decides a.1 b.1))
 
--- a number that is strange, or comes twice, is a fault of closing
+-- an unknown number, or one that occurs twice, is a fault of closing
 pub strange_fault : {A : Type 0} (s : DeskState A) (made : ℕ) (opened : Opened) (handed : List (CallsState A)) (fault : CloseFault) → IsFirstStrange made handed fault → IsCloseFault s made opened handed fault
 strange_fault s made opened handed (Stranger n) h = h
 strange_fault s made opened handed (Double n) h = h
@@ -108,7 +108,7 @@ strange_fault s made opened handed (Missing n) h = absurd h.strange
 strange_fault s made opened handed (Torn n) h = absurd h.strange
 strange_fault s made opened handed Opening h = absurd h.strange
 
--- a session that is missing or torn, where all numbers are its own, is a fault of closing
+-- if all numbers are valid, a missing or torn session is a fault of closing
 pub apart_fault : {A : Type 0} (s : DeskState A) (made : ℕ) (opened : Opened) (handed : List (CallsState A)) (fault : CloseFault) → AreOwn made handed → IsFirstApart s.entries handed fault → IsCloseFault s made opened handed fault
 apart_fault s made opened handed (Stranger n) own h = absurd h
 apart_fault s made opened handed (Double n) own h = absurd h

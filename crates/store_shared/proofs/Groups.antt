@@ -1,4 +1,4 @@
--- What came of calls grows, call by call.
+-- The outcomes grow call by call.
 use Rattle.std.proofs.Common.{◌≡◌, ◌∙◌, sym, ap, subst, refl, arith, ℕ, List, [], ◌∷◌, ◌++◌, length}
 use Rattle.std.specs.Prelude.{Result, Ok, Err, IfOk, IfErr, OnOk, Option, None}
 use Rattle.std.specs.Vec.Iter.{into_iter_items, into_iter_len, into_iter_steps}
@@ -14,7 +14,7 @@ use Rattle.store_shared.specs.declared.serving.Committed.{Committed}
 use Rattle.store_shared.specs.Shared.{SessionState, session_of, with_call, entry_of, IsReplyTo, IsRefusal}
 use Rattle.store_shared.specs.Groups.{IsCall, AreCalls, AreAnswered, IsNoted}
 
--- one call more
+-- one more call
 calls_more : {A : Type 0} (s mid s' : SessionState A) (commands : List (Command A)) (outs : List (Result (Reply A) Refusal)) (command : Command A) (out : Result (Reply A) Refusal) → AreCalls s commands outs mid → IsCall mid command out s' → AreCalls s (commands ++ command ∷ []) (outs ++ out ∷ []) s'
 calls_more {A} s mid s' [] [] command out same call = (s', (subst (λ (x : SessionState A). IsCall x command out s') same call, refl))
 calls_more s mid s' [] (o ∷ os) command out before call = absurd before
@@ -49,7 +49,7 @@ so_far_all {A} s s' commands left old new h none = record {
   calls = subst (λ (cs : List (Command A)). AreCalls s cs h.outcomes s') (sym (h.whole ∙ (ap (λ (cs : List (Command A)). h.made ++ cs) none ∙ append-nil h.made))) h.calls;
 }
 
--- one call more, whose entry and outcome were noted
+-- one more call, whose entry and outcome were recorded
 pub so_far_noted : {A : Type 0} (number : ℕ) (size : PageSize) (first entries entries' : List (Entry A)) (commands left rest : List (Command A)) (old new new' : List (Result (Reply A) Refusal)) (command : Command A) (ended : Result (Committed A) Refusal)
     → OnOk ended (IsSmall size command) → IfOk ended (λ (served : Committed A). IsReplyTo number command served.reply) → IfOk ended (λ (served : Committed A). served.entry ≡ entry_of number command served.reply) → IfErr ended (IsRefusal size command)
     → left ≡ command ∷ rest → IsNoted ended entries entries' new new'
@@ -60,7 +60,7 @@ so_far_noted {A} number size first entries entries' commands left rest old new n
 so_far_noted {A} number size first entries entries' commands left rest old new new' command (Err refusal) small reply entry refused step noted h =
     so_far_more (session_of number size first) (session_of number size entries) (session_of number size entries') commands left rest old new new' command (Err refusal) h step (ap (session_of number size) noted.0, refused) noted.1
 
--- an iterator that has no next has nothing left
+-- an iterator without a next element has nothing left
 pub next_none : {X Z : Type 0} (old : IntoIter X Z) (r : Option X) (new : IntoIter X Z) → r ≡ None → into_iter_steps old r new → into_iter_items old ≡ []
 next_none {X} {Z} old r new is step =
     let none : (into_iter_len old ≡ 0) × (into_iter_len new ≡ 0) = subst (λ o. into_iter_steps old o new) is step in

@@ -1,4 +1,4 @@
--- Calls that are followed through a trail in one pass.
+-- Following calls through a trail in a single pass.
 use Rattle.std.proofs.Common.{◌≡◌, ◌∙◌, sym, ap, subst, ℕ, ◌<◌, ◌≤◌, ◌+◌, ⊎_elim, true, false, length, List, arith, slice_index_or}
 use Rattle.std.specs.Prelude.{◌≢◌, ◌==◌, nat_eq, take, Some, set, replicate}
 use Rattle.std.specs.List.{All, slice_get}
@@ -11,7 +11,7 @@ use Rattle.store_shared.specs.Shared.{CallsState}
 use Rattle.store_shared.specs.Closed.{numbers_of, is_among, AreDistinct, Agrees, IsFollowed, AreFollowed, AreWhole, IsNext}
 use Rattle.store_shared.proofs.CloseLemmas.{calls_skip, calls_next}
 
--- the place of a number is below another, or above it, or the same
+-- two indices in order have different numbers
 apart_below : {A : Type 0} (handed : List (CallsState A)) (i j : ℕ) (d : CallsState A) → AreDistinct handed → i < j → j < length handed → ((slice_index_or handed i d).number == (slice_index_or handed j d).number) ≡ false
 apart_below {A} handed i j d distinct below within =
     let number : CallsState A → ℕ = λ c. c.number in
@@ -19,7 +19,7 @@ apart_below {A} handed i j d distinct below within =
     ap (λ n. nat_eq n (slice_index_or handed j d).number) (sym (get_or-map number handed i d 0 (omega arith)))
     ∙ (ap (λ n. nat_eq (slice_index_or (numbers_of handed) i 0) n) (sym (get_or-map number handed j d 0 within)) ∙ apart)
 
--- two places have two numbers
+-- different indices have different numbers
 apart : {A : Type 0} (handed : List (CallsState A)) (i j : ℕ) (d : CallsState A) → AreDistinct handed → i ≢ j → i < length handed → j < length handed → (slice_index_or handed i d).number ≢ (slice_index_or handed j d).number
 apart handed i j d distinct other within there same =
     ⊎_elim
@@ -39,7 +39,7 @@ followed_none entries handed n long k d within =
       same = ap (λ c. take c (slice_index_or handed k d).calls) (sym none);
     }
 
--- one entry more, the next call of one session
+-- one more entry, the next call of one session
 pub followed_more : {A : Type 0} (entries : List (Entry A)) (handed : List (CallsState A)) (counts : List ℕ) (i at next : ℕ) (e : Entry A) (c : CallsState A) → AreDistinct handed → i < length entries → length counts ≡ length handed
     → slice_get handed at ≡ Some c → IsNext c (slice_index_or counts at 0) (slice_index_or entries i e) next → AreFollowed (take i entries) handed counts → AreFollowed (take (i + 1) entries) handed (set counts at next)
 followed_more {A} entries handed counts i at next e c distinct more long there is followed k d within =
@@ -73,17 +73,17 @@ followed_more {A} entries handed counts i at next e c distinct more long there i
         subst (λ n. IsFollowed (take (i + 1) entries) (slice_index_or handed k d) n) (sym (get_or-set_other counts at k next 0 differ))
         (record { within = before.within; same = calls_skip number entries i e more not_its ∙ before.same })
 
--- an entry of a session that is handed in
+-- the session of an entry is among those handed in
 pub among : {A : Type 0} (handed : List (CallsState A)) (at : ℕ) (c : CallsState A) (session : ℕ) → slice_get handed at ≡ Some c → session ≡ c.number → is_among session handed ≡ true
 among {A} handed at c session there is = any_passes_from_place (λ (calls : CallsState A). session == calls.number) handed at c there (eq-eqb _ _ is)
 
--- counted to the end
+-- calls that were counted completely agree with the trail
 pub agree_all : {A : Type 0} (entries : List (Entry A)) (handed : List (CallsState A)) (counts : List ℕ) → AreFollowed entries handed counts → AreWhole handed counts (length handed) → All (Agrees entries) handed
 agree_all entries handed counts followed whole k d within =
     let f = followed k d within in
     f.same ∙ take_all (slice_index_or counts k 0) (slice_index_or handed k d).calls (let w = whole k d within in omega arith)
 
--- counted below one place more
+-- counted up to one more index
 pub whole_more : {A : Type 0} (handed : List (CallsState A)) (counts : List ℕ) (at : ℕ) (c : CallsState A) → at < length handed → c ≡ slice_index_or handed at c → slice_index_or counts at 0 ≡ length c.calls → AreWhole handed counts at → AreWhole handed counts (at + 1)
 whole_more {A} handed counts at c within is counted whole k d below =
     ⊎_elim

@@ -1,4 +1,4 @@
--- What a step of a desk answers is a reply to its command.
+-- The answer of a desk's step is a reply to its command.
 use Rattle.std.proofs.Common.{ℕ, refl, inl, inr}
 use Rattle.std.specs.FinMap as map
 use Rattle.sdbm_addr.specs.Database.{pairs_at, map_of}
@@ -11,7 +11,7 @@ use Rattle.desk_core.specs.Desk.{DeskState}
 use Rattle.desk_core.specs.Calls.{Steps}
 use Rattle.store_shared.specs.Shared.{IsReplyTo, IsWorkedFor}
 
--- what is answered on the page of a key is worked there
+-- an answer on the page of a key is the result computed there
 on_page : {A : Type 0} (s s' : DeskState A) (session : ℕ) (command : Command A) (reply : Reply A) → HasKey command → IsOnPage s.database (record { session = session; command = command; reply = reply }) s'.database → IsWorkedFor session command reply
 on_page s s' session command reply keyed on = record {
   keyed = keyed;

@@ -1,4 +1,4 @@
--- When the calls that are handed in close a store, and why they don't.
+-- When the calls handed in close a store, and the reasons why they do not.
 use Rattle.std.specs.Prelude.{◌≡◌, ◌≢◌, ℕ, ◌+◌, ◌<◌, ◌≤◌, ◌==◌, nat_eq, Bool, true, false, List, length, map, take, Some, slice_index_or}
 use Rattle.std.specs.List.{All, IsDistinct, filter, list_any, slice_get}
 use Rattle.store_cmd.specs.declared.Entry.{Entry}
@@ -14,7 +14,7 @@ calls_of {A} session entries = filter (λ (e : Entry A). e.session == session) e
 abbrev pub numbers_of : {A : Type 0} → List (CallsState A) → List ℕ
 numbers_of {A} handed = map (λ (calls : CallsState A). calls.number) handed
 
--- some of them have the number
+-- true if some of them have the number
 abbrev pub is_among : {A : Type 0} → ℕ → List (CallsState A) → Bool
 is_among {A} number handed = list_any (λ (calls : CallsState A). number == calls.number) handed
 
@@ -22,20 +22,20 @@ is_among {A} number handed = list_any (λ (calls : CallsState A). number == call
 abbrev pub AreDistinct : {A : Type 0} → List (CallsState A) → Type 0
 AreDistinct handed = IsDistinct nat_eq (numbers_of handed)
 
--- they are those of their number in the trail
+-- they equal the calls of their session in the trail
 abbrev pub Agrees : {A : Type 0} → List (Entry A) → CallsState A → Type 0
 Agrees entries calls = calls_of calls.number entries ≡ calls.calls
 
--- every entry's session is among them
+-- the session of every entry is among them
 abbrev pub Covers : {A : Type 0} → List (Entry A) → List (CallsState A) → Type 0
 Covers {A} entries handed = All (λ (e : Entry A). is_among e.session handed ≡ true) entries
 
--- so many sessions were made: all have a number of one, and no two the same
+-- every number is that of one of the `made` sessions, and no number occurs twice
 pub record AreOwn {A : Type 0} (made : ℕ) (handed : List (CallsState A)) : Type 0 where
   pub given : All (λ (calls : CallsState A). calls.number < made) handed
   pub distinct : AreDistinct handed
 
--- what is wrong with the number of one that is handed in after others
+-- the fault of a number, given the calls before it in the list
 abbrev pub IsStrange : {A : Type 0} → ℕ → List (CallsState A) → ℕ → CloseFault → Type 0
 IsStrange made others number (Stranger s) = (number ≡ s) × (made ≤ number)
 IsStrange made others number (Double s) = (number ≡ s) × ((number < made) × (is_among number others ≡ true))
@@ -43,7 +43,7 @@ IsStrange made others number (Missing s) = ⊥
 IsStrange made others number (Torn s) = ⊥
 IsStrange made others number Opening = ⊥
 
--- the first in the list with such a number
+-- the first calls in the list with such a number
 pub record IsFirstStrange {A : Type 0} (made : ℕ) (handed : List (CallsState A)) (fault : CloseFault) : Type 0 where
   pub at : ℕ
   pub calls : CallsState A
@@ -60,7 +60,7 @@ pub record IsFirstMissing {A : Type 0} (entries : List (Entry A)) (handed : List
   pub session_is : entry.session ≡ session
   pub missing : is_among session handed ≡ false
 
--- the first in the list that differ from those of their number in the trail
+-- the first calls in the list that differ from those of their session in the trail
 pub record IsFirstTorn {A : Type 0} (entries : List (Entry A)) (handed : List (CallsState A)) (session : ℕ) : Type 0 where
   pub at : ℕ
   pub calls : CallsState A
@@ -69,7 +69,7 @@ pub record IsFirstTorn {A : Type 0} (entries : List (Entry A)) (handed : List (C
   pub session_is : calls.number ≡ session
   pub torn : calls_of calls.number entries ≢ calls.calls
 
--- the first session that is missing, or whose calls are torn
+-- the first session that is missing or whose calls are torn
 abbrev pub IsFirstApart : {A : Type 0} → List (Entry A) → List (CallsState A) → CloseFault → Type 0
 IsFirstApart entries handed (Stranger n) = ⊥
 IsFirstApart entries handed (Double n) = ⊥
@@ -77,32 +77,32 @@ IsFirstApart entries handed (Missing n) = IsFirstMissing entries handed n
 IsFirstApart entries handed (Torn n) = Covers entries handed × IsFirstTorn entries handed n
 IsFirstApart entries handed Opening = ⊥
 
--- those of their number among entries are so many of the calls, the first
+-- the entries with their number are exactly the first `count` of the calls
 pub record IsFollowed {A : Type 0} (entries : List (Entry A)) (calls : CallsState A) (count : ℕ) : Type 0 where
   pub within : count ≤ length calls.calls
   pub same : calls_of calls.number entries ≡ take count calls.calls
 
--- the same of all that are handed in, each with its own count
+-- the same for all calls handed in, each with its own count
 abbrev pub AreFollowed : {A : Type 0} → List (Entry A) → List (CallsState A) → List ℕ → Type 0
 AreFollowed {A} entries handed counts = (k : ℕ) (d : CallsState A) → k < length handed → IsFollowed entries (slice_index_or handed k d) (slice_index_or counts k 0)
 
--- of those below a place each has as many calls as are counted
+-- all calls below index n were counted completely
 abbrev pub AreWhole : {A : Type 0} → List (CallsState A) → List ℕ → ℕ → Type 0
 AreWhole {A} handed counts n = (k : ℕ) (d : CallsState A) → k < n → slice_index_or counts k 0 ≡ length (slice_index_or handed k d).calls
 
--- an entry is the next call of a session, after so many
+-- an entry is the next call of a session after `count` calls
 pub record IsNext {A : Type 0} (calls : CallsState A) (count : ℕ) (entry : Entry A) (next : ℕ) : Type 0 where
   pub next_is : next ≡ count + 1
   pub session_is : entry.session ≡ calls.number
   pub here : slice_get calls.calls count ≡ Some entry
 
--- a desk began with these pairs, and has such keys and pages
+-- a desk began with these pairs, and has this hash kind and page size
 pub record IsStartedSo {A : Type 0} (s : DeskState A) (opened : Opened) : Type 0 where
   pub kind : s.database.kind ≡ opened.kind
   pub size : s.database.size ≡ opened.size
   pub opening : s.opening ≡ opened.opening
 
--- when each fault of closing comes, over a desk and so many sessions
+-- the condition of each fault of closing, for a desk and a number of sessions
 abbrev pub IsCloseFault : {A : Type 0} → DeskState A → ℕ → Opened → List (CallsState A) → CloseFault → Type 0
 IsCloseFault s made opened handed (Stranger n) = IsFirstStrange made handed (Stranger n)
 IsCloseFault s made opened handed (Double n) = IsFirstStrange made handed (Double n)
@@ -110,11 +110,11 @@ IsCloseFault s made opened handed (Missing n) = AreOwn made handed × IsFirstMis
 IsCloseFault s made opened handed (Torn n) = AreOwn made handed × (Covers s.entries handed × IsFirstTorn s.entries handed n)
 IsCloseFault s made opened handed Opening = AreOwn made handed × (Covers s.entries handed × (All (Agrees s.entries) handed × ¬ (IsStartedSo s opened)))
 
--- The same of some desk and some number of sessions. That they are those under the lock of a store no contract can name.
+-- The same for some desk and some number of sessions. A contract cannot say that they are those under the lock of a store.
 abbrev pub IsRefusedClose : {A : Type 0} → Opened → List (CallsState A) → CloseFault → Type 0
 IsRefusedClose {A} opened handed fault = (s : DeskState A) × ((made : ℕ) × IsCloseFault s made opened handed fault)
 
--- nothing is wrong
+-- there is no fault
 pub record MayClose {A : Type 0} (s : DeskState A) (opened : Opened) (handed : List (CallsState A)) : Type 0 where
   pub distinct : AreDistinct handed
   pub covers : Covers s.entries handed

@@ -1,4 +1,4 @@
--- What comes of calls that take no ticket.
+-- The outcomes of calls that take no ticket.
 use Rattle.std.specs.Prelude.{◌≡◌, ◌<◌, ℕ, Ok, Err}
 use Rattle.bpf_insn.specs.Code.{unit_count}
 use Rattle.store_cmd.specs.declared.Command.{Command}
@@ -12,11 +12,11 @@ use Rattle.store_shared.specs.declared.passing.Passing.{Passing}
 use Rattle.store_shared.specs.declared.passing.Passing.TheVariants as passing
 use Rattle.store_shared.specs.Shared.{IsReplyTo, IsNotForSize}
 
--- the most units of a program that runs while the lock is held
+-- the longest program, in units, that runs under the lock
 abbrev pub short_limit : ℕ
 short_limit = 256
 
--- a run of a program of more units
+-- a run of a longer program
 abbrev pub IsLong : {A : Type 0} → Command A → Type 0
 IsLong (Fetch key) = ⊥
 IsLong (Store key value mode) = ⊥
@@ -29,19 +29,19 @@ pub record IsStepped {A : Type 0} (session : ℕ) (command : Command A) (stepped
   pub reply : IsReplyTo session command stepped.reply
   pub copy : stepped.copy ≡ stepped.reply
 
--- what a step comes to: a reply, or it is refused for no size, or the command comes back
+-- the outcome of a step: a reply, a refusal that is not for size, or the command is returned
 abbrev pub IsTriedStep : {A : Type 0} → ℕ → Command A → TriedStep A → Type 0
 IsTriedStep session command (Ended (Ok stepped)) = IsStepped session command stepped
 IsTriedStep session command (Ended (Err refusal)) = IsNotForSize refusal
 IsTriedStep session command (Busy refused) = refused ≡ command
 
--- what a look comes to: this command of this session is looked up, or refused for no size, or it comes back
+-- the outcome of a look-up: a look of this command and session, a refusal that is not for size, or the command is returned
 abbrev pub IsLooked : {A : Type 0} → ℕ → Command A → Looking A → Type 0
 IsLooked session command (looking.Looked look) = (look.session ≡ session) × (look.command ≡ command)
 IsLooked session command (looking.Refused refusal) = IsNotForSize refusal
 IsLooked session command (looking.Barred refused) = refused ≡ command
 
--- what a call without a ticket comes to: a reply, or the command comes back
+-- the outcome of a call without a ticket: a reply, or the command is returned
 abbrev pub IsPassed : {A : Type 0} → ℕ → Command A → Passing A → Type 0
 IsPassed session command (passing.Passed stepped) = IsStepped session command stepped
 IsPassed session command (passing.Barred refused) = refused ≡ command

@@ -1,4 +1,4 @@
--- What a store was opened with, and the sessions that share it.
+-- The opening of a store, and the sessions that share it.
 use Rattle.std.specs.Prelude.{◌≡◌, ℕ, ◌++◌, ◌⊎◌, List, [], ◌∷◌, Option, Some, None, Ok, Err}
 use Rattle.std.specs.FinMap as map
 use Rattle.sdbm_addr.specs.declared.KeyBytes.{KeyBytes}
@@ -25,7 +25,7 @@ use Rattle.desk_core.specs.Jobs.{worked}
 use Rattle.desk_core.specs.Desk.{DeskState, ticket_of}
 use Rattle.desk_core.specs.Calls.{Abandons, Finishes}
 
--- how the keys of a store hash, how large its pages are, and the pairs with which it was opened
+-- the hash kind and page size of a store, and the pairs with which it was opened
 pub record Opened : Type 0 where
   pub kind : KeyBytes
   pub size : PageSize
@@ -34,13 +34,13 @@ pub record Opened : Type 0 where
 abbrev pub opened_by : Database → Opened
 opened_by db = record { kind = db.kind; size = db.size; opening = map.entries (map_of db) }
 
--- a session: its number, how large the pages of its store are, and the calls that were answered
+-- a session: its number, the page size of its store, and its answered calls
 pub record SessionState (A : Type 0) : Type 0 where
   pub number : ℕ
   pub size : PageSize
   pub calls : List (Entry A)
 
--- what is left of a session: its number and its calls
+-- the calls of an ended session, with its number
 pub record CallsState (A : Type 0) : Type 0 where
   pub number : ℕ
   pub calls : List (Entry A)
@@ -52,7 +52,7 @@ calls_left s = record { number = s.number; calls = s.calls }
 abbrev pub session_of : {A : Type 0} → ℕ → PageSize → List (Entry A) → SessionState A
 session_of number size calls = record { number = number; size = size; calls = calls }
 
--- a session's call that was answered, as it stands in a trail
+-- the entry of a session's answered call, as in a trail
 abbrev pub entry_of : {A : Type 0} → ℕ → Command A → Reply A → Entry A
 entry_of session command reply = record { session = session; command = command; reply = reply }
 
@@ -60,7 +60,7 @@ entry_of session command reply = record { session = session; command = command; 
 abbrev pub with_call : {A : Type 0} → SessionState A → Command A → Reply A → SessionState A
 with_call s command reply = record { number = s.number; size = s.size; calls = s.calls ++ entry_of s.number command reply ∷ [] }
 
--- the reply is what a session's command comes to on a page, where a run ends
+-- the reply is the result of a session's command on some page; if the command is a run, it ends
 pub record IsWorkedFor {A : Type 0} (session : ℕ) (command : Command A) (reply : Reply A) : Type 0 where
   pub keyed : HasKey command
   pub asked : Open A
@@ -69,7 +69,7 @@ pub record IsWorkedFor {A : Type 0} (session : ℕ) (command : Command A) (reply
   pub reply_is : reply ≡ (worked asked).reply
   pub ends : HasEnd asked.page.pairs asked.session asked.command
 
--- the command counts, and the reply is a number
+-- the command is a count, and the reply is a number
 pub record IsCounted {A : Type 0} (command : Command A) (reply : Reply A) : Type 0 where
   pub counts : command ≡ Count
   pub count : ℕ
@@ -79,12 +79,12 @@ pub record IsCounted {A : Type 0} (command : Command A) (reply : Reply A) : Type
 abbrev pub IsReplyTo : {A : Type 0} → ℕ → Command A → Reply A → Type 0
 IsReplyTo session command reply = IsWorkedFor session command reply ⊎ IsCounted command reply
 
--- what was asked is this command of this session
+-- the requested command is this command of this session
 abbrev pub IsAskedFor : {A : Type 0} → ℕ → Command A → Asked A → Type 0
 IsAskedFor session command (asked.Job job) = HasKey command × ((job.asked.session ≡ session) × (job.asked.command ≡ command))
 IsAskedFor session command (asked.Answered reply) = IsCounted command reply
 
--- a refusal of a call that is not for its size
+-- a refusal for a reason other than size
 abbrev pub IsNotForSize : Refusal → Type 0
 IsNotForSize PairTooLarge = ⊥
 IsNotForSize ArgTooLong = ⊥
@@ -92,19 +92,19 @@ IsNotForSize TrailFull = Unit {0}
 IsNotForSize NoMemory = Unit {0}
 IsNotForSize Strayed = Unit {0}
 
--- What an ask comes to: this command of this session is asked, or refused for no size, or it comes back.
+-- The outcome of a request: this command of this session is requested, or refused for a reason other than size, or returned.
 abbrev pub IsTried : {A : Type 0} → ℕ → Command A → Tried A → Type 0
 IsTried session command (Ended (Ok asked)) = IsAskedFor session command asked
 IsTried session command (Ended (Err refusal)) = IsNotForSize refusal
 IsTried session command (Busy refused) = refused ≡ command
 
--- What closing a ticket comes to on a desk: what was worked is committed, or the ticket is given up, if it is still open.
+-- The effect of closing a ticket on a desk: its computed command is committed, or the ticket, if still open, is abandoned.
 abbrev pub ClosesTicket : {A : Type 0} → Closing A → DeskState A → Option (Reply A) → DeskState A → Type 0
 ClosesTicket (Commit done) s None s' = ⊥
 ClosesTicket (Commit done) s (Some reply) s' = Finishes s done reply s'
 ClosesTicket (GiveUp ticket) s reply s' = Abandons s ticket.0 s' ⊎ ((ticket_of s ticket.0 ≡ None) × (s' ≡ s))
 
--- Why a call is refused: for a size exactly where that is too large, and for that of the pair before that of the argument.
+-- Why a call is refused: for a size if and only if that size is too large, and for the pair before the argument.
 abbrev pub IsRefusal : {A : Type 0} → PageSize → Command A → Refusal → Type 0
 IsRefusal size command PairTooLarge = ¬ (FitsPair size command)
 IsRefusal size command ArgTooLong = FitsPair size command × ¬ (FitsArgument command)

@@ -1,4 +1,4 @@
-//! What is compared when a store is closed.
+//! Compares the calls handed in with the trail when a store is closed.
 ghost use Rattle.std.specs.Prelude.{◌≡◌, ◌↔◌, IsTrue, IfNone, IfSome, Some};
 ghost use Rattle.std.specs.List.{All, slice_get};
 ghost use Rattle.store_shared.specs.Shared.{Opened};
@@ -11,22 +11,22 @@ use sdbm_addr::{Bytes, KeyBytes, PageSize};
 use std::alloc::Allocator;
 use store_cmd::KeptEntry;
 
-/// Why a store is not closed. They are tested in this order, the first two together.
+/// Why a store is not closed. Checked in this order, the first two together.
 #[derive(Clone, Copy, Debug, PartialEq, Eq)]
 pub enum CloseFault {
-    /// No session of the store has this number.
+    /// The store has no session with this number.
     Stranger(u64),
-    /// Two of those that are handed in have this number.
+    /// The calls of this session were handed in twice.
     Double(u64),
-    /// The session with this number was answered, and its calls are not handed in.
+    /// This session has answered calls, but they were not handed in.
     Missing(u64),
-    /// The calls of this number are not those that the trail has.
+    /// The calls of this session differ from its calls in the trail.
     Torn(u64),
-    /// The trail does not begin as the store was opened.
+    /// The trail's opening differs from the pairs with which the store was opened.
     Opening,
 }
 
-/// Why these calls do not close a store with this desk and so many sessions, which was opened so.
+/// Returns the reason why these calls do not close a store, if there is one. `made` is the number of its sessions.
 pub(crate) fn close_fault<A: Allocator + Copy>(
     alloc: A,
     desk: &Desk<A>,
@@ -52,8 +52,8 @@ pub(crate) fn close_fault<A: Allocator + Copy>(
     None
 }
 
-// The first session that is missing, or whose calls are torn. Only where there may be one the list is gone through for each entry, and
-// the entries for each in the list.
+// The first session that is missing or whose calls are torn. The slow comparison, which searches the list for each entry and
+// the entries for each element of the list, runs only if the single pass fails.
 fn first_apart<A: Allocator + Copy>(
     alloc: A,
     made: u64,
@@ -77,14 +77,14 @@ fn first_apart<A: Allocator + Copy>(
     }
 }
 
-// Whether one of them has the number.
+// Returns true if calls of this session were handed in.
 fn is_among<A: Allocator>(number: u64, handed: &[Calls<A>]) -> bool
     ensures { result ≡ is_among number handed.now }
 {
     handed.iter().any(|calls| number == calls.number())
 }
 
-// The first whose number no session has, or one that stood in the list before.
+// The first calls whose number belongs to no session, or is already in the list.
 #[tactic(auto, using(crate::proofs::CloseLemmas::Here))]
 fn first_strange<A: Allocator>(handed: &[Calls<A>], made: u64) -> Option<CloseFault>
     ensures none { IfNone result (AreOwn made handed.now) }
@@ -102,7 +102,7 @@ fn first_strange<A: Allocator>(handed: &[Calls<A>], made: u64) -> Option<CloseFa
     None
 }
 
-// The session of the first entry that is not among them.
+// The session of the first entry whose calls were not handed in.
 #[tactic(auto, using(crate::proofs::CloseLemmas::Here))]
 fn first_missing<A: Allocator>(entries: &[KeptEntry<A>], handed: &[Calls<A>]) -> Option<u64>
     ensures none { IfNone result (Covers entries.now handed.now) }
@@ -116,7 +116,7 @@ fn first_missing<A: Allocator>(entries: &[KeptEntry<A>], handed: &[Calls<A>]) ->
     None
 }
 
-// The number of the first whose calls are not those of the trail.
+// The number of the first session whose calls differ from those of the trail.
 #[tactic(auto, using(crate::proofs::CloseLemmas::Here))]
 fn first_torn<A: Allocator>(entries: &[KeptEntry<A>], handed: &[Calls<A>]) -> Option<u64>
     ensures none { IfNone result (All (Agrees entries.now) handed.now) }
@@ -130,7 +130,7 @@ fn first_torn<A: Allocator>(entries: &[KeptEntry<A>], handed: &[Calls<A>]) -> Op
     None
 }
 
-// Whether the calls are those of their number among the entries.
+// Returns true if the calls equal those of their session among the entries.
 fn agrees<A: Allocator>(entries: &[KeptEntry<A>], calls: &Calls<A>) -> bool
     ensures { IsTrue result ↔ Agrees entries.now calls.now }
 {
@@ -149,7 +149,7 @@ fn agrees<A: Allocator>(entries: &[KeptEntry<A>], calls: &Calls<A>) -> bool
     at == made.len()
 }
 
-// Whether this entry stands at a place.
+// Returns true if `made` has this entry at index `at`.
 fn is_at<A: Allocator>(made: &[KeptEntry<A>], at: usize, entry: &KeptEntry<A>) -> bool
     ensures { IsTrue result ↔ (slice_get made.now at ≡ Some entry.now) }
 {
@@ -159,7 +159,7 @@ fn is_at<A: Allocator>(made: &[KeptEntry<A>], at: usize, entry: &KeptEntry<A>) -
     other.equals(entry)
 }
 
-// Whether a desk began with these pairs, and has such keys and pages.
+// Returns true if the desk has this hash kind and page size and its trail began with these pairs.
 fn has_started_so<A: Allocator + Copy>(
     desk: &Desk<A>,
     kind: KeyBytes,
@@ -178,7 +178,7 @@ fn has_started_so<A: Allocator + Copy>(
     are_same_pairs(desk.trail().opening.as_slice(), opening)
 }
 
-// Whether these are the same pairs, in the same order.
+// Returns true if both lists have equal pairs in the same order.
 fn are_same_pairs<A: Allocator>(
     one: &[(Bytes<A>, Bytes<A>)],
     other: &[(Bytes<A>, Bytes<A>)],

@@ -1,4 +1,4 @@
-//! The text of a fault: its name, and in brackets whose it is.
+//! The text of a fault: its name, and the session's number in parentheses.
 use crate::close::CloseFault;
 use std::error::Error;
 use std::fmt;

@@ -1,4 +1,4 @@
-//! Calls in a group: those that take no ticket are made in one hold of the lock, one after another.
+//! Calls in a group: calls that take no ticket are made in order under one hold of the lock.
 ghost use Rattle.std.specs.Prelude.{◌≡◌, ◌≤◌, ◌+◌, IfOk, IfErr, OnOk, length, vec_len, vec_capacity};
 ghost use Rattle.std.specs.Vec.Iter.{into_iter_items};
 ghost use Rattle.store_cmd.specs.Command.{IsSmall};
@@ -14,7 +14,7 @@ use std::sync::{MutexGuard, Wait};
 use std::vec::IntoIter;
 use store_cmd::{Command, KeptEntry, Refusal, Reply, SharedCommand, SizeFault, check_sizes};
 
-/// Who makes calls: a session with this number, in a store with pages of this size.
+/// The caller: a session's number and the page size of its store.
 #[derive(Clone, Copy)]
 pub(crate) struct Maker<A> {
     pub(crate) alloc: A,
@@ -22,14 +22,14 @@ pub(crate) struct Maker<A> {
     pub(crate) size: PageSize,
 }
 
-// What came of a call, and the lock, where it is still held.
+// The outcome of a call, and the lock if it is still held.
 #[derive(Drop)]
 struct Made<'s, A: Allocator> {
     held: Option<MutexGuard<'s, Core<A>>>,
     ended: Result<Committed<A>, Refusal>,
 }
 
-/// Makes the calls of a session in their order, adds an entry for each that is answered, and tells what came of each.
+/// Makes the calls of a session in order, adds an entry for each answered call, and records the outcome of each.
 pub(crate) fn make_all<R: Wait, A: Allocator + Copy, G: Gate>(
     rt: &R,
     store: &Store<A, G>,
@@ -51,7 +51,7 @@ pub(crate) fn make_all<R: Wait, A: Allocator + Copy, G: Gate>(
     }
 }
 
-// Makes a call, in the hold of the lock that there is, where one step answers it.
+// Makes a call. If one step answers it, the call uses the lock that is already held.
 fn make<'s, R: Wait, A: Allocator + Copy, G: Gate>(
     rt: &R,
     store: &'s Store<A, G>,
@@ -79,7 +79,7 @@ fn make<'s, R: Wait, A: Allocator + Copy, G: Gate>(
     make_by_step(rt, store, maker.session, held, command)
 }
 
-// The same for a call that one step answers.
+// Like `make`, for a call that one step answers.
 fn make_by_step<'s, R: Wait, A: Allocator + Copy, G: Gate>(
     rt: &R,
     store: &'s Store<A, G>,
@@ -107,7 +107,7 @@ fn make_by_step<'s, R: Wait, A: Allocator + Copy, G: Gate>(
     }
 }
 
-// Why a command is refused for its size by a store with pages of this size.
+// Checks a command's size against the page size of the store.
 fn test_size<A: Allocator>(command: &Command<A>, size: PageSize) -> Result<(), Refusal>
     ensures small { OnOk result (IsSmall size command.now) }
     ensures refused { IfErr result (IsRefusal size command.now) }
@@ -119,7 +119,7 @@ fn test_size<A: Allocator>(command: &Command<A>, size: PageSize) -> Result<(), R
     }
 }
 
-// The lock, which is taken where it is not held.
+// Returns the lock, taking it if it is not held.
 fn hold<'s, R: Wait, A: Allocator + Copy, G: Gate>(
     rt: &R,
     store: &'s Store<A, G>,
@@ -131,7 +131,7 @@ fn hold<'s, R: Wait, A: Allocator + Copy, G: Gate>(
     }
 }
 
-// Adds the entry of a call that was answered, and its outcome. Their places are there.
+// Adds the entry of an answered call, and the call's outcome. Both lists have capacity for it.
 fn note<A: Allocator>(
     ended: Result<Committed<A>, Refusal>,
     entries: &mut Vec<KeptEntry<A>, A>,

@@ -1,5 +1,5 @@
-//! A store that threads share: sessions call one desk under a lock, run long programs with no lock held, and leave one legal history, in
-//! which each session finds its own calls.
+//! A store shared by threads. Sessions call one desk under a lock and run long programs without it. The store leaves one legal
+//! history, which contains each session's calls in their order.
 #![tactic(auto)]
 
 mod close;

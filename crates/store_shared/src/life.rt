@@ -1,4 +1,4 @@
-//! The life of a store: it is opened, makes sessions, and is closed.
+//! The life of a store: open it, make sessions, close it.
 ghost use Rattle.std.specs.Prelude.{◌≡◌, IfOk, IfErr, OnOk, []};
 ghost use Rattle.std.specs.List.{All};
 ghost use Rattle.std.specs.FinMap as map;
@@ -18,17 +18,17 @@ use std::alloc::{AllocError, Allocator};
 use std::sync::{Condvar, Mutex, Wait};
 use store_cmd::{Opening, Trail};
 
-/// The most sessions of a store.
+/// The maximum number of sessions of a store.
 const SESSION_LIMIT: u64 = 4096;
 
 /// Why no session is made.
 #[derive(Clone, Copy, Debug, PartialEq, Eq)]
 pub enum SessionFault {
-    /// 4,096 sessions were made.
+    /// The store has made 4,096 sessions already.
     TooMany,
 }
 
-/// What a closed store leaves: the database, and the trail that led to it.
+/// The result of closing a store: the database, and the trail that led to it.
 #[derive(Drop)]
 pub struct Closed<A: Allocator> {
     pub image: Image<A>,
@@ -36,11 +36,11 @@ pub struct Closed<A: Allocator> {
 }
 
 impl<A: Allocator + Copy, G: Gate> Store<A, G> {
-    /// A store over a database, with no session. Its trail begins with the pairs of the database, and may have so many entries. It
-    /// waits for nobody.
+    /// Opens a store on a database, without sessions. Its trail begins with the pairs of the database and may have `limit`
+    /// entries. Never blocks.
     ///
     /// # Errors
-    /// The error where no memory is left for a copy of all pairs in a block of their own, with image and gate as they were.
+    /// `AllocError` if there is no memory for a copy of all pairs in a separate block. Image and gate are returned unchanged.
     pub fn open(
         alloc: A,
         image: Image<A>,
@@ -76,17 +76,17 @@ impl<A: Allocator + Copy, G: Gate> Store<A, G> {
         })
     }
 
-    /// The pairs with which the store was opened, sorted by the bytes of their keys. It takes no lock and no memory.
+    /// The pairs with which the store was opened, sorted by the bytes of their keys. Takes no lock and allocates nothing.
     pub fn opening(&self) -> &[(Bytes<A>, Bytes<A>)]
         ensures { result.now ≡ self.now.opening }
     {
         self.opening.as_slice()
     }
 
-    /// A new session, which has made no calls. Sessions are numbered from 0 on, in the order in which they are made.
+    /// Makes a session, which has no calls yet. Sessions are numbered from 0 in the order of their creation.
     ///
     /// # Errors
-    /// `TooMany` where 4,096 sessions were made.
+    /// `TooMany` if 4,096 sessions were made already.
     pub fn session<R: Wait>(&self, rt: &R) -> Result<Session<'_, A, G>, SessionFault>
         ensures calls { IfOk result (λ session. session.calls ≡ []) }
         ensures size { IfOk result (λ session. session.size ≡ self.now.size) }
@@ -100,16 +100,18 @@ impl<A: Allocator + Copy, G: Gate> Store<A, G> {
         Ok(Session::new(self, self.alloc, self.size, number))
     }
 
-    /// Takes the database and the trail out, where the calls that are handed in are those that the trail has. Every session is gone
-    /// by then, since each of them borrows the store. It takes time in the entries, in the pairs of the opening and in the square of the
-    /// sessions, and memory for two numbers a session. Where that is refused, or the store does not close, it takes time in the entries
-    /// times the sessions.
+    /// Closes the store and returns its database and trail, if the calls handed in are those of the trail. Every session has
+    /// ended by then, since each borrows the store. Time is linear in the entries and in the pairs of the opening, and
+    /// quadratic in the sessions; memory is two numbers a session. If that memory is not available, or if the store does not
+    /// close, time is the number of entries times the number of sessions.
     ///
     /// # Errors
-    /// `Stranger` or `Double`, whichever is first in the list: a number that no session of this store has, or one that stood in the
-    /// list before. Else `Missing` with the session of the first entry whose session handed nothing in. Else `Torn` with the first
-    /// in the list whose calls are not those of its number in the trail. Else `Opening` where the trail does not begin as the store
-    /// was opened. Then all comes back, and the store can be closed again.
+    /// On any error, everything is returned, and the store can be closed again. Checked in this order:
+    /// - `Stranger` or `Double`, whichever is first in the list: a number that no session of this store has, or one that is
+    ///   earlier in the list.
+    /// - `Missing` with the session of the first entry whose session handed nothing in.
+    /// - `Torn` with the first session in the list whose calls differ from its calls in the trail.
+    /// - `Opening` if the trail's opening differs from the pairs with which the store was opened.
     pub fn close(
         self,
         calls: Vec<Calls<A>, A>,

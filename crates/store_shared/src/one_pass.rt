@@ -1,4 +1,4 @@
-//! All that is handed in compared with the trail in one pass.
+//! Compares all calls handed in with the trail, in a single pass.
 ghost use Rattle.std.specs.Prelude.{◌≡◌, true, IfSome, length};
 ghost use Rattle.std.specs.List.{All};
 ghost use Rattle.store_shared.specs.Closed.{Agrees, AreDistinct, AreFollowed, AreWhole, Covers, IsNext};
@@ -7,8 +7,8 @@ use crate::session::Calls;
 use std::alloc::{AllocError, Allocator};
 use store_cmd::KeptEntry;
 
-/// Whether each entry is the next call of its session among those that are handed in, and no call is left over. Where it is `false`
-/// nothing is decided: there may have been no memory. It takes that for two numbers a session, and time in the entries.
+/// Returns true if every entry is the next call of its session among the calls handed in, and no call is left over. `false` is
+/// inconclusive: memory may have run out. Uses memory for two numbers a session, and time linear in the entries.
 #[tactic(auto, using(crate::proofs::OnePass::agree_all))]
 pub(crate) fn all_agree<A: Allocator + Copy>(
     alloc: A,
@@ -29,7 +29,7 @@ pub(crate) fn all_agree<A: Allocator + Copy>(
     are_whole(handed, counts.as_slice())
 }
 
-// Where the calls of each session stand, by the number of the session, and 0 where they are not handed in.
+// The index of each session's calls, by the session's number; 0 if they were not handed in.
 fn places_of<A: Allocator>(
     alloc: A,
     made: u64,
@@ -44,8 +44,8 @@ fn places_of<A: Allocator>(
     Ok(places)
 }
 
-// How many calls each session has among the entries, where every entry is the next call of its session. A wrong
-// place does no harm: the entry is not the next call there.
+// Counts each session's calls among the entries. Returns `None` if an entry is not the next call of its session. A wrong index
+// is harmless: the entry is not the next call there.
 fn follow<A: Allocator + Copy>(
     alloc: A,
     entries: &[KeptEntry<A>],
@@ -72,7 +72,7 @@ fn follow<A: Allocator + Copy>(
     Some(counts)
 }
 
-// How many calls of a session there are with an entry that is the next of them, after so many.
+// The number of a session's calls up to and including this entry, if the entry is the next call after `count` calls.
 fn next_count<A: Allocator>(calls: &Calls<A>, count: usize, entry: &KeptEntry<A>) -> Option<usize>
     ensures { IfSome result (IsNext calls.now count entry.now) }
 {
@@ -86,7 +86,7 @@ fn next_count<A: Allocator>(calls: &Calls<A>, count: usize, entry: &KeptEntry<A>
     Some(count + 1)
 }
 
-// Whether all calls were counted.
+// Returns true if all calls were counted.
 fn are_whole<A: Allocator>(handed: &[Calls<A>], counts: &[usize]) -> bool
     ensures { result ≡ true → AreWhole handed.now counts.now (length handed.now) }
 {

@@ -1,5 +1,6 @@
-//! Calls that take no ticket. A command that is soon done is one step of the desk, in one hold of the lock. A long program is worked with
-//! no lock held, on the page of its key as it was, and put in where that is still so; where it is not, the call takes a ticket.
+//! Calls that take no ticket. A short command is one step of the desk, under one hold of the lock. A long program runs without
+//! the lock, on a snapshot of the page of its key. Its result is put in if the page is unchanged; otherwise the call takes a
+//! ticket.
 ghost use Rattle.std.specs.Prelude.{◌≡◌, ◌↔◌, IsTrue, IfOk, IfErr};
 ghost use Rattle.store_moves.specs.Works.{HasKey};
 ghost use Rattle.store_shared.specs.Shared.{entry_of, IsReplyTo, IsNotForSize};
@@ -12,24 +13,24 @@ use std::alloc::Allocator;
 use std::sync::{MutexGuard, Wait};
 use store_cmd::{Command, KeptEntry, Refusal, SharedCommand};
 
-// The most units of a program that runs while the lock is held. A ticket would hold the lock for longer than such a run.
+// The longest program, in units, that runs under the lock. A ticket would hold the lock for longer than such a run.
 const SHORT_PROGRAM: usize = 256;
 
-/// What came of a step, and the lock in whose hold it was made.
+/// The outcome of a step, and the lock under which it was made.
 #[derive(Drop)]
 pub(crate) struct Stepping<'s, A: Allocator> {
     pub(crate) core: MutexGuard<'s, Core<A>>,
     pub(crate) ended: Result<Stepped<A>, Refusal>,
 }
 
-// What comes of a step that is tried: an end, or the desk is busy, and the command comes back.
+// The outcome of a tried step: it ended, or the desk is busy and the command is returned.
 #[derive(Drop)]
 enum TriedStep<A: Allocator> {
     Ended(Result<Stepped<A>, Refusal>),
     Busy(SharedCommand<A>),
 }
 
-// What comes of a look: it is there, or its call is refused, or that wants a ticket and the command comes back.
+// The outcome of looking a command up: a look, a refusal, or the command itself if it needs a ticket.
 #[derive(Drop)]
 enum Looking<A: Allocator> {
     Looked(Look<A>),
@@ -37,14 +38,14 @@ enum Looking<A: Allocator> {
     Barred(SharedCommand<A>),
 }
 
-// What comes of a call without a ticket: its reply, or it wants one and the command comes back.
+// The outcome of a call without a ticket: its reply, or the command itself if it needs one.
 #[derive(Drop)]
 enum Passing<A: Allocator> {
     Passed(Stepped<A>),
     Barred(SharedCommand<A>),
 }
 
-/// Answers a session's command on the shortest way, by a ticket where the store's gate wants jobs.
+/// Answers a session's command in the cheapest way; by a ticket if the store's gate wants jobs.
 pub(crate) fn answer<R: Wait, A: Allocator + Copy, G: Gate>(
     rt: &R,
     store: &Store<A, G>,
@@ -66,7 +67,7 @@ pub(crate) fn answer<R: Wait, A: Allocator + Copy, G: Gate>(
     by_step(rt, store, session, command)
 }
 
-/// Whether a command runs a program of more than 256 units. Such a program runs with no lock held.
+/// Returns true if a command runs a program of more than 256 units. Such a program runs without the lock.
 pub(crate) fn is_long<A: Allocator>(command: &Command<A>) -> bool
     ensures { IsTrue result ↔ IsLong command.now }
 {
@@ -76,7 +77,7 @@ pub(crate) fn is_long<A: Allocator>(command: &Command<A>) -> bool
     }
 }
 
-// Answers a command in one hold of the lock, in which nobody holds its page.
+// Answers a command under one hold of the lock, once no ticket holds its page.
 fn by_step<R: Wait, A: Allocator + Copy, G: Gate>(
     rt: &R,
     store: &Store<A, G>,
@@ -92,7 +93,7 @@ fn by_step<R: Wait, A: Allocator + Copy, G: Gate>(
     kept(session, own, ended)
 }
 
-/// What a session is served that keeps this command, of what came of a step.
+/// Turns the outcome of a step into the reply and the entry for the session that made the command.
 pub(crate) fn kept<A: Allocator>(
     session: u64,
     command: SharedCommand<A>,
@@ -110,7 +111,7 @@ pub(crate) fn kept<A: Allocator>(
     }
 }
 
-// The reply to the session that asked, and the entry with a copy of it.
+// The reply for the session, and the entry with a copy of it.
 fn served<A: Allocator>(
     session: u64,
     command: SharedCommand<A>,
@@ -127,7 +128,7 @@ fn served<A: Allocator>(
     }
 }
 
-/// Steps the desk in a hold of the lock, and waits as long as the desk is busy. The lock comes back as it was handed on.
+/// Steps the desk under a hold of the lock, and waits while the desk is busy. Returns the lock, still held.
 pub(crate) fn step_in<'s, R: Wait, A: Allocator + Copy, G: Gate>(
     rt: &R,
     store: &'s Store<A, G>,
@@ -165,8 +166,8 @@ fn step_on<A: Allocator + Copy>(
     }
 }
 
-// Answers a command in two short holds of the lock, and works it between them; or by a ticket, where its page is held or has changed
-// meanwhile.
+// Answers a command under two short holds of the lock, and computes it in between. Falls back to a ticket if its page is held
+// or has changed in the meantime.
 fn by_look<R: Wait, A: Allocator + Copy, G: Gate>(
     rt: &R,
     store: &Store<A, G>,
@@ -186,7 +187,7 @@ fn by_look<R: Wait, A: Allocator + Copy, G: Gate>(
     }
 }
 
-// Looks a command up, works it, and puts it in.
+// Looks a command up, computes it, and puts it in.
 fn pass<R: Wait, A: Allocator + Copy, G: Gate>(
     rt: &R,
     store: &Store<A, G>,
@@ -204,7 +205,7 @@ fn pass<R: Wait, A: Allocator + Copy, G: Gate>(
     }
 }
 
-// Looks a command up, in a hold of the lock.
+// Looks a command up, under a hold of the lock.
 fn look<R: Wait, A: Allocator + Copy, G: Gate>(
     rt: &R,
     store: &Store<A, G>,
@@ -222,7 +223,7 @@ fn look<R: Wait, A: Allocator + Copy, G: Gate>(
     }
 }
 
-// Works a look with no lock held, and puts in what comes of it.
+// Computes a look without the lock, and puts its result in.
 fn work<R: Wait, A: Allocator + Copy, G: Gate>(
     rt: &R,
     store: &Store<A, G>,
@@ -240,7 +241,7 @@ fn work<R: Wait, A: Allocator + Copy, G: Gate>(
     }
 }
 
-// Puts in on a desk what was worked.
+// Puts a computed look in on a desk.
 fn put_on<A: Allocator + Copy>(desk: &mut Desk<A>, seen: Seen<A>) -> Result<Passing<A>, Refusal>
     ensures ok { IfOk result (IsPassed seen.session seen.command) }
     ensures refused { IfErr result IsNotForSize }

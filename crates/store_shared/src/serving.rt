@@ -1,4 +1,5 @@
-//! How the desk serves a call of a session. A call by ticket takes the lock twice: to ask, and to commit what was worked.
+//! Serves the calls of a session by tickets. Such a call takes the lock twice: to request the command, and to commit its
+//! result.
 ghost use Rattle.std.specs.Prelude.{◌≡◌, ◌≢◌, IfOk, IfErr, OnOk, ℕ};
 ghost use Rattle.store_cmd.specs.declared.Reply.TheVariants as replies;
 ghost use Rattle.desk_core.specs.declared.ConvertFault.TheVariants as faults;
@@ -14,28 +15,28 @@ use std::mem;
 use std::sync::{MutexGuard, Wait};
 use store_cmd::{KeptEntry, Refusal, Reply, SharedCommand};
 
-/// A call that was answered: its reply, and its entry with a copy of that.
+/// An answered call: its reply, and its entry with a copy of the reply.
 #[derive(Drop)]
 pub(crate) struct Committed<A: Allocator> {
     pub(crate) reply: Reply<A>,
     pub(crate) entry: KeptEntry<A>,
 }
 
-/// What becomes of a ticket: what was worked under it is committed, or it is given up.
+/// How to close a ticket: commit its computed command, or abandon it.
 #[derive(Drop)]
 pub(crate) enum Closing<A: Allocator> {
     Commit(Done<A>),
     GiveUp(Ticket),
 }
 
-// What comes of an ask: an end, or the desk is busy, and the command comes back.
+// The outcome of a request: it ended, or the desk is busy and the command is returned.
 #[derive(Drop)]
 enum Tried<A: Allocator> {
     Ended(Result<Asked<A>, Refusal>),
     Busy(SharedCommand<A>),
 }
 
-/// Asks a session's command, works it and commits it.
+/// Requests a session's command, computes it and commits it.
 pub(crate) fn by_ticket<R: Wait, A: Allocator + Copy, G: Gate>(
     rt: &R,
     store: &Store<A, G>,
@@ -54,7 +55,7 @@ pub(crate) fn by_ticket<R: Wait, A: Allocator + Copy, G: Gate>(
     }
 }
 
-/// One owner of a command more, for the session that keeps its call.
+/// Adds an owner to a command, for the session that records the call.
 pub(crate) fn another_owner<A: Allocator>(
     command: &SharedCommand<A>,
 ) -> Result<SharedCommand<A>, Refusal>
@@ -67,7 +68,7 @@ pub(crate) fn another_owner<A: Allocator>(
     }
 }
 
-// A count that was answered. It takes no memory.
+// An answered count. Allocates nothing.
 fn counted<A: Allocator>(session: u64, command: SharedCommand<A>, reply: Reply<A>) -> Committed<A>
     requires { (n : ℕ) × (reply ≡ replies.Count n) }
     ensures reply { result.reply ≡ reply }
@@ -82,7 +83,7 @@ fn counted<A: Allocator>(session: u64, command: SharedCommand<A>, reply: Reply<A
     }
 }
 
-// Asks, and waits as long as the desk is busy.
+// Requests a command, and waits while the desk is busy.
 fn ask<R: Wait, A: Allocator + Copy, G: Gate>(
     rt: &R,
     store: &Store<A, G>,
@@ -104,7 +105,7 @@ fn ask<R: Wait, A: Allocator + Copy, G: Gate>(
     unreachable!()
 }
 
-// Asks a desk.
+// Requests a command on a desk.
 fn ask_on<A: Allocator + Copy>(
     desk: &mut Desk<A>,
     session: u64,
@@ -119,7 +120,7 @@ fn ask_on<A: Allocator + Copy>(
     }
 }
 
-// Why a call is refused whose ask is.
+// The refusal of a call whose request is refused.
 pub(crate) fn refusal_of(fault: AskFault) -> Refusal
     ensures { IsNotForSize result }
 {
@@ -130,7 +131,7 @@ pub(crate) fn refusal_of(fault: AskFault) -> Refusal
     }
 }
 
-// Works the job of a command with no lock held, and commits what comes of it.
+// Computes the job of a command without the lock, and commits the result.
 fn serve<R: Wait, A: Allocator + Copy, G: Gate>(
     rt: &R,
     store: &Store<A, G>,
@@ -157,7 +158,7 @@ fn serve<R: Wait, A: Allocator + Copy, G: Gate>(
     Ok(Committed { reply, entry })
 }
 
-// Waits until a ticket may have been closed, which is noted under the lock.
+// Waits until a ticket may have been closed. Notes under the lock that somebody waits.
 pub(crate) fn wait<'s, R: Wait, A: Allocator + Copy, G: Gate>(
     rt: &R,
     store: &'s Store<A, G>,
@@ -168,7 +169,8 @@ pub(crate) fn wait<'s, R: Wait, A: Allocator + Copy, G: Gate>(
     store.changed.wait(rt, core)
 }
 
-// Commits what was worked. Where that changes the page, the ticket's hold is made exclusive in the same hold of the lock.
+// Commits a computed command. If the command changes its page, the ticket's hold is made exclusive under the same hold of the
+// lock.
 fn finish<R: Wait, A: Allocator + Copy, G: Gate>(
     rt: &R,
     store: &Store<A, G>,
@@ -184,7 +186,7 @@ fn finish<R: Wait, A: Allocator + Copy, G: Gate>(
     }
 }
 
-// Gives up what is not committed for this fault, if its ticket is still open.
+// Abandons a command that was not committed because of this fault, if its ticket is still open.
 fn take_back<R: Wait, A: Allocator + Copy, G: Gate>(
     rt: &R,
     store: &Store<A, G>,
@@ -200,7 +202,7 @@ fn take_back<R: Wait, A: Allocator + Copy, G: Gate>(
     }
 }
 
-// Commits what was worked, or leaves its ticket as it was.
+// Commits a computed command, or leaves its ticket unchanged.
 fn commit<R: Wait, A: Allocator + Copy, G: Gate>(
     rt: &R,
     store: &Store<A, G>,
@@ -216,7 +218,7 @@ fn commit<R: Wait, A: Allocator + Copy, G: Gate>(
     }
 }
 
-// Takes the lock to commit what was worked, and makes its ticket's hold exclusive where it changes the page.
+// Takes the lock to commit a computed command. If the command changes its page, also makes the ticket's hold exclusive.
 fn lock_to_commit<'s, R: Wait, A: Allocator + Copy, G: Gate>(
     rt: &R,
     store: &'s Store<A, G>,
@@ -233,8 +235,8 @@ fn lock_to_commit<'s, R: Wait, A: Allocator + Copy, G: Gate>(
     }
 }
 
-// Makes a ticket's hold exclusive under the lock, and waits as long as others read the page. Where it cannot be, it says why, never
-// because others read the page, and gives the lock back.
+// Makes a ticket's hold exclusive under the lock, and waits while other tickets read the page. On failure, returns the reason,
+// which is never that the page is being read, and releases the lock.
 fn convert_once_free<'s, R: Wait, A: Allocator + Copy, G: Gate>(
     rt: &R,
     store: &'s Store<A, G>,
@@ -269,7 +271,7 @@ fn give_up<R: Wait, A: Allocator + Copy, G: Gate>(
     refusal
 }
 
-// Closes a ticket, gives the lock back, and wakes all who wait, if any do. No ticket is closed in another way.
+// Closes a ticket, releases the lock, and wakes all waiting sessions, if there are any. Every ticket is closed here.
 fn close_ticket<'s, A: Allocator + Copy, G: Gate>(
     store: &'s Store<A, G>,
     core: MutexGuard<'s, Core<A>>,

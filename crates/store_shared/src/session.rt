@@ -1,4 +1,4 @@
-//! Sessions: those who share a store.
+//! Sessions: the clients of a store.
 ghost use Rattle.std.specs.Prelude.{◌≡◌, ◌+◌, ◌≤◌, IfOk, IfErr, OnOk, OnErr, [], length};
 ghost use Rattle.sdbm_addr.specs.Pairs.{pair_limit};
 ghost use Rattle.store_cmd.specs.Command.{IsSmall};
@@ -19,8 +19,8 @@ use store_cmd::{
     Command, KeptEntry, Program, Refusal, Reply, SharedCommand, SizeFault, check_pair, check_run,
 };
 
-/// One of those who share a store, seen as its number, the page size of the store, and its calls that were answered, in order. Its
-/// calls have to be handed in when the store is closed: where one that was answered is let go, the store never closes.
+/// A client of a store, seen as its number, the page size of the store, and its answered calls in order. `Store::close` needs
+/// these calls back: if a session that has answered calls is dropped, the store never closes.
 #[derive(Drop)]
 pub struct Session<'a, A: Allocator, G: Gate> {
     store: &'a Store<A, G>,
@@ -38,7 +38,7 @@ impl<'a, A: Allocator, G: Gate> Model for Session<'a, A, G> {
     ghost view = { λ a. record { number = a.number; size = a.size; calls = a.calls.items } };
 }
 
-/// What is left of a session, seen as its number and its calls that were answered, in order.
+/// The calls of an ended session, seen as its number and its answered calls in order.
 #[derive(Drop)]
 pub struct Calls<A: Allocator> {
     number: u64,
@@ -61,7 +61,7 @@ impl<A: Allocator> Calls<A> {
         self.number
     }
 
-    /// Its calls that were answered, in order.
+    /// The answered calls, in order.
     pub fn entries(&self) -> &[KeptEntry<A>]
         ensures { result.now ≡ self.now.calls }
     {
@@ -69,18 +69,19 @@ impl<A: Allocator> Calls<A> {
     }
 }
 
-/// A short call is one step of the desk, in one hold of the lock. The run of a long program is worked with no lock held. Where another
-/// session holds the page, a call waits. What is answered is added to the calls. A call that is refused commits nothing, keeps no ticket
-/// and adds nothing.
+/// A short call is one step of the desk, under one hold of the lock. A long program runs without the lock. A call blocks while
+/// another session holds the page. An answered call is added to the session's calls. A refused call commits nothing, leaves no
+/// ticket open and adds nothing.
 ///
 /// # Errors
-/// Of every call: `TrailFull` where the trail has as many entries and open tickets as it may have. `NoMemory` where memory is
-/// refused for copies of what is lent and the command that trail and session own, which come before the desk is asked; for a ticket, the
-/// reply or the new pages; or for the session's own entry, which is taken before the desk commits; also where a command has as many
-/// owners as can be counted. `Strayed` where the desk does not know the session's ticket as its own: no call here brings that about,
-/// and a test says so. Of `store`, `run` and `call_all` alone: `PairTooLarge`, and `ArgTooLong` of a run; they are told first.
+/// - Any call: `TrailFull` if the number of entries and open tickets is at the limit of the trail.
+/// - Any call: `NoMemory` if there is no memory for copies of the borrowed operands and the command that trail and session
+///   share, which are allocated before the request; for a ticket, the reply or the new pages; or for the session's own entry,
+///   which is allocated before the desk commits. Also if a command's owner count is at its maximum.
+/// - Any call: `Strayed` if the desk does not recognize the session's ticket. No call here causes that, and a test says so.
+/// - `store`, `run` and `call_all` only: `PairTooLarge`, and `ArgTooLong` for a run. These are checked first.
 impl<'a, A: Allocator + Copy, G: Gate> Session<'a, A, G> {
-    // A session that has made no calls.
+    // A session without calls.
     pub(crate) fn new(store: &'a Store<A, G>, alloc: A, size: PageSize, number: u64) -> Self
         ensures { result ≡ record { number = number; size = size; calls = [] } }
     {
@@ -93,7 +94,7 @@ impl<'a, A: Allocator + Copy, G: Gate> Session<'a, A, G> {
         }
     }
 
-    /// Ends the session, and leaves its calls. It takes no lock and no memory.
+    /// Ends the session and returns its calls. Takes no lock and allocates nothing.
     pub fn into_calls(self) -> Calls<A>
         ensures { result ≡ calls_left self.entry }
     {
@@ -101,7 +102,8 @@ impl<'a, A: Allocator + Copy, G: Gate> Session<'a, A, G> {
         Calls { number, calls }
     }
 
-    /// The value of a key, of any length: `Found` or `Missing`. It waits as long as another session is changing the key's page.
+    /// Returns the value of a key: `Found` or `Missing`. The key may have any length. Waits while another session is changing
+    /// the key's page.
     pub fn fetch<R: Wait>(&mut self, rt: &R, key: &[u8]) -> Result<Reply<A>, Refusal>
         ensures ok { IfOk result (λ reply. self.new ≡ with_call self.old (commands.Fetch key.now) reply) }
         ensures reply { IfOk result (λ reply. IsReplyTo self.old.number (commands.Fetch key.now) reply) }
@@ -114,12 +116,12 @@ impl<'a, A: Allocator + Copy, G: Gate> Session<'a, A, G> {
         self.call(rt, Command::Fetch { key })
     }
 
-    /// Stores a value for a key: `Stored`, `Exists` where the mode is `Insert` and the key is there, or `Crowded` where no number of
-    /// splits makes room. It waits as long as another session is to change the key's page, and before the change as long as others
-    /// read it.
+    /// Stores a value under a key: `Stored`; `Exists` if the mode is `Insert` and the key exists; or `Crowded` if no number of
+    /// splits makes room. Waits while another session is about to change the key's page, and before the change while other
+    /// sessions read it.
     ///
     /// # Errors
-    /// `PairTooLarge` exactly where key and value have more bytes together than a pair of the store may have, 1,008 or 8,008.
+    /// `PairTooLarge` if and only if key and value together are longer than a pair of the store may be: 1,008 or 8,008 bytes.
     pub fn store<R: Wait>(
         &mut self,
         rt: &R,
@@ -145,7 +147,7 @@ impl<'a, A: Allocator + Copy, G: Gate> Session<'a, A, G> {
         self.call(rt, Command::Store { key, value, mode })
     }
 
-    /// Takes a key, of any length, and its value out: `Deleted` or `Missing`. It waits as `store` does.
+    /// Removes a key and its value: `Deleted` or `Missing`. The key may have any length. Waits like `store`.
     pub fn delete<R: Wait>(&mut self, rt: &R, key: &[u8]) -> Result<Reply<A>, Refusal>
         ensures ok { IfOk result (λ reply. self.new ≡ with_call self.old (commands.Delete key.now) reply) }
         ensures reply { IfOk result (λ reply. IsReplyTo self.old.number (commands.Delete key.now) reply) }
@@ -158,15 +160,15 @@ impl<'a, A: Allocator + Copy, G: Gate> Session<'a, A, G> {
         self.call(rt, Command::Delete { key })
     }
 
-    /// Runs a program on the record of a key, with an argument, told this time: `Ran` with the program's number and reply word,
-    /// `Missing` where the key is not there and no blank is given, or `Crowded` where a blank is to be stored and no number of splits
-    /// makes room. A blank is the number of zeros on which the program runs where the key is not there. The program is not copied:
-    /// the call is one owner more. It waits as `store` does.
+    /// Runs a program on the record of a key, with an argument and this time: `Ran` with the program's exit number and reply
+    /// word; `Missing` if the key does not exist and no blank is given; or `Crowded` if a blank is saved but no number of
+    /// splits makes room. `blank` is the number of zero bytes on which the program runs if the key is missing. The program is
+    /// not copied; the call adds an owner. Waits like `store`.
     ///
     /// # Errors
-    /// `PairTooLarge` exactly where key and blank have more bytes together than a pair of the store may have, 1,008 or 8,008, and
-    /// then `ArgTooLong` exactly where the argument has more than 1,024. `NoMemory` also where a program has as many owners as can be
-    /// counted.
+    /// `PairTooLarge` if and only if key and blank together are longer than a pair of the store may be, 1,008 or 8,008 bytes;
+    /// otherwise `ArgTooLong` if and only if the argument is longer than 1,024 bytes. `NoMemory` also if the program's owner
+    /// count is at its maximum.
     pub fn run<R: Wait>(
         &mut self,
         rt: &R,
@@ -208,20 +210,21 @@ impl<'a, A: Allocator + Copy, G: Gate> Session<'a, A, G> {
         )
     }
 
-    /// How large the pages of the store are, and so the largest pair.
+    /// The page size of the store, which determines the largest pair.
     pub fn page_size(&self) -> PageSize
         ensures { result ≡ self.now.size }
     {
         self.size
     }
 
-    /// Makes calls in their order, each as by itself, and adds what came of each to the outcomes: its reply, or why it was refused. The
-    /// session and the trail own a command that was answered together. One that is refused commits nothing, and the next is made all the
-    /// same. Calls that take no ticket are made in one hold of the lock, so they cost less than one by one; others wait meanwhile, so give
-    /// it a few tens at once.
+    /// Makes calls in order, each as if by itself, and adds the outcome of each to `outcomes`: its reply, or the reason for its
+    /// refusal. The session and the trail share the command of an answered call. A refused call commits nothing, and the next
+    /// call is made regardless. Calls that take no ticket are made under one hold of the lock, so they cost less than single
+    /// calls. Other sessions wait in the meantime, so pass a few tens of calls at a time.
     ///
     /// # Errors
-    /// The error where no memory is left for the session's own entries or for the outcomes. No call is made then, and all come back.
+    /// `AllocError` if there is no memory for the session's own entries or for the outcomes. No call is made then, and all
+    /// commands are returned.
     pub fn call_all<R: Wait>(
         &mut self,
         rt: &R,
@@ -249,7 +252,7 @@ impl<'a, A: Allocator + Copy, G: Gate> Session<'a, A, G> {
         Ok(())
     }
 
-    /// The number of pairs: `Count`. It waits for the lock alone.
+    /// Returns the number of pairs: `Count`. Waits only for the lock.
     pub fn count<R: Wait>(&mut self, rt: &R) -> Result<Reply<A>, Refusal>
         ensures ok { IfOk result (λ reply. self.new ≡ with_call self.old commands.Count reply) }
         ensures reply { IfOk result (λ reply. IsReplyTo self.old.number commands.Count reply) }
@@ -259,7 +262,7 @@ impl<'a, A: Allocator + Copy, G: Gate> Session<'a, A, G> {
         self.call(rt, Command::Count)
     }
 
-    // Makes a call. The memory for its own entry is taken before the desk commits anything.
+    // Makes a call. The memory for its own entry is allocated before the desk commits anything.
     fn call<R: Wait>(&mut self, rt: &R, command: Command<A>) -> Result<Reply<A>, Refusal>
         ensures ok { IfOk result (λ reply. self.new ≡ with_call self.old command reply) }
         ensures reply { IfOk result (λ reply. IsReplyTo self.old.number command reply) }

@@ -8,9 +8,9 @@ use std::marker::Model;
 use std::sync::{Condvar, Mutex};
 use store_cmd::Opening;
 
-/// What sessions do with their jobs, so that others may look on or stand between. Both calls are made with no lock held.
+/// A hook around the jobs of sessions, which can observe or delay them. Both calls are made without the lock.
 pub trait Gate: Sync + Drop {
-    /// Works a session's job, as `Job::work` does. Where no memory is left, the job comes back.
+    /// Computes a session's job like `Job::work`. If out of memory, returns the job.
     fn work<A: Allocator + Copy>(
         &self,
         session: u64,
@@ -19,17 +19,17 @@ pub trait Gate: Sync + Drop {
         ensures ok { IfOk result (λ done. done ≡ job) }
         ensures returned { IfErr result (λ refused. refused.1 ≡ job) };
 
-    /// Is called once a session's job was finished, and not for a count or for what was refused.
+    /// Called after a session's job was finished; not called for a count or a refused call.
     fn after(&self, session: u64);
 
-    /// Whether each command about a key is to come as a job. Where it is not, a session may answer one without, and `work` and `after`
-    /// are not called for that. It is asked with no lock held.
+    /// Returns true if every command about a key must come as a job. If false, a session may answer one without a job, and
+    /// `work` and `after` are not called for it. Called without the lock.
     fn wants_jobs(&self) -> bool {
         true
     }
 }
 
-/// The gate that only works, and wants no jobs.
+/// A gate that only computes jobs, and does not require them.
 #[derive(Clone, Copy, Debug)]
 pub struct NoGate;
 
@@ -52,17 +52,17 @@ impl Gate for NoGate {
     }
 }
 
-/// What stands under the lock.
+/// The state under the lock.
 #[derive(Drop)]
 pub(crate) struct Core<A: Allocator> {
     pub(crate) desk: Desk<A>,
-    // how many sessions were made
+    // the number of sessions made
     pub(crate) sessions: u64,
-    // somebody waits for a ticket to be closed
+    // true if somebody waits for a ticket to be closed
     pub(crate) waited_for: bool,
 }
 
-/// A database that sessions share, seen as how its keys hash, how large its pages are, and the pairs with which it was opened.
+/// A database shared by sessions, seen as its hash kind, its page size, and the pairs with which it was opened.
 #[derive(Drop)]
 pub struct Store<A: Allocator, G: Gate> {
     pub(crate) alloc: A,

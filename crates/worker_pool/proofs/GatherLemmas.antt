@@ -1,4 +1,4 @@
--- Replies are taken from lists in turn.
+-- Taking replies from lists in turn.
 use Rattle.std.proofs.Common.{subst, inl, inr, ◌≡◌, ◌∙◌, sym, ap, ◌∷◌, [], length, ◌<◌, ◌+◌, ℕ, ◌++◌, arith, List, refl, eq-eqb}
 use Rattle.std.specs.Vec.Iter.{into_iter_items, into_iter_steps}
 use Rattle.std.specs.declared.vec.IntoIter.{IntoIter}
@@ -9,7 +9,7 @@ use Rattle.std.proofs.lemmas.Bool.{cases_eq, eqb-true, false_from_ne_true}
 use Rattle.worker_pool.specs.Shares.{share_of}
 use Rattle.worker_pool.proofs.ShareLemmas.{some_of, share_nil, share_push, share_length, share_front, share_take}
 
--- what was taken is each list's share of it, and the rest of each list is after
+-- the elements taken so far from each list are its share, and the rest of the list follows
 abbrev pub AreTaken : {X S : Type 0} → (S → List X) → ℕ → List X → List S → List S → Type 0
 AreTaken {X} {S} view k taken lists whole = (w : ℕ) (d : S) → w < k → share_of k w taken ++ view (slice_index_or lists w d) ≡ view (slice_index_or whole w d)
 
@@ -33,7 +33,7 @@ taken_more {X} {S} view k taken lists whole x rest count some step before w d wi
           ap (λ ys. ys ++ view (slice_index_or (set lists turn rest) w d)) pushed ∙ (ap (λ ys. share_of k w taken ++ ys) same ∙ before w d within)
     ]
 
--- while some are to come, the list whose turn it is isn't empty
+-- while elements are left, the list whose turn it is isn't empty
 pub taken_not_all : {X Y S : Type 0} (view : S → List X) (k : ℕ) (taken : List X) (all : List Y) (lists whole : List S) (d : S) → 0 < k → length taken < length all
     → ((w : ℕ) (d : S) → w < k → length (view (slice_index_or whole w d)) ≡ length (share_of k w all))
     → AreTaken view k taken lists whole → view (slice_index_or lists (length taken % k) d) ≡ [] → ⊥
@@ -50,7 +50,7 @@ taken_not_all {X} {Y} {S} view k taken all lists whole d some more long before n
     let count = long w d small in
     omega arith
 
--- once as many are taken as there are, each list was its share of them
+-- once all elements are taken, each list was its share of them
 pub taken_all : {X Y S : Type 0} (view : S → List X) (k : ℕ) (taken : List X) (all : List Y) (lists whole : List S) → length taken ≡ length all
     → ((w : ℕ) (d : S) → w < k → length (view (slice_index_or whole w d)) ≡ length (share_of k w all))
     → AreTaken view k taken lists whole → (w : ℕ) (d : S) → w < k → share_of k w taken ≡ view (slice_index_or whole w d)
@@ -61,11 +61,11 @@ taken_all view k taken all lists whole count long before w d within =
     let none : view (slice_index_or lists w d) ≡ [] = nil_from_length (view (slice_index_or lists w d)) (omega arith) in
     sym (append-nil (share_of k w taken)) ∙ (ap (λ ys. share_of k w taken ++ ys) (sym none) ∙ before w d within)
 
--- at first nothing is taken
+-- at first, no elements are taken
 pub taken_none : {X S : Type 0} (view : S → List X) (k : ℕ) (lists : List S) → AreTaken view k [] lists lists
 taken_none {X} view k lists w d within = ap (λ (ys : List X). ys ++ view (slice_index_or lists w d)) (share_nil {X = X} k w)
 
--- ---- the same at a place
+-- ---- the same at an index
 
 pub taken_next : {X S : Type 0} (view : S → List X) (k at : ℕ) (taken : List X) (lists whole : List S) (x : X) (rest : S) → length taken ≡ at → length lists ≡ k → 0 < k
     → ((d : S) → view (slice_index_or lists (at % k) d) ≡ x ∷ view rest)
@@ -79,12 +79,12 @@ pub taken_some : {X Y S : Type 0} (view : S → List X) (k at : ℕ) (taken : Li
 taken_some {X} {Y} {S} view k at taken all lists whole d same some more long before none =
     taken_not_all view k taken all lists whole d some (omega arith) long before (ap (λ n. view (slice_index_or lists (n % k) d)) same ∙ none)
 
--- ---- what the next of a list is
+-- ---- the next element of a list
 
 pub next_some : {X Z : Type 0} (old : IntoIter X Z) (r : Option X) (new : IntoIter X Z) (x : X) → r ≡ Some x → into_iter_steps old r new → into_iter_items old ≡ x ∷ into_iter_items new
 next_some {X} {Z} old r new x is step = (subst (λ o. into_iter_steps old o new) is step).0
 
--- ---- what is moved from one list to another
+-- ---- elements moved from one list to another
 
 pub moved_view : {X Y Z : Type 0} (v : X → Y) (f : Z → Y) (items items' : List X) (x : X) (z : Z) (left rest : List Z) (whole : List Y) → items' ≡ items ++ x ∷ [] → left ≡ z ∷ rest → v x ≡ f z → map v items ++ map f left ≡ whole → map v items' ++ map f rest ≡ whole
 moved_view v f items items' x z left rest whole pushed step same before =

@@ -1,4 +1,5 @@
--- Runs of a worker's own tasks that are called together: more are made ready, and what came of them is taken one by one.
+-- Runs of one worker's tasks that are called together: they are prepared, then called, and then their outcomes are taken one by
+-- one.
 use Rattle.std.proofs.Common.{◌≡◌, ◌∙◌, sym, ap, subst, refl, inl, ◌+◌, ◌<◌, ◌≤◌, ◌%◌, ◌++◌, ◌∷◌, [], ℕ, List, length, arith}
 use Rattle.std.specs.Prelude.{Option, Some, None, Result, Ok, Err, slice_index_or}
 use Rattle.std.specs.List.{slice_get}
@@ -19,7 +20,7 @@ use Rattle.worker_pool.specs.Groups.{HasTried, AreRunsFrom, place_behind, IsAhea
 use Rattle.worker_pool.proofs.ShareLemmas.{some_of}
 use Rattle.worker_pool.proofs.TriedLemmas.{tried_more, tried_all}
 
--- ---- made ready
+-- ---- prepared runs
 
 pub runs_push : {A : Type 0} (programs : List Accepted) (tasks : List (Task A)) (k at : ℕ) (commands : List (Command A)) (command : Command A) (task : Task A) → AreRunsFrom programs tasks k at commands → slice_get tasks (place_behind k at commands) ≡ Some task → command ≡ run_of programs task → AreRunsFrom programs tasks k at (commands ++ command ∷ [])
 runs_push programs tasks k at [] command task runs here is = (task, (here, (is, tt)))
@@ -29,7 +30,7 @@ pub behind_push : {X : Type 0} (k at : ℕ) (xs : List X) (x : X) → place_behi
 behind_push k at [] x = refl
 behind_push k at (y ∷ ys) x = behind_push k (at + k) ys x
 
--- ---- taken
+-- ---- taken outcomes
 
 module _ {A : Type 0} (programs : List Accepted) (tasks : List (Task A)) (k w at : ℕ) (some : 0 < k) (its_own : at % k ≡ w) (s mid : SessionState A) (replies replies' : List (Reply A)) (first : Option (ℕ × Refusal)) (task : Task A) (here : slice_get tasks at ≡ Some task) (command : Command A) (is : command ≡ run_of programs task) (tried : HasTried programs tasks k w at s replies first) where
   its_task : slice_index_or tasks at task ≡ task
@@ -38,7 +39,7 @@ module _ {A : Type 0} (programs : List Accepted) (tasks : List (Task A)) (k w at
   within : at < length tasks
   within = slice_get_within tasks at task here
 
-  -- it was answered
+  -- the call was answered
   one_answered : (reply : Reply A) (refusal : Option Refusal) → mid ≡ with_call s command reply → IsSmall s.size command → replies' ≡ replies ++ reply ∷ [] → refusal ≡ None → HasTried programs tasks k w (at + k) mid replies' (first_with first at refusal)
   one_answered reply refusal call small added none =
       let ran : command ≡ run_of programs (slice_index_or tasks at task) = is ∙ sym (ap (run_of programs) its_task) in
@@ -47,7 +48,7 @@ module _ {A : Type 0} (programs : List Accepted) (tasks : List (Task A)) (k w at
       subst (λ (o : Option Refusal). HasTried programs tasks k w (at + k) mid replies' (first_with first at o)) (sym none)
       (tried_more programs tasks k w at s mid replies replies' first task None some within its_own taken tt called tried)
 
-  -- it was refused
+  -- the call was refused
   one_refused : (fault : Refusal) (refusal : Option Refusal) → mid ≡ s → IsRefusal s.size command fault → replies' ≡ replies → refusal ≡ Some fault → HasTried programs tasks k w (at + k) mid replies' (first_with first at refusal)
   one_refused fault refusal same other kept told =
       let ran : command ≡ run_of programs (slice_index_or tasks at task) = is ∙ sym (ap (run_of programs) its_task) in
@@ -55,7 +56,7 @@ module _ {A : Type 0} (programs : List Accepted) (tasks : List (Task A)) (k w at
       subst (λ (o : Option Refusal). HasTried programs tasks k w (at + k) mid replies' (first_with first at o)) (sym told)
       (tried_more programs tasks k w at s mid replies replies' first task (Some fault) some within its_own taken (same, kept) tt tried)
 
--- what came of the next call is taken
+-- the outcome of the next call is taken
 pub called_next : {A : Type 0} (programs : List Accepted) (tasks : List (Task A)) (k w at : ℕ) (out : Result (Reply A) Refusal) (outs : List (Result (Reply A) Refusal)) (s' : SessionState A) (replies replies' : List (Reply A)) (first : Option (ℕ × Refusal)) (refusal : Option Refusal)
     → 0 < k → at % k ≡ w → IsTaken out replies replies' refusal → HasCalled programs tasks k w at (out ∷ outs) s' replies first → HasCalled programs tasks k w (at + k) outs s' replies' (first_with first at refusal)
 called_next {A} programs tasks k w at out outs s' replies replies' first refusal some its_own taken h = by_commands h.ahead.commands h.ahead.runs h.ahead.calls where
@@ -81,7 +82,7 @@ called_next {A} programs tasks k w at out outs s' replies replies' first refusal
         ahead = rest;
       }
 
--- where nothing of the calls is left to take, the worker is as far as its session
+-- if no outcome is left, the worker is as far as its session
 pub called_all : {A : Type 0} (programs : List Accepted) (tasks : List (Task A)) (k w at : ℕ) (outs : List (Result (Reply A) Refusal)) (s' : SessionState A) (replies : List (Reply A)) (first : Option (ℕ × Refusal)) → outs ≡ [] → HasCalled programs tasks k w at outs s' replies first → HasTried programs tasks k w at s' replies first
 called_all {A} programs tasks k w at outs s' replies first none h =
     by_commands h.ahead.commands (subst (λ (os : List (Result (Reply A) Refusal)). AreCalls h.s h.ahead.commands os s') none h.ahead.calls)
@@ -90,7 +91,7 @@ called_all {A} programs tasks k w at outs s' replies first none h =
     by_commands [] same = subst (λ (x : SessionState A). HasTried programs tasks k w at x replies first) (sym same) h.tried
     by_commands (command ∷ commands) never = absurd never
 
--- where no place of a task is left, nothing is left of the calls either
+-- if no task is left, no outcome is left either
 pub called_last : {A : Type 0} (programs : List Accepted) (tasks : List (Task A)) (k w at : ℕ) (outs : List (Result (Reply A) Refusal)) (s' : SessionState A) (replies : List (Reply A)) (first : Option (ℕ × Refusal)) → length tasks ≤ at → HasCalled programs tasks k w at outs s' replies first → HasWorked programs tasks k w s' replies first
 called_last {A} programs tasks k w at outs s' replies first past h = by_commands h.ahead.commands h.ahead.runs outs h.ahead.calls where
   by_commands : (commands : List (Command A)) → AreRunsFrom programs tasks k at commands → (os : List (Result (Reply A) Refusal)) → AreCalls h.s commands os s' → HasWorked programs tasks k w s' replies first
@@ -98,16 +99,16 @@ called_last {A} programs tasks k w at outs s' replies first past h = by_commands
   by_commands [] runs (o ∷ os) never = absurd never
   by_commands (command ∷ commands) runs os calls = let within = slice_get_within tasks at runs.0 runs.1.0 in absurd (omega arith)
 
--- the same, out of what was left before
+-- the same, taken from the outcomes that were left before
 pub called_step : {A : Type 0} (programs : List Accepted) (tasks : List (Task A)) (k w at : ℕ) (out : Result (Reply A) Refusal) (left rest : List (Result (Reply A) Refusal)) (s' : SessionState A) (replies replies' : List (Reply A)) (first first' : Option (ℕ × Refusal)) (refusal : Option Refusal)
     → 0 < k → at % k ≡ w → left ≡ out ∷ rest → IsTaken out replies replies' refusal → first' ≡ first_with first at refusal → HasCalled programs tasks k w at left s' replies first → HasCalled programs tasks k w (at + k) rest s' replies' first'
 called_step {A} programs tasks k w at out left rest s' replies replies' first first' refusal some its_own step taken is h =
     subst (HasCalled programs tasks k w (at + k) rest s' replies') (sym is)
     (called_next programs tasks k w at out rest s' replies replies' first refusal some its_own taken (subst (λ (os : List (Result (Reply A) Refusal)). HasCalled programs tasks k w at os s' replies first) step h))
 
--- ---- of a whole group
+-- ---- outcomes of a whole group
 
--- as many outcomes as calls
+-- there is one outcome for each call
 pub answered_count : {A : Type 0} (s : SessionState A) (commands : List (Command A)) (old : List (Result (Reply A) Refusal)) (s' : SessionState A) (new : List (Result (Reply A) Refusal)) → AreAnswered s commands old s' new → length new ≡ length old + length commands
 answered_count {A} s commands old s' new h =
     let many = count s commands h.outcomes s' h.calls in
@@ -119,7 +120,7 @@ answered_count {A} s commands old s' new h =
     count s (c ∷ cs) [] s' calls = absurd calls
     count s (c ∷ cs) (o ∷ os) s' calls = let rest = count calls.0 cs os s' calls.1.1 in omega arith
 
--- the size of a session's pages stays
+-- the page size of a session does not change
 one_size : {A : Type 0} (s : SessionState A) (c : Command A) (o : Result (Reply A) Refusal) (mid : SessionState A) → IsCall s c o mid → mid.size ≡ s.size
 one_size {A} s c (Ok reply) mid call = ap (λ (x : SessionState A). x.size) call.0
 one_size {A} s c (Err fault) mid call = ap (λ (x : SessionState A). x.size) call.0
@@ -130,14 +131,14 @@ calls_size s [] (o ∷ os) s' calls = absurd calls
 calls_size s (c ∷ cs) [] s' calls = absurd calls
 calls_size s (c ∷ cs) (o ∷ os) s' calls = calls_size calls.0 cs os s' calls.1.1 ∙ one_size s c o calls.0 calls.1.0
 
--- the task at a place is refused before its group is called
+-- the task at an index is refused before its group is called
 pub group_refused : {A : Type 0} (programs : List Accepted) (tasks : List (Task A)) (k w at : ℕ) (s s' : SessionState A) (replies replies' : List (Reply A)) (first : Option (ℕ × Refusal)) (refusal : Refusal) → 0 < k → at < length tasks → at % k ≡ w
     → ((task : Task A) → slice_get tasks at ≡ Some task → IsTaskRefusal s.size (run_of programs task) refusal) → s' ≡ s → replies' ≡ replies → HasTried programs tasks k w at s replies first → HasTried programs tasks k w (at + k) s' replies' (first_with first at (Some refusal))
 group_refused programs tasks k w at s s' replies replies' first refusal some within its_own refused same kept tried =
     let d = some_of tasks at within in
     tried_more programs tasks k w at s s' replies replies' first d (Some refusal) some within its_own (refused (slice_index_or tasks at d) (slice_get-get_or tasks at d within)) (same, kept) tt tried
 
--- a worker goes on after a place of its own that it has tried
+-- a worker continues after an index that it has tried
 pub goes_on : {A : Type 0} (programs : List Accepted) (tasks : List (Task A)) (k w at : ℕ) (s : SessionState A) (replies : List (Reply A)) (first : Option (ℕ × Refusal)) (next : Option ℕ) → 0 < k → at % k ≡ w → IsNext (length tasks) at k next → HasTried programs tasks k w (at + k) s replies first → GoesOn programs tasks k w at s replies first next
 goes_on programs tasks k w at s replies first None some its_own is tried = tried_all programs tasks k w (at + k) s replies first is tried
 goes_on programs tasks k w at s replies first (Some next) some its_own is tried =

@@ -1,4 +1,5 @@
--- What workers leave is what comes of the tasks. A worker is known by its session, its replies and the task that it was refused.
+-- The results of the workers are the results of the tasks. A worker is known by its session, its replies and its first refused
+-- task.
 use Rattle.std.proofs.Common.{inl, inr, Bool, true, false, ◌≡◌, ◌∙◌, sym, ap, ◌∷◌, [], zero, suc, length, ◌<◌, ℕ, ◌++◌, arith, List, refl, subst}
 use Rattle.std.specs.Prelude.{◌%◌, ◌==◌, ◌&&◌, take, drop, map, slice_index_or, Option, Some, None, is_none, IfSome}
 use Rattle.std.proofs.lemmas.Nat.{mod_below}
@@ -20,7 +21,7 @@ use Rattle.worker_pool.specs.Shares.{share_of, ran_of, runs_of, AreRuns, HasWork
 use Rattle.worker_pool.proofs.ShareLemmas.{some_of, places_same}
 use Rattle.worker_pool.specs.Pool.{AreIdle, MayBegin, AreDone, AreRefused, IsShareDone}
 
--- what stands in a map of a list, as what stands in the list
+-- an element of a mapped list comes from an element of the list
 pub record Mapped {X Y : Type 0} (f : X → Y) (xs : List X) (i : ℕ) (y : Y) : Type 0 where
   pub source : X
   pub here : slice_get xs i ≡ Some source
@@ -31,7 +32,7 @@ mapped f [] i y h = absurd (cc)
 mapped f (x ∷ xs) zero y h = record { source = x; here = refl; value = cc }
 mapped f (x ∷ xs) (suc i) y h = let rest = mapped f xs i y h in record { source = rest.source; here = rest.here; value = rest.value }
 
--- what holds of each holds of what stands at a place
+-- a property of all elements is a property of the element at an index
 all_at : {X : Type 0} (P : X → Type 0) (xs : List X) (i : ℕ) (x : X) → slice_get xs i ≡ Some x → All P xs → P x
 all_at P xs i x here all = subst P (get_or_from_slice_get xs i x x here) (All-get_or P xs i x (slice_get_within xs i x here) all)
 
@@ -60,7 +61,7 @@ none_of None h = refl
 none_of (Some r) h = absurd h
 
 module _ {A W : Type 0} (session : W → SessionState A) (replies : W → List (Reply A)) (refused : W → Option (ℕ × Refusal)) (programs : List Accepted) (tasks : List (Task A)) (k : ℕ) where
-  -- what a worker of a crew has done
+  -- the result of a worker in a crew
   abbrev pub Worked : ℕ → W → Type 0
   Worked w x = HasWorked programs tasks k w (session x) (replies x) (refused x)
 
@@ -70,7 +71,7 @@ module _ {A W : Type 0} (session : W → SessionState A) (replies : W → List (
   pub no_later : (crew : List W) (first : Option (ℕ × Refusal)) (w : ℕ) (x : W) → IsFirstIn (map refused crew) first → slice_get crew w ≡ Some x → IsNoLater first (refused x)
   no_later crew first w x is here = all_at (IsNoLater first) (map refused crew) w (refused x) (slice_get-map refused crew w ∙ ap (option_map refused) here) is.lowest
 
-  -- why a task was refused, as a worker has it
+  -- the reason for a task's refusal, according to one worker
   abbrev told_by : (w : ℕ) (o : Option W) → IfSome o (Worked w) → ℕ → Option Refusal
   told_by w None did at = None
   told_by w (Some x) did at = did.refusals at
@@ -86,11 +87,11 @@ module _ {A W : Type 0} (session : W → SessionState A) (replies : W → List (
       let own : Did w (Some y) all y = record { work = all; same = λ at. refl } in
       subst (λ (z : W). Did w (Some y) all z) same own
 
-  -- why a task was refused, as its own worker has it
+  -- the reason for a task's refusal, according to its own worker
   abbrev told : (crew : List W) → ((w : ℕ) → IfSome (slice_get crew w) (Worked w)) → ℕ → Option Refusal
   told crew worked at = told_by (at % k) (slice_get crew (at % k)) (worked (at % k)) at
 
-  -- where none was refused a worker ran its whole share
+  -- if no task was refused, a worker ran its whole share
   ran_all : (refusals : ℕ → Option Refusal) (w : ℕ) → ((at : ℕ) → at % k ≡ w → refusals at ≡ None) → ran_of k w refusals tasks ≡ share_of k w tasks
   ran_all refusals w none =
       places_same (λ at. at % k == w && is_none (refusals at)) (λ at. at % k == w) tasks (λ j below. elim (cases_eq (j % k) w) [
@@ -128,7 +129,7 @@ module _ {A W : Type 0} (session : W → SessionState A) (replies : W → List (
         subst (λ c. IsShareDone programs tasks k w answers c) m.value (record { runs = runs; replied = d.replied ∙ sym (shared w x m.here) });
   }
 
-  -- before the first of all no worker was refused a task
+  -- before the first refused task, no worker was refused a task
   free_before : (w : ℕ) (refusals : ℕ → Option Refusal) (o : Option (ℕ × Refusal)) (r : ℕ × Refusal) → IsFirstRefused (length tasks) k w refusals o → IsNoLater (Some r) o → (at : ℕ) → at < r.0 → at % k ≡ w → refusals at ≡ None
   free_before w refusals None r first later at before its_own = first at its_own
   free_before w refusals (Some s) r first later at before its_own = first.before at (omega arith) its_own
@@ -177,7 +178,7 @@ module _ {A W : Type 0} (session : W → SessionState A) (replies : W → List (
             subst (λ v. AreRuns programs (ran_of k w (told crew worked) tasks) v.number v.calls) n.value (subst (λ (ts : List (Task A)). AreRuns programs ts (session n.source).number (session n.source).calls) same d.work.runs);
       }
 
--- each worker's session is of the size of all before
+-- each worker's session keeps its page size
 pub sized_all : {A W : Type 0} (session : W → SessionState A) (size : PageSize) (old new : List W) → length new ≡ length old
     → ((w : ℕ) → IfSome (slice_get new w) (λ x. IfSome (slice_get old w) (λ y. (session x).size ≡ (session y).size)))
     → All (λ y. (session y).size ≡ size) old → (w : ℕ) (x : W) → slice_get new w ≡ Some x → (session x).size ≡ size
@@ -188,7 +189,7 @@ sized_all {A} {W} session size old new count kept sized w x here =
     some_at (λ (v : W). (session x).size ≡ (session v).size) (slice_get old w) y was (some_at (λ (u : W). IfSome (slice_get old w) (λ v. (session u).size ≡ (session v).size)) (slice_get new w) x here (kept w))
     ∙ all_at (λ (v : W). (session v).size ≡ size) old w y was sized
 
--- what stands in lists at a place, where the lists are those of a crew
+-- the list at an index is that of the worker there, if the lists are those of a crew
 pub view_at : {S W Y : Type 0} (view : S → Y) (f : W → Y) (lists : List S) (crew : List W) → map view lists ≡ map f crew → (w : ℕ) (d : S) (x : W) → slice_get crew w ≡ Some x → view (slice_index_or lists w d) ≡ f x
 view_at view f lists crew same w d x here =
     let near : w < length crew = slice_get_within crew w x here in
@@ -198,7 +199,7 @@ view_at view f lists crew same w d x here =
     sym (get_or-map view lists w d (f x) (omega arith)) ∙ (ap (λ ys. slice_index_or ys w (f x)) same ∙ get_or_from_slice_get (map f crew) w (f x) (f x) (slice_get-map f crew w ∙ ap (option_map f) here))
 
 module _ {A W S : Type 0} (session : W → SessionState A) (replies : W → List (Reply A)) (refused : W → Option (ℕ × Refusal)) (programs : List Accepted) (tasks : List (Task A)) (k : ℕ) (view : S → List (Reply A)) where
-  -- where all is done, the list of a worker is as long as its share
+  -- once all tasks are run, the list of a worker is as long as its share
   pub pool_shares : (crew : List W) (lists : List S) → length crew ≡ k → map view lists ≡ map replies crew → ((w : ℕ) → IfSome (slice_get crew w) (Worked session replies refused programs tasks k w)) → IsFirstIn (map refused crew) None
       → (w : ℕ) (d : S) → w < length lists → length (view (slice_index_or lists w d)) ≡ length (share_of (length lists) w tasks)
   pool_shares crew lists count same worked none w d near =
@@ -216,7 +217,7 @@ module _ {A W S : Type 0} (session : W → SessionState A) (replies : W → List
       let its : length (replies x) ≡ length (share_of k w tasks) = ap length (sym work.replied) ∙ (length-map (session x).calls (λ (e : Entry A). e.reply) ∙ (sym (length-map (session x).calls (λ (e : Entry A). e.command)) ∙ (ap length work.runs.commands ∙ (run ∙ ran)))) in
       ap length (view_at view replies lists crew same w d x here) ∙ (its ∙ ap (λ n. length (share_of n w tasks)) (omega arith))
 
-  -- what is taken from the lists is each worker's share
+  -- the elements taken from each list are its worker's share
   pub pool_taken : (crew : List W) (lists : List S) (answers : List (Reply A)) → length crew ≡ k → map view lists ≡ map replies crew
       → ((w : ℕ) (d : S) → w < length lists → share_of (length lists) w answers ≡ view (slice_index_or lists w d))
       → (w : ℕ) (x : W) → slice_get crew w ≡ Some x → share_of k w answers ≡ replies x
@@ -230,12 +231,12 @@ module _ {A W S : Type 0} (session : W → SessionState A) (replies : W → List
       let size : k ≡ length lists = omega arith in
       ap (λ n. share_of n w answers) size ∙ (taken w d at ∙ view_at view replies lists crew same w d x here)
 
--- ---- a crew that has worked, as its list has it
+-- ---- a crew that has worked, as its list records it
 
 written_back : {W : Type 0} (items new : List W) (len : ℕ) → length new ≡ length items → length items ≡ len → take len (new ++ drop (length new) items) ≡ new
 written_back items new len count long = ap (λ xs. take len (new ++ xs)) (drop_all (length new) items (omega arith)) ∙ (ap (take len) (append-nil new) ∙ take_all len new (omega arith))
 
--- these workers, as they were before, have worked
+-- the workers in `items` are those of `crew` after their work
 pub record IsBack {A W : Type 0} (session : W → SessionState A) (replies : W → List (Reply A)) (refused : W → Option (ℕ × Refusal)) (programs : List Accepted) (tasks : List (Task A)) (items crew : List W) : Type 0 where
   pub count : length crew ≡ length items
   pub worked : (w : ℕ) → IfSome (slice_get crew w) (Worked session replies refused programs tasks (length items) w)
@@ -255,7 +256,7 @@ crew_back {A} {W} session replies refused programs tasks items lent new len same
     } in
     subst (λ xs. IsBack session replies refused programs tasks items xs) (sym (written_back items new len counted long_items)) whole
 
--- ---- which is the first
+-- ---- the first of all
 
 no_later_of : (a b c : Option (ℕ × Refusal)) → IsNoLater a b → IsNoLater b c → IsNoLater a c
 no_later_of None None c h j = j
@@ -276,7 +277,7 @@ now_here : (xs : List (Option (ℕ × Refusal))) (o : Option (ℕ × Refusal)) �
 now_here xs None = tt
 now_here xs (Some s) = (length xs, slice_get-behind xs (Some s) [])
 
--- one worker more
+-- one more worker
 pub first_more : (xs : List (Option (ℕ × Refusal))) (a b r : Option (ℕ × Refusal)) → IsFirstIn xs a → IsLowerOf a b r → IsFirstIn (xs ++ b ∷ []) r
 first_more xs a b r first lower = record {
   lowest = All-push (λ o. IsNoLater r o) xs b (All-weaker (λ o. IsNoLater a o) (λ o. IsNoLater r o) (λ o h. no_later_of r a o lower.first h) xs first.lowest) lower.second;
@@ -286,7 +287,7 @@ first_more xs a b r first lower = record {
   ];
 }
 
--- workers that did nothing leave no calls
+-- idle workers leave no calls
 pub idle_left : {A W : Type 0} (session : W → SessionState A) (crew : List W) (calls : List (CallsState A)) → calls ≡ map (λ x. calls_left (session x)) crew → All (λ x. (session x).calls ≡ []) crew → AreIdle calls
 idle_left {A} {W} session crew calls left idle =
     subst AreIdle (sym left) (All-map (λ (its : CallsState A). its.calls ≡ []) (λ (x : W). calls_left (session x)) crew idle)

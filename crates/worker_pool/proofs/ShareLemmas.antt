@@ -1,4 +1,4 @@
--- What stands at places of a kind, in a list that grows; shares are the places of workers.
+-- The elements at the indices that pass a test, in a list that grows. A share is the elements at a worker's indices.
 use Rattle.std.proofs.Common.{inl, inr, suc, zero, ◌≡◌, ◌∙◌, sym, ap, ◌∷◌, [], Bool, false, true, length, ◌<◌, ◌≤◌, ◌+◌, ℕ, ◌++◌, arith, List, refl}
 use Rattle.std.specs.Prelude.{◌-◌, take, drop, slice_index_or, ◌==◌, ◌%◌, if◌then◌else◌, map}
 use Rattle.std.specs.List.{filter, enumerate_from}
@@ -13,7 +13,7 @@ pub some_of : {X : Type 0} (xs : List X) (n : ℕ) → n < length xs → X
 some_of [] n within = absurd (omega arith)
 some_of (x ∷ xs) n within = x
 
--- the same as what stands at places, by recursion, where the first has the place i
+-- `at_places` by recursion, if the first element has index i
 abbrev picked : {X : Type 0} → (ℕ → Bool) → ℕ → List X → List X
 picked p i [] = []
 picked p i (x ∷ xs) = if p i then x ∷ picked p (i + 1) xs else picked p (i + 1) xs
@@ -76,7 +76,7 @@ picked_same p q i (x ∷ xs) same =
       | false ↦ rest
     ]
 
--- ---- of places
+-- ---- indices
 
 pub places_nil : {X : Type 0} (p : ℕ → Bool) → at_places {X = X} p [] ≡ []
 places_nil {X} p = places_are p []
@@ -87,13 +87,13 @@ places_push p xs x = places_are p (xs ++ x ∷ []) ∙ (picked_push p 0 xs x ∙
 pub places_same : {X : Type 0} (p q : ℕ → Bool) (xs : List X) → ((j : ℕ) → j < length xs → p j ≡ q j) → at_places p xs ≡ at_places q xs
 places_same p q xs same = places_are p xs ∙ (picked_same p q 0 xs (λ j low high. same j (omega arith)) ∙ sym (places_are q xs))
 
--- one element more
+-- one more element
 pub places_more : {X : Type 0} (p : ℕ → Bool) (xs : List X) (i : ℕ) (d : X) → i < length xs → at_places p (take (i + 1) xs) ≡ at_places p (take i xs) ++ (if p i then slice_index_or xs i d ∷ [] else [])
 places_more p xs i d within =
     let len : length (take i xs) ≡ i = length-take-le i xs (omega arith) in
     ap (at_places p) (take_more xs i d within) ∙ (places_push p (take i xs) (slice_index_or xs i d) ∙ ap (λ n. at_places p (take i xs) ++ (if p n then slice_index_or xs i d ∷ [] else [])) len)
 
--- one element more, at a place of another kind
+-- one more element, at an index that fails the test
 pub places_skip : {X : Type 0} (p : ℕ → Bool) (xs : List X) (i : ℕ) → p i ≡ false → at_places p (take (i + 1) xs) ≡ at_places p (take i xs)
 places_skip p xs i other =
     elim (cases_lt i (length xs)) [
@@ -103,7 +103,7 @@ places_skip p xs i other =
       | inr past ↦ ap (at_places p) (take_all (i + 1) xs (omega arith) ∙ sym (take_all i xs past))
     ]
 
--- some elements more, all at places of another kind
+-- some more elements, all at indices that fail the test
 pub places_over : {X : Type 0} (p : ℕ → Bool) (xs : List X) (i m : ℕ) → ((j : ℕ) → i ≤ j → j < i + m → p j ≡ false) → at_places p (take (i + m) xs) ≡ at_places p (take i xs)
 places_over p xs i zero other = ap (λ n. at_places p (take n xs)) (omega arith)
 places_over p xs i (suc m) other =
@@ -111,14 +111,14 @@ places_over p xs i (suc m) other =
     let next : i + suc m ≡ (i + m) + 1 = omega arith in
     ap (λ n. at_places p (take n xs)) next ∙ (places_skip p xs (i + m) (other (i + m) (omega arith) (omega arith)) ∙ before)
 
--- one element more, and then others at places of another kind
+-- one more element, and then some at indices that fail the test
 pub places_round : {X : Type 0} (p : ℕ → Bool) (xs : List X) (i k : ℕ) (d : X) → 0 < k → i < length xs → ((j : ℕ) → i < j → j < i + k → p j ≡ false)
     → at_places p (take (i + k) xs) ≡ at_places p (take i xs) ++ (if p i then slice_index_or xs i d ∷ [] else [])
 places_round p xs i k d some within other =
     let last : i + k ≡ (i + 1) + (k - 1) = omega arith in
     ap (λ n. at_places p (take n xs)) last ∙ (places_over p xs (i + 1) (k - 1) (λ j low high. other j (omega arith) (omega arith)) ∙ places_more p xs i d within)
 
--- ---- of shares
+-- ---- shares
 
 pub share_nil : {X : Type 0} (k w : ℕ) → share_of {X = X} k w [] ≡ []
 share_nil k w = places_nil (λ at. at % k == w)
@@ -131,7 +131,7 @@ share_length k w xs ys same =
     let p : ℕ → Bool = λ at. at % k == w in
     ap length (places_are p xs) ∙ (picked_length p 0 xs ys same ∙ ap length (sym (places_are p ys)))
 
--- of the first of them the share is no longer
+-- the share of a prefix is no longer than the share of the list
 pub share_front : {X : Type 0} (k w n : ℕ) (xs : List X) → length (share_of k w (take n xs)) ≤ length (share_of k w xs)
 share_front k w n xs =
     let p : ℕ → Bool = λ at. at % k == w in
@@ -142,12 +142,12 @@ share_front k w n xs =
     let all : length (share_of k w xs) ≡ length front + length back = ap length whole ∙ length-append front back in
     omega arith
 
--- one element more is the worker's
+-- one more element, which belongs to the worker
 pub share_take : {X : Type 0} (k w : ℕ) (xs : List X) (i : ℕ) (d : X) → i < length xs → (i % k == w) ≡ true → share_of k w (take (i + 1) xs) ≡ share_of k w (take i xs) ++ slice_index_or xs i d ∷ []
 share_take k w xs i d within its_own =
     places_more (λ at. at % k == w) xs i d within ∙ ap (λ b. share_of k w (take i xs) ++ (if b then slice_index_or xs i d ∷ [] else [])) its_own
 
--- ---- whose a place is
+-- ---- the worker of an index
 
 -- a step shorter than a round leads to another remainder
 other_remainder : (k i s : ℕ) → 0 < s → s < k → (i + s) % k ≡ i % k → ⊥
@@ -163,13 +163,13 @@ other_remainder k i s some short same =
           omega arith
     ]
 
--- between a place of the worker's and the next no place is its own
+-- no index between two successive ones of a worker is its own
 pub others_between : (k w i j : ℕ) → i % k ≡ w → i < j → j < i + k → (j % k == w) ≡ false
 others_between k w i j its_own low high =
     let step : i + (j - i) ≡ j = omega arith in
     false_from_ne_true (j % k == w) (λ is. other_remainder k i (j - i) (omega arith) (omega arith) (ap (λ n. n % k) step ∙ (eqb-true (j % k) w is ∙ sym its_own)))
 
--- nor is one before the first
+-- no index before its first is its own
 pub others_before : (k w j : ℕ) → j < w → w < k → (j % k == w) ≡ false
 others_before k w j low small =
     let whole : j % k ≡ j = mod-eq_of_lt (omega arith) in

@@ -1,4 +1,4 @@
--- What a worker has tried grows, round by round.
+-- The tasks that a worker has tried grow round by round.
 use Rattle.std.proofs.Common.{◌≡◌, ◌∙◌, sym, ap, ◌∷◌, [], true, false, Bool, length, ◌<◌, ◌≤◌, ◌+◌, ℕ, ◌++◌, arith, List, refl, subst, inl, inr, eq-eqb}
 use Rattle.std.specs.Prelude.{◌⊎◌, ◌%◌, ◌==◌, ◌&&◌, if◌then◌else◌, take, map, Option, Some, None, is_none, OnSome, IfNone, slice_index_or}
 use Rattle.std.specs.List.{All, slice_get}
@@ -30,7 +30,7 @@ some_none o r is other = absurd (cc)
 not_mine : (k w : ℕ) (refusals : ℕ → Option Refusal) (j : ℕ) → (j % k == w) ≡ false → mine k w refusals j ≡ false
 not_mine k w refusals j other = ap (λ b. b && is_none (refusals j)) other
 
--- where a worker begins, it has tried nothing
+-- at the start, a worker has tried nothing
 pub tried_none : {A : Type 0} (programs : List Accepted) (tasks : List (Task A)) (k w : ℕ) (s : SessionState A) (replies : List (Reply A)) → w < k → IsUnused s replies → HasTried programs tasks k w w s replies None
 tried_none {A} programs tasks k w s replies small unused =
     let none : ℕ → Option Refusal = λ place. None in
@@ -48,7 +48,7 @@ tried_none {A} programs tasks k w s replies small unused =
       first_is = λ at its_own. refl;
     }
 
--- a task of the worker's own below the next round was tried before, or is the one of this round
+-- a task of the worker below the next round was tried before, or belongs to this round
 round_cases : (k w at place : ℕ) → at % k ≡ w → place % k ≡ w → place < at + k → (place < at) ⊎ (place ≡ at)
 round_cases k w at place its_own also below =
     elim (cases_lt place at) [
@@ -59,7 +59,7 @@ round_cases k w at place its_own also below =
       ]
     ]
 
--- one call more: its task stands after those that were run
+-- one more call: its task follows those that were run
 called_runs : {A : Type 0} (programs : List Accepted) (ran : List (Task A)) (task : Task A) (s s' : SessionState A) (reply : Reply A) → s' ≡ with_call s (run_of programs task) reply → AreRuns programs ran s.number s.calls → AreRuns programs (ran ++ task ∷ []) s'.number s'.calls
 called_runs {A} programs ran task s s' reply is runs =
     let e : Entry A = record { session = s.number; command = run_of programs task; reply = reply } in
@@ -78,7 +78,7 @@ first_stays : (first : Option (ℕ × Refusal)) (at : ℕ) → first_with first 
 first_stays None at = refl
 first_stays (Some f) at = refl
 
--- a task that is refused, beside those that were before
+-- one more refused task, in addition to the earlier ones
 abbrev told : (ℕ → Option Refusal) → ℕ → Refusal → ℕ → Option Refusal
 told refusals at r place = if place == at then Some r else refusals place
 
@@ -162,7 +162,7 @@ tried_refused {A} programs tasks k w at s replies first d r some within its_own 
       first_is = first_told (length tasks) k w at h.refusals first r within its_own h.ahead h.first_is;
     }
 
--- the next task of the worker's own
+-- the worker's next task
 pub tried_more : {A : Type 0} (programs : List Accepted) (tasks : List (Task A)) (k w at : ℕ) (s s' : SessionState A) (replies replies' : List (Reply A)) (first : Option (ℕ × Refusal)) (d : Task A) (refusal : Option Refusal) → 0 < k → at < length tasks → at % k ≡ w
     → IsTried s.size (run_of programs (slice_index_or tasks at d)) refusal → OnSome refusal ((s' ≡ s) × (replies' ≡ replies)) → IfNone refusal (IsCalled (run_of programs (slice_index_or tasks at d)) s replies s' replies')
     → HasTried programs tasks k w at s replies first → HasTried programs tasks k w (at + k) s' replies' (first_with first at refusal)
@@ -172,7 +172,7 @@ tried_more {A} programs tasks k w at s s' replies replies' first d (Some r) some
     subst (λ (x : SessionState A). HasTried programs tasks k w (at + k) x replies' (first_with first at (Some r))) (sym stays.0)
     (subst (λ (ys : List (Reply A)). HasTried programs tasks k w (at + k) s ys (first_with first at (Some r))) (sym stays.1) (tried_refused programs tasks k w at s replies first d r some within its_own tried h))
 
--- where none of its own is left, the worker has done its work
+-- if none of its tasks is left, the worker is finished
 pub tried_all : {A : Type 0} (programs : List Accepted) (tasks : List (Task A)) (k w at : ℕ) (s : SessionState A) (replies : List (Reply A)) (first : Option (ℕ × Refusal)) → length tasks ≤ at → HasTried programs tasks k w at s replies first → HasWorked programs tasks k w s replies first
 tried_all {A} programs tasks k w at s replies first past h = record {
   refusals = h.refusals;
@@ -182,7 +182,7 @@ tried_all {A} programs tasks k w at s replies first past h = record {
   first = h.first_is;
 }
 
--- the size of a session's pages stays
+-- the page size of a session does not change
 pub tried_size : {A : Type 0} (command : Command A) (s s' : SessionState A) (replies replies' : List (Reply A)) (refusal : Option Refusal) → OnSome refusal ((s' ≡ s) × (replies' ≡ replies)) → IfNone refusal (IsCalled command s replies s' replies') → s'.size ≡ s.size
 tried_size {A} command s s' replies replies' None stays called = ap (λ (x : SessionState A). x.size) called.call
 tried_size {A} command s s' replies replies' (Some r) stays called = ap (λ (x : SessionState A). x.size) stays.0

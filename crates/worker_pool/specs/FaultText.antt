@@ -1,4 +1,4 @@
--- The text of a fault: its name, and in brackets what it has.
+-- The text of a fault: its name, and its fields in parentheses.
 use Rattle.std.specs.Prelude.{ℕ, List, ◌++◌, codes, decimal}
 use Rattle.store_cmd.specs.declared.Refusal.{Refusal}
 use Rattle.store_cmd.specs.declared.Refusal.TheVariants as refusals

@@ -1,4 +1,4 @@
--- What comes of tasks: all are done, or why they are not.
+-- The results of tasks: all were run, or the reason why not.
 use Rattle.std.specs.Prelude.{◌≡◌, ◌<◌, ◌⊎◌, ℕ, List, [], length, Option, Some, None}
 use Rattle.std.specs.List.{All, slice_get}
 use Rattle.sdbm_addr.specs.declared.PageSize.{PageSize}
@@ -13,7 +13,7 @@ use Rattle.worker_pool.specs.declared.task.PoolFault.TheVariants.{NoWorkers, NoP
 use Rattle.worker_pool.specs.Tasks.{run_of, AreKnown, IsFirstUnknown, IsTried}
 use Rattle.worker_pool.specs.Shares.{share_of, ran_of, replies_of, AreRuns}
 
--- there are workers, and the programs of all tasks
+-- there is a worker, and the programs of all tasks are registered
 pub record MayBegin {A : Type 0} (programs : List Accepted) (tasks : List (Task A)) (workers : ℕ) : Type 0 where
   pub some : 0 < workers
   pub known : AreKnown programs tasks
@@ -23,7 +23,7 @@ pub record IsShareDone {A : Type 0} (programs : List Accepted) (tasks : List (Ta
   pub runs : AreRuns programs (share_of workers worker tasks) calls.number calls.calls
   pub replied : replies_of calls.calls ≡ share_of workers worker replies
 
--- All tasks are done, and were small enough: one reply each, and the calls of one worker after the other.
+-- All tasks were run, and their sizes were valid: one reply for each task, and the calls of each worker.
 pub record AreDone {A : Type 0} (size : PageSize) (programs : List Accepted) (tasks : List (Task A)) (workers : ℕ) (replies : List (Reply A)) (calls : List (CallsState A)) : Type 0 where
   pub begun : MayBegin programs tasks workers
   pub small : (at : ℕ) (task : Task A) → slice_get tasks at ≡ Some task → IsSmall size (run_of programs task)
@@ -31,10 +31,10 @@ pub record AreDone {A : Type 0} (size : PageSize) (programs : List Accepted) (ta
   pub all_workers : length calls ≡ workers
   pub shares : (worker : ℕ) (its : CallsState A) → slice_get calls worker ≡ Some its → IsShareDone programs tasks workers worker replies its
 
--- This task is the first that was refused, for this. Each task was tried: it was run, and was small enough, or it was refused for a
--- reason of its own. The calls of each worker are the runs of those of its share that were not refused.
+-- This task is the first that was refused, with the reason. Every task was tried: either it was run, and its size was valid, or
+-- it was refused for a separate reason. The calls of each worker are the runs of the tasks in its share that were not refused.
 pub record AreRefused {A : Type 0} (size : PageSize) (programs : List Accepted) (tasks : List (Task A)) (workers at : ℕ) (refusal : Refusal) (calls : List (CallsState A)) : Type 0 where
-  -- by place, why a task was refused, and nothing where it was run
+  -- by index, the reason for a task's refusal; `None` if the task was run
   pub refusals : ℕ → Option Refusal
   pub within : at < length tasks
   pub here : refusals at ≡ Some refusal
@@ -43,11 +43,11 @@ pub record AreRefused {A : Type 0} (size : PageSize) (programs : List Accepted) 
   pub all_workers : length calls ≡ workers
   pub runs : (worker : ℕ) (its : CallsState A) → slice_get calls worker ≡ Some its → AreRuns programs (ran_of workers worker refusals tasks) its.number its.calls
 
--- sessions that made no calls
+-- sessions without calls
 abbrev pub AreIdle : {A : Type 0} → List (CallsState A) → Type 0
 AreIdle {A} calls = All (λ (its : CallsState A). its.calls ≡ []) calls
 
--- why the pool does not begin, and no session is made
+-- why the pool does not begin, and makes no session
 abbrev pub IsUnready : {A : Type 0} → List Accepted → List (Task A) → ℕ → PoolFault → Type 0
 IsUnready programs tasks workers NoWorkers = workers ≡ 0
 IsUnready programs tasks workers (NoProgram at) = (0 < workers) × IsFirstUnknown programs tasks at
@@ -56,7 +56,7 @@ IsUnready programs tasks workers (NoThread worker) = ⊥
 IsUnready programs tasks workers (Refused at refusal) = ⊥
 IsUnready programs tasks workers NoMemory = MayBegin programs tasks workers
 
--- why a pool that may begin does not do all tasks, with the calls of the sessions that were made
+-- why a pool that may begin does not run all tasks, with the calls of the sessions made
 abbrev pub IsUnfinished : {A : Type 0} → PageSize → List Accepted → List (Task A) → ℕ → PoolFault → List (CallsState A) → Type 0
 IsUnfinished size programs tasks workers NoWorkers calls = ⊥
 IsUnfinished size programs tasks workers (NoProgram at) calls = ⊥
@@ -65,7 +65,7 @@ IsUnfinished size programs tasks workers (NoThread worker) calls = ⊥
 IsUnfinished size programs tasks workers (Refused at refusal) calls = AreRefused size programs tasks workers at refusal calls
 IsUnfinished size programs tasks workers NoMemory calls = ⊥
 
--- When each fault comes, and the calls of the sessions that were made.
+-- The condition of each fault, and the calls of the sessions made.
 abbrev pub IsPoolFault : {A : Type 0} → PageSize → List Accepted → List (Task A) → ℕ → PoolFault → List (CallsState A) → Type 0
 IsPoolFault size programs tasks workers fault calls =
     (IsUnready programs tasks workers fault × (calls ≡ [])) ⊎ (MayBegin programs tasks workers × IsUnfinished size programs tasks workers fault calls)

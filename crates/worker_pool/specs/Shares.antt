@@ -1,4 +1,4 @@
--- The share of a worker, and what the worker has done of it.
+-- The share of a worker, and the part of it that the worker has done.
 use Rattle.std.specs.Prelude.{◌≡◌, ◌<◌, ◌≤◌, ◌⊎◌, ◌%◌, ◌==◌, ◌&&◌, ◌++◌, ℕ, List, [], ◌∷◌, Bool, Option, Some, None, IfSome, is_none, length, map}
 use Rattle.std.specs.List.{All, filter, enumerate_from, slice_get}
 use Rattle.bpf_verify.specs.Verified.{Accepted}
@@ -10,15 +10,15 @@ use Rattle.store_shared.specs.Shared.{SessionState, with_call}
 use Rattle.worker_pool.specs.declared.task.Task.{Task}
 use Rattle.worker_pool.specs.Tasks.{run_of, IsTried}
 
--- the elements of a list at places of a kind, in their order
+-- the elements of a list at the indices that pass a test, in their order
 unfoldable pub at_places : {X : Type 0} → (ℕ → Bool) → List X → List X
 at_places {X} is_one xs = map (λ (placed : ℕ × X). placed.1) (filter (λ (placed : ℕ × X). is_one placed.0) (enumerate_from 0 xs))
 
--- What a worker has of a list of which so many have a share: the elements at places with the worker's number as remainder.
+-- A worker's share of a list: the elements at indices with the worker's number as remainder modulo the number of workers.
 abbrev pub share_of : {X : Type 0} → ℕ → ℕ → List X → List X
 share_of workers worker xs = at_places (λ at. at % workers == worker) xs
 
--- what of its share a worker ran, where the refusals of tasks are known by place: what stands where none was refused
+-- the elements of a worker's share that were not refused, given the refusals by index
 abbrev pub ran_of : {X : Type 0} → ℕ → ℕ → (ℕ → Option Refusal) → List X → List X
 ran_of workers worker refusals xs = at_places (λ at. at % workers == worker && is_none (refusals at)) xs
 
@@ -31,7 +31,7 @@ commands_of {A} calls = map (λ (call : Entry A). call.command) calls
 abbrev pub replies_of : {A : Type 0} → List (Entry A) → List (Reply A)
 replies_of {A} calls = map (λ (call : Entry A). call.reply) calls
 
--- The calls of a session with this number are the runs of just these tasks, in their order.
+-- The calls of a session with this number are exactly the runs of these tasks, in their order.
 pub record AreRuns {A : Type 0} (programs : List Accepted) (tasks : List (Task A)) (number : ℕ) (calls : List (Entry A)) : Type 0 where
   pub commands : commands_of calls ≡ runs_of programs tasks
   pub own : All (λ (call : Entry A). call.session ≡ number) calls
@@ -41,31 +41,31 @@ pub record IsUnused {A : Type 0} (session : SessionState A) (replies : List (Rep
   pub calls : session.calls ≡ []
   pub replies_are : replies ≡ []
 
--- a worker's session has one call more, of this command, and its replies the reply
+-- a worker's session has one more call, of this command, and its replies have that call's reply
 pub record IsCalled {A : Type 0} (command : Command A) (session : SessionState A) (replies : List (Reply A)) (session' : SessionState A) (replies' : List (Reply A)) : Type 0 where
   pub reply : Reply A
   pub call : session' ≡ with_call session command reply
   pub added : replies' ≡ replies ++ reply ∷ []
 
--- the first task that was refused, where one more was tried after those that are known
+-- the first refused task, after one more task was tried
 abbrev pub first_with : Option (ℕ × Refusal) → ℕ → Option Refusal → Option (ℕ × Refusal)
 first_with (Some first) at refusal = Some first
 first_with None at None = None
 first_with None at (Some refusal) = Some (at, refusal)
 
--- this task is the first of a worker's own that was refused, for this
+-- this task is the worker's first refused task, with the reason
 pub record IsFirstOwn (count workers worker : ℕ) (refusals : ℕ → Option Refusal) (at : ℕ) (refusal : Refusal) : Type 0 where
   pub within : at < count
   pub its_own : at % workers ≡ worker
   pub here : refusals at ≡ Some refusal
   pub before : (earlier : ℕ) → earlier < at → earlier % workers ≡ worker → refusals earlier ≡ None
 
--- the first of so many tasks that a worker was refused, with why, or nothing where it was refused none
+-- a worker's first refused task among the first `count`, with the reason; `None` if none of its tasks was refused
 abbrev pub IsFirstRefused : ℕ → ℕ → ℕ → (ℕ → Option Refusal) → Option (ℕ × Refusal) → Type 0
 IsFirstRefused count workers worker refusals None = (at : ℕ) → at % workers ≡ worker → refusals at ≡ None
 IsFirstRefused count workers worker refusals (Some first) = IsFirstOwn count workers worker refusals first.0 first.1
 
--- What a worker has done: it tried each task of its share, and its calls are the runs of those that were not refused.
+-- The result of a worker: it tried each task of its share, and its calls are the runs of those that were not refused.
 pub record HasWorked {A : Type 0} (programs : List Accepted) (tasks : List (Task A)) (workers worker : ℕ) (session : SessionState A) (replies : List (Reply A)) (refused : Option (ℕ × Refusal)) : Type 0 where
   pub refusals : ℕ → Option Refusal
   pub tried : (at : ℕ) (task : Task A) → slice_get tasks at ≡ Some task → at % workers ≡ worker → IsTried session.size (run_of programs task) (refusals at)
@@ -73,20 +73,20 @@ pub record HasWorked {A : Type 0} (programs : List Accepted) (tasks : List (Task
   pub replied : replies_of session.calls ≡ replies
   pub first : IsFirstRefused (length tasks) workers worker refusals refused
 
--- no later than another, where that is a place at all
+-- no later than another task, if that exists
 abbrev pub IsNoLater : Option (ℕ × Refusal) → Option (ℕ × Refusal) → Type 0
 IsNoLater None None = Unit {0}
 IsNoLater None (Some other) = ⊥
 IsNoLater (Some one) None = Unit {0}
 IsNoLater (Some one) (Some other) = one.0 ≤ other.0
 
--- the one of two that is no later
+-- the earlier of two tasks
 pub record IsLowerOf (one other lower : Option (ℕ × Refusal)) : Type 0 where
   pub either : (lower ≡ one) ⊎ (lower ≡ other)
   pub first : IsNoLater lower one
   pub second : IsNoLater lower other
 
--- The first place of all, and it is one of them.
+-- The first of all, and one of them.
 pub record IsFirstIn (refused : List (Option (ℕ × Refusal))) (first : Option (ℕ × Refusal)) : Type 0 where
   pub lowest : All (λ (other : Option (ℕ × Refusal)). IsNoLater first other) refused
   pub here : IfSome first (λ (r : ℕ × Refusal). (worker : ℕ) × (slice_get refused worker ≡ Some (Some r)))

@@ -1,4 +1,4 @@
--- What a task asks, which programs are there, and why a task is refused.
+-- The command of a task, the registered programs, and the reasons for a refusal.
 use Rattle.std.specs.Prelude.{◌≡◌, ◌<◌, ◌≤◌, ℕ, ◌⊎◌, List, [], length, take, Option, Some, None}
 use Rattle.std.specs.List.{All, slice_get}
 use Rattle.std.specs.Option.{option_map_or}
@@ -15,38 +15,38 @@ use Rattle.store_cmd.specs.declared.SizeFault.TheVariants as sizes
 use Rattle.store_shared.specs.Shared.{IsRefusal}
 use Rattle.worker_pool.specs.declared.task.Task.{Task}
 
--- the program of a number that is there, as its instructions
+-- the registered program of a number, as its instructions
 abbrev pub code_of : List Accepted → ℕ → List Insn
 code_of programs id = option_map_or (λ (p : Accepted). p.code) (slice_get programs id) []
 
--- what a task asks: a run of the program of its number
+-- the command of a task: a run of the program with its number
 abbrev pub run_of : {A : Type 0} → List Accepted → Task A → Command A
 run_of programs task = commands.Run task.key (code_of programs task.prog.0) task.arg task.blank task.now
 
--- the program of the task is there
+-- the program of the task is registered
 abbrev pub IsKnown : {A : Type 0} → List Accepted → Task A → Type 0
 IsKnown programs task = task.prog.0 < length programs
 
 abbrev pub AreKnown : {A : Type 0} → List Accepted → List (Task A) → Type 0
 AreKnown {A} programs tasks = All (λ (task : Task A). IsKnown programs task) tasks
 
--- the first task whose program is not there
+-- the first task whose program is not registered
 pub record IsFirstUnknown {A : Type 0} (programs : List Accepted) (tasks : List (Task A)) (at : ℕ) : Type 0 where
   pub task : Task A
   pub here : slice_get tasks at ≡ Some task
   pub unknown : length programs ≤ task.prog.0
   pub known : AreKnown programs (take at tasks)
 
--- Why a task is refused: as a session's call for it is, or because no memory is left before that call.
+-- Why a task is refused: for the same reason as a session's call, or because there is no memory before that call.
 abbrev pub IsTaskRefusal : {A : Type 0} → PageSize → Command A → Refusal → Type 0
 IsTaskRefusal size command refusal = IsRefusal size command refusal ⊎ (refusal ≡ refusals.NoMemory)
 
--- What came of a task: it was run, and its command is one that is taken, or it was refused.
+-- The outcome of a task: it was run, and its command has valid sizes, or it was refused.
 abbrev pub IsTried : {A : Type 0} → PageSize → Command A → Option Refusal → Type 0
 IsTried size command None = IsSmall size command
 IsTried size command (Some refusal) = IsTaskRefusal size command refusal
 
--- the refusal for a size
+-- the refusal for an invalid size
 abbrev pub IsRefusalFor : SizeFault → Refusal → Type 0
 IsRefusalFor sizes.PairTooLarge refusal = refusal ≡ refusals.PairTooLarge
 IsRefusalFor sizes.ArgTooLong refusal = refusal ≡ refusals.ArgTooLong

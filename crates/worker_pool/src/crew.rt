@@ -1,4 +1,4 @@
-//! Workers, each with a session of its own.
+//! Workers, each with its own session.
 ghost use Rattle.std.specs.Prelude.{◌≡◌, ◌<◌, ◌+◌, ◌≤◌, ◌++◌, [], ℕ, map, IsTrue, IfNone, IfOk, IfErr, IfSome, OnErr, length, slice_get, slice_index_or, vec_len, vec_capacity};
 ghost use Rattle.std.specs.List.{All};
 ghost use Rattle.worker_pool.specs.Shares.{IsUnused, HasWorked};
@@ -14,7 +14,7 @@ use std::thread::Threads;
 use store_cmd::{Refusal, Reply};
 use store_shared::{Gate, Session, Store};
 
-/// A worker: its session, the replies that it got, and the first task that it was refused, with why.
+/// A worker: its session, its replies, and its first refused task with the reason.
 #[derive(Drop)]
 pub(crate) struct Worker<'a, A: Allocator, G: Gate> {
     pub(crate) session: Session<'a, A, G>,
@@ -22,7 +22,7 @@ pub(crate) struct Worker<'a, A: Allocator, G: Gate> {
     pub(crate) refused: Option<(usize, Refusal)>,
 }
 
-/// Workers, each with a new session: as many as are wanted, or where the store makes too few, those.
+/// Makes the workers, each with a new session. Makes fewer if the store makes too few sessions.
 pub(crate) fn hire<'a, R: Wait, A: Allocator + Copy, G: Gate>(
     rt: &R,
     alloc: A,
@@ -52,7 +52,7 @@ pub(crate) fn hire<'a, R: Wait, A: Allocator + Copy, G: Gate>(
     Ok(crew)
 }
 
-/// Lets each worker do its share, in a thread of its own where one can be made, and else in turn with others.
+/// Runs each worker's share. A worker runs in its own thread if one can be made; otherwise it runs in turn with the rest.
 pub(crate) fn set_to_work<R: Threads + Wait + Sync, A: Allocator + Copy + Send + Sync, G: Gate>(
     rt: &R,
     registry: &Registry<A>,

@@ -1,4 +1,4 @@
-//! The text of a fault: its name, and in brackets what it has.
+//! The text of a fault: its name, and its fields in parentheses.
 ghost use Rattle.std.specs.Prelude.{◌≡◌};
 ghost use Rattle.worker_pool.specs.FaultText.{refusal_text};
 

@@ -1,4 +1,4 @@
-//! The calls and the replies of workers.
+//! Gathers the calls and the replies of workers.
 ghost use Rattle.std.specs.Prelude.{◌≡◌, ◌<◌, ◌+◌, ◌≤◌, ◌++◌, [], ℕ, map, IsTrue, IfOk, length, slice_index_or, vec_len, vec_capacity};
 ghost use Rattle.std.specs.Vec.Iter.{into_iter_items};
 ghost use Rattle.store_shared.specs.Shared.{calls_left};
@@ -11,7 +11,7 @@ use std::vec::IntoIter;
 use store_cmd::{Refusal, Reply};
 use store_shared::{Calls, Gate};
 
-/// The lists for what workers leave. Their memory is taken before anything is run.
+/// The lists for the results of workers. They are allocated before anything runs.
 #[derive(Drop)]
 pub(crate) struct Room<A: Allocator> {
     /// The replies of all tasks.
@@ -23,7 +23,7 @@ pub(crate) struct Room<A: Allocator> {
 }
 
 impl<A: Allocator + Copy> Room<A> {
-    /// Room for so many tasks and workers.
+    /// Allocates lists for this number of tasks and workers.
     pub(crate) fn new(alloc: A, tasks: usize, workers: usize) -> Result<Self, AllocError>
         ensures replies { IfOk result (λ room. (room.replies.items ≡ []) × (tasks ≤ vec_capacity room.replies) × (vec_len room.replies ≡ 0)) }
         ensures lists { IfOk result (λ room. (room.lists.items ≡ []) × (workers ≤ vec_capacity room.lists)) }
@@ -37,7 +37,7 @@ impl<A: Allocator + Copy> Room<A> {
     }
 }
 
-/// The first task that a worker was refused, with why.
+/// The first refused task of all workers, with the reason.
 pub(crate) fn first_refused<A: Allocator, G: Gate>(
     crew: &[Worker<'_, A, G>],
 ) -> Option<(usize, Refusal)>
@@ -50,7 +50,7 @@ pub(crate) fn first_refused<A: Allocator, G: Gate>(
     first
 }
 
-// The one of the lower place, or the one that is there.
+// Returns the refusal with the lower task number; if only one exists, returns that one.
 fn lower(one: Option<(usize, Refusal)>, other: Option<(usize, Refusal)>) -> Option<(usize, Refusal)>
     ensures { IsLowerOf one other result }
 {
@@ -66,7 +66,7 @@ fn lower(one: Option<(usize, Refusal)>, other: Option<(usize, Refusal)>) -> Opti
     one
 }
 
-/// Ends the sessions of workers, and leaves their calls and replies.
+/// Ends the sessions of workers, and returns their calls and replies.
 pub(crate) fn dismiss<A: Allocator + Copy, G: Gate>(
     crew: Vec<Worker<'_, A, G>, A>,
     lists: &mut Vec<IntoIter<Reply<A>, A>, A>,
@@ -88,7 +88,7 @@ pub(crate) fn dismiss<A: Allocator + Copy, G: Gate>(
     }
 }
 
-/// Takes replies from the lists of all workers in turn, which gives them in the order of the tasks.
+/// Takes replies from the lists of all workers in turn, which yields them in the order of the tasks.
 pub(crate) fn gather<A: Allocator>(
     tasks: &[Task<A>],
     lists: &mut [IntoIter<Reply<A>, A>],

@@ -1,4 +1,4 @@
-//! Groups: runs of a worker's own tasks that are called together.
+//! Groups: runs of one worker's tasks that are called together.
 ghost use Rattle.std.specs.Prelude.{◌≡◌, ◌<◌, ◌≤◌, ◌+◌, IfOk, IfErr, OnErr, Some, length, vec_len, vec_capacity};
 ghost use Rattle.std.specs.List.{slice_get};
 ghost use Rattle.std.specs.Vec.Iter.{into_iter_items};
@@ -13,12 +13,12 @@ use std::vec::IntoIter;
 use store_cmd::{Command, Program, Refusal, Reply, SharedCommand, SizeFault, check_run};
 use store_shared::{Gate, Session};
 
-/// The most calls of a group. With fewer, four workers lose more by the lock that changes hands; for as many short runs it is held some 30
-/// microseconds.
+/// The maximum number of calls in a group. With fewer, four workers lose more time to lock handovers; for a full group of short
+/// runs, the lock is held for about 30 microseconds.
 const GROUP: usize = 128;
 
-/// Calls the runs of a worker's tasks from a place on, of so many workers, as many as a group has, and tells what came of each. Places
-/// for all replies are taken before that. Where the task at that place cannot be made ready it says why, and calls nothing.
+/// Calls a group of a worker's runs, beginning with the task at index `at`, and returns the outcome of each. Reserves room for
+/// all replies first. If the task at `at` cannot be prepared, returns the reason and calls nothing.
 pub(crate) fn call_group<R: Wait, A: Allocator + Copy, G: Gate>(
     rt: &R,
     registry: &Registry<A>,
@@ -50,7 +50,8 @@ pub(crate) fn call_group<R: Wait, A: Allocator + Copy, G: Gate>(
     }
 }
 
-// The runs of tasks from a place on, made ready, up to the first that cannot be, or why the one at that place cannot.
+// Prepares the runs of a worker's tasks from index `at`, up to the first that cannot be prepared. If that is the task at `at`,
+// returns the reason.
 fn ready_group<A: Allocator + Copy, G: Gate>(
     alloc: A,
     registry: &Registry<A>,
@@ -78,7 +79,7 @@ fn ready_group<A: Allocator + Copy, G: Gate>(
     }
 }
 
-// The same with those that follow, up to the first that cannot be made ready.
+// Adds the following runs, up to the first that cannot be prepared.
 fn ready_more<A: Allocator + Copy, G: Gate>(
     alloc: A,
     registry: &Registry<A>,
@@ -114,7 +115,7 @@ fn ready_more<A: Allocator + Copy, G: Gate>(
     calls
 }
 
-/// The worker's place after one of its own, if there is one.
+/// The index of the worker's next task, if there is one.
 pub(crate) fn place_after<A: Allocator>(
     tasks: &[Task<A>],
     at: usize,
@@ -129,7 +130,7 @@ pub(crate) fn place_after<A: Allocator>(
     Some(at + workers)
 }
 
-// The run of a task, made ready. Its size is tested before anything is copied.
+// Prepares the run of a task. Checks its size before copying anything.
 fn ready_task<A: Allocator + Copy, G: Gate>(
     alloc: A,
     registry: &Registry<A>,
@@ -154,7 +155,7 @@ fn ready_task<A: Allocator + Copy, G: Gate>(
     }
 }
 
-// The refusal of a run for its size.
+// The refusal for an invalid size.
 fn refusal_for(fault: SizeFault) -> Refusal
     ensures { IsRefusalFor fault result }
 {
@@ -189,7 +190,7 @@ fn command_of<A: Allocator + Copy>(
     }
 }
 
-// The program of a number that was given, with one owner more, or the error where it has as many as can be counted.
+// The registered program with a number; adds an owner. Returns an error if the owner count is at its maximum.
 fn program_of<A: Allocator + Copy>(
     registry: &Registry<A>,
     id: ProgId,

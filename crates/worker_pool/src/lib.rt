@@ -1,4 +1,5 @@
-//! Tasks, each a run of a registered program, that workers do on one store: each worker in a thread and with a session of its own.
+//! Runs tasks on one store by a pool of workers. A task is a run of a registered program; each worker has its own thread and
+//! session.
 #![tactic(auto)]
 
 mod crew;

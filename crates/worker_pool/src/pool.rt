@@ -15,15 +15,18 @@ use std::sync::Wait;
 use std::thread::Threads;
 use store_shared::{Calls, Gate, Store};
 
-/// Runs tasks by so many workers, each with a new session of the store and in a thread of its own where one can be made. Task `i` is
-/// run by worker `i % workers`, and each worker's tasks in rising order. A task that is refused is left out, and all others are run.
+/// Runs tasks by a number of workers. Each worker has a new session of the store, and its own thread if one can be made. Worker
+/// `i % workers` runs task `i`; each worker runs its tasks in rising order. A refused task is skipped, and all remaining tasks
+/// are run.
 ///
 /// # Errors
-/// `NoWorkers` where there are none. Then `NoProgram` with the first task whose program is not in the registry. Then `NoMemory`
-/// where no memory is left for the lists of replies, calls and workers, or `NoSession` where the store makes too few sessions; up to
-/// there no task was run. Then `Refused` with the first task that was refused, and why, which is `NoMemory` too where no memory is
-/// left for one task. With each the calls of the sessions that were made come back, in the order of the workers, so that the store
-/// can be closed; they say which tasks were run.
+/// On any error, the calls of the sessions made are returned in the order of the workers, so that the store can be closed; they
+/// say which tasks were run. Checked in this order:
+/// - `NoWorkers` if `workers` is 0.
+/// - `NoProgram` with the first task whose program is not in the registry.
+/// - `NoMemory` if there is no memory for the lists of replies, calls and workers, or `NoSession` if the store makes too few
+///   sessions. No task was run.
+/// - `Refused` with the first refused task and the reason, which is `NoMemory` if there was no memory for that task.
 pub fn run_jobs<R: Threads + Wait + Sync, A: Allocator + Copy + Send + Sync, G: Gate>(
     rt: &R,
     alloc: A,
@@ -41,14 +44,14 @@ pub fn run_jobs<R: Threads + Wait + Sync, A: Allocator + Copy + Send + Sync, G: 
     }
 }
 
-// What is wanted before a session is made: a list for the workers, and those for what they leave.
+// The lists that are needed before a session is made: one for the workers, and those for their results.
 #[derive(Drop)]
 struct Ready<'a, A: Allocator, G: Gate> {
     crew: Vec<Worker<'a, A, G>, A>,
     room: Room<A>,
 }
 
-// Takes the memory of all lists. It is lent no store, so where it refuses nothing was run.
+// Allocates all lists. It does not borrow the store, so if it fails nothing was run.
 fn make_ready<'a, A: Allocator + Copy, G: Gate>(
     alloc: A,
     registry: &Registry<A>,
@@ -77,7 +80,7 @@ fn make_ready<'a, A: Allocator + Copy, G: Gate>(
     Ok(Ready { crew, room })
 }
 
-// Makes the sessions, and lets the workers do the tasks.
+// Makes the sessions and runs the tasks.
 fn run_ready<'a, R: Threads + Wait + Sync, A: Allocator + Copy + Send + Sync, G: Gate>(
     rt: &R,
     alloc: A,
@@ -110,7 +113,7 @@ fn run_ready<'a, R: Threads + Wait + Sync, A: Allocator + Copy + Send + Sync, G:
     }
 }
 
-// Lets the workers do all tasks, and puts together what they leave.
+// Runs all tasks by the workers, and gathers their results.
 fn run_crew<R: Threads + Wait + Sync, A: Allocator + Copy + Send + Sync, G: Gate>(
     rt: &R,
     registry: &Registry<A>,
@@ -155,7 +158,7 @@ fn first_unknown<A: Allocator>(registry: &Registry<A>, tasks: &[Task<A>]) -> Opt
     None
 }
 
-// Whether the program of a task is in the registry.
+// Returns true if the program of a task is in the registry.
 fn is_known<A: Allocator>(registry: &Registry<A>, task: &Task<A>) -> bool
     ensures { IsTrue result ↔ IsKnown registry.now.programs task.entry.now }
 {

@@ -1,4 +1,4 @@
-//! What a worker does.
+//! The work of one worker.
 ghost use Rattle.std.specs.Prelude.{◌≡◌, ◌<◌, ◌≤◌, ◌+◌, ◌%◌, length, vec_len, vec_capacity};
 ghost use Rattle.std.specs.Vec.Iter.{into_iter_items};
 ghost use Rattle.worker_pool.specs.Tasks.{AreKnown};
@@ -14,15 +14,15 @@ use std::vec::IntoIter;
 use store_cmd::{Refusal, Reply};
 use store_shared::{Gate, Session};
 
-// Where a worker goes on, if any task of its own is left, and the first task that it was refused, with why.
+// The index of the worker's next task, if any is left, and its first refused task with the reason.
 #[derive(Clone, Copy)]
 struct Progress {
     next: Option<usize>,
     first: Option<(usize, Refusal)>,
 }
 
-/// Does a worker's share of the tasks, one in so many from its own number on, in their order. A task that is refused is left out; the
-/// first such comes back by its place, with why.
+/// Runs a worker's share of the tasks in order: every `workers`-th task, beginning with the worker's number. A refused task is
+/// skipped; returns the index of the first refused task, with the reason.
 pub(crate) fn do_share<R: Wait, A: Allocator + Copy, G: Gate>(
     rt: &R,
     registry: &Registry<A>,
@@ -51,7 +51,7 @@ pub(crate) fn do_share<R: Wait, A: Allocator + Copy, G: Gate>(
     first
 }
 
-// Does the worker's tasks of a group, from one of its own on.
+// Runs a group of the worker's tasks, beginning with the task at index `at`.
 fn do_group<R: Wait, A: Allocator + Copy, G: Gate>(
     rt: &R,
     registry: &Registry<A>,
@@ -80,7 +80,7 @@ fn do_group<R: Wait, A: Allocator + Copy, G: Gate>(
     }
 }
 
-// Takes what came of calls that were made, for the tasks from a place on.
+// Takes the outcomes of calls that were made for the tasks from an index on.
 fn take_all<A: Allocator + Copy, G: Gate>(
     registry: &Registry<A>,
     tasks: &[Task<A>],
@@ -114,7 +114,7 @@ fn take_all<A: Allocator + Copy, G: Gate>(
     }
 }
 
-// Adds the reply of a call to the replies, where it was answered. Its place is there.
+// Adds the reply of an answered call to the replies, which have capacity for it.
 fn take<A: Allocator>(
     outcome: Result<Reply<A>, Refusal>,
     replies: &mut Vec<Reply<A>, A>,
@@ -133,7 +133,7 @@ fn take<A: Allocator>(
     }
 }
 
-// The first task that was refused, of what was known before and of a task after that.
+// The first refused task, given the earlier one, if any, and the outcome of a later task.
 fn earlier(
     first: Option<(usize, Refusal)>,
     at: usize,

@@ -8,7 +8,7 @@ use Rattle.sdbm_files.proofs.WriteLemmas.{long_page}
 use Rattle.sdbm_saves.proofs.PageDrafts.{in_page}
 use Rattle.boddurci_c.proofs.opening.is_own.Goals as goal
 
--- how many blocks a page has
+-- the number of blocks of a page
 blocks_are : (size own : PageSize) (bytes : ℕ) → bytes ≡ page_bytes own → own ≡ size → bytes / 1024 ≡ in_page size
 blocks_are size own bytes is same = ap (λ (k : ℕ). k / 1024) (is ∙ ap page_bytes same)
 
@@ -17,7 +17,7 @@ ends_in : (size : PageSize) (index : ℕ) → index < in_page size → (index + 
 ends_in Small index below = omega (arith, below)
 ends_in Wide index below = omega (arith, below)
 
--- where a byte of a block stands in the file
+-- the offset in the file of a byte of a block
 place : (size : PageSize) (number index i : ℕ) → index * 1024 ≤ i → (number * in_page size + index) * 1024 + (i - index * 1024) ≡ number * page_bytes size + i
 place Small number index i past = omega (arith, past)
 place Wide number index i past = omega (arith, past)

@@ -7,7 +7,7 @@ use Rattle.desk_core.specs.Desk.{DeskState, ticket_of, the_ticket}
 use Rattle.desk_core.specs.Calls.{is_exclusive}
 use Rattle.desk_core.proofs.Desk.finish.Goals as goal
 
--- what stands under a ticket, and whether it holds alone, in a state of another name
+-- the open command of a ticket, and whether its hold is exclusive, in an equal state
 own_is : {A : Type 0} (s s' : DeskState A) (t u : ℕ) (o : Option (Open A)) → s ≡ s' → t ≡ u → o ≡ slice_index_or s.tickets t None → ticket_of s' u ≡ o
 own_is {A} s s' t u o state same is = sym (ap (λ (x : DeskState A). ticket_of x u) state) ∙ ap (λ (k : ℕ). slice_index_or s.tickets k None) (sym same) ∙ sym is
 

@@ -18,7 +18,7 @@ use Rattle.desk_core.proofs.Sound.{Steps-sound}
 use Rattle.desk_core.proofs.Doing.{stepped_at_once}
 use Rattle.desk_core.proofs.Desk.step_in_place.Goals as goal
 
--- the desk as it was, and the step on it
+-- the desk before the step, and the step on it
 abbrev state : (g : _) → goal.After-ran-3 g → DeskState g.row.A.Denot
 state g c = record { database = c.self.inside.image; opening = c.self.inside.trail.opening; entries = c.self.inside.trail.entries.items; tickets = c.self.inside.tickets.slots; next = c.self.inside.tickets.vacant_key; holds = c.self.inside.holds; limit = c.self.inside.limit }
 

@@ -20,7 +20,7 @@ returns-then-write_record-clause-done g c =
     saved_so c.args.image.now c.requires.database c.args.place (command_of c.args.input.now) c.args.input.now c.in-Some.copied c.run_copied.new.bytes refl c.requires.small c.requires.place c.in-Some.ensures
     _ c.write_record.new.self (saves_is _ (sym c.in-Some.ensures.code_is ∙ c.if-copied-ne-SAVED.false)) refl (c.if-write_record.ensures.written refl)
 
--- pairs of which one is at a place
+-- a list with a valid index is not empty
 has_some : (pairs : List Pair) (i : ℕ) → i < length pairs → pairs ≡ [] → ⊥
 has_some pairs i inside none = let long : length pairs ≡ 0 = ap length none in omega arith
 

@@ -1,4 +1,4 @@
--- A value that has no bytes says the same to every thread.
+-- A value without bytes means the same to every thread.
 use denote.Exit.{Exit, unchanged, leaves, hidden, under}
 use denote.Struct.Struct.{exits_of}
 use denote.Struct.Owning.{shape, fields, to}

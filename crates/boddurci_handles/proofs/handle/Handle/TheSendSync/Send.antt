@@ -1,4 +1,4 @@
--- What a handle holds says the same to every thread, and so does the handle.
+-- The contents of a handle mean the same to every thread, and so does the handle.
 use Rattle.std.proofs.Common.{Option, Some, None}
 use mir.Raw.{raw}
 use base.Fraction.{full_share}

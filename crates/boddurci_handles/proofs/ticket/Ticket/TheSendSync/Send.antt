@@ -1,4 +1,4 @@
--- What a ticket has says the same to every thread, and so does the ticket.
+-- The contents of a ticket mean the same to every thread, and so does the ticket.
 use Rattle.std.proofs.Common.{Option, Some, None}
 use mir.Raw.{raw}
 use base.Fraction.{full_share}

@@ -1,4 +1,4 @@
--- `into_loose` tests the pointer: at null there is nothing, and else the box comes out.
+-- `into_loose` tests the pointer: null gives nothing, otherwise the box comes out.
 use mathlib.Core.Path.{refl, sym, subst, ap, ◌∙◌}
 use mathlib.Core.List.{List, [], ◌∷◌, ◌++◌}
 use lib.Dec.{lit<}

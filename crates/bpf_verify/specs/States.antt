@@ -12,6 +12,6 @@ States = List (Option State)
 abbrev pub state_at : States → ℕ → Option State
 state_at states at = option_flatten (slice_get states at)
 
--- the states that stand in boxes
+-- the states without their boxes
 abbrev pub unboxed : {A : Type 0} → List (Option (Box State A)) → States
 unboxed boxes = map (option_map box_value) boxes

@@ -38,7 +38,7 @@ abbrev pub Starts : States → Type 0
 Starts states = (bytes argument : List ℕ) (env : Env) → IsInput bytes argument env → FitsAt states (start bytes argument env)
 
 -- The states of an accepted program: at most one for each unit, and only at units at which an instruction begins. Each start fits, and
--- each run that fits continues to a configuration that fits.
+-- each run that fits ends or continues to a configuration that fits.
 pub record IsVerified (code : List Insn) (states : States) : Type 0 where
   pub long : length states ≡ unit_count code
   pub begin : (u : ℕ) → IsSome (state_at states u) → IsSome (fetch code u)

@@ -17,7 +17,7 @@ use bpf_insn::{Code, encode};
 use std::alloc::{AllocError, Allocator};
 
 /// Like `verify`, but also returns the state before each instruction, which takes more memory. An error has the states at the time of the
-/// fault; there are none if the structure is invalid.
+/// fault, but no state if the structure is invalid.
 pub fn examine<A: Allocator + Copy>(alloc: A, code: Code<A>) -> Result<Examined<A>, Refused<A>>
     ensures value { IfOk result (λ v. v.code ≡ code) }
     ensures safe { IfOk result (λ v. Safe v.code) }

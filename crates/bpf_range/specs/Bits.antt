@@ -1,4 +1,5 @@
--- Numbers of which some bits are known (the tristate numbers of the verifier in Linux, kernel/bpf/tnum.c).
+-- Numbers with known and unknown bits (the tristate numbers of the verifier in Linux,
+-- kernel/bpf/tnum.c).
 use Rattle.std.specs.Prelude.{ℕ, ◌≡◌, ◌≤◌, ◌+◌, ◌^◌, bit_and}
 use Rattle.std.specs.Int.{w64, bit_not}
 

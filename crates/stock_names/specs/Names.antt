@@ -55,7 +55,7 @@ abbrev of_name : Option Stock → ProgramWord
 of_name (Some s) = words.Stock s
 of_name None = words.Unknown
 
--- A program argument names a stock program if it is an @ and the name of one, an unknown program after any other @, otherwise a file.
+-- A word that begins with @ names a stock program, or is unknown; any other word names a file.
 abbrev pub word_named : List ℕ → ProgramWord
 word_named [] = words.File
 word_named (c ∷ name) = cond (nat_eq c 64) (of_name (stock_named name)) words.File

@@ -55,7 +55,7 @@ within lo hi n = if int_le lo n && int_le n hi then Some n else None
 unfoldable pub word : List ℕ → Option ℤ
 word bs = number bs >>= within (neg_ℤ (pos 2147483648)) (pos 2147483647)
 
--- a number as 64 bits: a negative one as its complement
+-- a number as 64 bits, in two's complement
 abbrev pub bits64 : ℤ → ℕ
 bits64 (pos n) = n
 bits64 (negsuc n) = 18446744073709551615 - n

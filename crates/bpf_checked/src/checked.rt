@@ -17,7 +17,7 @@ use std::alloc::Allocator;
 pub enum Checked {
     /// The run reached EXIT with a number in R0.
     Ended(Ended),
-    /// The run is stuck at the instruction at this unit, which has no effect.
+    /// The run is stuck at this unit: the instruction there has no effect or leads to no instruction, or the code is empty.
     Stuck(usize),
 }
 

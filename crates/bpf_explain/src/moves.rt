@@ -6,7 +6,7 @@ use bpf_range::{Kind, Range};
 use bpf_verify::State;
 use std::alloc::{AllocError, Allocator};
 
-/// The sign bit of a 64-bit number.
+/// The least 64-bit number whose sign bit is set.
 const NEGATIVE: u64 = 0x8000_0000_0000_0000;
 
 /// Prints why a move of a pointer is refused: the number's sign is not known, or the pointer may be moved too far.

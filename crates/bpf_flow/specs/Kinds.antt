@@ -23,7 +23,7 @@ IsPointer q P Nothing = ⊥
 IsPointer q P (Number x) = ⊥
 IsPointer q P (Pointer r o) = (r ≡ q) × P o
 
--- The value is one of the kind if the record has m bytes and the argument n. Every value is Unset.
+-- The value is one of the kind if the record has m bytes and the argument n. Every value is one of the kind Unset.
 abbrev pub HoldsKind : Kind → ℕ → ℕ → Value → Type 0
 HoldsKind Unset m n v = ⊤
 HoldsKind (Num k) m n v = IsNumber (Contains k) v

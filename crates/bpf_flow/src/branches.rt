@@ -85,7 +85,7 @@ fn tested_operand(state: &State, width: Width, operand: Operand) -> Kind
 }
 
 /// Computes the states after a conditional jump by any distance that is not negative. If both edges can be
-/// taken, `target` is the state after the jump; otherwise `state` is that of the only edge.
+/// taken, `target` is the state after the jump; otherwise `state` is that of the only edge, if there is one.
 pub fn flow_branch(
     test: Test,
     width: Width,

@@ -2,7 +2,7 @@
 //!
 //! A `State` says which values each register may hold. `flow` and `flow_branch` compute the state after an
 //! instruction from the state before it, or report the instruction's fault. `join_states` joins two states. All
-//! of this is true of every run: each configuration that fits the state before has an effect, and the effect
+//! of this is true of every run: each configuration that fits the state before has an effect, and its result
 //! fits a state after.
 #![tactic(auto)]
 

@@ -10,7 +10,7 @@ use crate::fault::FlowFault;
 use bpf_helpers::Region;
 use bpf_range::{Kind, Known, Range};
 
-/// The numbers of a kind, if the lengths are in these ranges.
+/// The numbers of a kind, if the lengths are in these ranges. `None` if it is unset or a pointer.
 pub fn number_of(kind: Kind, bytes: Range, argument: Range) -> Option<Known>
     ensures { IfSome result (λ k. (m n : ℕ) (v : _) → In bytes m → In argument n → HoldsKind kind m n v → IsNumber (Contains k) v) }
 {

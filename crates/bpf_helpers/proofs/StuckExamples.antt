@@ -15,7 +15,7 @@ use Rattle.bpf_helpers.proofs.Running.{ends, stops, here, set, move}
 abbrev lone : Insn → List Insn
 lone i = i ∷ set 0 (pos 0) ∷ Exit ∷ []
 
--- stuck at the unit 0, with a record of one byte and no argument
+-- stuck at the unit 0, with a record and an argument of one byte each
 abbrev SticksAtOnce : List Insn → Type 0
 SticksAtOnce program = Sticks program (7 ∷ []) (9 ∷ []) here 0 (7 ∷ [])
 

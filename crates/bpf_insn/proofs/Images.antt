@@ -57,7 +57,7 @@ all_more : (code : List Insn) (i : Insn) → AllByRecursion HasSpelling code →
 all_more [] i each has = (has, tt)
 all_more (c ∷ code) i each has = (each.0, all_more code i each.1 has)
 
--- lists with the same front have the same rest
+-- equal lists with the same front have the same rest
 pub same_rest : (a x y : List ℕ) → a ++ x ≡ a ++ y → x ≡ y
 same_rest a x y e = sym (drop_at a x (length a) refl) ∙ ap (drop (length a)) e ∙ drop_at a y (length a) refl
 

@@ -221,7 +221,7 @@ access_tells F m n a b c d x y e f g h =
 apart : (i j : Insn) → row_of i ≡ row_of j → (row_of i).opcode ≢ (row_of j).opcode → i ≡ j
 apart i j e other = absurd (other (opcodes i j e))
 
--- Instructions with the same row are the same, if the high halves of constants are too.
+-- Instructions with the same row are equal, if the high halves of constants are equal too.
 pub row_tells : (i j : Insn) → HasSpelling i → HasSpelling j → row_of i ≡ row_of j → ((c m d n : ℕ) → i ≡ Wide c m → j ≡ Wide d n → high_half m ≡ high_half n) → i ≡ j
 row_tells (Alu a v c s) (Alu b w d t) h k e g = alu_tells a b v w c d s t h k e
 row_tells (Alu a v c s) (Unary b w d) h k e g = apart _ _ e (λ o. omega (arith, o, binary_is a (binary_takes a v s h.0), bit_is s, unary_is b w k.0, order_bit_is b, arithmetic_is v, arithmetic_is w))

@@ -1,4 +1,4 @@
-//! Instructions of RFC 9669, what they compute, and programs as bytes.
+//! Instructions of RFC 9669, their results, and programs as bytes.
 //!
 //! An image is a list of units of 8 bytes. `decode` gives its code, a list of instructions, and
 //! `encode` the bytes of a code. `apply` computes an operation and `holds` a test.

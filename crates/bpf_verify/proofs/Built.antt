@@ -71,7 +71,7 @@ zeros (suc n) (suc i) = zeros n i
 pub start_config : (bytes argument : List ℕ) (env : Env) → IsInput bytes argument env → IsConfig (start bytes argument env)
 start_config bytes argument env input = record { eleven = refl; stack_fits = refl; are_bytes = input.are_bytes; are_argument = input.are_argument; are_stack = zeros 512; now_fits = input.now_fits; who_fits = input.who_fits }
 
--- ---- units where instructions begin
+-- ---- units at which instructions begin
 
 -- a unit that is the end of the code, or at which an instruction begins
 abbrev Behind : List (Option Insn) → ℕ → Type 0

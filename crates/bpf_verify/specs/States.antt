@@ -4,7 +4,7 @@ use Rattle.std.specs.Option.{option_map, option_flatten}
 use Rattle.std.specs.Box.{box_value}
 use Rattle.bpf_flow.specs.declared.state.State.{State}
 
--- The states of a program: one or none for each unit.
+-- The states of a program: at most one for each unit.
 abbrev pub States : Type 0
 States = List (Option State)
 

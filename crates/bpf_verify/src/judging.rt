@@ -1,4 +1,4 @@
-//! Which programs are accepted.
+//! Accepts or refuses programs.
 
 ghost use Rattle.std.specs.Prelude.{◌≡◌, ℕ, IfOk, IfErr, IsErrAnd, None};
 ghost use Rattle.bpf_helpers.specs.Runs.{Safe};

@@ -1,4 +1,4 @@
--- Numbers read back from what is written of them.
+-- Reading back printed numbers.
 use Rattle.std.proofs.Common.{◌≡◌, ℕ, zero, suc, ◌-◌, ◌≤◌, ◌<◌, ◌^◌, ◌==◌, ◌&&◌, ◌∷◌, ◌++◌, [], List, Some, None, Bool, true, false, length, get_or, slice_index, refl, ◌∙◌, ap, arith, rules, lit<, lit≤, ℤ, pos, negsuc, neg_ℤ, FitsSigned, w16, w32}
 use Rattle.std.specs.Prelude.{replicate}
 use Rattle.std.specs.Option.{option_map}
@@ -62,7 +62,7 @@ pub word_back : (k : ℤ) → FitsSigned w32 k → word (signed_decimal k) ≡ S
 unfolding word
 word_back k h = rw (number_back k h) (within32 k h)
 
--- a number does not begin as a register does
+-- a number does not begin with the letter of a register
 pub not_register : (k : ℤ) → FitsSigned w32 k → register (signed_decimal k) ≡ None
 not_register k h = register_none (signed_decimal k) (first k h) where
   first : (k : ℤ) → FitsSigned w32 k → (slice_index (signed_decimal k) 0 == 114) ≡ false
@@ -98,7 +98,7 @@ pub far_back : (k : ℤ) → FitsSigned w32 k → far (distance_text k) ≡ Some
 unfolding far
 far_back k h = rw (distance_back k h) (within32 k h)
 
--- a distance is no name
+-- a distance is not a name
 pub not_name : (k : ℤ) → is_name (distance_text k) ≡ false
 unfolding is_name
 not_name (pos n) = search (no_start, rules) where

@@ -1,4 +1,4 @@
--- The code of the lines above a place, as the assembler makes it.
+-- The assembler's code for the lines above a place.
 use Rattle.std.proofs.Common.{◌≡◌, ℕ, ◌+◌, ◌≤◌, ◌<◌, ◌++◌, [], List, Option, Some, None, drop, length, refl, sym, ◌∙◌, ap, arith, slice_get, IfSome, MatchOption, Bool, true, false, nat_lt, subst, ◌⊎◌, inl, inr}
 use Rattle.std.specs.List.{sum_by}
 use Rattle.std.proofs.lemmas.List.{append-nil, drop_all, take_all}
@@ -23,7 +23,7 @@ pub record IsEmitted (ms : List (Option Meaning)) (labels : Labels) (at : ℕ) (
 pub emitted_first : (ms : List (Option Meaning)) (labels : Labels) → IsEmitted ms labels 0 []
 emitted_first ms labels = record { goes = λ few. goes_first ms; above = refl; short = omega arith; defined = λ i name below marks. absurd (omega arith) }
 
--- the code goes on under the number of units that it has
+-- `GoesOn` depends only on the number of units
 renumbered : (ms : List (Option Meaning)) (i m n : ℕ) (code : List Insn) → m ≡ n → GoesOn ms i m code → GoesOn ms i n code
 renumbered ms i m n code e goes = subst (λ (k : ℕ). GoesOn ms i k code) e goes
 
@@ -48,7 +48,7 @@ emitted_more ms labels at m old new is table e emits =
           let mark : m ≡ Some (Mark name) = cc in
           here_defined labels name at i m mark same emits.definition
 
--- the lines denote the code of all of them
+-- the code of all lines is the one that they denote
 pub emitted_all : (ms : List (Option Meaning)) (labels : Labels) (at : ℕ) (code : List Insn) → length ms ≤ at → IsTableOf ms labels → IsEmitted ms labels at code → Says ms code
 emitted_all ms labels at code end table is =
     let few : sum_by units ms ≤ unit_limit = omega (arith, is.above, is.short, all) in
@@ -79,7 +79,7 @@ refused ms labels at m old is table e refuses code says =
     let room : unit_count old + units m ≤ unit_limit = omega (arith, is.above, units_above_more ms at m e, units_above_within ms (at + 1), few) in
     refuses ms table e says.once room g.0 g.2
 
--- the same of a line's fault
+-- the same for a line's fault
 pub refused_line : (ms : List (Option Meaning)) (labels : Labels) (at : ℕ) (m : Option Meaning) (old : List Insn) → IsEmitted ms labels at old → IsTableOf ms labels → slice_get ms at ≡ Some m
     → (kind : FaultKind) → (kind ≡ NoMemory) ⊎ Refuses labels at m old → (kind ≡ NoMemory) ⊎ ((code : List Insn) → Says ms code → ⊥)
 refused_line ms labels at m old is table e kind (inl memory) = inl memory

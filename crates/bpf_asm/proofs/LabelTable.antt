@@ -11,7 +11,7 @@ use Rattle.bpf_asm.specs.Lines.{Meaning, Blank, Mark, Plain, Aimed}
 use Rattle.bpf_asm.specs.Denotes.{units_above, MarksAt}
 use Rattle.bpf_asm.specs.Emitted.{Labels, definition_of, IsTableBelow, IsTableOf, Defines, Records}
 
--- what the table says of a name, below one more line that is not the label of this name
+-- the table's entry for a name stays correct after one more line that is not the label of this name
 more_below : (ms : List (Option Meaning)) (n : ℕ) (name : List ℕ) (o : Option Definition) → (MarksAt ms name n → ⊥)
     → MatchOption o ((i : ℕ) → i < n → MarksAt ms name i → ⊥) (λ d. MarksAt ms name d.line × (d.unit ≡ units_above ms d.line))
     → MatchOption o ((i : ℕ) → i < n + 1 → MarksAt ms name i → ⊥) (λ d. MarksAt ms name d.line × (d.unit ≡ units_above ms d.line))
@@ -21,7 +21,7 @@ more_below ms n name None other h = λ i below marks. by_test i marks (nat_lt i 
   by_test i marks true e below = h i (ltb-true i n e) marks
   by_test i marks false e below = let same : i ≡ n = omega (arith, ltb-false i n e) in other (rw same at marks)
 
--- a line that is no label changes nothing
+-- a line that is not a label changes nothing
 keeps : (ms : List (Option Meaning)) (n : ℕ) (m : Option Meaning) (old new : Labels) → ((name : List ℕ) → m ≡ Some (Mark name) → ⊥) → slice_get ms n ≡ Some m → IsTableBelow ms n old → ((name : List ℕ) → definition_of new name ≡ definition_of old name) → IsTableBelow ms (n + 1) new
 keeps ms n m old new other e table same name = rw (same name) (more_below ms n name (definition_of old name) (λ marks. other name (mark marks)) (table name)) where
   mark : MarksAt ms name n → m ≡ Some (Mark name)
@@ -56,17 +56,17 @@ table_whole ms n labels end table name = whole (definition_of labels name) (tabl
   whole (Some d) h = h
   whole None h = λ i marks. h i (let l = slice_get_within ms i (Some (Mark name)) marks in omega (arith, l)) marks
 
--- what a line is seen as
+-- the view of a line
 pub line_at : {X : Type 0} (view : X → Option Meaning) (xs : List X) (i : ℕ) (d : X) → i < length xs → slice_get (map view xs) i ≡ Some (view (get_or xs i d))
 line_at view xs i d l = slice_get-map view xs i ∙ ap (option_map view) (slice_get-get_or xs i d l)
 
--- a label that was not there was put in
+-- a new label was inserted
 pub inserted : (old new : Labels) (name : List ℕ) (d : Definition) → definition_of old name ≡ None → ((other : List ℕ) → definition_of new other ≡ update bytes_eq (definition_of old) name (Some d) other) → Defines old new name d
 inserted old new name d absent u = record {
   own = u name ∙ rw ((bytes_eq-Decides name name).1 refl) (rw absent refl);
   others = λ other e. u other ∙ rw e refl;
 }
 
--- a label that was there stays as it is
+-- an existing label is unchanged
 pub present : (old : Labels) (name : List ℕ) (d x : Definition) → definition_of old name ≡ Some x → Defines old old name d
 present old name d x e = record { own = rw e refl; others = λ other h. refl }

@@ -6,7 +6,7 @@ use Rattle.bpf_asm.specs.declared.row.Row.{Row}
 use Rattle.bpf_asm.specs.declared.row.TheConstants.{ROWS}
 use Rattle.bpf_asm.specs.Mnemonics.{name_of, row_named, is_row}
 
--- what a test says of each element, it says of the one that is found
+-- if a test is true of each element, it is true of the one that is found
 pub found_passes : {X : Type 0} (p q : X → Bool) (xs : List X) (x : X) → list_all q xs ≡ true → find p xs ≡ Some x → q x ≡ true
 found_passes p q [] x a e = cc
 found_passes p q (y ∷ xs) x a e = by_test (p y) (both (q y) (list_all q xs) a) (found_passes p q xs x) e where
@@ -22,7 +22,7 @@ found_passes p q (y ∷ xs) x a e = by_test (p y) (both (q y) (list_all q xs) a)
 each_has_operation : list_all is_row ROWS ≡ true
 each_has_operation = refl
 
--- the row of a mnemonic has an operation of the table of instructions
+-- the row of a mnemonic has a valid operation
 pub row_has_operation : (name : List ℕ) (o : Option Row) → o ≡ row_named name → IfSome o (λ row. IsTrue (is_row row))
 unfolding row_named
 row_has_operation name None e = tt

@@ -1,4 +1,4 @@
--- What digits write, against what the standard library parses.
+-- Printed digits, and the standard library's parsing of them.
 use Rattle.std.proofs.Common.{◌≡◌, ℕ, ◌<◌, ◌≤◌, ◌^◌, ◌&&◌, ◌∷◌, [], List, length, slice_index, Bool, true, false, cond, nat_lt, Some, None, IfSome, refl, zero, suc, ◌∙◌, ap, arith, rules}
 use Rattle.std.specs.List.{list_all}
 use Rattle.std.specs.Char.{digit_value}
@@ -28,7 +28,7 @@ pub numeral_from : (radix : ℕ) (ds : List ℕ) → IsNumeral radix ds → nume
 unfolding numeral
 numeral_from radix ds h = rw (and_true _ _ (lt-ltb _ _ h.0) (all_from radix ds h.1)) refl
 
--- what a numeral is, by cases on the test
+-- a property of numerals, by cases on the test
 pub numeral_cases : (radix : ℕ) (ds : List ℕ) (P : ℕ → Type 0) → (IsNumeral radix ds → P (digits_value radix ds)) → IfSome (numeral radix ds) P
 unfolding numeral
 numeral_cases radix ds P h = from_test (is_numeral radix ds) (λ e. let b = both_true _ _ e in h (ltb-true _ _ b.0, all_to radix ds b.1)) where

@@ -1,4 +1,4 @@
--- Where a search in a list of bytes stops, and what a split leaves.
+-- The place at which a search in a list of bytes stops, and the parts of a split.
 use Rattle.std.proofs.Common.{◌≡◌, ℕ, ◌∷◌, [], List, Bool, true, false, cond, refl, not, length, get_or, ◌<◌, arith, sym}
 use Rattle.std.specs.List.{slice_split, onto_first, prefix_len}
 use Rattle.std.proofs.lemmas.List.Sums.{prefix_len_is}

@@ -116,7 +116,7 @@ operand_back (Imm k) h = rw (not_register k h, word_back k h) refl
 sign_off : (c : ℕ) → IsInRange 48 57 c → is_sign c ≡ false
 sign_off c r = grind (arith, nat_tests)
 
--- no sign stands in a register
+-- a register has no sign
 no_sign : (r : ℕ) → r ≤ 10 → Free is_sign (register_text r)
 no_sign r h = (refl, digits (decimal r) (decimal_is_IsNumeral r (omega arith)).0.1) where
   digits : (ds : List ℕ) → AllDigits 10 ds → Free is_sign ds
@@ -129,7 +129,7 @@ inner_back r (pos n) h f =
 inner_back r (negsuc n) h f =
     rw (seam is_sign (register_text r) 45 (decimal (suc n)) (no_sign r h) refl, take-append_seam (register_text r) (distance_text (negsuc n)), drop-append_seam (register_text r) (distance_text (negsuc n)), register_back r h, near_back (negsuc n) f) refl
 
--- what stands in brackets
+-- the contents of brackets
 bracketed : (inner : List ℕ) → address (91 ∷ (inner ++ (93 ∷ []))) ≡ inner_address inner
 unfolding address
 bracketed inner =
@@ -162,7 +162,7 @@ free_from (b ∷ bs) h = one (is_stop b) (list_all (λ c. not (is_stop c)) bs) (
 names_are_words : list_all (λ r. is_word (name_of r)) ROWS ≡ true
 names_are_words = refl
 
--- a row that its name finds
+-- a row that is found by its name
 abbrev IsKnown : Row → Type 0
 IsKnown row = row_named (name_of row) ≡ Some row
 
@@ -325,12 +325,12 @@ call_known = refl
 
 -- ---- lines
 
--- a line that says its instruction, and is one line
+-- a line that means its instruction, and is only one line
 record ReadsBack (i : Insn) : Type 0 where
   says : meaning (insn_text i) ≡ Some (Plain i)
   line : Free (λ b. b == 10) (insn_text i)
 
--- a mnemonic and operands that its row reads
+-- a mnemonic with operands that its row reads
 reads_line : (i : Insn) (row : Row) (rest : List ℕ) → insn_text i ≡ name_of row ++ (32 ∷ rest) → IsKnown row → IsBody rest → instruction row rest ≡ Some (Plain i) → ReadsBack i
 reads_line i row rest e known x reads = record {
   says = ap meaning e ∙ line_meaning row (name_of row) rest (name_word row known) x known ∙ reads;
@@ -471,7 +471,7 @@ blank : meaning [] ≡ Some Blank
 unfolding meaning meaning_of_body trimmed
 blank = refl
 
--- one line for each instruction, and an empty one at the end
+-- one line for each instruction, and an empty line at the end
 abbrev meanings_of : List Insn → List (Option Meaning)
 meanings_of [] = Some Blank ∷ []
 meanings_of (i ∷ is) = Some (Plain i) ∷ meanings_of is

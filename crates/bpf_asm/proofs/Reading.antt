@@ -1,4 +1,4 @@
--- The lines of what is left of a text.
+-- The lines of the rest of a text.
 use Rattle.std.proofs.Common.{ℕ, ◌+◌, [], List, Option, Some, None, length, Bor}
 use Rattle.bpf_asm.specs.Text.{lines}
 

@@ -1,4 +1,4 @@
--- Which operands the rows of the table take.
+-- The operands that the rows of the table take.
 use Rattle.std.proofs.Common.{ℕ, IsTrue, refl}
 use Rattle.bpf_insn.specs.declared.insn.Width.{Width}
 use Rattle.bpf_insn.specs.declared.insn.Width.TheVariants.{W32, W64}
@@ -33,7 +33,7 @@ takes_both (Little n) w s h = cc
 takes_both (Big n) w s h = cc
 takes_both (Swap n) w s h = cc
 
--- a part of a number is moved from a register
+-- a sign-extending move takes a register
 pub takes_part : (n : Size) (w : Width) (r : ℕ) → IsTrue (is_part n w) → IsTrue (is_binary (MovSx n) w (Reg r))
 takes_part Byte w r h = refl
 takes_part Half w r h = refl

@@ -36,18 +36,18 @@ all_len : (p : ℕ → Bool) (xs : List ℕ) → Free p xs → prefix_len (λ x.
 all_len p [] f = refl
 all_len p (x ∷ xs) f = rw (f.0, all_len p xs f.1) (omega arith)
 
--- a test stops at the first byte past those that pass
+-- a test stops at the first byte that fails it
 pub seam : (p : ℕ → Bool) (xs : List ℕ) (y : ℕ) (ys : List ℕ) → Free p xs → p y ≡ true → prefix_len (λ x. not (p x)) (xs ++ (y ∷ ys)) ≡ length xs
 seam p [] y ys f e = rw e refl
 seam p (x ∷ xs) y ys f e = rw (f.0, seam p xs y ys f.1 e) (omega arith)
 
 -- ---- words and bodies
 
--- what separates words and lines
+-- the separators of words and lines
 abbrev pub is_stop : ℕ → Bool
 is_stop b = is_margin b || (b == 59) || (b == 44) || (b == 58) || (b == 10)
 
--- what ends a line or its text
+-- the ends of a line or of its text
 abbrev pub is_break : ℕ → Bool
 is_break b = (b == 59) || (b == 10)
 
@@ -66,7 +66,7 @@ stops_off b e =
 breaks_off : (b : ℕ) → is_stop b ≡ false → is_break b ≡ false
 breaks_off b e = let s = stops_off b e in rw (s.1, s.4) refl
 
--- a text of one byte or more, without separators
+-- a text of at least one byte, without separators
 pub record IsWord (bs : List ℕ) : Type 0 where
   pub first : ℕ
   pub more : List ℕ
@@ -77,7 +77,7 @@ pub word_of : (bs : List ℕ) → 0 < length bs → Free is_stop bs → IsWord b
 word_of [] l f = absurd (omega arith)
 word_of (b ∷ bs) l f = record { first = b; more = bs; is = refl; free = f }
 
--- a text on one line without comment, which no separator begins or ends
+-- a text on one line without comment, with no separator at either end
 pub record IsBody (bs : List ℕ) : Type 0 where
   pub first : ℕ
   pub more : List ℕ
@@ -152,7 +152,7 @@ label_end ys z e =
     let f : (get_or (ys ++ (z ∷ [])) (length (ys ++ (z ∷ [])) - 1) 0 == 58) ≡ false = rw (k, get_or-append_seam ys z [] 0) e in
     rw f refl
 
--- the meaning of a body is a statement's
+-- the meaning of a body is that of a statement
 pub body_meaning : (bs : List ℕ) → IsBody bs → meaning bs ≡ statement bs
 unfolding meaning meaning_of_body
 body_meaning bs x =

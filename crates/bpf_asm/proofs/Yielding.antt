@@ -1,4 +1,4 @@
--- What lines yield: at most one code.
+-- The code of lines is unique.
 use Rattle.std.proofs.Common.{◌≡◌, ℕ, zero, suc, ◌+◌, ◌≤◌, ◌∷◌, ◌++◌, [], List, Option, Some, None, take, drop, length, refl, sym, ◌∙◌, ap, arith, slice_get, pos, ℤ, length-append, append_assoc, add-one, Result, Ok, Err, IfOk}
 use Rattle.std.specs.List.{sum_by}
 use Rattle.std.proofs.lemmas.List.{append-nil}
@@ -32,7 +32,7 @@ same_units (insns.StoreImm size b off k) n = refl
 same_units (insns.Store size b off s) n = refl
 same_units (insns.Wide d k) n = refl
 
--- one more line has its units more above it
+-- one more line adds its units
 pub units_above_more : (ms : List (Option Meaning)) (i : ℕ) (m : Option Meaning) → slice_get ms i ≡ Some m → units_above ms (i + 1) ≡ units_above ms i + units m
 units_above_more ms i m e = ap (units_above ms) (add-one i) ∙ at ms i e where
   at : (xs : List (Option Meaning)) (n : ℕ) → slice_get xs n ≡ Some m → units_above xs (suc n) ≡ units_above xs n + units m
@@ -51,7 +51,7 @@ yield_units ms own (Some (Mark name)) here y = ap unit_count y
 yield_units ms own (Some (Plain i)) here y = ap unit_count y ∙ unit_count_one i
 yield_units ms own (Some (Aimed i name)) here y = ap unit_count y.2 ∙ unit_count_one (with_distance i (pos y.0)) ∙ same_units i (pos y.0)
 
--- the units of a code are those of its lines
+-- the number of units of a code is the sum over its lines
 pub total_units : (ms : List (Option Meaning)) (own : ℕ) (below : List (Option Meaning)) (code : List Insn) → Gives ms own below code → unit_count code ≡ sum_by units below
 total_units ms own [] code g = ap unit_count g
 total_units ms own (m ∷ below) code g =
@@ -59,7 +59,7 @@ total_units ms own (m ∷ below) code g =
     let here = yield_units ms own m g.0 g.2 in
     omega (arith, ap unit_count g.3, unit_count_append g.0 g.1, rest, here, sum_by-cons units m below)
 
--- ---- at most one code
+-- ---- uniqueness of the code
 
 pub one_yield : (ms : List (Option Meaning)) → Once ms → (own : ℕ) (m : Option Meaning) (a b : List Insn) → Yields ms own m a → Yields ms own m b → a ≡ b
 one_yield ms once own None a b x y = absurd x
@@ -79,7 +79,7 @@ one_code ms once own (m ∷ below) a b x y =
     let rest = one_code ms once (own + units m) below x.1 y.1 x.4 y.4 in
     x.3 ∙ ap (λ (xs : List Insn). xs ++ x.1) here ∙ ap (λ (xs : List Insn). y.0 ++ xs) rest ∙ sym y.3
 
--- lines denote one code at most
+-- lines denote at most one code
 pub one_says : (ms : List (Option Meaning)) (a b : List Insn) → Says ms a → Says ms b → a ≡ b
 one_says ms a b x y = one_code ms x.once 0 ms a b x.gives y.gives
 
@@ -93,7 +93,8 @@ drop_at ms i m e = at ms i e ∙ ap (λ n. m ∷ drop n ms) (sym (add-one i)) wh
   at (x ∷ xs) zero e = let k : x ≡ m = cc in ap (λ (y : Option Meaning). y ∷ xs) k
   at (x ∷ xs) (suc n) e = at xs n e
 
--- The code of the lines above a place: with that of the others it is the whole, and the whole begins with it.
+-- The code of the lines above a place. Followed by the code of the remaining lines it is the whole code, and the whole code begins with
+-- it.
 pub record GoesOn (ms : List (Option Meaning)) (i own : ℕ) (code : List Insn) : Type 0 where
   pub forward : (rest : List Insn) → Gives ms own (drop i ms) rest → Gives ms 0 ms (code ++ rest)
   pub backward : Once ms → (all : List Insn) → Gives ms 0 ms all → (rest : List Insn) × (all ≡ code ++ rest) × Gives ms own (drop i ms) rest
@@ -114,7 +115,7 @@ goes_more ms i own code m here goes e y =
           let h = one_yield ms once own m g.0 here g.2 y in
           (g.1, b.1 ∙ ap (λ (xs : List Insn). code ++ xs) g.3 ∙ ap (λ (xs : List Insn). code ++ (xs ++ g.1)) h ∙ sym (append_assoc code here g.1), g.4)
 
--- what the lines of a text say is the only code that it denotes
+-- the code of a text's lines is the only code that the text denotes
 pub only_code : {E : Type 0} (text : List ℕ) (ms : List (Option Meaning)) → ms ≡ meanings text → (r : Result (List Insn) E) → IfOk r (Says ms) → IfOk r (IsOnlyCode text)
 only_code text ms e (Err f) h = tt
 only_code text ms e (Ok code) h = λ other d. one_says (meanings text) other code d (rw e at h)

@@ -1,4 +1,4 @@
--- Which code a text denotes (own): a relation on the meanings of all its lines.
+-- The code that a text denotes (own): a relation on the meanings of all its lines.
 use Rattle.std.specs.Prelude.{ℕ, ℤ, pos, ◌≡◌, ◌+◌, ◌≤◌, List, [], ◌∷◌, ◌++◌, take, map, Option, Some, None, slice_get}
 use Rattle.std.specs.List.{sum_by}
 use Rattle.bpf_insn.specs.declared.insn.Insn.{Insn}
@@ -15,7 +15,7 @@ units (Some (Mark name)) = 0
 units (Some (Plain i)) = units_of i
 units (Some (Aimed i name)) = units_of i
 
--- the units above the line at a place, places counted from 0
+-- the number of units above the line at a place; places count from 0
 abbrev pub units_above : List (Option Meaning) → ℕ → ℕ
 units_above ms i = sum_by units (take i ms)
 
@@ -23,11 +23,11 @@ units_above ms i = sum_by units (take i ms)
 abbrev pub MarksAt : List (Option Meaning) → List ℕ → ℕ → Type 0
 MarksAt ms name i = slice_get ms i ≡ Some (Some (Mark name))
 
--- no label stands twice
+-- each label is defined at most once
 abbrev pub Once : List (Option Meaning) → Type 0
 Once ms = (i j : ℕ) (name : List ℕ) → MarksAt ms name i → MarksAt ms name j → i ≡ j
 
--- a label has this number: the units above it
+-- a label has this number: the number of units above it
 abbrev pub Stands : List (Option Meaning) → List ℕ → ℕ → Type 0
 Stands ms name place = (i : ℕ) × MarksAt ms name i × (place ≡ units_above ms i)
 
@@ -38,8 +38,8 @@ with_distance (insns.Jump n) m = insns.Jump m
 with_distance (insns.JumpFar n) m = insns.JumpFar m
 with_distance i m = i
 
--- The instructions of a line that begins at the unit `own`, among the lines `ms`. A jump to a label goes from
--- the next unit forward to the label's number.
+-- The instructions of a line that begins at the unit `own`, among the lines `ms`. A jump to a label goes forward from the next unit to
+-- the label's number.
 abbrev pub Yields : List (Option Meaning) → ℕ → Option Meaning → List Insn → Type 0
 Yields ms own None here = ⊥
 Yields ms own (Some Blank) here = here ≡ []
@@ -47,7 +47,7 @@ Yields ms own (Some (Mark name)) here = here ≡ []
 Yields ms own (Some (Plain i)) here = here ≡ i ∷ []
 Yields ms own (Some (Aimed i name)) here = (distance : ℕ) × Stands ms name (own + 1 + distance) × (here ≡ with_distance i (pos distance) ∷ [])
 
--- the code of the lines `below`, the first of which begins at the unit `own`
+-- the code of the lines `below`; the first of them begins at the unit `own`
 abbrev pub Gives : List (Option Meaning) → ℕ → List (Option Meaning) → List Insn → Type 0
 Gives ms own [] code = code ≡ []
 Gives ms own (m ∷ below) code = (here : List Insn) × (rest : List Insn) × Yields ms own m here × (code ≡ here ++ rest) × Gives ms (own + units m) below rest
@@ -58,7 +58,7 @@ pub record Says (ms : List (Option Meaning)) (code : List Insn) : Type 0 where
   pub gives : Gives ms 0 ms code
   pub short : unit_count code ≤ unit_limit
 
--- what the lines of a text say
+-- the meanings of the lines of a text
 abbrev pub meanings : List ℕ → List (Option Meaning)
 meanings text = map meaning (lines text)
 
@@ -66,10 +66,10 @@ meanings text = map meaning (lines text)
 abbrev pub Denotes : List ℕ → List Insn → Type 0
 Denotes text code = Says (meanings text) code
 
--- the text denotes no code
+-- the text does not denote any code
 abbrev pub DenotesNone : List ℕ → Type 0
 DenotesNone text = (code : List Insn) → Denotes text code → ⊥
 
--- every code that the text denotes is this one
+-- each code that the text denotes is this one
 abbrev pub IsOnlyCode : List ℕ → List Insn → Type 0
 IsOnlyCode text code = (other : List Insn) → Denotes text other → other ≡ code

@@ -5,7 +5,7 @@ use Rattle.bpf_asm.specs.declared.fault.FaultKind.{FaultKind}
 use Rattle.bpf_asm.specs.declared.fault.FaultKind.TheVariants.{NoMemory, Mnemonic, Operand, Number, Label, Backward, TooLong}
 use Rattle.bpf_asm.specs.declared.fault.AsmFault.{AsmFault}
 
--- the name of what is wrong
+-- the name of a kind of fault
 abbrev pub kind_text : FaultKind → List ℕ
 kind_text NoMemory = codes "NoMemory"
 kind_text Mnemonic = codes "Mnemonic"
@@ -15,7 +15,7 @@ kind_text Label = codes "Label"
 kind_text Backward = codes "Backward"
 kind_text TooLong = codes "TooLong"
 
--- a kind after the number of its line; `NoMemory` has no line
+-- a kind after its line number; `NoMemory` has no line
 abbrev pub at_line : ℕ → FaultKind → List ℕ
 at_line line NoMemory = kind_text NoMemory
 at_line line kind = codes "line " ++ (decimal line ++ (codes ": " ++ kind_text kind))
@@ -23,7 +23,7 @@ at_line line kind = codes "line " ++ (decimal line ++ (codes ": " ++ kind_text k
 abbrev pub fault_text : AsmFault → List ℕ
 fault_text fault = at_line fault.line fault.kind
 
--- the line of a fault, counted from 1; `NoMemory` has no line, and 0 in its place
+-- the line of a fault, counted from 1; `NoMemory` has 0 instead
 abbrev pub IsLineOf : FaultKind → ℕ → Type 0
 IsLineOf NoMemory line = line ≡ 0
 IsLineOf kind line = 0 < line

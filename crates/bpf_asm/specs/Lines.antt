@@ -1,4 +1,4 @@
--- What a line of assembler text says (own).
+-- The meaning of a line of assembler text (own).
 use Rattle.std.specs.Prelude.{ℕ, ℤ, pos, ◌≡◌, ◌-◌, ◌==◌, ◌&&◌, ◌||◌, not, Bool, nat_le, List, [], ◌∷◌, length, take, drop, Option, Some, None, slice_index, if◌then◌else◌, ⊤}
 use Rattle.std.specs.Option.{option_map}
 use Rattle.std.specs.List.{slice_split, prefix_len}
@@ -14,7 +14,7 @@ use Rattle.bpf_asm.specs.Mnemonics.{row_named}
 use Rattle.bpf_asm.specs.declared.row.Row.{Row}
 use Rattle.bpf_asm.specs.declared.row.Row.TheVariants as rows
 
--- nothing, a label, an instruction, or one whose jump goes to a label
+-- an empty line, a label, an instruction, or a jump to a label
 pub data Meaning : Type 0 where
   Blank : Meaning
   Mark : List ℕ → Meaning
@@ -34,12 +34,12 @@ operand bs = operand_from (register bs) bs
 abbrev pub is_sign : ℕ → Bool
 is_sign b = (b == 43) || (b == 45)
 
--- nothing, for 0, or a distance
+-- nothing (for 0), or a distance
 abbrev pub offset : List ℕ → Option ℤ
 offset [] = Some (pos 0)
 offset (b ∷ bs) = near (b ∷ bs)
 
--- a register, and an offset from its sign on
+-- a register, and an offset that begins with its sign
 abbrev pub inner_address : List ℕ → Option (ℕ × ℤ)
 inner_address bs = do
   r ← register (take (prefix_len (λ b. not (is_sign b)) bs) bs)
@@ -51,11 +51,11 @@ unfoldable pub address : List ℕ → Option (ℕ × ℤ)
 address bs = if nat_le 2 (length bs) && (slice_index bs 0 == 91) && (slice_index bs (length bs - 1) == 93)
     then inner_address (take (length bs - 2) (drop 1 bs)) else None
 
--- what stands between commas
+-- the operands between commas
 abbrev pub parts : List ℕ → List (List ℕ)
 parts rest = slice_split (λ b. b == 44) rest
 
--- two parts or more
+-- at least two parts
 abbrev pub HasMore : List (List ℕ) → Type 0
 HasMore xs = (a : List ℕ) × (b : List ℕ) × (more : List (List ℕ)) × (xs ≡ a ∷ b ∷ more)
 
@@ -82,7 +82,7 @@ three rest = three_parts (parts rest)
 
 -- ---- instructions
 
--- a jump, whose target is a name or the distance that is given
+-- a jump to a name or by a given distance
 abbrev pub jump_to : List ℕ → Option ℤ → (ℤ → Insn) → Option Meaning
 jump_to target distance f = if is_name target then Some (Aimed (f (pos 0)) target) else option_map (λ n. Plain (f n)) distance
 
@@ -140,7 +140,7 @@ instruction rows.Exit rest = if length rest == 0 then Some (Plain insns.Exit) el
 
 -- ---- lines
 
--- how long a line's first word is
+-- the length of a line's first word
 abbrev pub head_len : List ℕ → ℕ
 head_len body = prefix_len (λ b. not (is_margin b)) body
 
@@ -154,16 +154,16 @@ statement body = do
   row ← row_named (take (head_len body) body)
   instruction row (trimmed (drop (head_len body) body))
 
--- what is left of a line without its comment and margins
+-- the meaning of a line without its comment and margins
 unfoldable pub meaning_of_body : List ℕ → Option Meaning
 meaning_of_body body = if length body == 0 then Some Blank
     else (if is_label body then Some (Mark (take (length body - 1) body)) else statement body)
 
--- what a line says, if it says anything
+-- the meaning of a line, if it has one
 unfoldable pub meaning : List ℕ → Option Meaning
 meaning line = meaning_of_body (trimmed (uncommented line))
 
--- what the instructions table says of a line's instruction
+-- the instruction of a line is one of the instruction table
 abbrev pub HasSpellingIn : Option Meaning → Type 0
 HasSpellingIn None = ⊤
 HasSpellingIn (Some Blank) = ⊤

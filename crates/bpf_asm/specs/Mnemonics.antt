@@ -17,7 +17,7 @@ use Rattle.bpf_asm.specs.declared.row.TheConstants.{ROWS}
 
 -- ---- parts of names
 
--- an operation; it has no name here where it is named with its size
+-- an operation; empty if the size is part of its name
 abbrev pub op_name : Op → List ℕ
 op_name Add = codes "add"
 op_name Sub = codes "sub"
@@ -52,21 +52,21 @@ test_name Le = codes "le"
 test_name SLt = codes "slt"
 test_name SLe = codes "sle"
 
--- the letters of an access of memory
+-- the letters of the size of a memory access
 abbrev pub size_letters : Size → List ℕ
 size_letters Byte = codes "b"
 size_letters Half = codes "h"
 size_letters Word = codes "w"
 size_letters Double = codes "dw"
 
--- the bits of a part
+-- the number of bits of a part
 abbrev pub size_digits : Size → List ℕ
 size_digits Byte = codes "8"
 size_digits Half = codes "16"
 size_digits Word = codes "32"
 size_digits Double = codes "64"
 
--- `32` after what takes 32 bits
+-- `32` after an operation of 32 bits
 abbrev pub with_width : Op → Width → List ℕ
 with_width (MovSx n) w = []
 with_width (Little n) w = []
@@ -104,19 +104,19 @@ name_of rows.Exit = codes "exit"
 unfoldable pub row_named : List ℕ → Option Row
 row_named name = find (λ r. bytes_eq (name_of r) name) ROWS
 
--- the parts of a number that a signed move takes at a width
+-- the parts of a number that a sign-extending move takes at a width
 abbrev pub is_part : Size → Width → Bool
 is_part Byte w = true
 is_part Half w = true
 is_part Word W64 = true
 is_part n w = false
 
--- the operations whose operand is a register or a number
+-- the operations that take a register or a number
 abbrev pub takes_number : Op → Bool
 takes_number (MovSx n) = false
 takes_number op = takes_operand op
 
--- whether the operation of a row is one of the instruction table's, at its width
+-- the operation of a row is in the instruction table, at its width
 abbrev pub is_row : Row → Bool
 is_row (rows.Arith op w) = takes_number op
 is_row (rows.SignMove n w) = is_part n w

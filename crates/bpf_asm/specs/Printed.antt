@@ -25,7 +25,7 @@ abbrev pub distance_text : ℤ → List ℕ
 distance_text (pos n) = codes "+" ++ decimal n
 distance_text (negsuc n) = codes "-" ++ decimal (suc n)
 
--- a base and an offset, which stands there even where it is 0
+-- a base and an offset; an offset of 0 is printed too
 abbrev pub address_text : ℕ → ℤ → List ℕ
 address_text r n = codes "[" ++ (register_text r ++ (distance_text n ++ codes "]"))
 
@@ -57,7 +57,7 @@ row_for (insns.Wide d n) = rows.Wide
 abbrev pub pair_text : List ℕ → List ℕ → List ℕ
 pair_text a b = a ++ (codes ", " ++ b)
 
--- what follows a mnemonic
+-- the text after a mnemonic
 abbrev pub operands_text : Insn → List ℕ
 operands_text (insns.Alu op w d s) = codes " " ++ pair_text (register_text d) (operand_text s)
 operands_text (insns.Unary op w d) = codes " " ++ register_text d

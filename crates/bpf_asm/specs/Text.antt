@@ -1,8 +1,8 @@
--- The parts of a text: its lines, and what is left of a line without its comment and margins.
+-- The parts of a text: its lines, and the text of a line without its comment and margins.
 use Rattle.std.specs.Prelude.{ℕ, ◌-◌, ◌==◌, ◌||◌, Bool, List, length, take, drop}
 use Rattle.std.specs.List.{slice_split, before_first, prefix_len, suffix_len}
 
--- The lines, which line feeds separate: one more than there are line feeds (own).
+-- The lines, separated by line feeds: one more than the number of line feeds (own).
 abbrev pub lines : List ℕ → List (List ℕ)
 lines text = slice_split (λ b. b == 10) text
 
@@ -14,14 +14,14 @@ uncommented line = before_first (λ b. b == 59) line
 abbrev pub is_margin : ℕ → Bool
 is_margin b = (b == 32) || (b == 9)
 
--- without the spaces and tabs in front
+-- a list without the spaces and tabs at its front
 abbrev pub trimmed_front : List ℕ → List ℕ
 trimmed_front xs = drop (prefix_len is_margin xs) xs
 
--- without the spaces and tabs at its end
+-- a list without the spaces and tabs at its end
 abbrev pub trimmed_back : List ℕ → List ℕ
 trimmed_back xs = take (length xs - suffix_len is_margin xs) xs
 
--- without the spaces and tabs at both ends
+-- a list without the spaces and tabs at both ends
 unfoldable pub trimmed : List ℕ → List ℕ
 trimmed xs = trimmed_back (trimmed_front xs)

@@ -1,11 +1,11 @@
--- What the assembler's values stand for.
+-- The meanings of the assembler's values.
 use Rattle.std.specs.Prelude.{◌≡◌, Option, Some, None, Result, Ok, Err, IfOk}
 use Rattle.bpf_asm.specs.declared.line.Line.{Line}
 use Rattle.bpf_asm.specs.declared.line.Line.TheVariants as lines
 use Rattle.bpf_asm.specs.declared.fault.FaultKind.{FaultKind}
 use Rattle.bpf_asm.specs.Lines.{Meaning, Blank, Mark, Plain, Aimed, HasSpellingIn}
 
--- a line as read
+-- the meaning of a line that was read
 abbrev pub view_line : Line → Option Meaning
 view_line lines.Blank = Some Blank
 view_line (lines.Label name) = Some (Mark name.now)
@@ -13,11 +13,11 @@ view_line (lines.Plain i) = Some (Plain i)
 view_line (lines.Aimed i name) = Some (Aimed i name.now)
 view_line (lines.Bad kind) = None
 
--- what was read of a line is what the line says, if it says anything
+-- the result of reading a line is its meaning, if it has one
 abbrev pub Reads : Result Line FaultKind → Option Meaning → Type 0
 Reads (Ok line) o = o ≡ view_line line
 Reads (Err kind) o = o ≡ None
 
--- an instruction that was read is one of the instruction table
+-- each instruction that is read is in the instruction table
 abbrev pub ReadsSpelled : Result Line FaultKind → Type 0
 ReadsSpelled r = IfOk r (λ line. HasSpellingIn (view_line line))

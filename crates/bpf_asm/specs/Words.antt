@@ -9,12 +9,12 @@ infixl 10 ◌>>=◌
 abbrev pub ◌>>=◌ : {A B : Type 0} → Option A → (A → Option B) → Option B
 o >>= f = option_and_then f o
 
--- what a function returned, seen as `view`, is what a definition gives
+-- a function's result, under `view`, is the value of a definition
 abbrev pub Gives : {X Y E : Type 0} → (X → Y) → Result X E → Option Y → Type 0
 Gives view (Ok x) o = o ≡ Some (view x)
 Gives view (Err e) o = o ≡ None
 
--- the same of a number, where one above the machine's is a fault
+-- the same for a number; one above the machine's greatest is an error
 abbrev pub GivesUnlessLarge : {E : Type 0} → Result ℕ E → Option ℕ → Type 0
 GivesUnlessLarge (Ok n) o = o ≡ Some n
 GivesUnlessLarge (Err e) o = IfSome o (λ n. 2 ^ 64 ≤ n)
@@ -27,11 +27,11 @@ register (r ∷ d ∷ []) = if (r == 114) && nat_le 48 d && nat_le d 57 then Som
 register (r ∷ a ∷ b ∷ []) = if (r == 114) && (a == 49) && (b == 48) then Some 10 else None
 register (r ∷ a ∷ b ∷ c ∷ more) = None
 
--- one digit or more
+-- at least one digit, and nothing else
 abbrev pub is_numeral : ℕ → List ℕ → Bool
 is_numeral radix ds = nat_lt 0 (length ds) && list_all (λ c. nat_lt (digit_value c) radix) ds
 
--- the number that digits write, leading zeros allowed
+-- the number written by digits; leading zeros are allowed
 unfoldable pub numeral : ℕ → List ℕ → Option ℕ
 numeral radix ds = if is_numeral radix ds then Some (digits_value radix ds) else None
 
@@ -39,11 +39,11 @@ numeral radix ds = if is_numeral radix ds then Some (digits_value radix ds) else
 abbrev pub is_hex : List ℕ → Bool
 is_hex ds = (slice_index ds 0 == 48) && (slice_index ds 1 == 120)
 
--- decimal, or hex of either case after `0x`
+-- decimal, or hex in either case after `0x`
 unfoldable pub magnitude : List ℕ → Option ℕ
 magnitude ds = if is_hex ds then numeral 16 (drop 2 ds) else numeral 10 ds
 
--- the same, perhaps after '-'
+-- the same, with an optional '-'
 unfoldable pub number : List ℕ → Option ℤ
 number bs = if slice_index bs 0 == 45 then option_map (λ n. neg_ℤ (pos n)) (magnitude (drop 1 bs)) else option_map pos (magnitude bs)
 
@@ -55,7 +55,7 @@ within lo hi n = if int_le lo n && int_le n hi then Some n else None
 unfoldable pub word : List ℕ → Option ℤ
 word bs = number bs >>= within (neg_ℤ (pos 2147483648)) (pos 2147483647)
 
--- a number as 64 bits: a negative one as its complement
+-- a number as 64 bits, in two's complement
 abbrev pub bits64 : ℤ → ℕ
 bits64 (pos n) = n
 bits64 (negsuc n) = 18446744073709551615 - n
@@ -81,10 +81,10 @@ far bs = distance bs >>= within (neg_ℤ (pos 2147483648)) (pos 2147483647)
 abbrev pub is_name_start : ℕ → Bool
 is_name_start c = (nat_le 97 c && nat_le c 122) || (c == 95)
 
--- the same and digits
+-- the same, or a digit
 abbrev pub is_name_part : ℕ → Bool
 is_name_part c = is_name_start c || (nat_le 48 c && nat_le c 57)
 
--- a label's name, of 32 characters at most
+-- a label's name, of at most 32 characters
 unfoldable pub is_name : List ℕ → Bool
 is_name bs = nat_le (length bs) 32 && is_name_start (slice_index bs 0) && list_all is_name_part bs

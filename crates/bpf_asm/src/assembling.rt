@@ -1,4 +1,4 @@
-//! From text to code.
+//! Assembles text to code.
 
 ghost use Rattle.std.specs.Prelude.{◌≡◌, ◌≤◌, ◌<◌, ◌+◌, ◌-◌, ◌⊎◌, List, Option, pos, map, IfOk, IfErr, OnOk, IfSome, MatchBool};
 ghost use Rattle.std.specs.List.{All, sum_by};
@@ -47,8 +47,7 @@ fn with_distance(insn: Insn, distance: i16) -> Insn
     }
 }
 
-/// The distance from the unit after `own` to one further down. In a text of more units than a code
-/// has, it may be cut off.
+/// The distance from the unit after `own` to a later one. It may be truncated if the text has more units than a code can have.
 fn distance(own: usize, target: usize) -> i16
     requires { own < target }
     ensures { target ≤ unit_limit → result ≡ pos (target - (own + 1)) }
@@ -87,7 +86,7 @@ fn resolved<'a, A: Allocator>(
     }
 }
 
-/// Whether a line, where it is a label, is the one that the table has.
+/// If a line is a label, returns true only if it is the one in the table.
 fn is_definition<'a, A: Allocator>(labels: &Labels<'a, A>, at: usize, line: &Line<'a>) -> bool
     ensures { MatchBool result (IsDefinition labels.now at (view_line line.now)) (IsSecond labels.now at (view_line line.now)) }
 {
@@ -148,7 +147,7 @@ fn emit<'a, A: Allocator, B: Allocator>(
     Ok(code)
 }
 
-/// What each line says.
+/// Reads each line.
 fn read_lines<A: Allocator>(alloc: A, text: &[u8]) -> Result<Vec<Line<'_>, A>, AllocError>
     ensures value { IfOk result (λ v. map view_line v.items ≡ meanings text.now) }
     ensures spelled { IfOk result (λ v. All (λ l. HasSpellingIn (view_line l)) v.items) }
@@ -163,15 +162,16 @@ fn read_lines<A: Allocator>(alloc: A, text: &[u8]) -> Result<Vec<Line<'_>, A>, A
     Ok(read)
 }
 
-/// The code that a text denotes, the only one.
+/// Assembles a text to the only code that it denotes.
 ///
-/// Each line is blank, a label or an instruction, perhaps with a comment after `;`. A jump to a
-/// label goes from the next unit to the number of units above the label.
+/// Each line is blank, a label or an instruction, with an optional comment after `;`. A jump to a label goes from the next unit to the
+/// number of units above the label.
 ///
-/// It fails with `NoMemory` where memory runs out, and else only where the text denotes no code. The
-/// fault is then that of the lowest line at fault, counted from 1, and on one line the first of these:
-/// `Mnemonic`, `Operand`, `Number`, `Label`, `Backward` and `TooLong`. Labels are
-/// looked up in a map that is sorted by their names, so no choice of labels makes a text slow.
+/// # Errors
+/// `NoMemory` if memory runs out. All other errors mean that the text denotes no code. They report the first invalid line, counted from
+/// 1, and on one line the first of these: `Mnemonic`, `Operand`, `Number`, `Label`, `Backward` and `TooLong`.
+///
+/// Labels are looked up in a map sorted by name, so no choice of labels makes a text slow.
 pub fn assemble<A: Allocator + Copy>(alloc: A, text: &str) -> Result<Code<A>, AsmFault>
     ensures ok { IfOk result (Denotes text.now) }
     ensures only { IfOk result (IsOnlyCode text.now) }

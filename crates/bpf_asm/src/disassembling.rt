@@ -1,4 +1,4 @@
-//! From code to text.
+//! Prints code as text.
 
 ghost use Rattle.std.specs.Prelude.{◌≡◌, IfOk, string_bytes};
 ghost use Rattle.bpf_asm.specs.Denotes.{Denotes};
@@ -8,9 +8,8 @@ use crate::printing::write_line;
 use bpf_insn::Code;
 use std::alloc::{AllocError, Allocator};
 
-/// The text of a code, one instruction a line, which `assemble` takes back to the code: numbers in
-/// signed decimal, a constant of 64 bits in hex, distances in units with their sign. It fails only
-/// where memory runs out.
+/// The text of a code, one instruction a line; `assemble` gives the code again. Numbers are in signed decimal, constants of 64 bits in
+/// hex, and distances in units with their sign. The only error is out of memory.
 pub fn disassemble<A: Allocator, B: Allocator>(
     alloc: A,
     code: &Code<B>,

@@ -1,4 +1,4 @@
-//! Why a text is no code.
+//! The faults of texts that are not a program.
 
 ghost use Rattle.std.specs.Prelude.{◌≡◌, ◌<◌};
 ghost use Rattle.bpf_asm.specs.Fault.{IsLineOf};
@@ -7,20 +7,20 @@ use std::alloc::{AllocError, AllocFailed};
 use std::error::Error;
 use std::fmt;
 
-/// What is wrong with a line. Where several are, the first of these is told, memory aside.
+/// The fault of a line. If there are several, the first in this order is reported, except for `NoMemory`.
 #[derive(Clone, Copy, Debug, PartialEq, Eq)]
 pub enum FaultKind {
     /// Memory ran out.
     NoMemory,
-    /// The line is no label, and its first word names no instruction.
+    /// The line is not a label, and its first word is not a mnemonic.
     Mnemonic,
-    /// There are too many or too few operands, or one is not of the form that the instruction takes.
+    /// There are too many or too few operands, or the instruction does not take one of this form.
     Operand,
     /// A number does not fit its field.
     Number,
-    /// A label that is nowhere defined, or the definition of one that was defined above.
+    /// The label is not defined, or is already defined above.
     Label,
-    /// A jump to a label at or above it.
+    /// The jump leads to a label at or above it.
     Backward,
     /// The instruction would end past the 4,096th unit.
     TooLong,
@@ -45,16 +45,16 @@ impl fmt::Display for FaultKind {
     }
 }
 
-/// The first fault of a text. It prints as `line N: KIND`, and as `NoMemory` where memory ran out.
+/// The first fault of a text. It prints as `line N: KIND`, or as `NoMemory` if memory ran out.
 #[derive(Clone, Copy, Debug, PartialEq, Eq)]
 pub struct AsmFault {
-    /// The line, counted from 1, and 0 where memory ran out.
+    /// The line, counted from 1; 0 if memory ran out.
     pub line: usize,
     pub kind: FaultKind,
 }
 
 impl AsmFault {
-    /// The fault of a line. Memory that runs out is the fault of none.
+    /// The fault of a line. `NoMemory` belongs to no line.
     pub(crate) fn at(line: usize, kind: FaultKind) -> AsmFault
         requires { 0 < line }
         ensures kind { result.kind ≡ kind }

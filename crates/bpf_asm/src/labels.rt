@@ -1,4 +1,4 @@
-//! Where labels stand.
+//! The table of labels.
 
 ghost use Rattle.std.specs.Prelude.{◌≡◌, ◌≤◌, map, IfOk, OnOk};
 ghost use Rattle.bpf_asm.specs.Denotes.{units};
@@ -9,25 +9,24 @@ use crate::line::Line;
 use std::alloc::{AllocError, Allocator};
 use std::collections::BTreeMap;
 
-/// Where a label is defined: the place of its line, from 0, and the number of the next unit.
+/// The definition of a label: the index of its line, from 0, and the number of the next unit.
 #[derive(Clone, Copy, Debug, PartialEq, Eq)]
 pub struct Definition {
     pub line: usize,
     pub unit: usize,
 }
 
-/// The labels of a text, in the order of their names: the author of the text chooses these, and could choose such as collide in a
-/// hash map.
+/// The labels of a text, in the order of their names. Not a hash map, because the author of the text could choose names that collide.
 pub type Labels<'a, A> = BTreeMap<&'a [u8], Definition, A>;
 
-/// Where a label is defined, if it is.
+/// The definition of a label, if there is one.
 pub fn find_label<'a, A: Allocator>(labels: &Labels<'a, A>, name: &'a [u8]) -> Option<Definition>
     ensures { result ≡ definition_of labels.now name.now }
 {
     labels.get(&name).copied()
 }
 
-/// How many units a line has.
+/// The number of units of a line.
 pub fn line_units(line: &Line<'_>) -> usize
     ensures value { result ≡ units (view_line line.now) }
     ensures few { result ≤ 2 }
@@ -38,7 +37,7 @@ pub fn line_units(line: &Line<'_>) -> usize
     }
 }
 
-/// Puts a label into the table, unless it is there.
+/// Adds a label to the table, unless it is already in it.
 fn define<'a, A: Allocator + Copy>(
     labels: &mut Labels<'a, A>,
     name: &'a [u8],
@@ -55,7 +54,7 @@ fn define<'a, A: Allocator + Copy>(
     }
 }
 
-/// The same of a line, where it is a label.
+/// The same for a line, if it is a label.
 fn record_line<'a, A: Allocator + Copy>(
     labels: &mut Labels<'a, A>,
     line: &Line<'a>,
@@ -69,7 +68,7 @@ fn record_line<'a, A: Allocator + Copy>(
     }
 }
 
-/// The labels of all lines. Of two lines with one label the first counts.
+/// The labels of all lines. If a label is defined twice, the first line counts.
 pub fn find_labels<'a, A: Allocator + Copy>(
     alloc: A,
     lines: &[Line<'a>],

@@ -1,8 +1,8 @@
 //! Programs as text.
 //!
-//! `assemble` gives the code that a text denotes, or the first line at fault, and `disassemble` a text
-//! of a code, from which `assemble` gives the code again. What a line says, and which code a text
-//! denotes, stand in `specs/`; `docs/ASSEMBLER.md` is the reference of the language.
+//! `assemble` gives the code that a text denotes, or the first invalid line. `disassemble` prints a code as a text that `assemble` turns
+//! back into the code. `specs/` defines the meaning of a line and the code of a text; `docs/ASSEMBLER.md` is the reference of the
+//! language.
 #![tactic(auto)]
 
 mod assembling;

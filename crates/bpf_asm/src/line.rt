@@ -1,4 +1,4 @@
-//! What a line says.
+//! Reads a line.
 
 ghost use Rattle.std.specs.Prelude.{◌≡◌, ◌≤◌, length, IsTrue};
 ghost use Rattle.bpf_insn.specs.Spelling.{is_unary, is_narrow};
@@ -13,10 +13,10 @@ use crate::text::{cut, margin, trim};
 use crate::words::{is_name, read_far, read_long, read_near, read_word};
 use bpf_insn::{Insn, Op, Operand, Size, Test, Width};
 
-/// What a line says.
+/// A line of a text.
 #[derive(Clone, Copy, Debug)]
 pub enum Line<'a> {
-    /// Nothing, but perhaps a comment.
+    /// An empty line, with or without a comment.
     Blank,
     /// A label of this name.
     Label(&'a [u8]),
@@ -24,7 +24,7 @@ pub enum Line<'a> {
     Plain(Insn),
     /// A jump to the label of this name.
     Aimed(Insn, &'a [u8]),
-    /// Nothing that the language has.
+    /// A line that is not in the language.
     Bad(FaultKind),
 }
 
@@ -225,7 +225,7 @@ fn exit(rest: &[u8]) -> Result<Line<'_>, FaultKind>
     }
 }
 
-/// The instruction of a row with these operands.
+/// Reads the instruction of a row with these operands.
 fn read_row(row: Row, rest: &[u8]) -> Result<Line<'_>, FaultKind>
     requires { IsTrue (is_row row) }
     ensures value { Reads result (instruction row rest.now) }
@@ -248,7 +248,7 @@ fn read_row(row: Row, rest: &[u8]) -> Result<Line<'_>, FaultKind>
     }
 }
 
-/// How many bytes stand before a space or a tab.
+/// The number of bytes before the first space or tab.
 fn head_len(bytes: &[u8]) -> usize
     ensures value { result ≡ head_len bytes.now }
     ensures within { result ≤ length bytes.now }
@@ -283,7 +283,7 @@ fn read_body(body: &[u8]) -> Result<Line<'_>, FaultKind>
     }
 }
 
-/// What a line says.
+/// Reads a line.
 #[tactic(auto, unfolding(crate::specs::Lines::meaning))]
 pub fn read_line(line: &[u8]) -> Line<'_>
     ensures value { view_line result ≡ meaning line.now }

@@ -1,4 +1,4 @@
-//! Operands, and what separates them.
+//! Operands and their separators.
 
 ghost use Rattle.std.specs.Prelude.{◌≡◌, ◌≤◌, ◌∷◌, [], length, not, MatchResult, IfOk, List, ℕ};
 ghost use Rattle.std.specs.List.{prefix_len};
@@ -11,7 +11,7 @@ use crate::text::{cut, trim};
 use crate::words::{read_near, read_register, read_word};
 use bpf_insn::Operand;
 
-/// The register that an operand is.
+/// Reads a register.
 pub fn register_operand(bytes: &[u8]) -> Result<u8, FaultKind>
     ensures value { Gives (λ r. r) result (register bytes.now) }
     ensures few { IfOk result (λ r. r ≤ 10) }
@@ -19,7 +19,7 @@ pub fn register_operand(bytes: &[u8]) -> Result<u8, FaultKind>
     read_register(bytes).ok_or(FaultKind::Operand)
 }
 
-/// A register or a number.
+/// Reads a register or a number.
 #[tactic(auto, unfolding(crate::specs::Lines::operand))]
 pub fn read_operand(bytes: &[u8]) -> Result<Operand, FaultKind>
     ensures value { Gives (λ o. o) result (operand bytes.now) }
@@ -37,7 +37,7 @@ fn sign(b: u8) -> bool
     b == b'+' || b == b'-'
 }
 
-/// How many bytes stand before a sign.
+/// The number of bytes before the first sign.
 fn sign_place(bytes: &[u8]) -> usize
     ensures value { result ≡ prefix_len (λ b. not (is_sign b)) bytes.now }
     ensures within { result ≤ length bytes.now }
@@ -67,7 +67,7 @@ fn read_inner(bytes: &[u8]) -> Result<(u8, i16), FaultKind>
     Ok((register_operand(name)?, read_offset(rest)?))
 }
 
-/// A base register and an offset, in brackets.
+/// Reads a base register and an offset, in brackets.
 #[tactic(auto, unfolding(crate::specs::Lines::address))]
 pub fn read_address(bytes: &[u8]) -> Result<(u8, i16), FaultKind>
     ensures value { Gives (λ x. (x.0, x.1)) result (address bytes.now) }
@@ -89,7 +89,7 @@ fn first_part(rest: &[u8]) -> Result<(&[u8], &[u8]), FaultKind>
     }
 }
 
-/// All of it, where it has no comma.
+/// The whole text, if it has no comma.
 fn last_part(rest: &[u8]) -> Result<&[u8], FaultKind>
     ensures { MatchResult result (λ x. parts rest.now ≡ x.now ∷ []) (λ _. HasMore (parts rest.now)) }
 {
@@ -99,7 +99,7 @@ fn last_part(rest: &[u8]) -> Result<&[u8], FaultKind>
     }
 }
 
-/// Two operands, without what stands round them.
+/// Two operands, without margins.
 #[tactic(auto, unfolding(crate::specs::Lines::two))]
 pub fn read_two(rest: &[u8]) -> Result<(&[u8], &[u8]), FaultKind>
     ensures { Gives (λ x. (x.0.now, x.1.now)) result (two rest.now) }
@@ -109,7 +109,7 @@ pub fn read_two(rest: &[u8]) -> Result<(&[u8], &[u8]), FaultKind>
     Ok((trim(a), trim(b)))
 }
 
-/// Three operands, without what stands round them.
+/// Three operands, without margins.
 #[tactic(auto, unfolding(crate::specs::Lines::three))]
 pub fn read_three(rest: &[u8]) -> Result<(&[u8], &[u8], &[u8]), FaultKind>
     ensures { Gives (λ x. (x.0.now, x.1.now, x.2.now)) result (three rest.now) }

@@ -96,7 +96,7 @@ fn row_for(insn: Insn) -> Row
     }
 }
 
-/// What follows the mnemonic.
+/// Prints the operands after the mnemonic.
 fn write_operands<A: Allocator>(out: &mut String<A>, insn: Insn) -> Result<(), AllocError>
     ensures { OnOk result (string_bytes out.new ≡ string_bytes out.old ++ operands_text insn) }
 {
@@ -131,7 +131,7 @@ fn write_operands<A: Allocator>(out: &mut String<A>, insn: Insn) -> Result<(), A
     }
 }
 
-/// The same of a constant of 64 bits.
+/// The same for a constant of 64 bits.
 #[tactic(auto, using(crate::proofs::Digits::padded16))]
 fn write_wide<A: Allocator>(out: &mut String<A>, dst: u8, value: u64) -> Result<(), AllocError>
     ensures { OnOk result (string_bytes out.new ≡ string_bytes out.old ++ operands_text (Insn.Wide dst value)) }
@@ -139,7 +139,7 @@ fn write_wide<A: Allocator>(out: &mut String<A>, dst: u8, value: u64) -> Result<
     write!(out, " r{dst}, 0x{value:016x}")
 }
 
-/// The same of a load.
+/// The same for a load.
 fn write_load<A: Allocator>(
     out: &mut String<A>,
     dst: u8,
@@ -152,7 +152,7 @@ fn write_load<A: Allocator>(
     write!(out, " r{dst}, {address}")
 }
 
-/// The same of an access of memory.
+/// The same for a memory access.
 fn write_access<A: Allocator>(out: &mut String<A>, insn: Insn) -> Result<(), AllocError>
     requires { IsTrue (is_access insn) }
     ensures { OnOk result (string_bytes out.new ≡ string_bytes out.old ++ operands_text insn) }
@@ -192,8 +192,7 @@ fn write_access<A: Allocator>(out: &mut String<A>, insn: Insn) -> Result<(), All
     }
 }
 
-/// Writes an instruction's line after what was written. Without memory a part of it may stand
-/// there.
+/// Appends an instruction's line. If allocation fails, a part of it may be appended.
 pub fn write_line<A: Allocator>(out: &mut String<A>, insn: Insn) -> Result<(), AllocError>
     ensures { OnOk result (string_bytes out.new ≡ string_bytes out.old ++ line_text insn) }
 {

@@ -5,12 +5,12 @@ ghost use Rattle.bpf_asm.specs.Mnemonics.{name_of, row_named, is_row};
 
 use bpf_insn::{Op, Size, Test, Width};
 
-/// What a mnemonic stands for, by the operands that it takes.
+/// The instructions of a mnemonic. The variants list the operands that it takes.
 #[derive(Clone, Copy, PartialEq, Eq)]
 pub enum Row {
     /// A register, and a register or a number.
     Arith(Op, Width),
-    /// Two registers: the low part of the second, with its sign.
+    /// Two registers. The low part of the second one is sign-extended.
     SignMove(Size, Width),
     /// A register.
     Unary(Op, Width),
@@ -124,7 +124,7 @@ pub const ROWS: [Row; 86] = [
     Row::Exit,
 ];
 
-/// An operation on 64 bits.
+/// The mnemonic of a 64-bit operation.
 fn name64(op: Op) -> &'static str
     ensures { result.now ≡ name_of (Row.Arith op Width.W64) }
 {
@@ -148,7 +148,7 @@ fn name64(op: Op) -> &'static str
     }
 }
 
-/// An operation on 32 bits.
+/// The mnemonic of a 32-bit operation.
 fn name32(op: Op) -> &'static str
     ensures { result.now ≡ name_of (Row.Arith op Width.W32) }
 {
@@ -172,7 +172,7 @@ fn name32(op: Op) -> &'static str
     }
 }
 
-/// A move with a sign.
+/// The mnemonic of a sign-extending move.
 fn sign_move_name(size: Size, width: Width) -> &'static str
     ensures { result.now ≡ name_of (Row.SignMove size width) }
 {
@@ -188,7 +188,7 @@ fn sign_move_name(size: Size, width: Width) -> &'static str
     }
 }
 
-/// An operation without an operand.
+/// The mnemonic of an operation without an operand.
 fn unary_name(op: Op, width: Width) -> &'static str
     ensures { result.now ≡ name_of (Row.Unary op width) }
 {
@@ -213,7 +213,7 @@ fn unary_name(op: Op, width: Width) -> &'static str
     }
 }
 
-/// A load.
+/// The mnemonic of a load.
 fn load_name(size: Size) -> &'static str
     ensures { result.now ≡ name_of (Row.Load size) }
 {
@@ -225,7 +225,7 @@ fn load_name(size: Size) -> &'static str
     }
 }
 
-/// A load with a sign.
+/// The mnemonic of a sign-extending load.
 fn signed_load_name(size: Size) -> &'static str
     ensures { result.now ≡ name_of (Row.LoadSigned size) }
 {
@@ -237,7 +237,7 @@ fn signed_load_name(size: Size) -> &'static str
     }
 }
 
-/// A store of a number.
+/// The mnemonic of a store of a number.
 fn store_number_name(size: Size) -> &'static str
     ensures { result.now ≡ name_of (Row.StoreImm size) }
 {
@@ -249,7 +249,7 @@ fn store_number_name(size: Size) -> &'static str
     }
 }
 
-/// A store of a register.
+/// The mnemonic of a store of a register.
 fn store_name(size: Size) -> &'static str
     ensures { result.now ≡ name_of (Row.Store size) }
 {
@@ -261,7 +261,7 @@ fn store_name(size: Size) -> &'static str
     }
 }
 
-/// A jump by 64 bits.
+/// The mnemonic of a jump on a 64-bit test.
 fn branch_name64(test: Test) -> &'static str
     ensures { result.now ≡ name_of (Row.Branch test Width.W64) }
 {
@@ -280,7 +280,7 @@ fn branch_name64(test: Test) -> &'static str
     }
 }
 
-/// A jump by 32 bits.
+/// The mnemonic of a jump on a 32-bit test.
 fn branch_name32(test: Test) -> &'static str
     ensures { result.now ≡ name_of (Row.Branch test Width.W32) }
 {

@@ -16,7 +16,7 @@ fn position_or_len(bytes: &[u8], at: u8) -> usize
     bytes.len()
 }
 
-/// The text before the first of a byte, and the text after it.
+/// The text before the first byte `at`, and the text after it.
 #[tactic(auto, using(std::proofs::lemmas::List::Splits::slice_split_first))]
 pub fn cut(bytes: &[u8], at: u8) -> (&[u8], Option<&[u8]>)
     ensures parts { MatchOption result.1 (slice_split (λ b. b == at) bytes.now ≡ result.0.now ∷ [])
@@ -32,7 +32,7 @@ pub fn cut(bytes: &[u8], at: u8) -> (&[u8], Option<&[u8]>)
     }
 }
 
-/// Whether a byte is a space or a tab.
+/// Returns true for a space or a tab.
 pub fn margin(b: u8) -> bool
     ensures { result ≡ is_margin b }
 {
@@ -61,7 +61,7 @@ fn trim_back(bytes: &[u8]) -> &[u8]
     &bytes[..n]
 }
 
-/// Without the spaces and tabs at both ends.
+/// Removes the spaces and tabs at both ends.
 #[tactic(auto, unfolding(crate::specs::Text::trimmed))]
 pub fn trim(bytes: &[u8]) -> &[u8]
     ensures { result.now ≡ trimmed bytes.now }

@@ -7,7 +7,7 @@ ghost use Rattle.bpf_asm.specs.Words.{register, is_numeral, numeral, magnitude, 
 
 use crate::fault::FaultKind;
 
-/// The register that is named.
+/// Reads a register.
 pub fn read_register(bytes: &[u8]) -> Option<u8>
     ensures value { result ≡ register bytes.now }
     ensures few { IfSome result (λ r. r ≤ 10) }
@@ -27,7 +27,7 @@ fn is_digit(b: u8, radix: u32) -> bool
     (b as char).is_digit(radix)
 }
 
-/// Whether nothing but digits stands there.
+/// Returns true if all bytes are digits.
 fn only_digits(bytes: &[u8], radix: u32) -> bool
     requires low { 2 ≤ radix }
     requires high { radix ≤ 16 }
@@ -36,7 +36,7 @@ fn only_digits(bytes: &[u8], radix: u32) -> bool
     bytes.iter().all(|b| is_digit(*b, radix))
 }
 
-/// Whether there is a digit, and nothing else.
+/// Returns true if there is at least one byte and all bytes are digits.
 fn are_digits(bytes: &[u8], radix: u32) -> bool
     requires low { 2 ≤ radix }
     requires high { radix ≤ 16 }
@@ -45,7 +45,7 @@ fn are_digits(bytes: &[u8], radix: u32) -> bool
     bytes.len() > 0 && only_digits(bytes, radix)
 }
 
-/// The number that digits write.
+/// Reads the number written by digits.
 #[tactic(auto, unfolding(crate::specs::Words::numeral))]
 fn numeral(bytes: &[u8], radix: u32) -> Result<u64, FaultKind>
     requires low { 2 ≤ radix }
@@ -64,7 +64,7 @@ fn numeral(bytes: &[u8], radix: u32) -> Result<u64, FaultKind>
     }
 }
 
-/// A number without a sign, decimal or hex.
+/// Reads a number without a sign, decimal or hex.
 #[tactic(auto, unfolding(crate::specs::Words::magnitude))]
 fn magnitude(bytes: &[u8]) -> Result<u64, FaultKind>
     ensures { GivesUnlessLarge result (magnitude bytes.now) }
@@ -115,7 +115,7 @@ fn positive16(size: u64) -> Result<i16, FaultKind>
     }
 }
 
-/// A number of 32 bits.
+/// Reads a number of 32 bits.
 #[tactic(auto, unfolding(crate::specs::Words::word, crate::specs::Words::number))]
 pub fn read_word(bytes: &[u8]) -> Result<i32, FaultKind>
     ensures { Gives (λ n. n) result (word bytes.now) }
@@ -126,7 +126,7 @@ pub fn read_word(bytes: &[u8]) -> Result<i32, FaultKind>
     }
 }
 
-/// A number of 64 bits, signed or unsigned.
+/// Reads a number of 64 bits, signed or unsigned.
 #[tactic(auto, unfolding(crate::specs::Words::long, crate::specs::Words::number))]
 pub fn read_long(bytes: &[u8]) -> Result<u64, FaultKind>
     ensures { Gives (λ n. n) result (long bytes.now) }
@@ -141,7 +141,7 @@ pub fn read_long(bytes: &[u8]) -> Result<u64, FaultKind>
     }
 }
 
-/// A sign and a number, of 16 bits.
+/// Reads a sign and a number of 16 bits.
 #[tactic(auto, unfolding(crate::specs::Words::near, crate::specs::Words::distance))]
 pub fn read_near(bytes: &[u8]) -> Result<i16, FaultKind>
     ensures { Gives (λ n. n) result (near bytes.now) }
@@ -153,7 +153,7 @@ pub fn read_near(bytes: &[u8]) -> Result<i16, FaultKind>
     }
 }
 
-/// A sign and a number, of 32 bits.
+/// Reads a sign and a number of 32 bits.
 #[tactic(auto, unfolding(crate::specs::Words::far, crate::specs::Words::distance))]
 pub fn read_far(bytes: &[u8]) -> Result<i32, FaultKind>
     ensures { Gives (λ n. n) result (far bytes.now) }
@@ -192,7 +192,7 @@ fn are_parts(bytes: &[u8]) -> bool
     bytes.iter().all(|b| is_part(*b))
 }
 
-/// Whether the bytes are a label's name.
+/// Returns true if the bytes are a label's name.
 #[tactic(auto, unfolding(crate::specs::Words::is_name))]
 pub fn is_name(bytes: &[u8]) -> bool
     ensures { result ≡ is_name bytes.now }

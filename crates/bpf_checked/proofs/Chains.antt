@@ -1,4 +1,4 @@
--- The machine's steps are those of a chain.
+-- The machine's steps form a chain.
 use Rattle.std.proofs.Common.{ℕ, suc, ◌≡◌, ◌+◌, List, Some, None, refl, arith}
 use Rattle.std.specs.Option.{option_and_then}
 use Rattle.bpf_insn.specs.declared.insn.Insn.{Insn}
@@ -10,14 +10,14 @@ use Rattle.bpf_checked.specs.declared.checked.Checked.{Checked}
 use Rattle.bpf_checked.specs.declared.checked.Checked.TheVariants.{Ended, Stuck}
 use Rattle.bpf_checked.specs.Checked.{Tells, Finishes}
 
--- a step more
+-- one more step
 pub goes_on : (code : List Insn) (n : ℕ) (first c d : Config) (insn next : Insn)
     → Reaches code n first c → fetch code c.place ≡ Some insn → effect insn c ≡ Some d → fetch code d.place ≡ Some next → Reaches code (n + 1) first d
 goes_on code n first c d insn next chain here does there =
     let one : n + 1 ≡ suc n = omega arith in
     rw one (c, chain, rw here (rw does (rw there refl)))
 
--- no step more
+-- no further step
 pub told : (code : List Insn) (bytes argument : List ℕ) (env : Env) (n : ℕ) (c : Config) (insn : Insn) (answer : Checked)
     → Reaches code n (start bytes argument env) c → fetch code c.place ≡ Some insn → option_and_then (arrives code) (effect insn c) ≡ None → Finishes insn c (n + 1) answer
     → Tells code bytes argument env answer c.bytes
@@ -39,7 +39,7 @@ told code bytes argument env n c insn (Stuck at) chain here no_step end = record
   bytes_are = refl;
 }
 
--- no instruction at all
+-- a code without instructions
 pub told_empty : (code : List Insn) (bytes argument : List ℕ) (env : Env) → fetch code 0 ≡ None → Tells code bytes argument env (Stuck 0) bytes
 told_empty code bytes argument env e = record {
   before = 0;

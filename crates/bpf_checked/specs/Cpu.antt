@@ -1,4 +1,4 @@
--- What the machine keeps, as a configuration.
+-- The machine's data as a configuration.
 use Rattle.std.specs.Prelude.{ℕ, ◌≡◌, ◌<◌, List, ◌∷◌, drop, Option, Some, None, MatchOption}
 use Rattle.std.specs.Option.{option_and_then}
 use Rattle.bpf_insn.specs.declared.insn.Insn.{Insn}
@@ -21,22 +21,22 @@ pub record Begins (code : List Insn) (place : ℕ) (insn : Insn) : Type 0 where
   pub has : HasSpelling insn
   pub short : place < unit_limit
 
--- The machine goes on to a unit, if an instruction begins there, and is else as it was.
+-- The machine continues at a unit if an instruction begins there; otherwise it is unchanged.
 abbrev pub GoesTo : List Insn → ℕ → Cpu → Cpu → Option Insn → Type 0
 GoesTo code place old new result =
     MatchOption result
     ((fetch code place ≡ None) × (new ≡ old))
     (λ next. Begins code place next × (new ≡ record old { place = place }))
 
--- An effect that leads to an instruction is done, and the instruction, which stands further down, is given. One
--- that leads to none, or that is not there, leaves the configuration as it is.
+-- If an effect leads to an instruction further down, the effect is done and the instruction returned. Otherwise, or if there is no
+-- effect, the configuration is unchanged.
 abbrev pub Leads : List Insn → Option Config → Config → Config → Option Insn → Type 0
 Leads code reached old new result =
     MatchOption result
     ((option_and_then (arrives code) reached ≡ None) × (new ≡ old))
     (λ next. (reached ≡ Some new) × Begins code new.place next × (old.place < new.place))
 
--- What a helper answers, put into R0 and the reply word, at the same unit; R1 to R5 hold nothing then.
+-- A helper's answer in R0 and the reply word, at the same unit. R1 to R5 are then unset.
 abbrev pub answered_cpu : Answer → Cpu → Cpu
 answered_cpu a cpu = record cpu { registers = Number a.value ∷ Nothing ∷ Nothing ∷ Nothing ∷ Nothing ∷ Nothing ∷ drop 6 cpu.registers; word = a.word }
 

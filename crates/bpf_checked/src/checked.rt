@@ -1,4 +1,4 @@
-//! Whole runs, with each instruction tested.
+//! Whole runs with a test of each instruction.
 
 ghost use Rattle.std.specs.Prelude.{◌≡◌, ◌≤◌, List, ℕ, length};
 ghost use Rattle.bpf_helpers.specs.declared.values.Env.{Env as EnvOf};
@@ -12,16 +12,16 @@ use bpf_helpers::{Ended, Env, Value};
 use bpf_insn::{Code, Insn};
 use std::alloc::Allocator;
 
-/// What comes of a run of any code.
+/// The result of a run of any code.
 #[derive(Clone, Copy, Debug, PartialEq, Eq)]
 pub enum Checked {
     /// The run reached EXIT with a number in R0.
     Ended(Ended),
-    /// The run is stuck at the instruction at this unit, which has no effect.
+    /// The run is stuck at this unit: the instruction there has no effect or leads to no instruction, or the code is empty.
     Stuck(usize),
 }
 
-/// What an instruction that leads nowhere makes of a run: its end, or nothing.
+/// The result of a run at an instruction without a successor: its end if the instruction is EXIT, otherwise stuck.
 fn finished(cpu: &Cpu, insn: Insn, steps: usize) -> Checked
     ensures { (bytes argument : List ℕ) (env : EnvOf) → Finishes insn (config_of cpu.now bytes argument env) steps result }
 {
@@ -37,7 +37,7 @@ fn finished(cpu: &Cpu, insn: Insn, steps: usize) -> Checked
     Checked::Stuck(cpu.place)
 }
 
-/// The same with what the helpers know by value.
+/// Like `run_checked`, with the environment by value.
 fn run_with<A: Allocator>(code: &Code<A>, env: Env, bytes: &mut [u8], argument: &[u8]) -> Checked
     requires bytes_fit { length bytes.old ≤ record_limit }
     requires argument_fits { length argument.now ≤ argument_limit }
@@ -60,10 +60,9 @@ fn run_with<A: Allocator>(code: &Code<A>, env: Env, bytes: &mut [u8], argument: 
     }
 }
 
-/// Runs a code on a record and an argument, with every test that the definition of a step has: the
-/// answer tells how the run ended, or at which unit it is stuck, and no other answer does. The record
-/// is changed in place; where the run is stuck it has what was written so far. The record has at most
-/// 8,008 bytes and the argument 1,024. No memory is taken.
+/// Runs a code on a record and an argument, with every test in the definition of a step. The answer says how the run ended, or at which
+/// unit it is stuck; no other answer is true of the run. The record is changed in place; if the run is stuck, it has the bytes written so
+/// far. The record has at most 8,008 bytes and the argument at most 1,024. Allocates no memory.
 pub fn run_checked<A: Allocator>(
     code: &Code<A>,
     env: &Env,

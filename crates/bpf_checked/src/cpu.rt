@@ -1,4 +1,4 @@
-//! What a running program has beside its record and its argument.
+//! The data of a running program, except its record and its argument.
 
 ghost use Rattle.std.specs.Prelude.{◌≡◌, ℕ, List, ◌<◌, slice_index_or};
 ghost use Rattle.bpf_insn.specs.Code.{unit_limit};
@@ -12,7 +12,7 @@ use bpf_helpers::{Env, Region, Value};
 use bpf_insn::{Code, Insn, Operand};
 use std::alloc::Allocator;
 
-/// What changes in a run, but for the record.
+/// The data that a run changes, except the record.
 #[derive(Clone, Copy)]
 pub struct Cpu {
     /// The unit of the next instruction.
@@ -24,7 +24,7 @@ pub struct Cpu {
 }
 
 impl Cpu {
-    /// What a run starts with.
+    /// The data at the start of a run.
     pub fn start(bytes: &[u8], argument: &[u8]) -> Cpu
         ensures place { result.place ≡ 0 }
         ensures value { (env : EnvOf) → config_of result bytes.now argument.now env ≡ start bytes.now argument.now env }
@@ -49,7 +49,7 @@ impl Cpu {
         }
     }
 
-    /// What a register holds.
+    /// The value of a register.
     pub fn register(&self, r: u8) -> Value
         requires { IsRegister r }
         ensures { result ≡ slice_index_or self.now.registers r Value.Nothing }
@@ -57,7 +57,7 @@ impl Cpu {
         self.registers[r as usize]
     }
 
-    /// What an operand is.
+    /// The value of an operand.
     pub fn operand(&self, operand: Operand) -> Value
         requires { IsOperand operand }
         ensures { (bytes argument : List ℕ) (env : EnvOf) → result ≡ operand_of (config_of self.now bytes argument env) operand }
@@ -68,8 +68,7 @@ impl Cpu {
         }
     }
 
-    /// Goes on to the instruction at a unit, which is given. `None`, with nothing changed, where no
-    /// instruction begins there.
+    /// Moves to the instruction at a unit and returns it. `None`, with nothing changed, if no instruction begins there.
     pub fn go<A: Allocator>(&mut self, code: &Code<A>, place: usize) -> Option<Insn>
         ensures { GoesTo code.now place self.old self.new result }
     {
@@ -78,8 +77,8 @@ impl Cpu {
         Some(next)
     }
 
-    /// Writes a register and goes on to the instruction so many units further, which is given. `None`,
-    /// with nothing changed, where the register is R10 or no instruction begins there.
+    /// Writes a register, moves to the instruction `units` units further and returns it. `None`, with nothing changed, if the register is
+    /// R10 or no instruction begins there.
     pub fn set<A: Allocator>(
         &mut self,
         code: &Code<A>,

@@ -59,7 +59,7 @@ pub fn step_load<A: Allocator>(
     cpu.set(code, 1, dst, Value::Number(x))
 }
 
-/// A load with its sign.
+/// A sign-extending load.
 pub fn step_load_signed<A: Allocator>(
     code: &Code<A>,
     cpu: &mut Cpu,

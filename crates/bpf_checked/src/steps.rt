@@ -1,4 +1,4 @@
-//! One instruction.
+//! The execution of one instruction.
 
 ghost use Rattle.std.specs.Prelude.{◌≤◌, ℕ, List, length, IsTrue};
 ghost use Rattle.bpf_helpers.specs.declared.values.Env.{Env as EnvOf};
@@ -17,7 +17,7 @@ use bpf_helpers::{Env, Value};
 use bpf_insn::{Code, Insn};
 use std::alloc::Allocator;
 
-/// A load, with its sign or without.
+/// A load, sign-extending or not.
 fn step_any_load<A: Allocator>(
     code: &Code<A>,
     cpu: &mut Cpu,
@@ -77,8 +77,8 @@ fn step_any_store<A: Allocator>(
     }
 }
 
-/// Executes an instruction and gives the next one. `None`, with nothing changed, where it has no effect,
-/// or no instruction begins at the unit to which it leads, or it is EXIT.
+/// Executes an instruction and returns the next one. `None`, with nothing changed, if it has no effect, if no instruction begins at its
+/// target, or if it is EXIT.
 pub fn step<A: Allocator>(
     code: &Code<A>,
     cpu: &mut Cpu,

@@ -16,8 +16,7 @@ use bpf_helpers::{Region, Value};
 use bpf_insn::{Code, Insn, Size};
 use std::alloc::Allocator;
 
-/// The low bytes of a number come to an address. Nothing is written before it is known that the next
-/// unit begins an instruction.
+/// Stores the low bytes of a number at an address. Nothing is written unless an instruction begins at the next unit.
 fn store<A: Allocator>(
     code: &Code<A>,
     cpu: &mut Cpu,

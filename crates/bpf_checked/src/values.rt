@@ -1,4 +1,4 @@
-//! What arithmetic and tests make of values.
+//! Arithmetic and tests on values.
 
 ghost use Rattle.std.specs.Prelude.{◌≡◌, ◌+ℤ◌, neg_ℤ};
 ghost use Rattle.bpf_insn.specs.Arithmetic.{result_of};
@@ -17,7 +17,7 @@ fn apply_to_two(op: Op, width: Width, a: Value, b: Value) -> Option<Value>
     }
 }
 
-/// An operation on its operand alone.
+/// An operation that reads only its operand.
 fn apply_to_one(op: Op, width: Width, b: Value) -> Option<Value>
     ensures { result ≡ on_number (result_of op width 0) b }
 {
@@ -27,7 +27,7 @@ fn apply_to_one(op: Op, width: Width, b: Value) -> Option<Value>
     }
 }
 
-/// What was written into a register.
+/// The value of a register that was set. `None` if it is unset.
 fn written(b: Value) -> Option<Value>
     ensures { result ≡ written_value b }
 {
@@ -37,10 +37,10 @@ fn written(b: Value) -> Option<Value>
     }
 }
 
-/// The farthest that a pointer is moved, to either side.
+/// The greatest offset of a pointer, to either side.
 const OFFSET_LIMIT: i64 = 65536;
 
-/// A pointer that was moved, within the limits.
+/// A pointer moved by a number, if its offset stays within the limits.
 fn moved(region: Region, offset: i64, by: i64) -> Option<Value>
     ensures { result ≡ moved_pointer region (offset +ℤ by) }
 {
@@ -51,7 +51,7 @@ fn moved(region: Region, offset: i64, by: i64) -> Option<Value>
     None
 }
 
-/// A pointer that was moved back.
+/// A pointer moved back by a number, if its offset stays within the limits.
 fn moved_back(region: Region, offset: i64, by: i64) -> Option<Value>
     ensures { result ≡ moved_pointer region (offset +ℤ neg_ℤ by) }
 {
@@ -95,7 +95,7 @@ fn difference(a: Value, b: Value) -> Option<Value>
     }
 }
 
-/// What an operation makes of the destination and the operand, where it makes something of them.
+/// The result of an operation on the destination and the operand. `None` if it has none.
 pub fn outcome(op: Op, width: Width, a: Value, b: Value) -> Option<Value>
     ensures { result ≡ outcome_of op width a b }
 {
@@ -108,7 +108,7 @@ pub fn outcome(op: Op, width: Width, a: Value, b: Value) -> Option<Value>
     }
 }
 
-/// Whether the test of a jump holds of two numbers.
+/// The result of a jump's test. `None` unless both are numbers.
 pub fn comparison(test: Test, width: Width, a: Value, b: Value) -> Option<bool>
     ensures { result ≡ comparison_of test width a b }
 {

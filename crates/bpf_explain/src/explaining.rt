@@ -1,4 +1,4 @@
-//! What is told of a program.
+//! The explanation of a program.
 
 ghost use Rattle.std.specs.Prelude.{◌≡◌, IfOk, Some, None};
 ghost use Rattle.std.specs.Option.{option_and_then};
@@ -12,21 +12,21 @@ use bpf_insn::Code;
 use bpf_verify::{Examined, Refused, States, VerifyFault};
 use std::alloc::{AllocError, Allocator, Global};
 
-/// What is told of a program: its instructions, each with what the verifier knows before it, and what is wrong with the last of
-/// them, where it is refused.
+/// The explanation of a program: its instructions, each with what the verifier knows before it, and for a refused program the fault of
+/// the last of these instructions.
 #[derive(Drop)]
 pub struct Explanation<A: Allocator = Global> {
     pub lines: Vec<Line, A>,
     pub fault: Option<VerifyFault>,
-    // The program's text, an instruction a line, and how many units it has.
+    // The program's text, one instruction a line, and its number of units.
     pub(crate) insns: String<A>,
     pub(crate) units: usize,
 }
 
-/// All instructions of an accepted program, each with the state by which it was accepted. What these say is true of each run.
+/// All instructions of an accepted program, each with the state before it. The states are true of each run.
 ///
 /// # Errors
-/// `AllocError` where no memory is left.
+/// `AllocError` if allocation fails.
 pub fn explain_accepted<A: Allocator + Copy>(
     alloc: A,
     examined: &Examined<A>,
@@ -38,10 +38,10 @@ pub fn explain_accepted<A: Allocator + Copy>(
     explained(alloc, examined.code(), examined.states(), None)
 }
 
-/// The instructions of a refused program up to the one at fault, each with the state that the verifier had of it, and the fault.
+/// The instructions of a refused program up to the invalid one, each with the verifier's state before it, and the fault.
 ///
 /// # Errors
-/// `AllocError` where no memory is left.
+/// `AllocError` if allocation fails.
 pub fn explain_refused<A: Allocator + Copy>(
     alloc: A,
     refused: &Refused<A>,
@@ -52,7 +52,7 @@ pub fn explain_refused<A: Allocator + Copy>(
     explained(alloc, &refused.code, &refused.states, Some(refused.fault))
 }
 
-// What is told of a code, its states and its fault.
+// The explanation of a code with its states and its fault.
 fn explained<A: Allocator + Copy>(
     alloc: A,
     code: &Code<A>,

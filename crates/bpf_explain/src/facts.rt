@@ -1,4 +1,4 @@
-//! What is known of registers and lengths, as text.
+//! Prints what is known of registers and lengths.
 
 use crate::reading::registers_read;
 use bpf_insn::Insn;
@@ -6,7 +6,7 @@ use bpf_range::{Bits, Kind, Known, Range};
 use bpf_verify::State;
 use std::alloc::{AllocError, Allocator};
 
-/// What is known of a register.
+/// The kind of a register.
 pub fn kind_of(state: &State, register: u8) -> Kind {
     match state.kinds.get(register as usize) {
         Some(kind) => *kind,
@@ -14,7 +14,7 @@ pub fn kind_of(state: &State, register: u8) -> Kind {
     }
 }
 
-/// A register and what is known of it, as `r6 = 0..255`.
+/// Prints a register and what is known of it, as `r6 = 0..255`.
 pub fn write_fact<A: Allocator>(
     out: &mut String<A>,
     register: u8,
@@ -32,7 +32,7 @@ pub fn write_fact<A: Allocator>(
     }
 }
 
-/// What is known of each register that an instruction reads, with a mark between two of them.
+/// Prints what is known of each register that an instruction reads, separated by `mark`.
 pub fn write_facts<A: Allocator>(
     out: &mut String<A>,
     insn: Insn,
@@ -60,7 +60,8 @@ fn write_length<A: Allocator>(
     out.push_str(")")
 }
 
-/// A place, or the least and the greatest, counted from where a region begins, and on the stack from its end: `record+0..7`.
+/// Prints an offset, or the least and the greatest one, as `record+0..7`. Offsets count from the region's first byte, on the stack from
+/// its end.
 pub fn write_place<A: Allocator>(
     out: &mut String<A>,
     name: &str,
@@ -75,7 +76,7 @@ pub fn write_place<A: Allocator>(
     write!(out, "..{hi}")
 }
 
-/// A number, or the least and the greatest.
+/// Prints a number, or the least and the greatest one.
 pub fn write_range<A: Allocator>(out: &mut String<A>, range: Range) -> Result<(), AllocError> {
     let (lo, hi) = (range.lo, range.hi);
     if lo == hi {
@@ -84,7 +85,7 @@ pub fn write_range<A: Allocator>(out: &mut String<A>, range: Range) -> Result<()
     write!(out, "{lo}..{hi}")
 }
 
-// The numbers of a register: the ends, with their signs where they are negative, and the bits where they say more.
+// Prints what is known of a number: its range, the signed range if all of it is negative, and the known bits if they say more.
 fn write_number<A: Allocator>(out: &mut String<A>, known: Known) -> Result<(), AllocError> {
     let range = known.range();
     if range.lo == 0 && range.hi == u64::MAX {
@@ -107,7 +108,7 @@ fn write_signed<A: Allocator>(out: &mut String<A>, range: Range) -> Result<(), A
     write!(out, " ({lo}..{hi})")
 }
 
-// The bits that are known, where they are more than those of the ends.
+// Prints the known bits if they say more than the range (`plain`).
 fn write_bits<A: Allocator>(
     out: &mut String<A>,
     bits: Bits,

@@ -1,7 +1,7 @@
 //! Why the verifier accepts a program, or refuses it, as a text for people.
 //!
-//! `explain_accepted` and `explain_refused` give a program's instructions, each with what the verifier knows before it; `text` is a
-//! table of them, and after it stands for a refused program one sentence with the register, its bounds and what was needed.
+//! `explain_accepted` and `explain_refused` give a program's instructions, each with what the verifier knows before it; `text` prints
+//! them as a table. For a refused program a sentence follows with the register, its bounds and what was needed.
 #![tactic(auto)]
 
 mod explaining;

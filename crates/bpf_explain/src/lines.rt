@@ -1,4 +1,4 @@
-//! The instructions of a program, each with what is known before it.
+//! The instructions of a program, each with the verifier's state before it.
 
 ghost use Rattle.std.specs.Prelude.{◌≡◌, ◌++◌, suc, IfOk, OnOk};
 ghost use Rattle.std.specs.Option.{option_to_list};
@@ -9,8 +9,8 @@ use bpf_insn::{Code, Insn};
 use bpf_verify::{State, States};
 use std::alloc::{AllocError, Allocator};
 
-/// An instruction, the unit at which it begins, and what is known before it: nothing where no edge leads there, or where the
-/// program's structure is at fault.
+/// An instruction, the unit at which it begins, and the state before it. `state` is `None` if no edge leads to the instruction, or if the
+/// program's structure is invalid.
 #[derive(Clone, Copy, Debug)]
 pub struct Line {
     pub at: usize,
@@ -18,7 +18,7 @@ pub struct Line {
     pub state: Option<State>,
 }
 
-// What is known before the instruction at a unit.
+// The state before the instruction at a unit.
 fn state_at<A: Allocator>(states: &States<A>, at: usize) -> Option<State>
     ensures { result ≡ state_at states.now at }
 {
@@ -37,10 +37,10 @@ fn line_at<A: Allocator>(code: &Code<A>, states: &States<A>, at: usize) -> Optio
     Some(Line { at, insn, state })
 }
 
-/// The instructions that begin before a unit, from the first on.
+/// The instructions that begin before a unit, in order.
 ///
 /// # Errors
-/// `AllocError` where no memory is left.
+/// `AllocError` if allocation fails.
 pub fn lines_below<A: Allocator + Copy>(
     alloc: A,
     code: &Code<A>,
@@ -56,10 +56,10 @@ pub fn lines_below<A: Allocator + Copy>(
     Ok(lines)
 }
 
-/// The instructions that begin no later than at a unit, from the first on.
+/// The instructions that begin at or before a unit, in order.
 ///
 /// # Errors
-/// `AllocError` where no memory is left.
+/// `AllocError` if allocation fails.
 pub fn lines_to<A: Allocator + Copy>(
     alloc: A,
     code: &Code<A>,
@@ -73,7 +73,7 @@ pub fn lines_to<A: Allocator + Copy>(
     Ok(lines)
 }
 
-// Adds a line, where there is one.
+// Adds the line if it is `Some`.
 fn push_line<A: Allocator>(lines: &mut Vec<Line, A>, line: Option<Line>) -> Result<(), AllocError>
     ensures { OnOk result (lines.new.items ≡ lines.old.items ++ option_to_list line) }
 {

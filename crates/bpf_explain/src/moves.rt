@@ -1,4 +1,4 @@
-//! How far a pointer may be moved.
+//! Explains why a pointer move is refused.
 
 use crate::facts::{kind_of, write_fact};
 use bpf_insn::{Insn, Op, Operand};
@@ -6,10 +6,10 @@ use bpf_range::{Kind, Range};
 use bpf_verify::State;
 use std::alloc::{AllocError, Allocator};
 
-/// The least number of 64 bits that is negative where it is read with its sign.
+/// The least 64-bit number whose sign bit is set.
 const NEGATIVE: u64 = 0x8000_0000_0000_0000;
 
-/// What is wrong with a move of a pointer: the number's sign is not known, or the pointer may be moved too far.
+/// Prints why a move of a pointer is refused: the number's sign is not known, or the pointer may be moved too far.
 pub fn write_move<A: Allocator>(
     out: &mut String<A>,
     insn: Insn,
@@ -47,7 +47,7 @@ fn write_operand<A: Allocator>(
     }
 }
 
-// Whether a number may be negative and may be not.
+// Returns true if a number may be negative and may be nonnegative.
 fn has_both_signs(operand: Operand, state: &State) -> bool {
     match operand {
         Operand::Imm(_) => false,
@@ -58,7 +58,7 @@ fn has_both_signs(operand: Operand, state: &State) -> bool {
     }
 }
 
-// The ends of a number.
+// The range of a number.
 fn range_of(kind: Kind, state: &State) -> Range {
     match kind {
         Kind::Num(known) => known.range(),

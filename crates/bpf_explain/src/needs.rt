@@ -1,4 +1,4 @@
-//! What an access needs, and what is there.
+//! Explains why an access is refused: the bytes it needs and the bytes that exist.
 
 use crate::facts::{kind_of, write_fact, write_place};
 use bpf_helpers::memory::count_of;
@@ -7,10 +7,10 @@ use bpf_range::Kind;
 use bpf_verify::State;
 use std::alloc::{AllocError, Allocator};
 
-/// The stack's bytes, counted from its end.
+/// The offsets of the stack's bytes, counted from its end.
 const STACK: (i64, i64) = (-512, -1);
 
-/// An access of so many bytes at a register, which is moved by an offset.
+/// An access of `count` bytes at a register plus `offset`.
 #[derive(Clone, Copy)]
 struct Access {
     base: u8,
@@ -18,7 +18,8 @@ struct Access {
     count: i64,
 }
 
-/// Where an access may lie: its region, from the least first byte to the greatest last one, and the bytes that are known to be there.
+/// The bytes that an access may touch: the region, from the least first byte to the end of the greatest last one. `there` is the number
+/// of bytes that the region is known to have.
 #[derive(Clone, Copy)]
 struct Extent {
     region: &'static str,
@@ -27,7 +28,7 @@ struct Extent {
     there: u64,
 }
 
-// The greatest number of a register.
+// The greatest number that a register may hold.
 fn most(state: &State, register: u8) -> i64 {
     let greatest = match kind_of(state, register) {
         Kind::Num(known) => known.range().hi,
@@ -38,7 +39,7 @@ fn most(state: &State, register: u8) -> i64 {
     i64::try_from(greatest).unwrap_or(i64::MAX)
 }
 
-// An access of an instruction that loads or stores.
+// The access of an instruction that loads or stores.
 fn access_at(size: Size, base: u8, offset: i16) -> [Option<Access>; 2] {
     let access = Access {
         base,
@@ -48,7 +49,7 @@ fn access_at(size: Size, base: u8, offset: i16) -> [Option<Access>; 2] {
     [Some(access), None]
 }
 
-// An access of so many bytes where a register points.
+// An access of `count` bytes at the address in a register.
 fn access_by(base: u8, count: i64) -> Option<Access> {
     Some(Access {
         base,
@@ -57,7 +58,7 @@ fn access_by(base: u8, count: i64) -> Option<Access> {
     })
 }
 
-// The accesses of an instruction, in the order in which they are tested.
+// The accesses of an instruction, in the order of the verifier's tests.
 fn accesses(insn: Insn, state: &State) -> [Option<Access>; 2] {
     match insn {
         Insn::Load {
@@ -92,7 +93,7 @@ fn accesses(insn: Insn, state: &State) -> [Option<Access>; 2] {
     }
 }
 
-// Where an access may lie, if its register is a pointer.
+// The bytes that an access may touch. `None` if its register is not a pointer.
 fn extent_of(access: Access, state: &State) -> Option<Extent> {
     let (region, lo, hi, there) = match kind_of(state, access.base) {
         Kind::Rec { lo, hi } => ("record", lo, hi, state.bytes.lo),
@@ -112,7 +113,7 @@ fn extent_of(access: Access, state: &State) -> Option<Extent> {
     })
 }
 
-// Whether an extent lies in its region, whatever the region's length.
+// Returns true if an extent lies in its region for every possible length of the region.
 fn lies_inside(extent: Extent) -> bool {
     if extent.region == "stack" {
         return extent.first >= STACK.0 && extent.end <= 0;
@@ -121,7 +122,8 @@ fn lies_inside(extent: Extent) -> bool {
     extent.first >= 0 && extent.end <= there
 }
 
-/// What the first access that may lie outside of its region needs, and what is there: `r1+0..7 needs 8 bytes; the record has at least 0`.
+/// Prints the first access that may lie outside its region, with the bytes it needs and those that exist: `r1+0..7 needs 8 bytes; the
+/// record has at least 0`.
 pub fn write_need<A: Allocator>(
     out: &mut String<A>,
     insn: Insn,
@@ -142,7 +144,7 @@ pub fn write_need<A: Allocator>(
     out.push_str("an access lies outside")
 }
 
-// The bytes of an access by its register, and what is known of that one where it is more than where its region begins.
+// Prints the bytes of an access relative to its register, and the register's range unless that is the start of its region.
 fn write_access<A: Allocator>(
     out: &mut String<A>,
     access: Access,

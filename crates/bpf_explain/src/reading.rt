@@ -1,4 +1,4 @@
-//! What an instruction reads, and where it may lead.
+//! The registers that an instruction reads, and its jump target.
 
 use bpf_insn::{Insn, Op, Operand};
 
@@ -10,7 +10,7 @@ fn register_of(operand: Operand) -> Option<u8> {
     }
 }
 
-// Two registers, or the one that both are.
+// Two registers, or one if they are equal.
 fn both(first: u8, second: Option<u8>) -> [Option<u8>; 3] {
     match second {
         Some(register) if register != first => [Some(first), second, None],
@@ -18,7 +18,7 @@ fn both(first: u8, second: Option<u8>) -> [Option<u8>; 3] {
     }
 }
 
-/// The registers that an instruction reads, each once, in the order in which the verifier asks whether they were written.
+/// The registers that an instruction reads, each once, in the order of the verifier's tests.
 pub fn registers_read(insn: Insn) -> [Option<u8>; 3] {
     match insn {
         Insn::Alu {
@@ -41,7 +41,7 @@ pub fn registers_read(insn: Insn) -> [Option<u8>; 3] {
     }
 }
 
-/// How far an instruction may jump from the unit after it, where it may.
+/// The jump distance of an instruction, in units from the next unit. `None` if it does not jump.
 pub fn distance_of(insn: Insn) -> Option<i64> {
     match insn {
         Insn::Branch { offset, .. } => Some(offset as i64),
@@ -51,7 +51,7 @@ pub fn distance_of(insn: Insn) -> Option<i64> {
     }
 }
 
-/// The unit to which an instruction may jump.
+/// The target unit of a jump. It may be negative or past the end. `None` if the instruction does not jump.
 pub fn target_of(at: usize, insn: Insn) -> Option<i64> {
     let distance = distance_of(insn)?;
     let own = i64::try_from(at).ok()?;

@@ -1,4 +1,4 @@
-//! What is wrong with an instruction, as a sentence.
+//! Prints why an instruction is refused, as a sentence.
 
 use crate::facts::{kind_of, write_fact, write_facts};
 use crate::lines::Line;
@@ -11,7 +11,7 @@ use bpf_range::Kind;
 use bpf_verify::{State, VerifyFault};
 use std::alloc::{AllocError, Allocator};
 
-/// The sentence of the fault of an instruction, which has this text, in a program with so many units.
+/// Prints the sentence for a fault of the instruction with this text, in a program of `units` units.
 pub fn write_sentence<A: Allocator>(
     out: &mut String<A>,
     fault: VerifyFault,
@@ -44,7 +44,7 @@ pub fn write_sentence<A: Allocator>(
     }
 }
 
-// The first register that an instruction reads, and what is known of it.
+// Prints the first register that an instruction reads, and what is known of it.
 fn write_first<A: Allocator>(
     out: &mut String<A>,
     insn: Insn,
@@ -54,7 +54,7 @@ fn write_first<A: Allocator>(
     write_fact(out, first.unwrap_or(0), state)
 }
 
-// The first register that is read and may be unset.
+// Prints the first register that is read and may be unset.
 fn write_unset<A: Allocator>(
     out: &mut String<A>,
     insn: Insn,
@@ -71,7 +71,7 @@ fn write_unset<A: Allocator>(
     out.push_str("a register is read that may be unset")
 }
 
-// Why a register may be unset: a call takes R1 to R5.
+// The reasons for which a register may be unset. A call unsets R1 to R5.
 fn reason_unset(register: u8) -> &'static str {
     match register {
         1..=5 => {
@@ -81,7 +81,7 @@ fn reason_unset(register: u8) -> &'static str {
     }
 }
 
-// What a helper takes.
+// Prints the arguments that a helper takes.
 fn write_call<A: Allocator>(
     out: &mut String<A>,
     insn: Insn,
@@ -108,7 +108,7 @@ fn is_pointer(kind: Kind) -> bool {
     )
 }
 
-// The register of an address.
+// Prints the address register.
 fn write_address<A: Allocator>(
     out: &mut String<A>,
     insn: Insn,
@@ -120,7 +120,7 @@ fn write_address<A: Allocator>(
     write_fact(out, base, state)
 }
 
-// The register that is stored.
+// Prints the stored register.
 fn write_stored<A: Allocator>(
     out: &mut String<A>,
     insn: Insn,
@@ -134,7 +134,7 @@ fn write_stored<A: Allocator>(
     write_fact(out, register, state)
 }
 
-// What an operation takes, by the first word of the instruction's text.
+// Prints the operands that an operation takes. The operation is the first word of the instruction's text.
 fn write_operation<A: Allocator>(
     out: &mut String<A>,
     insn: Insn,

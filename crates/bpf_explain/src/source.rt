@@ -1,12 +1,11 @@
-//! In which lines of a program's text its instructions stand.
+//! Finds the lines of a program's text that have instructions.
 
 use std::alloc::{AllocError, Allocator};
 
-/// The numbers of the lines of an assembled text that have an instruction, counted from 1: the text's first instruction stands in the
-/// first of them, and so on.
+/// The numbers of the lines of an assembled text that have an instruction, in order, counted from 1.
 ///
 /// # Errors
-/// `AllocError` where no memory is left.
+/// `AllocError` if allocation fails.
 pub fn instruction_lines<A: Allocator>(alloc: A, text: &str) -> Result<Vec<usize, A>, AllocError> {
     let mut numbers = Vec::new(alloc);
     for (at, line) in text.lines().enumerate() {
@@ -17,7 +16,7 @@ pub fn instruction_lines<A: Allocator>(alloc: A, text: &str) -> Result<Vec<usize
     Ok(numbers)
 }
 
-// Whether a line of a text that was assembled is neither blank nor a label: no operand ends with a colon.
+// Returns true if a line of an assembled text is neither blank nor a label. Operands never end with a colon.
 fn has_instruction(line: &str) -> bool {
     let body = match line.split_once(';') {
         Some((body, _)) => body,

@@ -1,4 +1,4 @@
-//! What is wrong with a program's structure, as a sentence.
+//! Prints why a program's structure is refused, as a sentence.
 
 use crate::lines::Line;
 use crate::reading::{distance_of, target_of};
@@ -6,7 +6,7 @@ use bpf_insn::Insn;
 use bpf_verify::VerifyFault;
 use std::alloc::{AllocError, Allocator};
 
-/// The sentence of a fault of the structure, of a program with so many units.
+/// Prints the sentence for a fault of the structure, in a program of `units` units.
 pub fn write_structure<A: Allocator>(
     out: &mut String<A>,
     fault: VerifyFault,

@@ -10,16 +10,16 @@ use bpf_range::Range;
 use bpf_verify::State;
 use std::alloc::{AllocError, Allocator};
 
-/// How wide a range of lengths is.
+/// Width of a range of lengths, in columns.
 const RANGE_WIDTH: usize = 10;
 
-/// How wide an instruction is, mostly.
+/// Usual width of an instruction, in columns.
 const INSN_WIDTH: usize = 20;
 
-/// How wide a row may be.
+/// Maximum width of a row, in columns.
 const ROW_WIDTH: usize = 100;
 
-// Spaces up to a width, and two.
+// Pads with spaces to a width, then adds two spaces.
 fn pad<A: Allocator>(out: &mut String<A>, start: usize, width: usize) -> Result<(), AllocError> {
     let used = out.len().saturating_sub(start);
     for _ in used..width {
@@ -28,7 +28,7 @@ fn pad<A: Allocator>(out: &mut String<A>, start: usize, width: usize) -> Result<
     out.push_str("  ")
 }
 
-// A range of lengths, or a mark where none is known.
+// Prints a range of lengths, or `-` if none is known.
 fn write_bounds<A: Allocator>(out: &mut String<A>, range: Option<Range>) -> Result<(), AllocError> {
     let start = out.len();
     match range {
@@ -38,7 +38,7 @@ fn write_bounds<A: Allocator>(out: &mut String<A>, range: Option<Range>) -> Resu
     pad(out, start, RANGE_WIDTH)
 }
 
-// What is known of each register that an instruction reads, and where it may jump.
+// Prints what is known of each register that an instruction reads, and its jump target.
 fn reads_of<A: Allocator>(alloc: A, line: &Line) -> Result<String<A>, AllocError> {
     let mut out = String::new(alloc);
     let Some(state) = &line.state else {
@@ -53,7 +53,7 @@ fn reads_of<A: Allocator>(alloc: A, line: &Line) -> Result<String<A>, AllocError
     Ok(out)
 }
 
-// The last column of a row, which may go on in lines below, and where in the text its present line begins.
+// The last column of a row, which may continue on further lines. The current line begins at `line` in the text.
 #[derive(Clone, Copy)]
 struct Column {
     indent: usize,
@@ -61,7 +61,7 @@ struct Column {
 }
 
 impl Column {
-    // A space before so many bytes, or a new line where the present one has no room for them and a semicolon.
+    // Adds a space if `more` bytes and a semicolon fit on the current line, otherwise a new line.
     fn space<A: Allocator>(&mut self, out: &mut String<A>, more: usize) -> Result<(), AllocError> {
         let used = out.len().saturating_sub(self.line);
         if used.saturating_add(more) < ROW_WIDTH - 1 {
@@ -76,7 +76,7 @@ impl Column {
     }
 }
 
-// What is known, in the last column of a row that begins at `row`. A fact for which a line has no room begins the next one, in the
+// Prints what is known in the last column of a row that begins at `row`. A fact that does not fit on a line begins the next one, in the
 // column `indent`.
 fn write_facts_in<A: Allocator>(
     out: &mut String<A>,
@@ -100,7 +100,7 @@ fn write_facts_in<A: Allocator>(
     Ok(())
 }
 
-// What is known before an instruction, in the columns after its numbers: its text stands among them. The row begins at `row`.
+// Prints the columns after an instruction's numbers: its text and what is known before it. The row begins at `row`.
 fn write_known<A: Allocator + Copy>(
     alloc: A,
     out: &mut String<A>,
@@ -121,13 +121,13 @@ fn write_known<A: Allocator + Copy>(
     write_facts_in(out, row, indent, known.as_str())
 }
 
-// Whether an instruction reads a register.
+// Returns true if an instruction reads a register.
 fn reads(line: &Line) -> bool {
     let [first, _, _] = registers_read(line.insn);
     first.is_some()
 }
 
-// The unit of an instruction, and the line of the text in which it stands.
+// Prints the unit of an instruction and its line number in the text.
 fn write_numbers<A: Allocator>(
     out: &mut String<A>,
     line: &Line,
@@ -160,14 +160,14 @@ impl<A: Allocator + Copy> Explanation<A> {
         }
     }
 
-    /// The explanation as a text without a line feed at its end. Each line has an instruction with its unit, in which line of the source it stands, where that is
-    /// given, the lengths that record and argument may have before it, and what is known of each register that it reads. Of a refused
-    /// program the last line says what was needed; where its structure is at fault, the text says nothing of registers and lengths.
+    /// The explanation as a text without a line feed at its end. Each line has an instruction with its unit, its line number in the
+    /// source (if given), the possible lengths of record and argument before it, and what is known of each register that it reads. For a
+    /// refused program the last line says what was needed. If its structure is invalid, the text says nothing of registers and lengths.
     ///
-    /// The source is the text of which the program was assembled.
+    /// `source` is the program's text as it was assembled.
     ///
     /// # Errors
-    /// `AllocError` where no memory is left.
+    /// `AllocError` if allocation fails.
     pub fn text(&self, alloc: A, source: Option<&str>) -> Result<String<A>, AllocError> {
         let mut out = String::new(alloc);
         let numbers = match source {
@@ -188,11 +188,11 @@ impl<A: Allocator + Copy> Explanation<A> {
         Ok(out)
     }
 
-    /// What is wrong with a refused program, in one sentence with the unit of the instruction and its line, and nothing of an
-    /// accepted one. The source is the text of which the program was assembled.
+    /// Why a refused program is refused: one sentence with the instruction's unit and its line. Empty for an accepted program.
+    /// `source` is the program's text as it was assembled.
     ///
     /// # Errors
-    /// `AllocError` where no memory is left.
+    /// `AllocError` if allocation fails.
     pub fn refusal(&self, alloc: A, source: Option<&str>) -> Result<String<A>, AllocError> {
         let mut out = String::new(alloc);
         let numbers = match source {
@@ -204,7 +204,7 @@ impl<A: Allocator + Copy> Explanation<A> {
     }
 }
 
-// The number of the source's line with the instruction of an index.
+// The source line of the instruction at an index.
 fn number_at<A: Allocator>(numbers: &Option<Vec<usize, A>>, index: usize) -> Option<usize> {
     match numbers {
         Some(numbers) => numbers.get(index).copied(),
@@ -213,7 +213,7 @@ fn number_at<A: Allocator>(numbers: &Option<Vec<usize, A>>, index: usize) -> Opt
 }
 
 impl<A: Allocator> Explanation<A> {
-    // Whether what is known stands beside the instructions: the structure is tested before anything is.
+    // Returns true if the instructions have states. A program whose structure is invalid has none.
     fn has_states(&self) -> bool {
         self.lines.iter().any(|line| line.state.is_some())
     }
@@ -236,7 +236,7 @@ impl<A: Allocator> Explanation<A> {
         out.push_str("instruction")
     }
 
-    // The sentence that says what is wrong with the last instruction.
+    // Prints the sentence that says why the last instruction is refused.
     fn write_refusal(
         &self,
         out: &mut String<A>,

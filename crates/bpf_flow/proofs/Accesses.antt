@@ -1,4 +1,4 @@
--- Accesses that lie inside.
+-- Accesses inside their regions.
 use Rattle.std.proofs.Common.{◌≡◌, ℕ, ◌+◌, ◌≤◌, length, ℤ, pos, negsuc, refl, arith}
 use Rattle.std.specs.Prelude.{◌+ℤ◌, ◌≤ℤ◌, IsSome}
 use Rattle.std.proofs.lemmas.Int.{ints}

@@ -1,4 +1,4 @@
--- Each form of instruction, from what is known before it.
+-- Each form of instruction, with the state before it.
 use Rattle.std.proofs.Common.{ℤ, ◌≡◌, ◌≢◌, ℕ, ◌+◌, ◌<◌, ◌≤◌, length, refl, ap, ◌∙◌, arith, List, Option, Some, None, ⊎_elim, inl, inr, cond}
 use Rattle.std.specs.Prelude.{slice_set, slice_index_or}
 use Rattle.std.specs.Option.{option_and_then}
@@ -23,12 +23,12 @@ use Rattle.bpf_flow.specs.Kinds.{HoldsKind, KindKeeps}
 use Rattle.bpf_flow.specs.States.{Fits, IsConfig}
 use Rattle.bpf_flow.specs.Steps.{Gives, Passes, Sets, Flows, HasNext, IsAccess}
 
--- a kept value
+-- a value of a kind
 pub kept : (k : Kind) (m n : ℕ) (o : Option Value) → KindKeeps k m n o → (v : Value) × (o ≡ Some v) × HoldsKind k m n v
 kept k m n None h = absurd h
 kept k m n (Some v) h = (v, refl, h)
 
--- the kinds, with one changed, hold the registers, with one changed
+-- changing one kind and the register's value preserves `HoldsKind`
 set_holds : (kinds : List Kind) (registers : List Value) (r : ℕ) (k : Kind) (v : Value) (m n : ℕ) → length kinds ≡ 11 → length registers ≡ 11 → r < 11 → HoldsKind k m n v
     → ((q : ℕ) → q < 11 → HoldsKind (slice_index_or kinds q Unset) m n (slice_index_or registers q Nothing))
     → (q : ℕ) → q < 11 → HoldsKind (slice_index_or (slice_set kinds r k) q Unset) m n (slice_index_or (slice_set registers r v) q Nothing)
@@ -43,7 +43,7 @@ set_holds kinds registers r k v m n lk lr h held before q below = ⊎_elim
     rw (a, b) (before q below))
     (cases_eq q r)
 
--- a register is written
+-- writing a register
 pub writes : (s t : State) (k : Kind) (r u : ℕ) (c : Config) (v : Value) → Sets s t r k → r ≤ 10 → r ≢ 10 → IsConfig c → Fits s c → HoldsKind k (length c.bytes) (length c.argument) v
     → (d : Config) × (with_register c u r v ≡ Some d) × (d.place ≡ c.place + u) × Fits t d
 writes s t k r u c v set low ne config f held =
@@ -76,7 +76,7 @@ wide_passes r n s t k set low ne held = λ c config f.
     let d = writes s t (Num k) r 2 c (Number n) set low ne config f held in
     (d.0, d.1, d.2, d.3)
 
--- an instruction that goes on to the next one alone
+-- an instruction that continues only at the next one
 pub flows : (i : Insn) (s t : State) → HasNext i → Passes i s t → Flows i s (record { next = Some t; jump = None })
 flows i s t has passes = record {
   sound = λ c config f. let d = passes c config f in inr (d.0, d.1, inl (d.2, d.3));

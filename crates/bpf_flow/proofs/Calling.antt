@@ -1,4 +1,4 @@
--- Calls, from what is known before them.
+-- Calls, with the state before them.
 use Rattle.std.proofs.Common.{◌≡◌, ℕ, ℤ, pos, ◌+◌, ◌≤◌, length, take, drop, refl, ap, ◌∙◌, arith, Some, None, cond, lit<}
 use Rattle.std.specs.Prelude.{IsSome, ◌+ℤ◌}
 use Rattle.std.specs.Option.{option_and_then, option_map}
@@ -27,7 +27,7 @@ call_passes id h s t is called = λ c config f.
     let d = called c config f in
     (d.0, ap (option_and_then (helper_call c)) is ∙ d.1, d.2, d.3)
 
--- after a call that gives one of these numbers a state fits
+-- a state fits after a call whose result is one of these numbers
 pub record Answers (s t : State) (k : Known) : Type 0 where
   pub by : (c : Config) (a : Answer) → Fits s c → Contains k a.value → Fits t (after_answer a c)
 

@@ -15,7 +15,7 @@ use Rattle.bpf_flow.specs.Kinds.{HoldsKind}
 use Rattle.bpf_flow.specs.declared.state.State.{State}
 use Rattle.bpf_flow.specs.States.{Fits}
 
--- each value of the kind a is one of the kind r, where the lengths are in the ranges
+-- each value of the kind a is one of the kind r if the lengths are in the ranges
 pub record Wider (bytes argument : Range) (a r : Kind) : Type 0 where
   pub by : (m n : ℕ) (v : Value) → In bytes m → In argument n → HoldsKind a m n v → HoldsKind r m n v
 

@@ -1,4 +1,4 @@
--- Jumps, from what is known before them.
+-- Jumps, with the state before them.
 use Rattle.std.proofs.Common.{◌≡◌, ℕ, ℤ, pos, negsuc, ◌+◌, ◌%◌, length, refl, sym, ap, ◌∙◌, arith, Option, Some, None, inl, inr, Bool, true, false}
 use Rattle.std.specs.Prelude.{◌⊎◌, IsSome, IsSomeAnd, ◌≤ℤ◌}
 use Rattle.std.specs.Int.{w64, cast_unsigned}
@@ -28,7 +28,7 @@ cut_once : (w : Width) (n : ℕ) → n % modulus w % modulus w ≡ n % modulus w
 cut_once W32 n = omega arith
 cut_once W64 n = omega arith
 
--- of an immediate a test takes the low bits of its width, and nothing else
+-- a test reads only the low bits of an immediate, by its width
 takes_tested : (t : Test) (w : Width) (v : Value) (c : Config) (o : Operand) → comparison_of t w v (operand c o) ≡ comparison_of t w v (tested w c o)
 takes_tested t w Nothing c o = refl
 takes_tested t w (Number a) c (Imm k) = ap (λ (x : ℕ). Some (comparison t w (a % modulus w) x)) (sym (cut_once w (cast_unsigned w64 k)))
@@ -69,7 +69,7 @@ branch_sound t w r o off s e a b forward first second next jump = λ c config f.
         let k : (k : ℕ) × (off ≡ pos k) = natural off forward in
         inr (record c { place = c.place + 1 + k.0 }, ap (option_and_then (λ z. branch_by z off c)) (takes_tested t w (register c r) c o ∙ h) ∙ ap (λ z. jump_by z c) k.1, inr (k.0, k.1, refl, fits_some e.jump c (record c { place = c.place + 1 + k.0 }) refl refl refl (jump c f x y h)))
 
--- a conditional jump has both edges
+-- a conditional jump may have both edges
 pub branch_flows : (t : Test) (w : Width) (r : ℕ) (o : Operand) (off : ℤ) (s : State) (e : Edges) → Sound (Branch t w r o off) s e → Flows (Branch t w r o off) s e
 branch_flows t w r o off s e sound = record { sound = sound; next = λ _. tt; jump = λ _. tt }
 

@@ -1,4 +1,4 @@
--- Loads and stores, from what is known before them.
+-- Loads and stores, with the state before them.
 use Rattle.std.proofs.Common.{◌≡◌, ◌≢◌, ℕ, ℤ, zero, suc, ◌+◌, ◌*◌, ◌^◌, ◌%◌, ◌<◌, ◌≤◌, length, drop, refl, sym, ap, ◌∙◌, arith, List, [], ◌∷◌, Option, Some, None, lit<}
 use Rattle.std.specs.Prelude.{slice_index, IsSome, ◌+ℤ◌}
 use Rattle.std.specs.Option.{option_and_then, option_map}
@@ -26,7 +26,7 @@ use Rattle.bpf_flow.specs.States.{Fits, IsConfig, kind_in}
 use Rattle.bpf_flow.specs.Steps.{Passes, Sets, Reaching, Accesses}
 use Rattle.bpf_flow.proofs.Arms.{writes}
 
--- pointers of a kind, with accesses that are inside, reach
+-- a register with pointers of a kind, all of whose accesses are inside, reaches the region
 pub reaches : (s : State) (a : ℕ) (off : ℤ) (n : ℕ) (q : Region) (lo hi : ℤ) → a ≤ 10
     → ((m l : ℕ) (v : Value) → HoldsKind (kind_in s a) m l v → IsPointer q (Between lo hi) v)
     → Accesses q lo hi s off n → Reaching s a off n q
@@ -55,7 +55,7 @@ contents_bytes c Record h = h.are_bytes
 contents_bytes c Argument h = h.are_argument
 contents_bytes c Stack h = h.are_stack
 
--- an access that is inside has a place
+-- an access inside its region has a place
 pub found : (o : Option ℕ) → IsSome o → (p : ℕ) × (o ≡ Some p)
 found None h = let e : ⊥ = cc in absurd e
 found (Some p) h = (p, refl)
@@ -103,7 +103,7 @@ load_signed_passes size r a off q s t k set low ne all reach = λ c config f.
 
 -- ---- stores
 
--- what keeps registers and lengths fits as before
+-- a state still fits if registers and lengths are unchanged
 pub same_fits : (s : State) (c d : Config) → d.registers ≡ c.registers → length d.bytes ≡ length c.bytes → length d.argument ≡ length c.argument → Fits s c → Fits s d
 same_fits s c d r b a f = record {
   kinds = λ q h. rw (r, b, a) (f.kinds q h);
@@ -111,7 +111,7 @@ same_fits s c d r b a f = record {
   argument = rw a f.argument;
 }
 
--- bytes are written, and nothing that a state speaks of changes
+-- writing bytes changes nothing that a state describes
 pub record Written (s : State) (c : Config) (q : Region) (p : ℕ) (new : List ℕ) : Type 0 where
   pub next : Config
   pub is : with_contents c q p new ≡ Some next

@@ -26,7 +26,7 @@ moved_is r z h k = cond-true (int_le (neg_ℤ (pos 65536)) z && int_le z (pos 65
 pub not_below : (a b : ℤ) → lt_z a b ≡ false → b ≤ℤ a
 not_below a b h = grind (arith, ints)
 
--- each of these pointers that is moved by a number is of the kind k
+-- each of these pointers, moved by a number, is of the kind k
 pub record Moves (r : Region) (lo hi : ℤ) (number : Known) (by : ℕ → ℤ) (k : Kind) : Type 0 where
   pub each : (m n : ℕ) (o : ℤ) (x : ℕ) → Between lo hi o → Contains number x → KindKeeps k m n (moved_pointer r (o +ℤ by x))
 
@@ -51,7 +51,7 @@ minus r lo hi number k mv m n (Pointer q o) Nothing p s = absurd s
 minus r lo hi number k mv m n (Pointer q o) (Number z) p s = rw p.0 (mv.each m n o z p.1 s)
 minus r lo hi number k mv m n (Pointer q o) (Pointer a b) p s = absurd s
 
--- numbers are added and subtracted as numbers
+-- sums of numbers are numbers
 pub numbers_sum : (k : Kind) (m n : ℕ) (x y : Value) → KindKeeps k m n (on_numbers (result_of Add W64) x y) → KindKeeps k m n (sum_of x y)
 numbers_sum k m n Nothing y h = absurd h
 numbers_sum k m n (Number a) Nothing h = absurd h
@@ -66,7 +66,7 @@ numbers_difference k m n (Number a) (Number b) h = h
 numbers_difference k m n (Number a) (Pointer r o) h = absurd h
 numbers_difference k m n (Pointer r o) y h = absurd h
 
--- what a function gives of two numbers of sets
+-- the result of a function on two numbers of sets
 pub of_two : (f : ℕ → ℕ → ℕ) (a b : Known) (k : Kind) (m n : ℕ) (x y : Value) → ((u v : ℕ) → Contains a u → Contains b v → HoldsKind k m n (Number (f u v))) → IsNumber (Contains a) x → IsNumber (Contains b) y → KindKeeps k m n (on_numbers f x y)
 of_two f a b k m n Nothing y h p q = absurd p
 of_two f a b k m n (Number u) Nothing h p q = absurd q

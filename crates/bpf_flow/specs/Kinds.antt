@@ -1,4 +1,4 @@
--- What a register of a kind may hold.
+-- The values that a register of a kind may hold.
 use Rattle.std.specs.Prelude.{ℕ, ◌≡◌, ℤ, ◌≤ℤ◌, ⊤, Option, Some, None}
 use Rattle.bpf_helpers.specs.declared.values.Region.{Region}
 use Rattle.bpf_helpers.specs.declared.values.Region.TheVariants.{Record, Argument, Stack as StackBytes}
@@ -11,19 +11,19 @@ use Rattle.bpf_range.specs.declared.kinds.Kind.TheVariants.{Unset, Num, RecLen, 
 abbrev pub Between : ℤ → ℤ → ℤ → Type 0
 Between lo hi z = (lo ≤ℤ z) × (z ≤ℤ hi)
 
--- a number of which P holds
+-- a number with the property P
 abbrev pub IsNumber : (ℕ → Type 0) → Value → Type 0
 IsNumber P Nothing = ⊥
 IsNumber P (Number x) = P x
 IsNumber P (Pointer r o) = ⊥
 
--- a pointer into the region with an offset of which P holds
+-- a pointer into the region with an offset that has the property P
 abbrev pub IsPointer : Region → (ℤ → Type 0) → Value → Type 0
 IsPointer q P Nothing = ⊥
 IsPointer q P (Number x) = ⊥
 IsPointer q P (Pointer r o) = (r ≡ q) × P o
 
--- The value is one of the kind, where the record has m bytes and the argument n. Anything is Unset.
+-- The value is one of the kind if the record has m bytes and the argument n. Every value is one of the kind Unset.
 abbrev pub HoldsKind : Kind → ℕ → ℕ → Value → Type 0
 HoldsKind Unset m n v = ⊤
 HoldsKind (Num k) m n v = IsNumber (Contains k) v

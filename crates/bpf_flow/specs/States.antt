@@ -1,4 +1,4 @@
--- What is known before an instruction, and which configurations fit it.
+-- The state before an instruction, and the configurations that fit it.
 use Rattle.std.specs.Prelude.{ℕ, ◌≡◌, ◌<◌, ◌^◌, length, slice_index_or}
 use Rattle.bpf_range.specs.declared.kinds.Kind.{Kind}
 use Rattle.bpf_range.specs.declared.kinds.Kind.TheVariants.{Unset}
@@ -8,7 +8,7 @@ use Rattle.bpf_helpers.specs.Runs.{AreBytes}
 use Rattle.bpf_flow.specs.declared.state.State.{State}
 use Rattle.bpf_flow.specs.Kinds.{HoldsKind}
 
--- What holds of every configuration of a run.
+-- The properties of each configuration of a run.
 pub record IsConfig (c : Config) : Type 0 where
   pub eleven : length c.registers ≡ 11
   pub stack_fits : length c.stack ≡ stack_size
@@ -22,8 +22,7 @@ pub record IsConfig (c : Config) : Type 0 where
 abbrev pub kind_in : State → ℕ → Kind
 kind_in s r = slice_index_or s.kinds r Unset
 
--- A configuration is one of those that a state stands for: each register holds a value of its kind, and the
--- lengths are in their ranges.
+-- A configuration fits a state: each register holds a value of its kind, and the lengths are in their ranges.
 pub record Fits (s : State) (c : Config) : Type 0 where
   pub kinds : (r : ℕ) → r < 11 → HoldsKind (kind_in s r) (length c.bytes) (length c.argument) (register c r)
   pub bytes : In s.bytes (length c.bytes)

@@ -1,4 +1,4 @@
--- What an instruction makes of what is known.
+-- The effect of an instruction on a state.
 use Rattle.std.specs.Prelude.{ℕ, ◌≡◌, ◌≢◌, ◌≤◌, ◌+◌, ◌⊎◌, ℤ, pos, ◌+ℤ◌, ◌≤ℤ◌, ⊤, length, slice_set, Option, Some, None, IsSome}
 use Rattle.bpf_insn.specs.declared.insn.Insn.{Insn}
 use Rattle.bpf_insn.specs.declared.insn.Insn.TheVariants.{Alu, Unary, Branch, Jump, JumpFar, Call, Exit, Load, LoadSigned, StoreImm, Store, Wide}
@@ -21,7 +21,7 @@ use Rattle.bpf_flow.specs.States.{Fits, IsConfig}
 abbrev pub Gives : (Value → Value → Option Value) → Kind → Kind → Range → Range → Kind → Type 0
 Gives f a b bytes argument k = (m n : ℕ) (x y : Value) → In bytes m → In argument n → HoldsKind a m n x → HoldsKind b m n y → KindKeeps k m n (f x y)
 
--- t is s with a register's kind changed
+-- t is s with one register's kind changed
 pub record Sets (s t : State) (r : ℕ) (k : Kind) : Type 0 where
   pub long : length s.kinds ≡ 11
   pub kinds : t.kinds ≡ slice_set s.kinds r k
@@ -30,11 +30,11 @@ pub record Sets (s t : State) (r : ℕ) (k : Kind) : Type 0 where
 
 -- ---- memory
 
--- each access of up to so many bytes at a pointer between two is inside its region
+-- each access of up to `size` bytes at a pointer with an offset from lo to hi is inside its region
 abbrev pub Accesses : Region → ℤ → ℤ → State → ℤ → ℕ → Type 0
 Accesses r lo hi s off size = (c : Config) → IsConfig c → Fits s c → (o : ℤ) (n : ℕ) → Between lo hi o → n ≤ size → IsSome (access c r (o +ℤ off) n)
 
--- a register points into a region, and each access of so many bytes at it is inside
+-- a register points into a region, and each access of n bytes at it is inside
 abbrev pub Reaching : State → ℕ → ℤ → ℕ → Region → Type 0
 Reaching s a off n q = (c : Config) → IsConfig c → Fits s c → IsPointer q (λ o. IsSome (access c q (o +ℤ off) n)) (register c a)
 
@@ -46,14 +46,14 @@ IsAccess (StoreImm n b off k) = ⊤
 IsAccess (Store n b off s) = ⊤
 IsAccess i = ⊥
 
--- all but conditional jumps
+-- all instructions except conditional jumps
 abbrev pub IsPlain : Insn → Type 0
 IsPlain (Branch t w d s off) = ⊥
 IsPlain i = ⊤
 
 -- ---- edges
 
--- the ways that go on to the next instruction, and those that jump
+-- the ways that continue at the next instruction, and those that jump
 abbrev pub GoesNext : Way → Type 0
 GoesNext way.Next = ⊤
 GoesNext way.Both = ⊤
@@ -64,23 +64,25 @@ GoesJump way.Jump = ⊤
 GoesJump way.Both = ⊤
 GoesJump w = ⊥
 
--- What is known on the edge to the next instruction, and on that of the jump: nothing on one that is never taken.
+-- The states on the edge to the next instruction and on the edge of the jump. An edge that is never taken has
+-- no state.
 pub record Edges : Type 0 where
   pub next : Option State
   pub jump : Option State
 
--- The edges of a way: what is known where it goes on alone, or on both, the second that of the jump.
+-- The edges of a way. The first state is that of the only edge, or of the edge to the next instruction; the
+-- second is that of the jump.
 abbrev pub edges_of : Way → State → State → Edges
 edges_of way.End s t = record { next = None; jump = None }
 edges_of way.Next s t = record { next = Some s; jump = None }
 edges_of way.Jump s t = record { next = None; jump = Some s }
 edges_of way.Both s t = record { next = Some s; jump = Some t }
 
--- From each configuration that fits s the instruction goes on to the next one, and t fits there.
+-- From each configuration that fits s the instruction continues at the next one, and t fits there.
 abbrev pub Passes : Insn → State → State → Type 0
 Passes i s t = (c : Config) → IsConfig c → Fits s c → (d : Config) × (effect i c ≡ Some d) × (d.place ≡ c.place + units_of i) × Fits t d
 
--- From each configuration that fits s a call of the helper goes on, and t fits after it.
+-- From each configuration that fits s a call of the helper continues, and t fits after it.
 abbrev pub IsCalled : Helper → State → State → Type 0
 IsCalled h s t = (c : Config) → IsConfig c → Fits s c → (d : Config) × (helper_call c h ≡ Some d) × (d.place ≡ c.place + 1) × Fits t d
 
@@ -88,26 +90,26 @@ abbrev pub FitsSome : Option State → Config → Type 0
 FitsSome None c = ⊥
 FitsSome (Some s) c = Fits s c
 
--- how far an instruction jumps
+-- the jump distance of an instruction
 abbrev pub distance_of : Insn → ℤ
 distance_of (Branch t w d s off) = off
 distance_of (Jump off) = off
 distance_of (JumpFar off) = off
 distance_of i = pos 0
 
--- d comes after the instruction i at c, and fits what is known on that edge
+-- d follows the instruction i at c, and fits the state on that edge
 abbrev pub Lands : Insn → Edges → Config → Config → Type 0
 Lands i e c d = ((d.place ≡ c.place + units_of i) × FitsSome e.next d) ⊎ ((k : ℕ) × (distance_of i ≡ pos k) × (d.place ≡ c.place + 1 + k) × FitsSome e.jump d)
 
--- the instruction ends the run, or goes on to what fits
+-- the instruction ends the run, or continues to a configuration that fits
 abbrev pub GoesTo : Insn → Edges → Config → Type 0
 GoesTo i e c = IsSome (exit_code i c) ⊎ ((d : Config) × (effect i c ≡ Some d) × Lands i e c d)
 
--- From each configuration that fits the instruction goes on, or ends the run, and what comes next fits.
+-- From each configuration that fits, the instruction ends the run or continues to a configuration that fits.
 abbrev pub Sound : Insn → State → Edges → Type 0
 Sound i s e = (c : Config) → IsConfig c → Fits s c → GoesTo i e c
 
--- instructions that may go on to the next one, and those that may jump
+-- instructions that may continue at the next one, and those that may jump
 abbrev pub HasNext : Insn → Type 0
 HasNext Exit = ⊥
 HasNext (Jump off) = ⊥
@@ -120,13 +122,13 @@ HasJump (Jump off) = ⊤
 HasJump (JumpFar off) = ⊤
 HasJump i = ⊥
 
--- What is known after an instruction: all that comes of what is known before it, on no edge that it doesn't have.
+-- The edges after an instruction are sound for the state before it, and only possible edges have a state.
 pub record Flows (i : Insn) (s : State) (e : Edges) : Type 0 where
   pub sound : Sound i s e
   pub next : IsSome e.next → HasNext i
   pub jump : IsSome e.jump → HasJump i
 
--- R10 is not written, jumps lead forward, and helpers are there.
+-- R10 is not written, jumps lead forward, and called helpers exist.
 abbrev pub CanFlow : Insn → Type 0
 CanFlow (Alu op w d s) = d ≢ 10
 CanFlow (Unary op w d) = d ≢ 10

@@ -1,4 +1,4 @@
-//! What an instruction makes of what is known before it.
+//! The effect of each instruction on a state.
 
 ghost use Rattle.std.specs.Prelude.{◌≢◌, ◌≤◌, IfOk, OnOk};
 ghost use Rattle.bpf_insn.specs.Spelling.{HasSpelling, IsOperand};
@@ -57,7 +57,7 @@ fn after_wide(dst: u8, n: u64, state: &mut State)
     state.set(dst, Kind::Num(Known::single(n)));
 }
 
-/// What is known after a load or a store.
+/// The state after a load or a store.
 fn after_access(insn: Insn, state: &mut State) -> Result<(), FlowFault>
     requires has { HasSpelling insn }
     requires built { CanFlow insn }
@@ -104,7 +104,8 @@ fn after_exit(state: &State) -> Result<Way, FlowFault>
     Ok(Way::End)
 }
 
-/// What is known after an instruction that is no conditional jump, or what is wrong with it: the first of its faults.
+/// Computes the state after an instruction other than a conditional jump. The error is the first fault of the
+/// instruction.
 #[tactic(auto, using(crate::proofs::Arms::flows))]
 pub fn flow(insn: Insn, state: &mut State) -> Result<Way, FlowFault>
     requires has { HasSpelling insn }

@@ -1,4 +1,4 @@
-//! What arithmetic makes of kinds.
+//! The effect of arithmetic on kinds.
 
 ghost use Rattle.std.specs.Prelude.{◌≡◌, ◌<◌, ◌≤◌, ℕ, IfOk};
 ghost use Rattle.bpf_insn.specs.Arithmetic.{result_of};
@@ -32,7 +32,7 @@ fn of_numbers(
     Ok(Kind::Num(transfer(op, width, x, y)))
 }
 
-/// What is made of the operand alone.
+/// An operation that reads only its operand.
 fn of_source(
     op: Op,
     width: Width,
@@ -48,7 +48,7 @@ fn of_source(
     Ok(Kind::Num(transfer(op, width, Known::single(0), y)))
 }
 
-/// Pointers plus numbers.
+/// Adds numbers to pointers.
 fn pointer_plus(place: Place, number: Known) -> Result<Kind, FlowFault>
     ensures plus { IfOk result (λ k. (m n : ℕ) (x y : _) → IsPointer place.region (Between place.lo place.hi) x → IsNumber (Contains number) y → KindKeeps k m n (sum_of x y)) }
     ensures turned { IfOk result (λ k. (m n : ℕ) (x y : _) → IsPointer place.region (Between place.lo place.hi) x → IsNumber (Contains number) y → KindKeeps k m n (sum_of y x)) }
@@ -59,7 +59,7 @@ fn pointer_plus(place: Place, number: Known) -> Result<Kind, FlowFault>
     moved(place, span)
 }
 
-/// Pointers minus numbers.
+/// Subtracts numbers from pointers.
 fn pointer_minus(place: Place, number: Known) -> Result<Kind, FlowFault>
     ensures { IfOk result (λ k. (m n : ℕ) (x y : _) → IsPointer place.region (Between place.lo place.hi) x → IsNumber (Contains number) y → KindKeeps k m n (difference_of x y)) }
 {
@@ -72,7 +72,7 @@ fn pointer_minus(place: Place, number: Known) -> Result<Kind, FlowFault>
     moved(place, back)
 }
 
-/// A sum of 64 bits, at most one operand a pointer.
+/// A sum of 64 bits. At most one operand may be a pointer.
 fn sum(a: Kind, b: Kind, bytes: Range, argument: Range) -> Result<Kind, FlowFault>
     ensures { IfOk result (λ k. Gives sum_of a b bytes argument k) }
 {
@@ -91,7 +91,7 @@ fn sum(a: Kind, b: Kind, bytes: Range, argument: Range) -> Result<Kind, FlowFaul
     of_numbers(Op::Add, Width::W64, a, b, bytes, argument)
 }
 
-/// A difference of 64 bits; the first operand may be a pointer.
+/// A difference of 64 bits. The first operand may be a pointer.
 fn difference(a: Kind, b: Kind, bytes: Range, argument: Range) -> Result<Kind, FlowFault>
     ensures { IfOk result (λ k. Gives difference_of a b bytes argument k) }
 {
@@ -104,7 +104,7 @@ fn difference(a: Kind, b: Kind, bytes: Range, argument: Range) -> Result<Kind, F
     of_numbers(Op::Sub, Width::W64, a, b, bytes, argument)
 }
 
-/// A move of 64 bits copies what was written.
+/// A move of 64 bits. The source must be set.
 fn copied(b: Kind) -> Result<Kind, FlowFault>
     ensures { IfOk result (λ k. (m n : ℕ) (v : _) → HoldsKind b m n v → KindKeeps k m n (Rattle.bpf_helpers.specs.Machine.written_value v)) }
 {
@@ -114,7 +114,7 @@ fn copied(b: Kind) -> Result<Kind, FlowFault>
     }
 }
 
-/// What an operation reads was written.
+/// Tests that the registers which an operation reads are set.
 fn read_all(op: Op, a: Kind, b: Kind) -> Result<(), FlowFault> {
     match op {
         Op::Mov | Op::MovSx(_) => written(b),
@@ -145,7 +145,7 @@ fn outcome(
     }
 }
 
-/// What an operation gives.
+/// The kind of an operation's result.
 pub fn alu_kind(
     op: Op,
     width: Width,

@@ -1,4 +1,4 @@
-//! What conditional jumps make of what is known.
+//! The effect of conditional jumps on a state.
 
 ghost use Rattle.std.specs.Prelude.{◌≡◌, ◌≤◌, ◌≤ℤ◌, pos, ℕ, IfOk, IsTrue, Some, length};
 ghost use Rattle.bpf_insn.specs.Spelling.{IsOperand};
@@ -15,7 +15,7 @@ use crate::state::{State, Way};
 use bpf_insn::{Insn, Operand, Test, Width};
 use bpf_range::{Kind, Known, Range, refine};
 
-/// What a test says of a length: a test for a common bit says nothing.
+/// Narrows a length by a test. A test for a common bit does not narrow it.
 fn narrowed_length(old: Range, test: Test, known: Known) -> Range
     ensures { (x : ℕ) → In old x → Contains known x → In result x }
 {
@@ -25,7 +25,7 @@ fn narrowed_length(old: Range, test: Test, known: Known) -> Range
     }
 }
 
-/// Only those are left of which a register's number is one of these.
+/// Narrows a state to the configurations whose register holds one of these numbers.
 fn narrow(state: &mut State, register: u8, test: Test, known: Known)
     requires { register ≤ 10 }
     ensures { (c : _) → Fits state.old c → IsNumber (Contains known) (register_of c register) → Fits state.new c }
@@ -48,7 +48,7 @@ fn narrow_operand(state: &mut State, operand: Operand, test: Test, known: Known)
     }
 }
 
-/// Whether an edge of a test can be taken, and then what is known there.
+/// Returns true if an edge of a test can be taken; narrows the state to that edge.
 fn follow_edge(
     test: Test,
     width: Width,
@@ -71,7 +71,7 @@ fn follow_edge(
     true
 }
 
-/// The kind of the second operand of a test: at 32 bits an immediate is a number below 2^32.
+/// The kind of the second operand of a test. At 32 bits an immediate is a number below 2^32.
 fn tested_operand(state: &State, width: Width, operand: Operand) -> Kind
     requires { IsOperand operand }
     ensures { (c : _) → Fits state.now c → HoldsKind result (length c.bytes) (length c.argument) (tested width c operand) }
@@ -84,8 +84,8 @@ fn tested_operand(state: &State, width: Width, operand: Operand) -> Kind
     }
 }
 
-/// What is known after a conditional jump, by any distance that is not backward. Where both ways can be taken, the second state has what
-/// is known after the jump; else the first has all.
+/// Computes the states after a conditional jump by any distance that is not negative. If both edges can be
+/// taken, `target` is the state after the jump; otherwise `state` is that of the only edge, if there is one.
 pub fn flow_branch(
     test: Test,
     width: Width,

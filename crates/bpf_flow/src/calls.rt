@@ -1,4 +1,4 @@
-//! What calls of helpers make of what is known.
+//! The effect of helper calls on a state.
 
 ghost use Rattle.std.specs.Prelude.{OnOk, IsSome};
 ghost use Rattle.bpf_helpers.specs.declared.helpers.Helper.TheVariants.{Reply, Copy};
@@ -16,7 +16,7 @@ use bpf_helpers::{COPY_LIMIT, Helper, helper_of};
 use bpf_insn::Insn;
 use bpf_range::{Kind, Known};
 
-/// After a call that gives one of these numbers R1 to R5 are left unset.
+/// The state after a call whose result is one of these numbers. R1 to R5 are unset.
 fn answered(state: &mut State, answer: Known)
     ensures { (c : _) (a : Answer) → Fits state.old c → Contains answer a.value → Fits state.new (after_answer a c) }
 {
@@ -49,8 +49,8 @@ fn call_reply(state: &mut State) -> Result<(), FlowFault>
     Ok(())
 }
 
-/// `Copy` takes the addresses in R1 and R2 and the number of bytes in R3. As many bytes as R3 can say have
-/// to be there at both, and those at R1 are written.
+/// `Copy` takes the addresses in R1 and R2 and the number of bytes in R3. Both must have the greatest number of
+/// bytes that R3 may hold. The bytes at R1 are written.
 fn call_copy(state: &mut State) -> Result<(), FlowFault>
     ensures { OnOk result (IsCalled Copy state.old state.new) }
 {
@@ -80,7 +80,7 @@ fn call_copy(state: &mut State) -> Result<(), FlowFault>
     Ok(())
 }
 
-/// What is known after a call of the helper.
+/// The state after a call of the helper.
 fn called(helper: Helper, state: &mut State) -> Result<(), FlowFault>
     ensures { OnOk result (IsCalled helper state.old state.new) }
 {
@@ -102,7 +102,7 @@ fn called(helper: Helper, state: &mut State) -> Result<(), FlowFault>
     }
 }
 
-/// A call of a helper that is there.
+/// The state after a call of a helper that exists.
 pub fn after_call(id: i32, state: &mut State) -> Result<(), FlowFault>
     requires { IsSome (numbered id) }
     ensures { OnOk result (Passes (Insn.Call id) state.old state.new) }

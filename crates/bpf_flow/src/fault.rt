@@ -1,6 +1,6 @@
-//! What may be wrong with an instruction that is reached.
+//! The faults of instructions that are reached.
 
-/// What is wrong with an instruction that is reached, wherever it stands.
+/// The fault of an instruction that is reached, without its unit.
 #[derive(Clone, Copy, Debug, PartialEq, Eq)]
 pub enum FlowFault {
     Unset,

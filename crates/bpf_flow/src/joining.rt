@@ -9,7 +9,7 @@ use crate::numbers::{Span, number_of};
 use crate::state::State;
 use bpf_range::{Kind, Range, hull, join};
 
-/// The numbers of both kinds; no number is any value.
+/// The join of both kinds as numbers. If one of them is not a number, the result is Unset.
 fn join_numbers(
     a: Kind,
     a_bytes: Range,
@@ -30,7 +30,7 @@ fn join_numbers(
     }
 }
 
-// The numbers of both spans, and those between.
+// The least span that contains both spans.
 fn hull_of_spans(a: Span, b: Span) -> Span
     ensures left { (z : _) → Between a.lo a.hi z → Between result.lo result.hi z }
     ensures right { (z : _) → Between b.lo b.hi z → Between result.lo result.hi z }
@@ -41,7 +41,7 @@ fn hull_of_spans(a: Span, b: Span) -> Span
     }
 }
 
-/// What either kind holds; a length counts as its range.
+/// The join of two kinds. A length counts as its range.
 fn join_kinds(
     a: Kind,
     a_bytes: Range,
@@ -81,7 +81,7 @@ fn join_kinds(
     }
 }
 
-/// What fits one of two states fits the first then.
+/// Joins `b` into `a`: configurations that fit either state fit the new one.
 pub fn join_states(a: &mut State, b: &State)
     ensures left { (c : _) → Fits a.old c → Fits a.new c }
     ensures right { (c : _) → Fits b.now c → Fits a.new c }

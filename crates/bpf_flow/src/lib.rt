@@ -1,9 +1,9 @@
-//! What is known of a program's registers, and what one instruction makes of it.
+//! The state of a program's registers, and the effect of one instruction on it.
 //!
-//! A `State` says what each register may hold. `flow` and `flow_branch` take what is known before an
-//! instruction to what is known after it, or say what is wrong with the instruction; `join_states`
-//! keeps what two states have in common. What they say is true of every run: each configuration that
-//! fits the state before has an effect, and that fits a state after.
+//! A `State` says which values each register may hold. `flow` and `flow_branch` compute the state after an
+//! instruction from the state before it, or report the instruction's fault. `join_states` joins two states. All
+//! of this is true of every run: each configuration that fits the state before has an effect, and its result
+//! fits a state after.
 #![tactic(auto)]
 
 mod after;

@@ -1,4 +1,4 @@
-//! What loads and stores make of what is known.
+//! The effect of loads and stores on a state.
 
 ghost use Rattle.std.specs.Prelude.{◌≢◌, ◌≤◌, IfOk, OnOk};
 ghost use Rattle.bpf_insn.specs.Arithmetic.{bytes_of};
@@ -13,7 +13,7 @@ use bpf_helpers::memory::count_of;
 use bpf_insn::{Insn, Size};
 use bpf_range::{Kind, Known};
 
-/// What is tested of an address: each access at it is inside.
+/// Tests an address: each access at it is inside its region.
 fn reached(size: Size, base: u8, offset: i16, state: &State) -> Result<Region, FlowFault>
     requires { base ≤ 10 }
     ensures { IfOk result (λ q. Reaching state.now base offset (bytes_of size) q) }
@@ -26,8 +26,8 @@ fn reached(size: Size, base: u8, offset: i16, state: &State) -> Result<Region, F
     Ok(place.region)
 }
 
-/// What is known after a load, which gives a number of so many bytes (RFC 9669, section 5.1). The error is
-/// what is wrong with the address, or that it lies outside its region.
+/// The state after a load; the result is any number of that size (RFC 9669, section 5.1). The error says that
+/// the address is invalid or may lie outside its region.
 pub fn after_load(
     size: Size,
     dst: u8,
@@ -46,7 +46,7 @@ pub fn after_load(
     Ok(())
 }
 
-/// What is known after a load with sign, which gives any number (RFC 9669, section 5.2). The error is that
+/// The state after a sign-extending load; the result is any number (RFC 9669, section 5.2). The error is that
 /// of `after_load`.
 pub fn after_load_signed(
     size: Size,
@@ -66,8 +66,8 @@ pub fn after_load_signed(
     Ok(())
 }
 
-/// What is known after a store of a register: what was known before (RFC 9669, section 5.1). The error is that
-/// of `after_load`, or that a pointer is stored or the argument written.
+/// Tests a store of a register; the state is unchanged (RFC 9669, section 5.1). The error is that of
+/// `after_load`, or says that a pointer is stored or the argument written.
 pub fn after_store(
     size: Size,
     base: u8,
@@ -91,7 +91,7 @@ pub fn after_store(
     inside(place, state, offset as i64, count_of(size) as u64)
 }
 
-/// The number that is stored does not matter.
+/// Tests a store of an immediate. The stored number does not matter.
 pub fn after_store_imm(size: Size, base: u8, offset: i16, state: &State) -> Result<(), FlowFault>
     requires { base ≤ 10 }
     ensures { OnOk result ((value : _) → Passes (Insn.StoreImm size base offset value) state.now state.now) }

@@ -1,4 +1,4 @@
-//! Accesses of memory through pointers.
+//! Memory accesses through pointers.
 
 ghost use Rattle.std.specs.Prelude.{◌≡◌, ◌≤◌, ◌+◌, ◌+ℤ◌, ◌≤ℤ◌, neg_ℤ, pos, ℕ, IsTrue, OnOk, length};
 ghost use Rattle.bpf_helpers.specs.declared.values.Region.TheVariants.{Argument};
@@ -24,7 +24,7 @@ fn first_of(region: Region) -> i64
     }
 }
 
-/// An offset up to which the region lies, whatever its length.
+/// An offset up to which every region of this kind has bytes, for all possible lengths.
 fn last_of(region: Region, state: &State) -> i64
     ensures { (c : _) → IsConfig c → Fits state.now c → (result +ℤ base_of region) ≤ℤ pos (length (contents c region)) }
 {
@@ -43,7 +43,7 @@ fn signed(n: u64) -> i64
     n as i64
 }
 
-/// Where an access begins or ends.
+/// The offset at which an access begins or ends.
 fn shifted(at: i64, offset: i64, count: i64) -> i64
     requires lower { neg_ℤ (pos 65536) ≤ℤ at }
     requires upper { at ≤ℤ pos 65536 }
@@ -77,7 +77,7 @@ fn offsets_fit(lo: i64, hi: i64, offset: i64, count: i64, first: i64, last: i64)
     true
 }
 
-/// Each access of up to so many bytes through these pointers is inside their region.
+/// Tests that each access of up to `size` bytes through these pointers is inside their region.
 pub fn inside(place: Place, state: &State, offset: i64, size: u64) -> Result<(), FlowFault>
     requires offset_lower { neg_ℤ (pos 65536) ≤ℤ offset }
     requires offset_upper { offset ≤ℤ pos 65536 }
@@ -97,7 +97,7 @@ pub fn inside(place: Place, state: &State, offset: i64, size: u64) -> Result<(),
     }
 }
 
-/// The argument is only read.
+/// Tests that a region may be written. The argument is read-only.
 pub fn writable(region: Region) -> Result<(), FlowFault>
     ensures { OnOk result (region ≡ Argument → ⊥) }
 {

@@ -1,4 +1,4 @@
-//! What is known before and after an instruction.
+//! The state before and after an instruction.
 
 ghost use Rattle.std.specs.Prelude.{◌≡◌, ◌≤◌, length};
 ghost use Rattle.bpf_insn.specs.Spelling.{IsOperand};
@@ -12,8 +12,7 @@ use bpf_helpers::{ARGUMENT_LIMIT, RECORD_LIMIT};
 use bpf_insn::Operand;
 use bpf_range::{Kind, Known, Range};
 
-/// What is known before an instruction: the kind of each register, and the lengths of the record and
-/// the argument.
+/// The state before an instruction: the kind of each register, and the lengths of the record and the argument.
 #[derive(Clone, Copy, Debug)]
 pub struct State {
     pub kinds: [Kind; 11],
@@ -22,7 +21,7 @@ pub struct State {
 }
 
 impl State {
-    /// What is known at the start.
+    /// The state at the start.
     pub fn at_start() -> State
         ensures { (bytes argument : _) (env : _) → IsInput bytes argument env → Fits result (start bytes argument env) }
     {
@@ -59,7 +58,7 @@ impl State {
         self.kinds[register as usize]
     }
 
-    /// The kind of an operand: an immediate is a number, with its sign to 64 bits.
+    /// The kind of an operand. An immediate is a number, sign-extended to 64 bits.
     pub fn operand(&self, operand: Operand) -> Kind
         requires { IsOperand operand }
         ensures { (c : _) → Fits self.now c → HoldsKind result (length c.bytes) (length c.argument) (operand_of c operand) }
@@ -70,7 +69,7 @@ impl State {
         }
     }
 
-    /// Gives a register another kind.
+    /// Sets the kind of a register.
     pub fn set(&mut self, register: u8, kind: Kind)
         requires { register ≤ 10 }
         ensures { Sets self.old self.new register kind }
@@ -79,13 +78,13 @@ impl State {
     }
 }
 
-/// Where a run may go on after an instruction.
+/// The edges on which a run may continue after an instruction.
 #[derive(Clone, Copy)]
 pub enum Way {
-    /// Nowhere: it ends, or never comes to the instruction.
+    /// No edge: the run ends, or never reaches the instruction.
     End,
     Next,
     Jump,
-    /// To the next instruction, or to that of the jump.
+    /// To the next instruction, or to the target of the jump.
     Both,
 }

@@ -1,4 +1,4 @@
--- What the helpers answer, and that a step goes by their table.
+-- The answers of the helpers, and the agreement of a step with the helper table.
 use Rattle.std.proofs.Common.{ℕ, ℤ, ◌≡◌, ◌≤◌, ◌<◌, ◌^◌, Some, refl, arith}
 use Rattle.std.specs.Option.{option_map}
 use Rattle.std.specs.Prelude.{true, false, Bool}
@@ -20,7 +20,7 @@ answer_fits Present given word env g e = at_most_one env.present
 answer_fits Who given word env g e = let n : env.who < 2 ^ 64 = e.who_fits in omega arith
 answer_fits Copy given word env g e = g
 
--- What a step makes of a helper's answer is what the table makes of the helper's number.
+-- A step with a helper's answer is one with the table's answer for the helper's number.
 pub answered_by_table : (id : ℤ) (h : Helper) (given : ℕ) (c : Config) → numbered id ≡ Some h
     → option_map (λ (a : Answer). after_answer a c) (helper_answer id given c.env c.word) ≡ Some (answered h given c)
 answered_by_table id h given c is = rw is refl

@@ -1,4 +1,4 @@
--- Programs that compute: what each replies.
+-- The results of programs that compute.
 use Rattle.std.proofs.Common.{ℕ, refl, List, [], ◌∷◌}
 use Rattle.std.specs.Prelude.{pos, negsuc}
 use Rattle.bpf_insn.specs.declared.insn.Width.TheVariants.{W32, W64}
@@ -11,7 +11,7 @@ use Rattle.bpf_insn.specs.declared.insn.Insn.TheVariants.{Alu, Unary, Branch, Ju
 use Rattle.bpf_helpers.specs.Runs.{Ends}
 use Rattle.bpf_helpers.proofs.Running.{ends, here, set, move}
 
--- what a program leaves in R6 becomes the reply word
+-- the value of R6 at the program's end becomes the reply word
 abbrev replied : List Insn
 replied = move 1 6 ∷ Call (pos 1) ∷ Exit ∷ []
 
@@ -34,14 +34,14 @@ remainder_by_zero = ends 5 _ [] [] here _ refl
 quotient_by_zero : Ends (Wide 6 0x100000005 ∷ set 7 (pos 0) ∷ Alu Div W64 6 (Reg 7) ∷ replied) [] [] here (record { code = 0; word = 0; bytes = []; steps = 6 })
 quotient_by_zero = ends 5 _ [] [] here _ refl
 
--- nothing is above the greatest number, so the multiplied pointer is never reached
+-- no number is above the greatest, so the multiplied pointer is never reached
 never_above : Ends (Load Double 6 10 (negsuc 7) ∷ Branch Gt W64 6 (Imm (negsuc 0)) (pos 2) ∷ set 0 (pos 0) ∷ Exit ∷ Alu Mul W64 1 (Imm (pos 2)) ∷ Exit ∷ []) [] [] here (record { code = 0; word = 0; bytes = []; steps = 4 })
 never_above = ends 3 _ [] [] here _ refl
 
 upper_half_is_cleared : Ends (set 6 (negsuc 0) ∷ Alu Add W32 6 (Imm (pos 1)) ∷ move 0 6 ∷ Exit ∷ []) [] [] here (record { code = 0; word = 0; bytes = []; steps = 4 })
 upper_half_is_cleared = ends 3 _ [] [] here _ refl
 
--- ---- moves with sign
+-- ---- sign-extending moves
 
 byte_with_sign : Replies (set 7 (pos 0x180) ∷ Alu (MovSx Byte) W64 6 (Reg 7) ∷ replied) 18446744073709551488 5
 byte_with_sign = ends 4 _ [] [] here _ refl
@@ -87,9 +87,9 @@ negated_32 = ends 4 _ [] [] here _ refl
 negated_zero : Replies (set 6 (pos 0) ∷ Unary Neg W64 6 ∷ replied) 0 5
 negated_zero = ends 4 _ [] [] here _ refl
 
--- ---- branches of 32 bits
+-- ---- 32-bit branches
 
--- what a program replies where a branch over the number 1 is taken: 2, and else 1
+-- replies 2 if the branch over the number 1 is taken, otherwise 1
 abbrev chosen : Insn → List Insn
 chosen branch = branch ∷ set 6 (pos 1) ∷ replied
 

@@ -1,4 +1,4 @@
--- Programs that read and write memory and call helpers: what each gives.
+-- The results of programs that access memory and call helpers.
 use Rattle.std.proofs.Common.{ℕ, ◌≡◌, refl, List, [], ◌∷◌, Some, None}
 use Rattle.std.specs.Prelude.{pos, false, replicate}
 use Rattle.bpf_insn.specs.declared.insn.Width.TheVariants.{W64}
@@ -24,14 +24,14 @@ counter =
 counts : Ends counter (replicate 8 255) [] here (record { code = 1; word = 0; bytes = replicate 8 0; steps = 6 })
 counts = ends 5 counter (replicate 8 255) [] here _ refl
 
--- a record of 7 bytes is too short, and stays as it is
+-- a record of 7 bytes is too short, and is unchanged
 counts_nothing : Ends counter (replicate 7 255) [] here (record { code = 0; word = 0; bytes = replicate 7 255; steps = 3 })
 counts_nothing = ends 2 counter (replicate 7 255) [] here _ refl
 
 answers_two : Ends (set 0 (pos 2) ∷ Exit ∷ []) (1 ∷ []) [] here (record { code = 2; word = 0; bytes = 1 ∷ []; steps = 2 })
 answers_two = ends 1 _ (1 ∷ []) [] here _ refl
 
--- ---- loads with sign
+-- ---- sign-extending loads
 
 -- a program that replies a number loaded from the record
 abbrev loads : Insn → List Insn
@@ -77,7 +77,7 @@ copies_argument =
 record_becomes_argument : Ends copies_argument (replicate 8 0) (1 ∷ 2 ∷ 3 ∷ 4 ∷ 5 ∷ 6 ∷ 7 ∷ 8 ∷ []) here (record { code = 1; word = 0; bytes = 1 ∷ 2 ∷ 3 ∷ 4 ∷ 5 ∷ 6 ∷ 7 ∷ 8 ∷ []; steps = 7 })
 record_becomes_argument = ends 6 _ (replicate 8 0) _ here _ refl
 
--- the bytes are those before the call, also where the places overlap
+-- the copied bytes are those before the call, even if the places overlap
 overlap : Ends (jump_if_short 3 6 ∷ move 2 1 ∷ Alu Add W64 1 (Imm (pos 1)) ∷ set 3 (pos 2) ∷ Call (pos 5) ∷ set 0 (pos 1) ∷ Exit ∷ set 0 (pos 0) ∷ Exit ∷ [])
     (1 ∷ 2 ∷ 3 ∷ []) [] here (record { code = 1; word = 0; bytes = 1 ∷ 1 ∷ 2 ∷ []; steps = 7 })
 overlap = ends 6 _ (1 ∷ 2 ∷ 3 ∷ []) [] here _ refl
@@ -86,7 +86,7 @@ overlap = ends 6 _ (1 ∷ 2 ∷ 3 ∷ []) [] here _ refl
 copies_nothing : Ends (Alu Add W64 1 (Imm (pos 1)) ∷ move 2 1 ∷ set 3 (pos 0) ∷ Call (pos 5) ∷ Exit ∷ []) (7 ∷ []) [] here (record { code = 0; word = 0; bytes = 7 ∷ []; steps = 5 })
 copies_nothing = ends 4 _ (7 ∷ []) [] here _ refl
 
--- ---- the outcome, as a function of the program and what it is given
+-- ---- the outcome, as a function of the program and its input
 
 outcome_counts : run_outcome counter (replicate 8 255) [] here ≡ Some (record { code = 1; word = 0; bytes = replicate 8 0; steps = 6 })
 outcome_counts = refl
@@ -100,11 +100,12 @@ outcome_replies = refl
 outcome_copies : run_outcome copies_argument (replicate 8 0) (1 ∷ 2 ∷ 3 ∷ 4 ∷ 5 ∷ 6 ∷ 7 ∷ 8 ∷ []) here ≡ Some (record { code = 1; word = 0; bytes = 1 ∷ 2 ∷ 3 ∷ 4 ∷ 5 ∷ 6 ∷ 7 ∷ 8 ∷ []; steps = 7 })
 outcome_copies = refl
 
--- the last instruction is the end, in as many steps as the program has instructions
+-- the last instruction is EXIT, and the number of steps is that of instructions
 outcome_of_two : run_outcome (set 0 (pos 2) ∷ Exit ∷ []) [] [] here ≡ Some (record { code = 2; word = 0; bytes = []; steps = 2 })
 outcome_of_two = refl
 
--- a run that is stuck has none: no instruction, no number in R0, a load outside, no instruction after the last
+-- a stuck run has no outcome: no instruction, no number in R0, a load outside, no instruction after
+-- the last
 no_program_has_none : run_outcome [] [] [] here ≡ None
 no_program_has_none = refl
 

@@ -4,7 +4,7 @@ use Rattle.std.specs.Prelude.{pos, negsuc, false, Some, None}
 use Rattle.bpf_helpers.specs.Helpers.{helper_answer}
 use Rattle.bpf_helpers.proofs.Running.{here}
 
--- what is given becomes the word
+-- the argument becomes the word
 reply : helper_answer (pos 1) 9 here 7 ≡ Some (record { value = 0; word = 9 })
 reply = refl
 

@@ -1,4 +1,4 @@
--- Runs that are computed are runs.
+-- Computed runs are runs.
 use Rattle.std.proofs.Common.{ℕ, ◌≡◌, ◌+◌, refl, ap, sym, ◌∙◌, List}
 use Rattle.std.specs.Prelude.{ℤ, true, Option, Some, None}
 use Rattle.std.specs.Option.{option_and_then, option_map}
@@ -13,7 +13,7 @@ use Rattle.bpf_helpers.specs.Machine.{Config, step, ended}
 use Rattle.bpf_helpers.specs.Runs.{start, Outcome, Ends, Sticks, after, outcome_at}
 use Rattle.bpf_helpers.proofs.OneEnd.{reaches}
 
--- what stands after n steps, and whether it is the end
+-- the outcome after n steps, if that is the end
 abbrev pub given : ℕ → List Insn → Config → Option Outcome
 given n program c = option_and_then (outcome_at n program) (after n program c)
 
@@ -30,7 +30,7 @@ ended_with n program (Some last) out e = at_end (ended program last) refl e
         let same = same_Some _ out h in
         (last, refl, was ∙ ap (λ (x : Outcome). Some x.code) same, ap (λ (x : Outcome). x.word) (sym same), ap (λ (x : Outcome). x.bytes) (sym same), ap (λ (x : Outcome). x.steps) (sym same))
 
--- a run that is computed is a run
+-- a computed run is a run
 pub ends : (n : ℕ) (program : List Insn) (bytes argument : List ℕ) (env : Env) (out : Outcome) → given n program (start bytes argument env) ≡ Some out → Ends program bytes argument env out
 ends n program bytes argument env out e =
     let found = ended_with n program (after n program (start bytes argument env)) out e in

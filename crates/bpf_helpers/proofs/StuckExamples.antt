@@ -1,4 +1,4 @@
--- Programs that stick, and where.
+-- Programs that get stuck, and the unit at which they do.
 use Rattle.std.proofs.Common.{refl, List, [], ◌∷◌}
 use Rattle.std.specs.Prelude.{pos, negsuc, replicate}
 use Rattle.bpf_insn.specs.declared.insn.Width.TheVariants.{W32, W64}
@@ -11,11 +11,11 @@ use Rattle.bpf_insn.specs.declared.insn.Insn.TheVariants.{Alu, Branch, Jump, Jum
 use Rattle.bpf_helpers.specs.Runs.{Ends, Sticks}
 use Rattle.bpf_helpers.proofs.Running.{ends, stops, here, set, move}
 
--- an instruction alone, and the end after it
+-- an instruction followed by the end
 abbrev lone : Insn → List Insn
 lone i = i ∷ set 0 (pos 0) ∷ Exit ∷ []
 
--- stuck at the unit 0, with a record of one byte and no argument
+-- stuck at the unit 0, with a record and an argument of one byte each
 abbrev SticksAtOnce : List Insn → Type 0
 SticksAtOnce program = Sticks program (7 ∷ []) (9 ∷ []) here 0 (7 ∷ [])
 
@@ -59,7 +59,7 @@ pointer_moved_too_far = stops 0 _ _ _ _ _ refl refl refl
 pointer_moved_back_too_far : SticksAtOnce (lone (Alu Sub W64 1 (Imm (pos 65537))))
 pointer_moved_back_too_far = stops 0 _ _ _ _ _ refl refl refl
 
--- 65,536 bytes to either side are not too far
+-- a pointer may move 65,536 bytes to either side
 moved_forth : Ends (Alu Add W64 1 (Imm (pos 65536)) ∷ set 0 (pos 0) ∷ Exit ∷ []) [] [] here (record { code = 0; word = 0; bytes = []; steps = 3 })
 moved_forth = ends 2 _ [] [] here _ refl
 

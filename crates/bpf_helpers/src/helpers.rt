@@ -8,22 +8,22 @@ ghost use Rattle.bpf_range.specs.Sets.{Contains, range_of};
 use crate::values::Env;
 use bpf_range::Known;
 
-/// What a helper does. Each gives a number, which a call puts into R0.
+/// A helper. Its answer is a number that a call puts into R0.
 #[derive(Clone, Copy, Debug, PartialEq, Eq)]
 pub enum Helper {
-    /// 1: the number in R1 becomes the reply word; it gives 0.
+    /// 1: makes the number in R1 the reply word; answers 0.
     Reply,
-    /// 2: it gives the time that the command names.
+    /// 2: answers the time that the command names.
     Now,
-    /// 3: it gives 1 where the key was there, else 0.
+    /// 3: answers 1 if the key existed, otherwise 0.
     Present,
-    /// 4: it gives the session's number.
+    /// 4: answers the session's number.
     Who,
-    /// 5: as many bytes as R3 says come from R2's address to R1's; it gives their number.
+    /// 5: copies the number of bytes in R3 from R2's address to R1's; answers that number.
     Copy,
 }
 
-/// The helper with a number, from 1 to 5; `None` for every other number. No memory is taken.
+/// The helper with a number, from 1 to 5; `None` for every other number. Allocates no memory.
 pub fn helper_of(id: i32) -> Option<Helper>
     ensures { result ≡ numbered id }
 {
@@ -37,21 +37,21 @@ pub fn helper_of(id: i32) -> Option<Helper>
     }
 }
 
-/// Whether there is a helper with the number.
+/// Returns true if a helper has the number.
 pub fn known(id: i32) -> bool
     ensures { IsTrue result ↔ IsSome (numbered id) }
 {
     helper_of(id).is_some()
 }
 
-/// Whether the helper with the number takes a number in R1: 1 alone does.
+/// Returns true if the helper with the number takes a number in R1; only 1 does.
 pub fn takes_number(id: i32) -> bool
     ensures { IsTrue result ↔ (numbered id ≡ Some Reply) }
 {
     matches!(helper_of(id), Some(Helper::Reply))
 }
 
-/// Whether the helper with the number copies bytes: 5 alone does.
+/// Returns true if the helper with the number copies bytes; only 5 does.
 pub fn copies(id: i32) -> bool
     ensures { IsTrue result ↔ (numbered id ≡ Some Copy) }
 {
@@ -59,10 +59,9 @@ pub fn copies(id: i32) -> bool
 }
 
 impl Helper {
-    /// The number that the helper gives, which a call puts into R0. `given` is what it takes: the
-    /// number in R1 for `Reply`, which becomes the reply word, and the number of bytes for `Copy`,
-    /// whose bytes are the caller's to copy. The others take nothing. No other helper changes the
-    /// reply word, and no memory is taken.
+    /// The helper's answer for R0. `given` is its argument: the number in R1 for `Reply`, which
+    /// becomes the reply word, and the number of bytes for `Copy`, whose caller copies the bytes.
+    /// The other helpers take no argument and leave the reply word unchanged. Allocates no memory.
     pub fn answer(self, given: u64, env: &Env, word: &mut u64) -> u64
         ensures value { result ≡ (answer_of self given env.entry.now word.old).value }
         ensures word { word.new ≡ (answer_of self given env.entry.now word.old).word }
@@ -79,8 +78,8 @@ impl Helper {
         }
     }
 
-    /// The greatest number that the helper gives: 0 of `Reply`, 1 of `Present`, 1,024 of `Copy`,
-    /// and any number of the others.
+    /// The greatest answer: 0 for `Reply`, 1 for `Present`, 1,024 for `Copy`, and any number for
+    /// the rest.
     fn greatest(self) -> u64
         ensures { result ≡ greatest_answer self }
     {
@@ -92,8 +91,8 @@ impl Helper {
         }
     }
 
-    /// What is known of the number that the helper gives: it is 0 from `Reply`, at most 1 from
-    /// `Present`, at most 1,024 from `Copy`, and any number from the others.
+    /// The possible answers: 0 for `Reply`, at most 1 for `Present`, at most 1,024 for `Copy`, and
+    /// any number for the rest.
     #[tactic(auto, using(crate::proofs::AnswerFacts::answer_fits))]
     pub fn result(self) -> Known
         ensures contains { AnswersIn (Contains result) self }
@@ -104,8 +103,8 @@ impl Helper {
     }
 }
 
-/// What is known of the number that the helper with a number gives, as `Helper::result` has it.
-/// There has to be such a helper. No memory is taken.
+/// The possible answers of the helper with a number, as in `Helper::result`. The helper must exist.
+/// Allocates no memory.
 pub fn result(id: i32) -> Known
     requires { IsSome (numbered id) }
     ensures contains { IfSome (numbered id) (AnswersIn (Contains result)) }
@@ -118,9 +117,9 @@ pub fn result(id: i32) -> Known
     }
 }
 
-/// The number that the helper with a number gives, as `Helper::answer` does. `given` is R1 for 1
-/// and the number of bytes for 5. `None` only where there is no such helper; the reply word is then
-/// unchanged. No memory is taken.
+/// The answer of the helper with a number, as in `Helper::answer`. `given` is R1 for 1 and the
+/// number of bytes for 5. `None` only if there is no such helper; the reply word is then unchanged.
+/// Allocates no memory.
 pub fn call(id: i32, given: u64, env: &Env, word: &mut u64) -> Option<u64>
     ensures { Answers id given env.entry.now word.old result word.new }
 {

@@ -1,8 +1,8 @@
-//! What a program's registers hold, what its helpers answer, and what a run of it is.
+//! The values of a program's registers, the answers of its helpers, and the meaning of its runs.
 //!
-//! `helper_of` and `call` are the helpers by their numbers, and `result` is what is known of what
-//! each gives. `memory` reads and writes numbers and bytes, as both machines do. What a program does
-//! step by step, that it is safe and what a run of it means stand in `specs/`.
+//! `helper_of` and `call` are the helpers by their numbers, and `result` gives the possible answers
+//! of each. `memory` reads and writes numbers and bytes for both machines. The definitions of a
+//! step, of safety and of the meaning of a run are in `specs/`.
 #![tactic(auto)]
 
 mod ends;

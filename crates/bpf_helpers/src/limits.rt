@@ -1,10 +1,10 @@
-//! What a run is lent at most, and what one copy moves.
+//! The limits of a run's record and argument, and of one copy.
 
-/// The longest record of a run, in bytes.
+/// The maximum length of a run's record, in bytes.
 pub const RECORD_LIMIT: usize = 8008;
 
-/// The longest argument of a run, in bytes.
+/// The maximum length of a run's argument, in bytes.
 pub const ARGUMENT_LIMIT: usize = 1024;
 
-/// The most bytes that one copy moves.
+/// The maximum number of bytes of one copy.
 pub const COPY_LIMIT: u64 = 1024;

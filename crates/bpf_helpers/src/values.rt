@@ -1,32 +1,33 @@
-//! What a running program's registers hold, and what its helpers know.
+//! The values of a running program's registers, and the environment of its helpers.
 
-/// What a pointer points into.
+/// A region of memory with pointers into it.
 #[derive(Clone, Copy, Debug, PartialEq, Eq)]
 pub enum Region {
-    /// The record, read and written.
+    /// The record, readable and writable.
     Record,
-    /// The argument, only read.
+    /// The argument, read-only.
     Argument,
     /// The stack of 512 bytes; an offset of 0 is its end.
     Stack,
 }
 
-/// What a register holds.
+/// The value of a register.
 #[derive(Clone, Copy, Debug, PartialEq, Eq)]
 pub enum Value {
-    /// Nothing was written yet.
+    /// No value was written yet.
     Nothing,
     Number(u64),
-    /// A place in a region: the offset from the region's beginning, of the stack from its end.
+    /// A place in a region. The offset counts from the region's beginning, on the stack from its
+    /// end.
     Pointer(Region, i64),
 }
 
-/// What the helpers know of a run.
+/// The environment of a run, for the helpers.
 #[derive(Clone, Copy, Debug, PartialEq, Eq)]
 pub struct Env {
     /// The time that the command names.
     pub now: u64,
-    /// Whether the key was there.
+    /// True if the key existed.
     pub present: bool,
     /// The session's number.
     pub who: u64,

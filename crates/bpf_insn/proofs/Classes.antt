@@ -1,4 +1,4 @@
--- The class of an opcode tells the form of its instruction.
+-- The class of an opcode determines the form of its instruction.
 use Rattle.std.proofs.Common.{◌≡◌, ℕ, ℤ, ◌%◌, ◌<◌, refl, sym, ap, ◌∙◌, arith, inl, inr}
 use Rattle.std.specs.Prelude.{Result, List, ◌≤◌, ◌⊎◌}
 use Rattle.bpf_insn.specs.declared.insn.Width.{Width}
@@ -112,7 +112,7 @@ of_memory fields r k above below load signed number register (Unary op w d) e = 
 of_memory fields r k above below load signed number register (Branch t w d s off) e = absurd (omega (arith, middle w))
 of_memory fields r k above below load signed number register i e = absurd (omega arith)
 
--- the one instruction of class 0
+-- the only instruction of class 0
 pub of_wide : (bytes : List ℕ) (r : Result Insn UnitFault) → ((d n : ℕ) → OnlyFinds bytes r (Wide d n)) → (i : Insn) → class i ≡ 0 → OnlyFinds bytes r i
 of_wide bytes r wide (Wide d n) e = wide d n
 of_wide bytes r wide (Alu op w d s) e = absurd (omega (arith, high w))

@@ -1,4 +1,4 @@
--- Codes: their units, and what stands at each.
+-- Codes, their units, and the instructions at these.
 use Rattle.std.proofs.Common.{◌≡◌, ℕ, zero, suc, ◌+◌, ◌≤◌, ◌<◌, ◌++◌, length, List, [], ◌∷◌, take, Option, Some, None, refl, sym, ap, ◌∙◌, arith, length-append, get_or, add-one}
 use Rattle.std.proofs.lemmas.List.{append-nil}
 use Rattle.bpf_insn.specs.Stored.{insns_of}
@@ -11,14 +11,14 @@ use Rattle.bpf_insn.specs.declared.insn.Insn.TheVariants.{Alu, Unary, Branch, Ju
 use Rattle.bpf_insn.specs.Spelling.{HasSpelling, spelling_of}
 use Rattle.bpf_insn.specs.Code.{slots, slots_of, second_slot, unit_count, fetch, image_of, IsCode, IsImage}
 
--- no code has more instructions than units
+-- a code has at most as many instructions as units
 pub few : (code : List Insn) → length code ≤ unit_count code
 few [] = omega arith
 few (i ∷ is) =
     let rest : length is ≤ unit_count is = few is in
     omega (arith, ap length (flat_map-cons slots_of i is), length-append (slots_of i) (slots is))
 
--- past the end nothing begins
+-- no instruction begins past the end
 pub fetch_past : (code : List Insn) (unit : ℕ) → unit_count code ≤ unit → fetch code unit ≡ None
 fetch_past code unit h = past (slots code) unit h
   where
@@ -27,7 +27,7 @@ fetch_past code unit h = past (slots code) unit h
     past (x ∷ xs) zero h = absurd (omega arith)
     past (x ∷ xs) (suc unit) h = past xs unit (omega arith)
 
--- what begins at a unit is an instruction of the table
+-- an instruction that begins at a unit is one of the table
 pub fetch_has : (code : List Insn) (unit : ℕ) → AllByRecursion HasSpelling code → IfSome (fetch code unit) HasSpelling
 fetch_has [] unit h = tt
 fetch_has (i ∷ is) zero h = h.0
@@ -45,7 +45,7 @@ fetch_has (LoadSigned n d b off ∷ is) (suc unit) h = fetch_has is unit h.1
 fetch_has (StoreImm n b off k ∷ is) (suc unit) h = fetch_has is unit h.1
 fetch_has (Store n b off s ∷ is) (suc unit) h = fetch_has is unit h.1
 
--- what stands at a unit is what begins there
+-- the slot of a unit has the instruction that begins there
 pub fetch_slot : (code : List Insn) (units : List (Option Insn)) (unit : ℕ) (o : Option Insn) → slots code ≡ units → unit < length units → o ≡ get_or units unit o → o ≡ fetch code unit
 fetch_slot code units unit o whole within e = at units unit within e ∙ ap (λ (xs : List (Option Insn)). option_flatten (slice_get xs unit)) (sym whole)
   where
@@ -89,11 +89,11 @@ all_insns (i ∷ is) = flat_map-append option_to_list (slots_of i) (slots is) �
 
 -- ---- bytes
 
--- the bytes of one more instruction
+-- the bytes after adding one instruction
 pub image_more : (code : List Insn) (i : Insn) → image_of (code ++ i ∷ []) ≡ image_of code ++ spelling_of i
 image_more code i = flat_map-append spelling_of code (i ∷ []) ∙ ap (λ (xs : List ℕ). image_of code ++ xs) (append-nil (spelling_of i))
 
--- what was written, and the instruction at the next unit after it
+-- the bytes written so far, with those of the next unit
 encodes_more : (code : List Insn) (unit : ℕ) (before : List ℕ) (o : Option Insn) → unit < unit_count code → o ≡ fetch code unit
     → before ≡ image_of (insns_of (take unit (slots code))) → before ++ image_of (option_to_list o) ≡ image_of (insns_of (take (unit + 1) (slots code)))
 encodes_more code unit before o h e b =
@@ -110,7 +110,7 @@ pub encodes_none : (code : List Insn) (unit : ℕ) (before : List ℕ) → unit 
     → before ≡ image_of (insns_of (take unit (slots code))) → before ≡ image_of (insns_of (take (unit + 1) (slots code)))
 encodes_none code unit before h e b = sym (append-nil before) ∙ encodes_more code unit before None h e b
 
--- all units are written
+-- the bytes of all units are the image
 pub encodes_all : (code : List Insn) (unit : ℕ) (bytes : List ℕ) → IsCode code → unit_count code ≤ unit → bytes ≡ image_of (insns_of (take unit (slots code))) → IsImage code bytes
 encodes_all code unit bytes is_code h e = record {
   is_code = is_code;

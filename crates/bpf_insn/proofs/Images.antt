@@ -1,4 +1,4 @@
--- Images: how long they are, and how one is read instruction by instruction.
+-- The lengths of images, and reading an image instruction by instruction.
 use Rattle.std.proofs.Common.{◌≡◌, ℕ, ◌+◌, ◌*◌, ◌≤◌, ◌<◌, ◌++◌, length, List, [], ◌∷◌, drop, Result, Ok, Err, refl, sym, ap, ◌∙◌, arith, length-append, append_assoc}
 use Rattle.std.specs.List.{AllByRecursion}
 use Rattle.std.proofs.lemmas.List.{append-nil, drop_at}
@@ -44,7 +44,7 @@ units_above i = omega arith
 
 -- ---- reading
 
--- the image is the code read so far and the rest; and if it is the image of any code, that is the code read so far with a code for the rest after it
+-- the image is the code read so far and the rest; each code with this image is the code read so far followed by a code for the rest
 pub record IsRead (image : List ℕ) (code : List Insn) (rest : List ℕ) : Type 0 where
   pub each : AllByRecursion HasSpelling code
   pub split : image ≡ image_of code ++ rest
@@ -57,7 +57,7 @@ all_more : (code : List Insn) (i : Insn) → AllByRecursion HasSpelling code →
 all_more [] i each has = (has, tt)
 all_more (c ∷ code) i each has = (each.0, all_more code i each.1 has)
 
--- the same front is taken away
+-- equal lists with the same front have the same rest
 pub same_rest : (a x y : List ℕ) → a ++ x ≡ a ++ y → x ≡ y
 same_rest a x y e = sym (drop_at a x (length a) refl) ∙ ap (drop (length a)) e ∙ drop_at a y (length a) refl
 
@@ -88,7 +88,7 @@ goes_on image code rest i behind so_far has e only = record {
 long_enough : (image : List ℕ) (code : List Insn) (rest : List ℕ) → IsRead image code rest → length image ≡ 8 * unit_count code + length rest
 long_enough image code rest r = omega (arith, ap length r.split, length-append (image_of code) rest, length_image code)
 
--- what is left holds a unit, if anything
+-- a rest that is not empty holds a unit
 pub holds_unit : (image : List ℕ) (code : List Insn) (rest : List ℕ) → IsRead image code rest → IsWhole image → 0 < length rest → 8 ≤ length rest
 holds_unit image code rest r whole h = omega (arith, long_enough image code rest r)
 
@@ -102,7 +102,7 @@ ends image code r short = record {
   spelling = r.split ∙ append-nil (image_of code);
 }
 
--- nothing left is the image of nothing
+-- the empty rest is the image of no instructions
 no_more : (tail : List Insn) → [] ≡ image_of tail → tail ≡ []
 no_more [] e = refl
 no_more (i ∷ is) e = absurd (omega (arith, ap length e, length-append (spelling_of i) (image_of is), length_spelled i, units_above i))
@@ -136,7 +136,7 @@ fails image code rest r whole short h none = record {
   none = none;
 }
 
--- an image with a fault is the image of no code
+-- an image with a fault is not the image of a code
 pub no_code : (image : List ℕ) (code : List Insn) (rest : List ℕ) → IsRead image code rest → 0 < length rest → NoneBegins rest → (c : List Insn) → IsImage c image → ⊥
 no_code image code rest r h none c is =
     let t = r.only c is.is_code.each is.spelling in
@@ -146,7 +146,7 @@ no_code image code rest r h none c is =
     at [] each e = omega (arith, ap length e)
     at (i ∷ more) each e = none i (spelling_of i) (image_of more) (record { has = each.0; are = refl }) e
 
--- the image of a code is a whole number of units, and of few
+-- the image of a code is a whole number of units, within the limit
 pub image_is_whole : (code : List Insn) (bytes : List ℕ) → IsImage code bytes → IsWhole bytes × IsShort bytes
 image_is_whole code bytes h = (omega (arith, ap length h.spelling, length_image code), omega (arith, ap length h.spelling, length_image code, h.is_code.short))
 

@@ -1,4 +1,4 @@
--- The rows of instructions are fields of a unit, and bytes tell them.
+-- The rows of instructions are fields of a unit, and bytes determine them.
 use Rattle.std.proofs.Common.{◌≡◌, ℕ, ℤ, ◌+◌, ◌*◌, ◌/◌, ◌%◌, ◌^◌, ◌<◌, ◌≤◌, ◌++◌, List, take, refl, sym, ap, ◌∙◌, arith, append_assoc}
 use Rattle.std.proofs.lemmas.List.{take-append-drop, drop-drop}
 use Rattle.std.specs.Prelude.{pos, FitsSigned, drop}
@@ -16,7 +16,7 @@ use Rattle.bpf_insn.specs.declared.fields.Fields.{Fields}
 use Rattle.bpf_insn.specs.Spelling.{HasSpelling, IsFields, IsOperand, row_of, high_half, unit_bytes, spelling_of, code_of, selector_of, order_bit, swap_bits, size_code, test_code, source_bit, source_of, immediate_of, arithmetic_class, jump_class}
 use Rattle.bpf_insn.proofs.Units.{unit_tells, same_fields, unsigned_fits_32}
 
--- ---- how large the parts of a row are
+-- ---- the bounds of the parts of a row
 
 code_below : (op : Op) → code_of op < 14
 code_below op = grind arith
@@ -61,7 +61,7 @@ small_fits_32 n h = omega (arith, ints)
 half_fits : (n : ℕ) → n < 2 ^ 32 → FitsSigned w32 (cast_signed w32 n)
 half_fits n h = omega (arith, ints)
 
--- the row of an instruction of the table stands in a unit
+-- the row of an instruction of the table fits a unit
 pub row_fits : (i : Insn) → HasSpelling i → IsFields (row_of i)
 row_fits (Alu op w d s) h = record {
   opcode_fits = omega (arith, code_below op, bit_below s, class_below w);
@@ -97,7 +97,7 @@ row_fits (Wide d n) h = record { opcode_fits = omega arith; dst_fits = omega (ar
 pub high_half_fits : (n : ℕ) → n < 2 ^ 64 → IsFields (high_half n)
 high_half_fits n h = record { opcode_fits = omega arith; dst_fits = omega arith; src_fits = omega arith; offset_fits = small_fits_16 0 (omega arith); imm_fits = half_fits _ (omega arith) }
 
--- ---- bytes tell the fields
+-- ---- bytes determine the fields
 
 -- bytes that begin with an instruction's spelling begin with its row
 pub tells_row : (i : Insn) (f : Fields) (bytes more : List ℕ) → IsFields f → take 8 bytes ≡ unit_bytes f → HasSpelling i → bytes ≡ spelling_of i ++ more → row_of i ≡ f
@@ -136,10 +136,10 @@ halves_spell bytes first second a b c d e f g h p q one two =
     sixteen : (bytes a b : List ℕ) → a ≡ take 8 bytes → b ≡ take 8 (drop 8 bytes) → (a ++ b) ++ drop 16 bytes ≡ bytes
     sixteen bytes a b p q = rw (p, q, append_assoc) (rw (sym (drop-drop 8 8 bytes)) (rw take-append-drop (take-append-drop 8 bytes)))
 
--- bits that are zero are those of zero
+-- a number with zero bits is zero
 pub zero_16 : (z : ℤ) → FitsSigned w16 z → cast_unsigned w16 z ≡ 0 → z ≡ pos 0
 zero_16 z fits e = omega (arith, ints)
 
--- what a number's bits are, read and written once more
+-- the bits of a number after reading and writing it again
 pub bits_again_32 : (z : ℤ) (n : ℕ) → FitsSigned w32 z → n ≡ cast_unsigned w32 (cast_signed w32 (cast_unsigned w32 z)) → n ≡ cast_unsigned w32 z
 bits_again_32 z n fits e = e ∙ ap (cast_unsigned w32) (to_z-of_z w32 z fits)

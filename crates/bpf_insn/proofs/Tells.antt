@@ -1,4 +1,4 @@
--- One instruction for a spelling: rows tell their instructions.
+-- Rows determine their instructions: a spelling has at most one.
 use Rattle.std.proofs.Common.{◌≡◌, ℕ, ℤ, ◌+◌, ◌*◌, ◌/◌, ◌^◌, ◌≤◌, ◌<◌, ◌++◌, List, [], ◌∷◌, refl, sym, ap, ◌∙◌, arith, inl, inr, take, drop, length, subst, length-append, zero, suc, Bool, true, Option, add-one}
 use Rattle.std.specs.Option.{option_to_list}
 use Rattle.std.specs.Str.{bytes_eq}
@@ -64,7 +64,7 @@ test_at_is SLe = refl
 test_tells : (t u : Test) → test_code t ≡ test_code u → t ≡ u
 test_tells t u e = sym (test_at_is t) ∙ ap test_at e ∙ test_at_is u
 
--- the size of so many bits
+-- the size with k bits
 size_of_bits : ℕ → Size
 size_of_bits k = if k == 8 then Byte else (if k == 16 then Half else (if k == 32 then Word else Double))
 
@@ -142,7 +142,7 @@ operand_tells (Imm k) (Reg r) e f g = absurd (omega arith)
 operand_tells (Reg r) (Imm k) e f g = absurd (omega arith)
 operand_tells (Reg r) (Reg s) e f g = ap (λ (n : ℕ). Reg n) f
 
--- ---- what the numbers may be
+-- ---- the possible numbers
 
 bit_is : (s : Operand) → (source_bit s ≡ 0) ⊎ (source_bit s ≡ 8)
 bit_is (Imm k) = inl refl
@@ -217,11 +217,11 @@ access_tells : (F : Size → ℕ → ℕ → ℤ → Insn) (m n : Size) (a b c d
 access_tells F m n a b c d x y e f g h =
     ap (λ (z : Size). F z a c x) (size_tells m n e) ∙ (ap (λ (z : ℕ). F n z c x) f ∙ (ap (λ (z : ℕ). F n b z x) g ∙ ap (λ (z : ℤ). F n b d z) h))
 
--- a row of one form is none of another
+-- rows of different forms differ
 apart : (i j : Insn) → row_of i ≡ row_of j → (row_of i).opcode ≢ (row_of j).opcode → i ≡ j
 apart i j e other = absurd (other (opcodes i j e))
 
--- Instructions with the same row, and the same high half where both are constants, are the same.
+-- Instructions with the same row are equal, if the high halves of constants are equal too.
 pub row_tells : (i j : Insn) → HasSpelling i → HasSpelling j → row_of i ≡ row_of j → ((c m d n : ℕ) → i ≡ Wide c m → j ≡ Wide d n → high_half m ≡ high_half n) → i ≡ j
 row_tells (Alu a v c s) (Alu b w d t) h k e g = alu_tells a b v w c d s t h k e
 row_tells (Alu a v c s) (Unary b w d) h k e g = apart _ _ e (λ o. omega (arith, o, binary_is a (binary_takes a v s h.0), bit_is s, unary_is b w k.0, order_bit_is b, arithmetic_is v, arithmetic_is w))
@@ -295,7 +295,7 @@ row_tells (Wide c m) j h k e g = apart _ j e (λ o. omega (arith, o))
 
 -- ---- spellings
 
--- Bytes begin with the spelling of one instruction alone.
+-- Bytes begin with the spelling of at most one instruction.
 pub spelling_tells : (i j : Insn) (x y : List ℕ) → HasSpelling i → HasSpelling j → spelling_of i ++ x ≡ spelling_of j ++ y → (i ≡ j) × (x ≡ y)
 spelling_tells i j x y h k e =
     let row : row_of i ≡ row_of j = tells_row i (row_of j) (spelling_of j ++ y) x (row_fits j k) refl h (sym e) in
@@ -325,13 +325,13 @@ high_tells m n e = ap (λ (k : ℕ). made 0 0 0 (pos 0) (cast_signed w32 k)) e
 pub same_by_parts : (i j : Insn) → HasSpelling i → HasSpelling j → row_of i ≡ row_of j → high_number i ≡ high_number j → i ≡ j
 same_by_parts i j h k e g = row_tells i j h k e (λ c m d n p q. high_tells m n (sym (ap high_number p) ∙ (g ∙ ap high_number q)))
 
--- a test of sameness answers as the images' bytes do
+-- a test of sameness has the same result as comparing the images
 pub image_answer : (c d : List Insn) (r : Bool) → AllByRecursion HasSpelling c → AllByRecursion HasSpelling d → (r ≡ true → c ≡ d) → (c ≡ d → r ≡ true) → r ≡ bytes_eq (image_of c) (image_of d)
 image_answer c d r h k f g =
     let decides = bytes_eq-Decides (image_of c) (image_of d) in
     both_ways r (bytes_eq (image_of c) (image_of d)) (λ t. decides.1 (ap image_of (f t))) (λ t. g (image_tells c d h k (decides.0 t)))
 
--- codes of as many units with the same at each are the same
+-- codes with the same number of units and the same instruction at each are the same
 pub units_tell : (c d : List Insn) → unit_count c ≡ unit_count d → ((u : ℕ) → u < unit_count c → fetch c u ≡ fetch d u) → c ≡ d
 units_tell c d same each = sym (whole c) ∙ (front (unit_count c) (λ u lt. each u lt) (omega arith) (omega arith) ∙ (ap (λ (n : ℕ). insns_of (take n (slots d))) same ∙ whole d))
   where

@@ -25,7 +25,7 @@ four a b c d p q r s = le_bytes_4 (a ∷ b ∷ c ∷ d ∷ []) _ refl each refl
     each (suc (suc (suc zero))) = s
     each (suc (suc (suc (suc i)))) = lit< tt
 
--- eight bytes are those of the fields that stand in them
+-- eight bytes are those of the fields that they spell
 unit_is : (a b c d e f g h : ℕ) → b < 256 → c < 256 → d < 256 → e < 256 → f < 256 → g < 256 → h < 256
     → a ∷ b ∷ c ∷ d ∷ e ∷ f ∷ g ∷ h ∷ [] ≡ unit_bytes (record { opcode = a; dst = b % 16; src = b / 16; offset = cast_signed w16 (c + d * 256); imm = cast_signed w32 (e + f * 256 + g * 65536 + h * 16777216) })
 unit_is a b c d e f g h pb pc pd pe pf pg ph =
@@ -47,7 +47,7 @@ unit_from xs o i n t eo ei = rw (eo, ei) (eight xs n ∙ unit_is _ _ _ _ _ _ _ _
 
 -- ---- a unit has one list of fields
 
--- two bytes, of which the first is the low one, tell a number below 2 ^ 16
+-- two bytes, the low one first, determine a number below 2 ^ 16
 two_tell : (m n : ℕ) → m < 2 ^ 16 → n < 2 ^ 16 → to_le_bytes w16 m ≡ to_le_bytes w16 n → m ≡ n
 two_tell m n p q e = sym (from_le_bytes-to_le_bytes_2 m p) ∙ ap (from_le_bytes w16) e ∙ from_le_bytes-to_le_bytes_2 n q
 

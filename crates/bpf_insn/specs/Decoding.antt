@@ -1,4 +1,4 @@
--- Which faults an image has.
+-- The faults of an image.
 use Rattle.std.specs.Prelude.{ℕ, ◌≡◌, ◌≢◌, ◌≤◌, ◌<◌, ◌/◌, ◌%◌, ◌++◌, List, length, ⊤, Result, MatchResult, codes}
 use Rattle.std.specs.Fmt.{decimal}
 use Rattle.bpf_insn.specs.declared.insn.Insn.{Insn}
@@ -9,7 +9,7 @@ use Rattle.bpf_insn.specs.declared.fault.DecodeFault.TheVariants.{NoMemory, Leng
 use Rattle.bpf_insn.specs.Spelling.{NoneBegins}
 use Rattle.bpf_insn.specs.Code.{IsCode, unit_count, unit_limit, image_of}
 
--- the fault of a unit at its place
+-- the fault of a unit, with its place
 abbrev pub placed_fault : UnitFault → ℕ → DecodeFault
 placed_fault unit.Opcode at = Opcode at
 placed_fault unit.HalfWide at = HalfWide at
@@ -35,7 +35,7 @@ pub record FailsAt (bytes : List ℕ) (at : ℕ) : Type 0 where
   pub within : at < length bytes / 8
   pub none : NoneBegins rest
 
--- When each fault comes.
+-- The condition of each fault.
 abbrev pub HasFault : List ℕ → DecodeFault → Type 0
 HasFault bytes NoMemory = ⊤
 HasFault bytes Length = length bytes % 8 ≢ 0

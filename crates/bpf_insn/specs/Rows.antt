@@ -1,4 +1,4 @@
--- What reading a unit gives, by its fields, and what reading bytes gives.
+-- The results of reading a unit from its fields, and of reading bytes.
 use Rattle.std.specs.Prelude.{◌≡◌, ◌*◌, ◌++◌, List, ℕ, drop, Result, Ok, IfOk}
 use Rattle.bpf_insn.specs.declared.insn.Insn.{Insn}
 use Rattle.bpf_insn.specs.declared.fields.Fields.{Fields}
@@ -6,18 +6,18 @@ use Rattle.bpf_insn.specs.declared.operands.UnitFault.{UnitFault}
 use Rattle.bpf_insn.specs.Spelling.{HasSpelling, row_of, spelling_of}
 use Rattle.bpf_insn.specs.Code.{units_of}
 
--- what was read is an instruction of the table, and these are its fields
+-- the result is an instruction of the table with these fields
 abbrev pub Reads : Fields → Result Insn UnitFault → Type 0
 Reads fields r = IfOk r (λ i. HasSpelling i × (row_of i ≡ fields))
 
--- an instruction with these fields is the one that was read
+-- if the instruction has these fields, it is the result
 abbrev pub OnlyReads : Fields → Result Insn UnitFault → Insn → Type 0
 OnlyReads fields r i = HasSpelling i → row_of i ≡ fields → r ≡ Ok i
 
--- what was read is an instruction of the table, and the bytes begin with its spelling
+-- the result is an instruction of the table, and the bytes begin with its spelling
 abbrev pub Finds : List ℕ → Result Insn UnitFault → Type 0
 Finds bytes r = IfOk r (λ i. HasSpelling i × (bytes ≡ spelling_of i ++ drop (8 * units_of i) bytes))
 
--- an instruction with whose spelling the bytes begin is the one that was read
+-- if the bytes begin with the instruction's spelling, it is the result
 abbrev pub OnlyFinds : List ℕ → Result Insn UnitFault → Insn → Type 0
 OnlyFinds bytes r i = (more : List ℕ) → HasSpelling i → bytes ≡ spelling_of i ++ more → r ≡ Ok i

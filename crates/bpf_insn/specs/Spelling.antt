@@ -1,4 +1,5 @@
--- How an instruction is spelled: the rows of the table of instructions, and the bytes of their fields.
+-- The spelling of an instruction: the rows of the table of instructions, and the bytes of their
+-- fields.
 use Rattle.std.specs.Prelude.{ℕ, ℤ, pos, ◌≡◌, ◌+◌, ◌*◌, ◌/◌, ◌%◌, ◌^◌, ◌<◌, ◌≤◌, ◌++◌, ◌∷◌, [], List, ⊤, Bool, true, false, IsTrue, FitsSigned}
 use Rattle.std.specs.Int.{to_le_bytes, cast_signed, cast_unsigned, w16, w32}
 use Rattle.bpf_insn.specs.declared.insn.Width.{Width}
@@ -22,7 +23,7 @@ use Rattle.bpf_insn.specs.declared.fields.Fields.{Fields}
 abbrev pub unit_bytes : Fields → List ℕ
 unit_bytes f = f.opcode ∷ (f.dst + 16 * f.src) ∷ (to_le_bytes w16 (cast_unsigned w16 f.offset) ++ to_le_bytes w32 (cast_unsigned w32 f.imm))
 
--- fields that stand in a unit
+-- fields that fit a unit
 pub record IsFields (f : Fields) : Type 0 where
   pub opcode_fits : f.opcode < 256
   pub dst_fits : f.dst < 16
@@ -69,7 +70,7 @@ size_bits Half = 16
 size_bits Word = 32
 size_bits Double = 64
 
--- The offset, which chooses among the operations of one number (RFC 9669, section 4.1).
+-- The offset that chooses among operations with the same number (RFC 9669, section 4.1).
 abbrev pub selector_of : Op → ℕ
 selector_of SDiv = 1
 selector_of SMod = 1
@@ -111,7 +112,7 @@ size_code Double = 3
 
 -- ---- rows
 
--- What an operand puts into the opcode, the source and the immediate (RFC 9669, section 4).
+-- The parts of an operand in the opcode, the source and the immediate (RFC 9669, section 4).
 abbrev pub source_bit : Operand → ℕ
 source_bit (Imm k) = 0
 source_bit (Reg r) = 8
@@ -124,8 +125,8 @@ abbrev pub immediate_of : Operand → ℤ
 immediate_of (Imm k) = k
 immediate_of (Reg r) = pos 0
 
--- The row of an instruction: the fields of its first unit. A field that it does not use is zero
--- (RFC 9669, sections 4.1, 4.2, 4.3, 5.1, 5.2 and 5.4).
+-- The row of an instruction: the fields of its first unit. Unused fields are zero (RFC 9669,
+-- sections 4.1, 4.2, 4.3, 5.1, 5.2 and 5.4).
 abbrev pub row_of : Insn → Fields
 row_of (Alu op w d s) = record { opcode = code_of op * 16 + source_bit s + arithmetic_class w; dst = d; src = source_of s; offset = pos (selector_of op); imm = immediate_of s }
 row_of (Unary op w d) = record { opcode = code_of op * 16 + order_bit op + arithmetic_class w; dst = d; src = 0; offset = pos 0; imm = pos (swap_bits op) }
@@ -144,7 +145,7 @@ row_of (Wide d n) = record { opcode = 0x18; dst = d; src = 0; offset = pos 0; im
 abbrev pub high_half : ℕ → Fields
 high_half n = record { opcode = 0; dst = 0; src = 0; offset = pos 0; imm = cast_signed w32 (n / 2 ^ 32) }
 
--- that half as a number; of another instruction 0
+-- that half as a number; 0 for any other instruction
 abbrev pub high_number : Insn → ℕ
 high_number (Wide d n) = n / 2 ^ 32
 high_number i = 0
@@ -168,10 +169,10 @@ second_unit (Wide d n) = unit_bytes (high_half n)
 abbrev pub spelling_of : Insn → List ℕ
 spelling_of i = unit_bytes (row_of i) ++ second_unit i
 
--- ---- which instructions have a row
+-- ---- the instructions that have a row
 
--- An operation with an operand: a signed move takes a register and a part below the width (RFC 9669,
--- section 4.1).
+-- An operation with an operand. A sign-extending move takes a register and a part below the width
+-- (RFC 9669, section 4.1).
 abbrev pub is_binary : Op → Width → Operand → Bool
 is_binary Neg w s = false
 is_binary (Little n) w s = false
@@ -199,7 +200,8 @@ abbrev pub has_order : Size → Bool
 has_order Byte = false
 has_order n = true
 
--- An operation without one: ALU orders to little or big endian, ALU64 swaps (RFC 9669, sections 4.1, 4.2).
+-- An operation without an operand: ALU converts to little or big endian, ALU64 swaps (RFC 9669,
+-- sections 4.1, 4.2).
 abbrev pub is_unary : Op → Width → Bool
 is_unary Neg w = true
 is_unary (Little n) W32 = has_order n
@@ -207,12 +209,12 @@ is_unary (Big n) W32 = has_order n
 is_unary (Swap n) W64 = has_order n
 is_unary op w = false
 
--- A load with its sign is of a part below 64 bits (RFC 9669, section 5.2).
+-- A sign-extending load reads a part below 64 bits (RFC 9669, section 5.2).
 abbrev pub is_narrow : Size → Bool
 is_narrow Double = false
 is_narrow n = true
 
--- the accesses of memory
+-- memory accesses
 abbrev pub is_access : Insn → Bool
 is_access (Load n d b off) = true
 is_access (LoadSigned n d b off) = true
@@ -248,6 +250,6 @@ pub record Spells (i : Insn) (bytes : List ℕ) : Type 0 where
   pub has : HasSpelling i
   pub are : bytes ≡ spelling_of i
 
--- No spelling begins there.
+-- The bytes begin with no spelling.
 abbrev pub NoneBegins : List ℕ → Type 0
 NoneBegins bytes = (i : Insn) (text more : List ℕ) → Spells i text → bytes ≡ text ++ more → ⊥

@@ -1,4 +1,4 @@
--- How a code is kept: what stands at each of its units, and how many instructions there are.
+-- The representation of a code: the slot of each unit, and the number of instructions.
 use Rattle.std.specs.Prelude.{ℕ, ◌≡◌, List, length, Option}
 use Rattle.std.specs.Option.{option_to_list}
 use Rattle.std.specs.List.{flat_map}

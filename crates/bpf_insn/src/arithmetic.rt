@@ -1,4 +1,4 @@
-//! What an operation computes.
+//! The results of operations.
 
 ghost use Rattle.std.specs.Prelude.{◌≡◌, ◌%◌, ◌^◌};
 ghost use Rattle.bpf_insn.specs.Arithmetic.{result_of, uncut_result, size_modulus, swapped_part, sign_extension};
@@ -6,7 +6,7 @@ ghost use Rattle.bpf_insn.specs.Arithmetic.{result_of, uncut_result, size_modulu
 use crate::insn::{Op, Size, Width};
 use byteorder::{BigEndian, ByteOrder, LittleEndian};
 
-/// The number above all numbers of 32 bits.
+/// One more than the greatest number of 32 bits.
 pub(crate) const ABOVE_32: u64 = 0x1_0000_0000;
 
 /// The low part of a number.
@@ -21,7 +21,7 @@ fn low_part(size: Size, a: u64) -> u64
     }
 }
 
-/// The low part of a number, its bytes in the other order.
+/// The low part of a number with its bytes reversed.
 fn swap_part(size: Size, a: u64) -> u64
     ensures { result ≡ swapped_part size a }
 {
@@ -36,7 +36,7 @@ fn swap_part(size: Size, a: u64) -> u64
     }
 }
 
-/// The low part of a number, with its sign to 64 bits (RFC 9669, section 2.3).
+/// The low part of a number, sign-extended to 64 bits (RFC 9669, section 2.3).
 pub fn sign_extended(size: Size, b: u64) -> u64
     ensures { result ≡ sign_extension size b }
 {
@@ -142,8 +142,8 @@ fn apply32(op: Op, a: u32, b: u32) -> u32
 }
 
 /// The result of an operation on the destination `a` and the operand `b` (RFC 9669, sections 4.1
-/// and 4.2). Those of 32 bits clear the upper half. An operation without an operand leaves `b`
-/// out. No memory is taken.
+/// and 4.2). Operations of 32 bits clear the upper half. An operation without an operand ignores
+/// `b`. Allocates no memory.
 pub fn apply(op: Op, width: Width, a: u64, b: u64) -> u64
     ensures { result ≡ result_of op width a b }
 {

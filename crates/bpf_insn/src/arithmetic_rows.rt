@@ -8,7 +8,7 @@ use crate::fields::Fields;
 use crate::insn::{Insn, Op, Operand, Size, Width};
 use crate::operands::{UnitFault, operand_of};
 
-/// The operation with an operand of a number and a selector.
+/// The operation with this number and selector that takes an operand.
 fn op_of(code: u8, selector: i16) -> Option<Op>
     ensures found { IfSome result (λ op. IsTrue (takes_operand op) × (code_of op ≡ code) × (pos (selector_of op) ≡ selector)) }
     ensures only { (op : Op) → IsTrue (takes_operand op) → code_of op ≡ code → pos (selector_of op) ≡ selector → result ≡ Some op }
@@ -35,7 +35,7 @@ fn op_of(code: u8, selector: i16) -> Option<Op>
     }
 }
 
-/// Whether an operation takes such an operand at a width.
+/// Returns true if an operation takes such an operand at a width.
 fn allows(op: Op, width: Width, src: Operand) -> bool
     ensures { result ≡ is_binary op width src }
 {

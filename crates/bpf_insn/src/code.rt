@@ -9,7 +9,7 @@ use std::alloc::{AllocError, Allocator, Global};
 use std::marker::Model;
 
 impl Insn {
-    /// How many units the instruction has: 2 for a constant of 64 bits, and else 1.
+    /// The number of units: 2 for a constant of 64 bits, otherwise 1.
     pub fn units(&self) -> usize
         ensures { result ≡ units_of self.now }
     {
@@ -20,14 +20,14 @@ impl Insn {
     }
 }
 
-/// The most units of a code.
+/// The maximum number of units of a code.
 pub const UNIT_LIMIT: usize = 4096;
 
 /// A code: a list of instructions of the table, of at most 4,096 units. Clauses see the list.
 #[derive(Drop)]
 #[derive_where(Debug)]
 pub struct Code<A: Allocator = Global> {
-    // What stands at each unit: nothing at the second unit of a constant.
+    // The slot of each unit; `None` for the second unit of a constant.
     slots: Vec<Option<Insn>, A>,
     count: usize,
 }
@@ -45,7 +45,7 @@ impl<A: Allocator> Model for Code<A> {
 }
 
 impl<A: Allocator> Code<A> {
-    /// The code without instructions, which takes no memory.
+    /// Creates an empty code. Allocates no memory.
     pub fn new(alloc: A) -> Code<A>
         ensures { result ≡ [] }
     {
@@ -55,7 +55,7 @@ impl<A: Allocator> Code<A> {
         }
     }
 
-    /// The code without instructions, with memory for so many units.
+    /// Creates an empty code with memory for `units` units.
     pub fn with_capacity(alloc: A, units: usize) -> Result<Code<A>, AllocError>
         ensures { IfOk result (λ code. code ≡ []) }
     {
@@ -64,7 +64,7 @@ impl<A: Allocator> Code<A> {
         Ok(code)
     }
 
-    /// How many instructions there are.
+    /// The number of instructions.
     pub fn len(&self) -> usize
         ensures value { result ≡ length self.now }
         ensures is_code { IsCode self.now }
@@ -72,14 +72,14 @@ impl<A: Allocator> Code<A> {
         self.count
     }
 
-    /// Whether there is no instruction.
+    /// Returns true if there is no instruction.
     pub fn is_empty(&self) -> bool
         ensures { IsTrue result ↔ (self.now ≡ []) }
     {
         self.slots.is_empty()
     }
 
-    /// How many units there are: one for each instruction, two for a constant of 64 bits.
+    /// The number of units: one for each instruction, two for a constant of 64 bits.
     pub fn units(&self) -> usize
         ensures value { result ≡ unit_count self.now }
         ensures limit { result ≤ unit_limit }
@@ -89,8 +89,8 @@ impl<A: Allocator> Code<A> {
         self.slots.len()
     }
 
-    /// The instruction that begins at a unit, in constant time: none at the second unit of a
-    /// constant, and none past the end.
+    /// The instruction that begins at a unit, in constant time. `None` at the second unit of a
+    /// constant and past the end.
     pub fn insn_at(&self, unit: usize) -> Option<Insn>
         ensures value { result ≡ fetch self.now unit }
         ensures has { IfSome result HasSpelling }
@@ -100,8 +100,8 @@ impl<A: Allocator> Code<A> {
         *self.slots.get(unit)?
     }
 
-    /// Adds an instruction of the table at the end, where there is room for it. Without memory the
-    /// code stays as it is.
+    /// Adds an instruction of the table at the end. There must be room for it. If allocation fails,
+    /// the code is unchanged.
     pub fn push(&mut self, insn: Insn) -> Result<(), AllocError>
         requires has { HasSpelling insn }
         requires room { unit_count self.old + units_of insn ≤ unit_limit }

@@ -1,4 +1,4 @@
-//! Whether a conditional jump is taken.
+//! The tests of conditional jumps.
 
 ghost use Rattle.std.specs.Prelude.{◌≡◌};
 ghost use Rattle.bpf_insn.specs.Conditions.{comparison, holds_of};
@@ -42,8 +42,8 @@ fn holds32(test: Test, a: u32, b: u32) -> bool
     }
 }
 
-/// Whether a jump's test holds of the destination `a` and the operand `b` (RFC 9669, section 4.3).
-/// At 32 bits the upper halves are left out. No memory is taken.
+/// Returns true if a jump's test holds of the destination `a` and the operand `b` (RFC 9669,
+/// section 4.3). At 32 bits the upper halves are ignored. Allocates no memory.
 pub fn holds(test: Test, width: Width, a: u64, b: u64) -> bool
     ensures { result ≡ holds_of test width a b }
 {

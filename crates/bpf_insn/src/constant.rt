@@ -1,4 +1,4 @@
-//! The constant of 64 bits, the one instruction of two units (RFC 9669, section 5.4).
+//! The constant of 64 bits, the only instruction of two units (RFC 9669, section 5.4).
 
 ghost use Rattle.std.specs.Prelude.{◌≡◌, ◌++◌, ◌<◌, ◌≤◌, ℕ, List, length, take, drop};
 ghost use Rattle.bpf_insn.specs.Spelling.{unit_bytes, IsFields, HasSpelling, spelling_of};
@@ -8,7 +8,7 @@ use crate::fields::Fields;
 use crate::insn::Insn;
 use crate::operands::UnitFault;
 
-/// The constant whose first unit has these fields and whose second stands after it.
+/// Reads the constant at the start of the bytes. Its first unit has these fields.
 pub fn wide_of(first: Fields, bytes: &[u8]) -> Result<Insn, UnitFault>
     requires opcode { first.opcode ≡ 0x18 }
     requires unit { take 8 bytes.now ≡ unit_bytes first }

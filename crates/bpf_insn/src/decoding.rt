@@ -1,4 +1,4 @@
-//! A code from its bytes.
+//! Decodes bytes to a code.
 
 ghost use Rattle.std.specs.Prelude.{◌≡◌, ◌≢◌, ◌≤◌, ◌<◌, ◌/◌, ◌%◌, ◌↔◌, List, length, IfOk, IfErr, IsErrOf};
 ghost use Rattle.bpf_insn.specs.Code.{IsImage, unit_limit};
@@ -10,7 +10,7 @@ use crate::insn::Insn;
 use crate::reading::first_insn;
 use std::alloc::Allocator;
 
-/// The code of a whole number of units, unit by unit.
+/// Decodes a whole number of units, one by one.
 fn decode_units<A: Allocator>(alloc: A, image: &[u8]) -> Result<Code<A>, DecodeFault>
     requires whole { IsWhole image.now }
     requires short { IsShort image.now }
@@ -32,16 +32,17 @@ fn decode_units<A: Allocator>(alloc: A, image: &[u8]) -> Result<Code<A>, DecodeF
     Ok(code)
 }
 
-/// The code that bytes are the image of. It reads each unit once. The faults, in this order:
-/// `Length` for a number of bytes that is not a multiple of 8, `TooLong` above 4,096 units, and
-/// then the first unit at which no instruction of the table begins: `Opcode`, `HalfWide`,
-/// `Register` or `Reserved`, the first of these that is so. `NoMemory` comes where memory ran out.
+/// Decodes an image; reads each unit once. The faults, in this order: `Length` if the number of
+/// bytes is not a multiple of 8, `TooLong` above 4,096 units, and then the first unit at which no
+/// instruction of the table begins: the first applicable one of `Opcode`, `HalfWide`, `Register`
+/// and `Reserved`. `NoMemory` if memory ran out.
 pub fn decode<A: Allocator>(alloc: A, image: &[u8]) -> Result<Code<A>, DecodeFault>
-    // What is decoded is spelled so, and what is spelled so is decoded, unless memory runs out.
+    // The result's image is these bytes, and the code of these bytes is the result, unless memory
+    // runs out.
     ensures found { IfOk result (λ code. IsImage code image.now) }
     ensures only { (code : List Insn) → IsImage code image.now → IsCodeUnlessMemory result code }
 
-    // When each fault comes.
+    // The condition of each fault.
     ensures length { IsErrOf result DecodeFault.Length ↔ (length image.now % 8 ≢ 0) }
     ensures too_long { IsErrOf result DecodeFault.TooLong ↔ (IsWhole image.now × (unit_limit < length image.now / 8)) }
     ensures fault { IfErr result (HasFault image.now) }

@@ -1,4 +1,4 @@
-//! A code as bytes.
+//! Encodes a code as bytes.
 
 ghost use Rattle.std.specs.Prelude.{IfOk};
 ghost use Rattle.bpf_insn.specs.Code.{IsImage};
@@ -8,7 +8,7 @@ use crate::spelling::put_insn;
 use std::alloc::{AllocError, Allocator};
 
 /// The bytes of a code: the spellings of its instructions, joined (RFC 9669, section 3). `decode`
-/// of them gives the code again. It fails only where memory runs out.
+/// gives the code again. The only error is out of memory.
 pub fn encode<A: Allocator, B: Allocator>(
     alloc: A,
     code: &Code<B>,

@@ -1,4 +1,4 @@
-//! Whether two codes are the same.
+//! Equality of codes.
 
 ghost use Rattle.std.specs.Prelude.{◌≡◌, ◌↔◌, ◌/◌, ◌^◌, IsTrue, IfSome};
 ghost use Rattle.bpf_insn.specs.Spelling.{HasSpelling, high_number};
@@ -10,7 +10,7 @@ use crate::insn::Insn;
 use crate::spelling::row;
 use std::alloc::Allocator;
 
-/// The high half of a constant of 64 bits, and 0 of another instruction.
+/// The high half of a constant of 64 bits; 0 for any other instruction.
 fn high_of(insn: Insn) -> u64
     ensures { result ≡ high_number insn }
 {
@@ -26,7 +26,7 @@ fn same_fields(a: Fields, b: Fields) -> bool
     a == b
 }
 
-/// Whether two instructions of the table are the same, as their spellings are.
+/// Compares two instructions of the table by their spellings.
 fn same_insn(a: Insn, b: Insn) -> bool
     requires left { HasSpelling a }
     requires right { HasSpelling b }
@@ -38,7 +38,7 @@ fn same_insn(a: Insn, b: Insn) -> bool
     high_of(a) == high_of(b)
 }
 
-/// The same of what stands at a unit.
+/// The same for the slots of a unit.
 fn same_slot(a: Option<Insn>, b: Option<Insn>) -> bool
     requires left { IfSome a HasSpelling }
     requires right { IfSome b HasSpelling }
@@ -51,7 +51,7 @@ fn same_slot(a: Option<Insn>, b: Option<Insn>) -> bool
     }
 }
 
-/// Whether two codes have the same instructions.
+/// Returns true if two codes have the same instructions.
 fn same_code<A: Allocator>(a: &Code<A>, b: &Code<A>) -> bool
     ensures same { IsTrue result ↔ (a.now ≡ b.now) }
     ensures left { IsCode a.now }
@@ -80,7 +80,7 @@ impl<A: Allocator> PartialEq for Code<A> {
 
     ghost laws = { on_per image_of (partial_equiv_from_equiv nat_list_eq_equiv) };
 
-    /// Whether the instructions are the same, and so the bytes. No memory is taken.
+    /// Compares the instructions, and so the bytes. Allocates no memory.
     fn eq(&self, other: &Self) -> bool
         ensures exact { IsTrue result ↔ (self.now ≡ other.now) }
         ensures value { result ≡ bytes_eq (image_of self.now) (image_of other.now) }

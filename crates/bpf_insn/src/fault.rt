@@ -1,4 +1,4 @@
-//! Why bytes are no code.
+//! The faults of bytes that are not a code.
 
 ghost use Rattle.std.specs.Prelude.{◌≡◌};
 ghost use Rattle.bpf_insn.specs.declared.fault.DecodeFault.TheVariants.{NoMemory};
@@ -8,12 +8,12 @@ use std::alloc::AllocError;
 use std::error::Error;
 use std::fmt;
 
-/// What is wrong with an image. A place is the number of an instruction's first unit, from 0.
+/// The fault of an image. A place is the number of an instruction's first unit, from 0.
 #[derive(Clone, Copy, Debug, PartialEq, Eq)]
 pub enum DecodeFault {
     /// Memory ran out.
     NoMemory,
-    /// The image is not a whole number of units of 8 bytes.
+    /// The number of bytes is not a multiple of 8.
     Length,
     /// There are more than 4,096 units.
     TooLong,

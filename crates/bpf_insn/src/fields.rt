@@ -16,7 +16,7 @@ impl Fields {
     ghost use Rattle.std.specs.Prelude.{◌≡◌, ◌+◌, ◌*◌, ◌<◌, ◌≤◌, length, take};
     ghost use Rattle.bpf_insn.specs.Spelling.{unit_bytes, IsFields};
 
-    /// The fields of the unit with which the bytes begin.
+    /// Reads the fields of the unit at the start of the bytes.
     pub fn read(bytes: &[u8]) -> Fields
         requires { 8 ≤ length bytes.now }
         ensures bytes { take 8 bytes.now ≡ unit_bytes result }

@@ -1,7 +1,6 @@
-//! The instructions of RFC 9669 that this project has: the groups base32, base64, divmul32 and
-//! divmul64.
+//! The supported instructions of RFC 9669: the groups base32, base64, divmul32 and divmul64.
 
-/// How many bits of its operands an operation or a test takes.
+/// The number of bits that an operation or a test reads of its operands.
 #[derive(Clone, Copy, Debug, PartialEq, Eq)]
 pub enum Width {
     /// The low 32 bits: the classes ALU and JMP32.
@@ -10,7 +9,7 @@ pub enum Width {
     W64,
 }
 
-/// How many bytes a part of a number, or a place in memory, has: 1, 2, 4 or 8.
+/// The number of bytes of a part of a number, or of a place in memory: 1, 2, 4 or 8.
 #[derive(Clone, Copy, Debug, PartialEq, Eq)]
 pub enum Size {
     Byte,
@@ -43,9 +42,9 @@ pub enum Op {
     SMod,
     Xor,
     Mov,
-    /// The low part of the operand, with its sign.
+    /// The low part of the operand, sign-extended.
     MovSx(Size),
-    /// Shift to the right with the sign.
+    /// Arithmetic shift to the right.
     Arsh,
     /// The low part of the destination, to little endian; it has no operand.
     Little(Size),
@@ -55,7 +54,7 @@ pub enum Op {
     Swap(Size),
 }
 
-/// The test of a conditional jump, of a destination and an operand.
+/// The test of a conditional jump, on a destination and an operand.
 #[derive(Clone, Copy, Debug, PartialEq, Eq)]
 pub enum Test {
     Eq,
@@ -64,12 +63,12 @@ pub enum Test {
     /// The two have a bit in common.
     Set,
     Ne,
-    /// Signed, as the next one.
+    /// Signed; also the next one.
     SGt,
     SGe,
     Lt,
     Le,
-    /// Signed, as the next one.
+    /// Signed; also the next one.
     SLt,
     SLe,
 }
@@ -77,29 +76,29 @@ pub enum Test {
 /// The operand of an operation or a test.
 #[derive(Clone, Copy, Debug, PartialEq, Eq)]
 pub enum Operand {
-    /// A number, which a 64-bit operation takes with its sign.
+    /// A number, sign-extended in 64-bit operations.
     Imm(i32),
-    /// What a register holds.
+    /// The value of a register.
     Reg(u8),
 }
 
 /// An instruction. Registers are numbers from 0 to 10, and distances are in units.
 #[derive(Clone, Copy, Debug, PartialEq, Eq)]
 pub enum Insn {
-    /// Arithmetic with an operand, into `dst`.
+    /// Arithmetic with an operand; the result is in `dst`.
     Alu {
         op: Op,
         width: Width,
         dst: u8,
         src: Operand,
     },
-    /// Arithmetic on `dst` alone: `Neg`, `Little`, `Big` and `Swap`.
+    /// Arithmetic without an operand, on `dst`: `Neg`, `Little`, `Big` and `Swap`.
     Unary {
         op: Op,
         width: Width,
         dst: u8,
     },
-    /// A jump by `offset` from the next unit, where the test holds.
+    /// A jump by `offset` from the next unit, if the test holds.
     Branch {
         test: Test,
         width: Width,
@@ -119,37 +118,37 @@ pub enum Insn {
     Call {
         helper: i32,
     },
-    /// The end, with the code in R0.
+    /// The end of the program, with its code in R0.
     Exit,
-    /// A number from memory into `dst`.
+    /// Loads a number from memory into `dst`.
     Load {
         size: Size,
         dst: u8,
         base: u8,
         offset: i16,
     },
-    /// A number from memory, with its sign to 64 bits, into `dst`.
+    /// Loads a number from memory into `dst`, sign-extended to 64 bits.
     LoadSigned {
         size: Size,
         dst: u8,
         base: u8,
         offset: i16,
     },
-    /// The low bytes of `value`, with its sign to 64 bits, into memory.
+    /// Stores the low bytes of `value`, sign-extended to 64 bits.
     StoreImm {
         size: Size,
         base: u8,
         offset: i16,
         value: i32,
     },
-    /// The low bytes of `src` into memory.
+    /// Stores the low bytes of `src`.
     Store {
         size: Size,
         base: u8,
         offset: i16,
         src: u8,
     },
-    /// A constant of 64 bits into `dst`: the one instruction of two units.
+    /// Loads a constant of 64 bits into `dst`. The only instruction of two units.
     Wide {
         dst: u8,
         value: u64,

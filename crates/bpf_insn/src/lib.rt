@@ -1,7 +1,7 @@
-//! Instructions of RFC 9669, what they compute, and programs as bytes.
+//! Instructions of RFC 9669, their results, and programs as bytes.
 //!
 //! An image is a list of units of 8 bytes. `decode` gives its code, a list of instructions, and
-//! `encode` the bytes of a code; `apply` and `holds` are what operations compute and tests answer.
+//! `encode` the bytes of a code. `apply` computes an operation and `holds` a test.
 #![tactic(auto)]
 
 mod arithmetic;

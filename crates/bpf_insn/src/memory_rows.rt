@@ -31,7 +31,7 @@ fn load(fields: Fields, size: Size) -> Result<Insn, UnitFault>
     })
 }
 
-/// A load with its sign.
+/// A sign-extending load.
 fn load_signed(fields: Fields, size: Size) -> Result<Insn, UnitFault>
     requires row { fields.opcode ≡ 0x81 + size_code size * 8 }
     requires narrow { IsTrue (is_narrow size) }

@@ -1,11 +1,11 @@
-//! What is wrong with a unit, and the operand of one.
+//! The faults of a unit, and its operand.
 ghost use Rattle.std.specs.Prelude.{◌≡◌, ◌*◌, ◌/◌, ◌%◌, IfSome};
 ghost use Rattle.bpf_insn.specs.Spelling.{source_bit, source_of, immediate_of, IsOperand};
 
 use crate::fields::Fields;
 use crate::insn::Operand;
 
-/// What is wrong with a unit; of several faults the first in this order.
+/// The fault of a unit. If there are several, the first in this order is reported.
 #[derive(Clone, Copy, Debug, PartialEq, Eq)]
 pub enum UnitFault {
     /// The opcode is not in the table, or a constant or a call names a source.
@@ -18,7 +18,7 @@ pub enum UnitFault {
     Reserved,
 }
 
-/// The operand, where the fields that it leaves unused are zero.
+/// The operand. `None` if a field that it leaves unused is not zero.
 pub fn operand_of(fields: Fields) -> Option<Operand>
     ensures found { IfSome result (λ s. IsOperand s × (source_of s ≡ fields.src) × (immediate_of s ≡ fields.imm) × (source_bit s ≡ fields.opcode / 8 % 2 * 8)) }
     ensures only { (s : Operand) → IsOperand s → source_of s ≡ fields.src → immediate_of s ≡ fields.imm → source_bit s ≡ fields.opcode / 8 % 2 * 8 → result ≡ Some s }

@@ -1,4 +1,4 @@
-//! The instruction with which bytes begin.
+//! Reads the first instruction of bytes.
 
 ghost use Rattle.std.specs.Prelude.{◌≤◌, length};
 ghost use Rattle.bpf_insn.specs.Rows.{Finds, OnlyFinds};
@@ -12,7 +12,7 @@ use crate::rows::insn_of;
 /// The opcode of a constant of 64 bits.
 const WIDE: u8 = 0x18;
 
-/// The instruction with which the bytes begin; they hold at least one unit.
+/// Reads the first instruction of the bytes. There must be at least one unit.
 pub fn first_insn(bytes: &[u8]) -> Result<Insn, UnitFault>
     requires { 8 ≤ length bytes.now }
     ensures found { Finds bytes.now result }

@@ -1,4 +1,4 @@
-//! How an instruction is written.
+//! The spelling of an instruction.
 
 ghost use Rattle.std.specs.Prelude.{◌≡◌, ◌≤◌, ◌<◌, ◌^◌, ◌+◌, ◌*◌, ◌++◌, OnOk, IsTrue, pos};
 ghost use Rattle.std.specs.Int.{cast_signed, w32};
@@ -125,7 +125,7 @@ fn jump_number(width: Width) -> u8
     }
 }
 
-/// The fields of an instruction with an operand, but for its operation.
+/// The fields of an instruction with an operand. `opcode` has all bits except the source bit.
 fn with_operand(opcode: u8, dst: u8, src: Operand, offset: i16) -> Fields
     requires { opcode ≤ 240 }
     ensures { result ≡ record { opcode = opcode + source_bit src; dst = dst; src = source_of src; offset = offset; imm = immediate_of src } }
@@ -182,7 +182,7 @@ fn with_offset(opcode: u8, dst: u8, src: u8, offset: i16) -> Fields
     }
 }
 
-/// The row of an access of memory.
+/// The row of a memory access.
 fn access_row(insn: Insn) -> Fields
     requires { IsTrue (is_access insn) }
     ensures { result ≡ row_of insn }
@@ -259,8 +259,7 @@ pub fn row(insn: Insn) -> Fields
     }
 }
 
-/// Writes the one spelling of an instruction after what was written. Without memory a part of it
-/// may stand there.
+/// Appends the only spelling of an instruction. If allocation fails, a part of it may be appended.
 pub fn put_insn<A: Allocator>(out: &mut Vec<u8, A>, insn: Insn) -> Result<(), AllocError>
     requires { HasSpelling insn }
     ensures { OnOk result (out.new.items ≡ out.old.items ++ spelling_of insn) }

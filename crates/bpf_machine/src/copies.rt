@@ -26,7 +26,7 @@ fn put_part(to: &mut [u8], at: usize, from: &[u8], start: usize, n: usize)
     put(to, at, &from[start..start + n]);
 }
 
-/// The n bytes at an address come to a place in the record.
+/// Copies the n bytes at an address to a place in the record.
 fn copy_to_record(
     core: &Core,
     bytes: &mut [u8],
@@ -59,7 +59,7 @@ fn copy_to_record(
     }
 }
 
-/// The n bytes at an address come to a place on the stack.
+/// Copies the n bytes at an address to a place on the stack.
 fn copy_to_stack(
     core: &mut Core,
     bytes: &[u8],
@@ -93,7 +93,7 @@ fn copy_to_stack(
     }
 }
 
-/// The n bytes at an address come to another.
+/// Copies the n bytes at an address to another address.
 #[tactic(auto, using(crate::proofs::Copying::pasted_to, crate::proofs::Copying::pasted_from, crate::proofs::Copying::none_to_argument))]
 fn copy(
     core: &mut Core,
@@ -123,8 +123,8 @@ fn copy(
     }
 }
 
-/// A call of the helper that copies: R1 is where to, R2 is where from, and R3 is how many bytes. The
-/// regions are those into which R1 and R2 point.
+/// A call of the helper that copies: R1 is the destination, R2 the source, and R3 the number of bytes. R1 points into the region `to`, R2
+/// into `from`.
 pub fn do_copy(core: &mut Core, bytes: &mut [u8], argument: &[u8], to: Region, from: Region)
     requires bytes_fit { length bytes.old ≤ record_limit }
     requires argument_fits { length argument.now ≤ argument_limit }

@@ -1,8 +1,7 @@
 //! The machines that run programs on a record.
 //!
-//! `run` runs accepted programs alone: each of its registers is one bare word, and nothing is tested that
-//! was proved of the program. `run_checked`, which is that of `bpf_checked`, runs any code, accepted or
-//! not, and tests each instruction before it does anything of it.
+//! `run` runs only accepted programs: each of its registers is one bare word, and nothing is tested that was proved of the program.
+//! `run_checked` of `bpf_checked` runs any code, accepted or not, and tests each instruction before it has any effect.
 #![tactic(auto)]
 
 mod access;

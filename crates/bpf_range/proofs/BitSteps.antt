@@ -1,4 +1,4 @@
--- Operations on numbers of which some bits are known.
+-- Operations on numbers with known bits.
 use Rattle.std.proofs.Common.{◌≡◌, ℕ, zero, suc, ◌+◌, ◌-◌, ◌*◌, ◌/◌, ◌%◌, ◌^◌, ◌<◌, ◌≤◌, min, max, bit_and, bit_or, bit_xor, sym, ap, ◌∙◌, arith, ◌⊎◌, inl, inr}
 use Rattle.std.proofs.Math.Nat.{div-div-eq-div-mul, div-le_self, mod-lt}
 use Rattle.std.specs.Int.{w64, bit_at}
@@ -48,7 +48,7 @@ and_matches av au bv bu x y p q r s m n =
     bits av (suc zero) bv (suc (suc n)) x y p q r s e f = absurd (omega arith)
     bits av (suc (suc n)) bv bu x y p q r s e f = absurd (omega arith)
 
--- what is cut out of the unknown bits is apart
+-- masking with the unknown bits leaves no common bit
 pub cut_apart : (v u : ℕ) → v < 2 ^ 64 → bit_and v (bit_and u (2 ^ 64 - 1 - v)) ≡ 0
 cut_apart v u p =
     apart_from v (bit_and u (2 ^ 64 - 1 - v)) p
@@ -118,7 +118,7 @@ bit_at_low n k i h =
     let l : bit_at n i < 2 = bit_at-lt n i in
     omega arith
 
--- a bit of a number that is shifted to the left
+-- a bit of a left-shifted number
 shl_low : (n k i : ℕ) → i < 64 → i < k → bit_at (n * 2 ^ k % 2 ^ 64) i ≡ 0
 shl_low n k i h b = let z : n * 2 ^ k ≡ n * 2 ^ k + 0 = omega arith in bit_at_low (n * 2 ^ k) 64 i h ∙ ap (λ m. bit_at m i) z ∙ bit_at_cat_low n k 0 i b ∙ bit_at-zero i
 

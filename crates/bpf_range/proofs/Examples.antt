@@ -32,7 +32,7 @@ fill_of_seven = record { ones = (3, refl); enough = omega arith; least = omega a
 fill_of_nothing : IsFill 0 0
 fill_of_nothing = record { ones = (0, refl); enough = omega arith; least = omega arith }
 
--- 15 is enough for 5 and not the least
+-- 15 is at least 5, but not the least such mask
 not_fifteen : IsFill 5 15 → ⊥
 not_fifteen f = let l : 15 ≤ 5 + 5 = f.least in omega arith
 

@@ -23,7 +23,7 @@ fill_is x p q =
     let d : 2 ^ suc j ≡ 2 ^ j * 2 = pow-suc 2 j in
     rw f (record { ones = (suc j, omega arith); enough = omega arith; least = omega arith })
 
--- numbers without a bit between them are equal
+-- numbers that differ in no bit are equal
 same_from_xor : (p q : ℕ) → bit_xor p q ≡ 0 → p ≡ q
 same_from_xor p q e = omega (arith, xor_add_and p q, and_le_l p q, and_le_r p q)
 
@@ -33,7 +33,7 @@ same_high lo hi k h = same_from_xor _ _ (sym (xor_shr lo hi k) ∙ div-eq_of_lt 
 div_mono : (a b k : ℕ) → a ≤ b → a / 2 ^ k ≤ b / 2 ^ k
 div_mono a b k h = let d : a / 2 ^ k * 2 ^ k ≤ a = div-mul-le_self a (2 ^ k) in le-div (a / 2 ^ k) b (2 ^ k) (pow_pos k) (omega arith)
 
--- between numbers with the same high bits all have them
+-- a number between two numbers with the same high bits has these bits too
 pub between : (lo hi x k : ℕ) → lo ≤ x → x ≤ hi → bit_xor lo hi < 2 ^ k → lo / 2 ^ k ≡ x / 2 ^ k
 between lo hi x k p q h =
     let e : lo / 2 ^ k ≡ hi / 2 ^ k = same_high lo hi k h in
@@ -49,7 +49,7 @@ high_bits a b k i e h =
     let fb : b / 2 ^ i ≡ b / 2 ^ k / 2 ^ (i - k) = ap (λ n. b / n) split ∙ sym (div-div-eq-div-mul b (2 ^ k) (2 ^ (i - k))) in
     ap (λ n. n % 2) (fa ∙ ap (λ n. n / 2 ^ (i - k)) e ∙ sym fb)
 
--- a bit of 2 ^ k - 1: either it is one, or the numbers agree in it
+-- at each bit either 2 ^ k - 1 has a 1, or the numbers agree
 shared_at : (lo hi x k f i : ℕ) → f + 1 ≡ 2 ^ k → lo ≤ x → x ≤ hi → bit_xor lo hi ≤ f → (bit_at f i ≡ 1) ⊎ ((bit_at f i ≡ 0) × (bit_at lo i ≡ bit_at x i))
 shared_at lo hi x k f i e p q h = elim (cases_lt i k) as (λ _. (bit_at f i ≡ 1) ⊎ ((bit_at f i ≡ 0) × (bit_at lo i ≡ bit_at x i))) [ inl below ↦ inl (ap (λ n. bit_at n i) is ∙ bit_at_ones k i below) | inr above ↦ inr (ap (λ n. bit_at n i) is ∙ bit_at_ones_above k i above, high_bits lo x k i (between lo hi x k p q (omega arith)) above) ]
   where

@@ -5,7 +5,7 @@ use Rattle.std.proofs.lemmas.Nat.{and_le_l, and_le_r, or_lt, xor_lt, and-not, an
 use Rattle.std.proofs.lemmas.Nat.Bits.{bit_at_and, bit_at_or, bit_at_xor, bit_at_not, bit_at-lt, same_from_bits_below, bit_at-zero}
 use Rattle.bpf_range.specs.Bits.{Matches}
 
--- a proof for both bits
+-- a proof for each value of a bit
 pub either : (P : ℕ → Type 0) → P 0 → P 1 → (n : ℕ) → n < 2 → P n
 either P p q zero h = p
 either P p q (suc zero) h = q
@@ -61,7 +61,7 @@ common_apart av au bv bu p e f =
     common_apart_at : (av au bv bu : ℕ) → av < 2 → au < 2 → bv < 2 → bu < 2 → min av au ≡ 0 → min bv bu ≡ 0 → min (min av bv) (max (max au bu) ((av + bv) % 2)) ≡ 0
     common_apart_at av au bv bu p q r s e f = omega arith
 
--- ---- the least and the greatest number with such bits
+-- ---- the least and the greatest number with given bits
 
 pub match_least : (v u x : ℕ) → Matches v u x → v ≤ x
 match_least v u x m = let l : bit_and x (bit_not w64 u) ≤ x = and_le_l x (bit_not w64 u) in let e : bit_and x (bit_not w64 u) ≡ v = m.outside in omega arith

@@ -1,4 +1,4 @@
--- Ranges of sums, products and numbers of bits.
+-- Facts about the ranges of sums, products and numbers of bits.
 use Rattle.std.proofs.Common.{bit_and, ◌≡◌, ℕ, ◌+◌, ◌-◌, ◌*◌, ◌%◌, ◌^◌, ◌<◌, ◌≤◌, bit_or, bit_xor, ◌∙◌, arith}
 use Rattle.std.proofs.Math.Nat.{mod-eq_of_lt, mul-le-mul, mod-eq-sub-mod}
 use Rattle.std.proofs.lemmas.Nat.{and_le_l, and_le_r, or_lt, xor_lt}
@@ -38,7 +38,7 @@ xor_fill x y m f h p q =
 pub rem_below : (x y : ℕ) → x < y → x % y ≡ x
 rem_below x y h = mod-eq_of_lt h
 
--- a part of a range of one number
+-- a range within a range of one number is that range
 pub only_within : (r s : Range) (x : ℕ) → Within r s → IsOnly s x → IsOnly r x
 only_within r s x w o =
     let p : r.lo ≤ r.hi = r.ordered in

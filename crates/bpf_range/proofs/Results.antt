@@ -36,7 +36,7 @@ pub xor_whole : (w : Width) (x y : ℕ) → x < modulus w → y < modulus w → 
 xor_whole W32 x y p q = let l : bit_xor x y < 2 ^ 32 = xor_lt 32 x y p q in mod-eq_of_lt l
 xor_whole W64 x y p q = let l : bit_xor x y < 2 ^ 64 = xor_lt 64 x y p q in mod-eq_of_lt l
 
--- what is cut to 64 bits first
+-- cutting to 64 bits first changes nothing
 pub cut_twice : (w : Width) (n : ℕ) → n % 2 ^ 64 % modulus w ≡ n % modulus w
 cut_twice W32 n = mod-mod-pow n 32 32
 cut_twice W64 n = mod-mod-pow n 0 64
@@ -56,7 +56,7 @@ modulus_pos W64 = omega arith
 pub none_common : (n : ℕ) → not (n == 0) ≡ false → n ≡ 0
 none_common n e = grind (arith, nat_tests)
 
--- the numbers that a test compares as they are fit the width
+-- the numbers below `reach` fit the width
 reach_fits : (t : Test) (w : Width) → reach t w ≤ modulus w
 reach_fits SGt W32 = omega arith
 reach_fits SGt W64 = omega arith

@@ -1,4 +1,4 @@
--- The numbers that a range, bits and what is known contain.
+-- The numbers that a range, bits and a `Known` contain.
 use Rattle.std.specs.Prelude.{ℕ, ◌≡◌, ◌≤◌}
 use Rattle.bpf_range.specs.declared.values.Range.{Range}
 use Rattle.bpf_range.specs.declared.values.Bits.{Bits}
@@ -22,19 +22,19 @@ pub record IsOnly (r : Range) (x : ℕ) : Type 0 where
 abbrev pub HasBits : Bits → ℕ → Type 0
 HasBits b x = Matches b.value b.unknown x
 
--- the parts of what is known
+-- the parts of a `Known`
 abbrev pub range_of : Known → Range
 range_of k = k.range
 
 abbrev pub bits_of : Known → Bits
 bits_of k = k.bits
 
--- A number is contained where it is in the range and has the bits.
+-- A number is contained if it is in the range and has the bits.
 pub record Contains (k : Known) (x : ℕ) : Type 0 where
   pub inside : In (range_of k) x
   pub bits : HasBits (bits_of k) x
 
--- made of these parts
+-- a `Known` with these parts
 pub record IsOf (k : Known) (lo hi value unknown : ℕ) : Type 0 where
   pub lo_is : (range_of k).lo ≡ lo
   pub hi_is : (range_of k).hi ≡ hi

@@ -1,4 +1,4 @@
--- Numbers without the sign's bit.
+-- The numbers whose sign bit is 0.
 use Rattle.std.specs.Prelude.{ℕ, ◌^◌}
 use Rattle.bpf_insn.specs.declared.insn.Width.{Width}
 use Rattle.bpf_insn.specs.declared.insn.Width.TheVariants.{W32, W64}
@@ -6,12 +6,13 @@ use Rattle.bpf_insn.specs.declared.insn.Test.{Test}
 use Rattle.bpf_insn.specs.declared.insn.Test.TheVariants.{SGt, SGe, SLt, SLe}
 use Rattle.bpf_insn.specs.Arithmetic.{modulus}
 
--- Half of a width's modulus: the numbers below it are the same read as signed (two's complement).
+-- Half of a width's modulus: the sign bit of the numbers below it is 0, so they are the same when
+-- read as signed (two's complement).
 abbrev pub half : Width → ℕ
 half W32 = 2 ^ 31
 half W64 = 2 ^ 63
 
--- A test says of numbers below this what an unsigned test of 64 bits says.
+-- On numbers below this a test equals the corresponding unsigned test of 64 bits.
 abbrev pub reach : Test → Width → ℕ
 reach SGt w = half w
 reach SGe w = half w

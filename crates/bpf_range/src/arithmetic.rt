@@ -1,5 +1,5 @@
-//! What operations make of ranges of the numbers up to `max`, a width's greatest. Where the ends do
-//! not tell more, the answer is all of these numbers.
+//! Operations on ranges of numbers up to `max`, the greatest number of a width. If the ends give no
+//! better bound, the result is the full range.
 
 ghost use Rattle.std.specs.Prelude.{◌≡◌, ◌<◌, ◌≤◌, ◌+◌, ◌-◌, ◌*◌, ◌/◌, ◌%◌, ◌^◌, ℕ, cond, ◌==◌, if◌then◌else◌, bit_and, bit_or, bit_xor};
 ghost use Rattle.bpf_range.specs.Sets.{In, Covers};
@@ -8,7 +8,7 @@ use crate::filling::fill;
 use crate::values::Range;
 use crate::widths::all;
 
-/// Sums, cut to the width. The ends are added where no sum of theirs wraps or both do.
+/// Sums, cut to the width. The ends are added if no sum wraps or every sum does.
 #[tactic(auto, using(crate::proofs::RangeFacts::wrapped))]
 pub fn add(max: u64, a: Range, b: Range) -> Range
     requires a_fits { a.hi ≤ max }
@@ -30,8 +30,7 @@ pub fn add(max: u64, a: Range, b: Range) -> Range
     all(max)
 }
 
-/// Differences, cut to the width. The ends are subtracted where every difference wraps or none
-/// does.
+/// Differences, cut to the width. The ends are subtracted if no difference wraps or every one does.
 pub fn sub(max: u64, a: Range, b: Range) -> Range
     requires a_fits { a.hi ≤ max }
     requires b_fits { b.hi ≤ max }
@@ -52,7 +51,7 @@ pub fn sub(max: u64, a: Range, b: Range) -> Range
     all(max)
 }
 
-/// Products, cut to the width. The ends are multiplied where the greatest product does not wrap.
+/// Products, cut to the width. The ends are multiplied if the greatest product does not wrap.
 #[tactic(auto, using(crate::proofs::RangeFacts::mul_between))]
 pub fn mul(max: u64, a: Range, b: Range) -> Range
     requires a_fits { a.hi ≤ max }
@@ -71,7 +70,7 @@ pub fn mul(max: u64, a: Range, b: Range) -> Range
     }
 }
 
-/// Quotients, where a division by zero gives 0.
+/// Quotients. A division by zero gives 0.
 pub fn div(a: Range, b: Range) -> Range
     ensures { Covers (λ x y. if y == 0 then 0 else x / y) a b result }
 {
@@ -84,7 +83,7 @@ pub fn div(a: Range, b: Range) -> Range
     }
 }
 
-/// Remainders, where a division by zero leaves the number.
+/// Remainders. A division by zero leaves the number.
 #[tactic(auto, using(crate::proofs::RangeFacts::rem_below))]
 pub fn rem(a: Range, b: Range) -> Range
     ensures { Covers (λ x y. if y == 0 then x else x % y) a b result }
@@ -101,7 +100,7 @@ pub fn rem(a: Range, b: Range) -> Range
     }
 }
 
-/// The bits that both have: no more than either number.
+/// Bitwise and: no greater than either number.
 #[tactic(auto, using(crate::proofs::RangeFacts::and_greatest))]
 pub fn and(a: Range, b: Range) -> Range
     ensures { Covers bit_and a b result }
@@ -112,7 +111,7 @@ pub fn and(a: Range, b: Range) -> Range
     }
 }
 
-/// The bits of either: no less than either number, with no bit above the highest of both.
+/// Bitwise or: at least either number, with no bit above the highest bit of both.
 pub fn or(a: Range, b: Range) -> Range
     ensures { Covers bit_or a b result }
 {
@@ -122,7 +121,7 @@ pub fn or(a: Range, b: Range) -> Range
     }
 }
 
-/// The bits of one alone: none is above the highest of both.
+/// Bitwise xor: no bit above the highest bit of both.
 pub fn xor(a: Range, b: Range) -> Range
     ensures { Covers bit_xor a b result }
 {
@@ -146,7 +145,7 @@ pub fn negate(max: u64, a: Range) -> Range
     }
 }
 
-/// Numbers shifted to the left, cut to the width. The ends are shifted where no bit is lost.
+/// Numbers shifted to the left, cut to the width. The ends are shifted if no bit is lost.
 pub fn shl(max: u64, a: Range, count: u32) -> Range
     requires max_fits { a.hi ≤ max }
     requires small { count < 64 }

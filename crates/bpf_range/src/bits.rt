@@ -1,5 +1,5 @@
-//! What operations make of known bits. The known bits of a result are those that the known bits of
-//! its operands decide.
+//! Operations on known bits. A bit of a result is known if the known bits of the operands decide
+//! it.
 
 ghost use Rattle.std.specs.Prelude.{◌≡◌, ◌<◌, ℕ, ◌%◌, ◌*◌, ◌/◌, ◌^◌, bit_and, bit_or, bit_xor};
 ghost use Rattle.bpf_insn.specs.Arithmetic.{modulus};
@@ -18,7 +18,7 @@ pub fn any_bits() -> Bits
     }
 }
 
-/// The bits of numbers of which those outside a mask were cleared.
+/// The bits of numbers after clearing those outside a mask.
 #[tactic(auto, using(crate::proofs::BitSteps::masked, crate::proofs::BitSteps::masked_apart))]
 fn masked(a: Bits, mask: u64) -> Bits
     ensures { (x : ℕ) → HasBits a x → HasBits result (bit_and x mask) }
@@ -29,7 +29,7 @@ fn masked(a: Bits, mask: u64) -> Bits
     }
 }
 
-/// The bits of the part of a number that an operation of the width takes. Above it all are 0.
+/// The bits of a number cut to the width. The bits above the width are 0.
 pub fn low_bits(width: Width, a: Bits) -> Bits
     ensures { (x : ℕ) → HasBits a x → HasBits result (x % modulus width) }
 {
@@ -39,7 +39,7 @@ pub fn low_bits(width: Width, a: Bits) -> Bits
     }
 }
 
-/// A bit that both have is 1; one that either has not is 0.
+/// Bitwise and: 1 if both are 1, 0 if either is 0.
 #[tactic(auto, using(crate::proofs::BitSteps::and_matches, crate::proofs::BitSteps::and_apart))]
 pub fn and_bits(a: Bits, b: Bits) -> Bits
     ensures { (x y : ℕ) → HasBits a x → HasBits b y → HasBits result (bit_and x y) }
@@ -52,7 +52,7 @@ pub fn and_bits(a: Bits, b: Bits) -> Bits
     }
 }
 
-/// A bit that either has is 1; one that neither has is 0.
+/// Bitwise or: 1 if either is 1, 0 if both are 0.
 #[tactic(auto, using(crate::proofs::BitSteps::or_matches, crate::proofs::BitSteps::or_apart))]
 pub fn or_bits(a: Bits, b: Bits) -> Bits
     ensures { (x y : ℕ) → HasBits a x → HasBits b y → HasBits result (bit_or x y) }
@@ -65,7 +65,7 @@ pub fn or_bits(a: Bits, b: Bits) -> Bits
     }
 }
 
-/// A bit is known where it is known of both.
+/// Bitwise xor: a bit is known if it is known in both.
 #[tactic(auto, using(crate::proofs::BitSteps::xor_matches))]
 pub fn xor_bits(a: Bits, b: Bits) -> Bits
     ensures { (x y : ℕ) → HasBits a x → HasBits b y → HasBits result (bit_xor x y) }
@@ -101,7 +101,7 @@ pub fn shr_bits(a: Bits, count: u32) -> Bits
     }
 }
 
-/// The bits of numbers that have none in common with `mask`.
+/// The bits of numbers that have no bit in common with `mask`.
 #[tactic(auto, using(crate::proofs::BitSteps::without_matches, crate::proofs::BitSteps::without_apart))]
 pub fn without_bits(a: Bits, mask: u64) -> Bits
     ensures { (x : ℕ) → HasBits a x → bit_and x mask ≡ 0 → HasBits result x }

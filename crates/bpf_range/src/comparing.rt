@@ -1,4 +1,4 @@
-//! What comparisons tell of the ranges of their operands.
+//! Narrows the ranges of a comparison's operands.
 
 ghost use Rattle.std.specs.Prelude.{◌≡◌, ◌≢◌, ◌<◌, ◌≤◌, bit_and, ℕ, IfSome, IsSomeAnd};
 ghost use Rattle.bpf_insn.specs.Conditions.{comparison};
@@ -7,7 +7,7 @@ ghost use Rattle.bpf_range.specs.Sets.{In, Within};
 use crate::values::Range;
 use bpf_insn::{Test, Width};
 
-/// The numbers that are left where those of `a` are above those of `b`.
+/// Narrows to the numbers with `a` greater than `b`.
 fn above(a: Range, b: Range) -> Option<(Range, Range)>
     ensures keeps { (x y : ℕ) → In a x → In b y → y < x → IsSomeAnd result (λ p. In p.0 x × In p.1 y) }
     ensures within { IfSome result (λ p. Within p.0 a × Within p.1 b) }
@@ -27,7 +27,7 @@ fn above(a: Range, b: Range) -> Option<(Range, Range)>
     ))
 }
 
-/// The numbers that are left where those of `a` are no less than those of `b`.
+/// Narrows to the numbers with `a` greater than or equal to `b`.
 fn at_least(a: Range, b: Range) -> Option<(Range, Range)>
     ensures keeps { (x y : ℕ) → In a x → In b y → y ≤ x → IsSomeAnd result (λ p. In p.0 x × In p.1 y) }
     ensures within { IfSome result (λ p. Within p.0 a × Within p.1 b) }
@@ -47,7 +47,7 @@ fn at_least(a: Range, b: Range) -> Option<(Range, Range)>
     ))
 }
 
-/// The numbers that are left where both are equal: those in both ranges.
+/// Narrows to equal numbers: those in both ranges.
 fn same(a: Range, b: Range) -> Option<(Range, Range)>
     ensures keeps { (x y : ℕ) → In a x → In b y → x ≡ y → IsSomeAnd result (λ p. In p.0 x × In p.1 y) }
     ensures within { IfSome result (λ p. Within p.0 a × Within p.1 b) }
@@ -61,8 +61,8 @@ fn same(a: Range, b: Range) -> Option<(Range, Range)>
     Some((common, common))
 }
 
-/// A range without the number of `other`, where that has a single one and it is an end of the
-/// range. The last number is never taken out.
+/// Removes the number of `other` if `other` has one number and it is an end of the range. The last
+/// number is never removed.
 fn without(a: Range, other: Range) -> Range
     ensures keeps { (x y : ℕ) → In a x → In other y → x ≢ y → In result x }
     ensures within { Within result a }
@@ -88,7 +88,7 @@ fn without(a: Range, other: Range) -> Range
     a
 }
 
-/// The numbers that are left where both differ.
+/// Narrows to different numbers.
 fn different(a: Range, b: Range) -> Option<(Range, Range)>
     ensures keeps { (x y : ℕ) → In a x → In b y → x ≢ y → IsSomeAnd result (λ p. In p.0 x × In p.1 y) }
     ensures within { IfSome result (λ p. Within p.0 a × Within p.1 b) }
@@ -96,7 +96,7 @@ fn different(a: Range, b: Range) -> Option<(Range, Range)>
     Some((without(a, b), without(b, a)))
 }
 
-/// The numbers that are left where both have a bit in common: all, but that none is 0 alone.
+/// Narrows to numbers with a common bit: `None` if either range has only 0, otherwise unchanged.
 fn common(a: Range, b: Range) -> Option<(Range, Range)>
     ensures keeps { (x y : ℕ) → In a x → In b y → bit_and x y ≢ 0 → IsSomeAnd result (λ p. In p.0 x × In p.1 y) }
     ensures within { IfSome result (λ p. Within p.0 a × Within p.1 b) }
@@ -119,8 +119,8 @@ fn turned(found: Option<(Range, Range)>) -> Option<(Range, Range)>
     Some((b, a))
 }
 
-/// The numbers that are left where an unsigned test comes out as `taken`: `None` only where no
-/// numbers of the ranges do so. A signed test tells nothing here.
+/// Narrows the ranges to the numbers for which an unsigned test has the result `taken`. `None` only
+/// if there are no such numbers. A signed test narrows nothing.
 pub fn compare(test: Test, a: Range, b: Range, taken: bool) -> Option<(Range, Range)>
     ensures keeps { (x y : ℕ) → In a x → In b y → comparison test Width.W64 x y ≡ taken → IsSomeAnd result (λ p. In p.0 x × In p.1 y) }
     ensures within { IfSome result (λ p. Within p.0 a × Within p.1 b) }

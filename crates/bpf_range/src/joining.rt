@@ -1,4 +1,4 @@
-//! What is known where two ways meet.
+//! Joins of what is known on two ways.
 
 ghost use Rattle.std.specs.Prelude.{◌≡◌, ◌≤◌, ℕ};
 ghost use Rattle.bpf_range.specs.Sets.{Contains, In, Within, HasBits, range_of};
@@ -6,7 +6,7 @@ ghost use Rattle.bpf_range.specs.Sets.{Contains, In, Within, HasBits, range_of};
 use crate::known::{Known, settle};
 use crate::values::{Bits, Range};
 
-/// The least range that has the numbers of both.
+/// The least range that contains both ranges.
 pub fn hull(a: Range, b: Range) -> Range
     ensures left { Within a result }
     ensures right { Within b result }
@@ -18,7 +18,7 @@ pub fn hull(a: Range, b: Range) -> Range
     }
 }
 
-/// The bits that are known of both and in which they agree.
+/// The bits that are known in both and equal.
 #[tactic(auto, using(crate::proofs::MatchFacts::common_match, crate::proofs::MatchFacts::common_match_right, crate::proofs::MatchFacts::common_apart))]
 pub fn common_bits(a: Bits, b: Bits) -> Bits
     ensures left { (x : ℕ) → HasBits a x → HasBits result x }
@@ -30,9 +30,8 @@ pub fn common_bits(a: Bits, b: Bits) -> Bits
     }
 }
 
-/// What is known of a number of which one or the other is known: the numbers of both, and often
-/// more. The range is the least that has both; a bit is known where it is known of both and the
-/// same; then both are settled.
+/// The numbers of both, and often more. The range is the least that contains both ranges. A bit is
+/// known if it is known in both and equal. Then range and bits are settled.
 pub fn join(a: Known, b: Known) -> Known
     ensures left { (x : ℕ) → Contains a x → Contains result x }
     ensures right { (x : ℕ) → Contains b x → Contains result x }

@@ -1,12 +1,12 @@
-//! What a register may hold.
+//! The kinds of values that a register may hold.
 
 use crate::known::Known;
 
-/// What is known of a register. The offset of a pointer is from `lo` to `hi`, both included,
-/// counted from the beginning of its region and on the stack from the end.
+/// The kind of a register's value. The offset of a pointer is from `lo` to `hi`, both included. It
+/// counts from the beginning of its region, on the stack from the end.
 #[derive(Clone, Copy, Debug, PartialEq, Eq)]
 pub enum Kind {
-    /// Anything, also nothing.
+    /// Any value, including none.
     Unset,
     /// A number.
     Num(Known),

@@ -1,4 +1,4 @@
-//! What is known of a number.
+//! Facts known about a number.
 
 mod settling;
 
@@ -7,11 +7,12 @@ use crate::values::{Bits, Range};
 pub use settling::settle;
 use settling::share_high_bits;
 
-/// What is known of a number: that it is in a range, and some of its bits. It contains the numbers
-/// of which both are true. Its range is never empty, and no bit is known to be 1 and unknown.
+/// Facts known about a number: its range, and some of its bits. It contains the numbers that are in
+/// the range and have the bits. The range is never empty, and no bit is both known to be 1 and
+/// unknown.
 ///
-/// What the functions of this crate answer is settled once, but for `from_parts`: the range is cut
-/// by the bits, and then the bits above the highest in which its ends differ are known.
+/// All functions of this crate except `from_parts` return settled values: the range is cut by the
+/// bits, and then the bits above the highest one in which its ends differ are known.
 #[derive(Clone, Copy, Debug, PartialEq, Eq)]
 pub struct Known {
     range: Range,
@@ -22,8 +23,8 @@ impl Known {
     ghost use Rattle.std.specs.Prelude.{◌≡◌, ◌≤◌, ◌⊎◌, ◌<◌, ℕ, bit_and, MatchBool, MatchOption};
     ghost use Rattle.bpf_range.specs.Sets.{Contains, In, IsOnly, HasBits, IsOf, range_of, bits_of};
 
-    /// The numbers from `lo` to `hi`, settled: the bits above the highest in which the ends differ
-    /// are known.
+    /// The numbers from `lo` to `hi`, settled: the bits above the highest one in which the ends
+    /// differ are known.
     pub fn of(lo: u64, hi: u64) -> Known
         requires { lo ≤ hi }
         ensures contains { (x : ℕ) → lo ≤ x → x ≤ hi → Contains result x }
@@ -32,7 +33,7 @@ impl Known {
         share_high_bits(Range { lo, hi }, any_bits())
     }
 
-    /// The one number.
+    /// Exactly one number.
     pub fn single(n: u64) -> Known
         ensures contains { Contains result n }
         ensures range { IsOnly (range_of result) n }
@@ -46,8 +47,8 @@ impl Known {
         }
     }
 
-    /// These parts as they are, not settled. `None` exactly where they break a rule: `lo` is above
-    /// `hi`, or a bit is in both `value` and `unknown`.
+    /// These parts unchanged, not settled. `None` if and only if `lo` is above `hi`, or a bit is in
+    /// both `value` and `unknown`.
     pub fn from_parts(lo: u64, hi: u64, value: u64, unknown: u64) -> Option<Known>
         ensures { MatchOption result ((hi < lo) ⊎ (bit_and value unknown ≡ 0 → ⊥)) (λ k. IsOf k lo hi value unknown) }
     {
@@ -63,7 +64,7 @@ impl Known {
         })
     }
 
-    /// Whether a number is one of them.
+    /// Returns true if the number is contained.
     pub fn contains(self, x: u64) -> bool
         ensures { MatchBool result (Contains self x) (Contains self x → ⊥) }
     {
@@ -76,7 +77,7 @@ impl Known {
         x & !self.bits.unknown == self.bits.value
     }
 
-    /// The least and the greatest number that its range allows.
+    /// The least and the greatest number of the range.
     pub fn range(self) -> Range
         ensures is { result ≡ range_of self }
         ensures covers { (x : ℕ) → Contains self x → In result x }
@@ -84,7 +85,7 @@ impl Known {
         self.range
     }
 
-    /// Its bits: those of `value` are 1, those of `unknown` are not known, and all others are 0.
+    /// The bits: those of `value` are 1, those of `unknown` are unknown, the rest are 0.
     pub fn bits(self) -> Bits
         ensures is { result ≡ bits_of self }
         ensures has { (x : ℕ) → Contains self x → HasBits result x }

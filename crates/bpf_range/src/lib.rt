@@ -1,10 +1,10 @@
-//! What is known of a number without running a program: its least and its greatest value and some
-//! of its bits, and what operations, joins and tests make of that.
+//! Facts known about a number without running a program: its least and its greatest value and some
+//! of its bits. Operations, joins and tests compute with that.
 //!
-//! `Range` has the ends alone, `Bits` the bits, `Known` both, and `Kind` is what a register may
-//! hold. `transfer` gives what is known of a result, `refine` what a conditional jump tells of its
-//! operands, and `join` what is known where two ways meet. Each answer has the true numbers, and
-//! often more. Nothing here takes memory.
+//! `Range` has only the ends, `Bits` the bits, `Known` both; `Kind` is the kind of a register's
+//! value. `transfer` computes the result of an operation, `refine` narrows the operands of a
+//! conditional jump, and `join` joins two ways. Each result contains the true numbers, and often
+//! more. No function allocates memory.
 #![tactic(auto)]
 
 mod arithmetic;

@@ -1,4 +1,4 @@
-//! What a conditional jump tells of its operands.
+//! Narrows the operands of a conditional jump.
 
 ghost use Rattle.std.specs.Prelude.{◌≡◌, ◌<◌, ◌+◌, ◌^◌, ℕ, IfSome, IsSomeAnd};
 ghost use Rattle.bpf_insn.specs.Conditions.{holds_of, comparison};
@@ -12,7 +12,7 @@ use crate::values::{Bits, Range};
 use crate::widths::{greatest, greatest_positive};
 use bpf_insn::{Test, Width, holds};
 
-/// The unsigned test that says the same of numbers without the sign's bit.
+/// The unsigned test that equals this one on numbers whose sign bit is 0.
 fn unsigned(test: Test) -> Test
     ensures { (w : Width) (x y : ℕ) → x < reach test w → y < reach test w → comparison test w x y ≡ comparison result Width.W64 x y }
 {
@@ -25,7 +25,7 @@ fn unsigned(test: Test) -> Test
     }
 }
 
-/// The greatest number up to which an unsigned test of 64 bits says the same.
+/// Up to this number an unsigned test of 64 bits has the same result.
 fn greatest_tested(test: Test, width: Width) -> u64
     ensures { result + 1 ≡ reach test width }
 {
@@ -35,9 +35,9 @@ fn greatest_tested(test: Test, width: Width) -> u64
     }
 }
 
-/// The numbers of two ranges that are left where a test of them comes out as `taken`. `None` only
-/// where no numbers of the ranges do so. Two single numbers are tested. At 32 bits a test tells
-/// nothing of numbers above 2^32 - 1, and a signed one nothing where the sign's bit may be set.
+/// Narrows two ranges to the numbers for which a test has the result `taken`. `None` only if there
+/// are no such numbers. Two single numbers are tested. If a number may be above 2^32 - 1 in a test
+/// of 32 bits, or may have its sign bit set in a signed test, the ranges are unchanged.
 pub fn refine_range(
     test: Test,
     width: Width,
@@ -65,8 +65,8 @@ pub fn refine_range(
     compare(unsigned(test), a, b, taken)
 }
 
-/// The first operand's bits where a test comes out as `taken`. Only that it has no bit in common
-/// with a single number, at 64 bits, tells something: those bits are 0.
+/// The first operand's bits after a test with the result `taken`. They change only if the number
+/// has no bit in common with a single number, at 64 bits: those bits are 0.
 fn tested_bits(test: Test, width: Width, a: Bits, b: Range, taken: bool) -> Bits
     ensures { (x y : ℕ) → x < 2 ^ 64 → HasBits a x → In b y → holds_of test width x y ≡ taken → HasBits result x }
 {
@@ -79,9 +79,9 @@ fn tested_bits(test: Test, width: Width, a: Bits, b: Range, taken: bool) -> Bits
     }
 }
 
-/// What is known of a test's operands where it comes out as `taken`. `None` only where no numbers
-/// that they contain do so: that edge of a conditional jump is never taken. The ranges are those of
-/// `refine_range`, cut by the bits, which stay known.
+/// Narrows a test's operands to the numbers for which it has the result `taken`. `None` only if
+/// they contain no such numbers: the edge of the conditional jump is never taken. The ranges are
+/// those of `refine_range`, cut by the bits, which stay known.
 pub fn refine(test: Test, width: Width, a: Known, b: Known, taken: bool) -> Option<(Known, Known)>
     ensures keeps { (x y : ℕ) → Contains a x → Contains b y → holds_of test width x y ≡ taken → IsSomeAnd result (λ p. Contains p.0 x × Contains p.1 y) }
     ensures within { IfSome result (λ p. Within (range_of p.0) (range_of a) × Within (range_of p.1) (range_of b)) }

@@ -1,4 +1,4 @@
-//! Shifts of ranges. More is known where the count is a single number.
+//! Shifts of ranges. The result is more precise if the count is a single number.
 
 ghost use Rattle.std.specs.Prelude.{◌≡◌, ◌<◌, ◌%◌};
 ghost use Rattle.bpf_insn.specs.Arithmetic.{uncut_result, modulus, bits_of};
@@ -10,7 +10,7 @@ use crate::values::Range;
 use crate::widths::{all, greatest};
 use bpf_insn::Width;
 
-/// The part of a shift's count that counts: its low 6 bits, or 5 at 32 bits.
+/// The shift count: the low 6 bits of a number, or 5 at 32 bits.
 pub fn count_of(width: Width, count: u64) -> u32
     ensures is { result ≡ count % bits_of width }
     ensures fits { result < 64 }
@@ -21,7 +21,7 @@ pub fn count_of(width: Width, count: u64) -> u32
     }
 }
 
-/// A range shifted to the left by the numbers of another.
+/// A range shifted to the left by the numbers of `count`.
 pub fn shift_left(width: Width, a: Range, count: Range) -> Range
     requires { a.hi < modulus width }
     ensures { Covers (λ x y. uncut_result Lsh width x y % modulus width) a count result }
@@ -34,7 +34,7 @@ pub fn shift_left(width: Width, a: Range, count: Range) -> Range
     }
 }
 
-/// A range shifted to the right, with zeros, by the numbers of another.
+/// A range shifted to the right, with zeros, by the numbers of `count`.
 pub fn shift_right(width: Width, a: Range, count: Range) -> Range
     requires { a.hi < modulus width }
     ensures { Covers (λ x y. uncut_result Rsh width x y % modulus width) a count result }

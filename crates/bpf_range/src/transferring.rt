@@ -1,4 +1,4 @@
-//! What is known of the result of an operation.
+//! Facts known about the result of an operation.
 
 ghost use Rattle.std.specs.Prelude.{◌≡◌, ◌<◌, ◌≤◌, ◌%◌, ◌^◌, ◌+◌, ℕ, true};
 ghost use Rattle.bpf_insn.specs.Arithmetic.{result_of, uncut_result, modulus, bits_of, size_modulus, swapped_part};
@@ -13,7 +13,7 @@ use crate::values::{Bits, Range};
 use crate::widths::{all, at_width, greatest, greatest_part};
 use bpf_insn::{Op, Size, Width, apply};
 
-/// Whether each operand that the operation reads is a single number.
+/// Returns true only if each operand that the operation reads is a single number.
 fn is_exact(op: Op, a: Range, b: Range) -> bool
     ensures exact { result ≡ true → (w : Width) (x y : ℕ) → In a x → In b y → result_of op w x y ≡ result_of op w a.lo b.lo }
     ensures both { a.lo ≡ a.hi → b.lo ≡ b.hi → result ≡ true }
@@ -30,7 +30,8 @@ fn is_exact(op: Op, a: Range, b: Range) -> bool
     }
 }
 
-/// The results of an operation, but for one of byte order, on operands that were cut to the width.
+/// The results of an operation on operands that were cut to the width. Byte orders give the full
+/// range.
 fn transfer_cut(op: Op, width: Width, a: Range, b: Range) -> Range
     requires a_fits { a.hi < modulus width }
     requires b_fits { b.hi < modulus width }
@@ -58,7 +59,7 @@ fn transfer_cut(op: Op, width: Width, a: Range, b: Range) -> Range
     }
 }
 
-/// The low parts of numbers: the numbers themselves where they have no more.
+/// The low parts of numbers: the numbers themselves if they fit.
 fn low_part(size: Size, a: Range) -> Range
     ensures { (x : ℕ) → In a x → In result (x % size_modulus size) }
 {
@@ -66,18 +67,18 @@ fn low_part(size: Size, a: Range) -> Range
     if a.hi <= max { a } else { all(max) }
 }
 
-/// All numbers of a size, of which byte swaps give any.
+/// All numbers of a size. A byte swap may give any of them.
 fn swapped(size: Size) -> Range
     ensures { (x : ℕ) → In result (swapped_part size x) }
 {
     all(greatest_part(size))
 }
 
-/// The results of an operation on the destination `a` and the operand `b` (RFC 9669, section 4.1),
-/// by their ends alone. `Neg` and the byte orders read `a` alone, `Mov` and `MovSx` `b` alone.
-/// Where what is read is a single number, so is the answer. Else both are cut to the width, but for
-/// a byte order, and the answer has the results of their ends, where no result between these can
-/// wrap or has another sign, and else all numbers of the width. No memory is taken.
+/// The range of the results of an operation on the destination `a` and the operand `b` (RFC 9669,
+/// section 4.1), from the ends alone. `Neg` and the byte orders read only `a`, `Mov` and `MovSx`
+/// only `b`. If the operands that are read are single numbers, so is the result. Otherwise both are
+/// cut to the width, except for a byte order, and the result is computed from their ends. If a
+/// result between these may wrap or change its sign, it is the full range. Allocates no memory.
 pub fn transfer_range(op: Op, width: Width, a: Range, b: Range) -> Range
     ensures covers { Covers (result_of op width) a b result }
     ensures single { (x y : ℕ) → IsOnly a x → IsOnly b y → IsOnly result (result_of op width x y) }
@@ -93,8 +94,8 @@ pub fn transfer_range(op: Op, width: Width, a: Range, b: Range) -> Range
     }
 }
 
-/// The bits of the results; `a` and `b` are the operands' bits at the width, and `count` is the
-/// second operand's range. Of operations that carry from bit to bit none is known.
+/// The bits of the results. `a` and `b` are the operands' bits at the width, and `count` is the
+/// second operand's range. No bit is known after operations that carry from bit to bit.
 fn transfer_bits(op: Op, width: Width, a: Bits, b: Bits, count: Range) -> Bits
     ensures { (x y : ℕ) → x < modulus width → y < modulus width → HasBits a x → HasBits b y → In count y → HasBits result (uncut_result op width x y % modulus width) }
 {
@@ -119,10 +120,10 @@ fn transfer_bits(op: Op, width: Width, a: Bits, b: Bits, count: Range) -> Bits
     }
 }
 
-/// What is known of the result of an operation on the destination `a` and the operand `b` (RFC
-/// 9669, section 4.1). Its range is that of `transfer_range`, cut by the bits. Its bits are those that the operands'
-/// known bits decide where the operation is `And`, `Or`, `Xor`, `Mov` or a `Lsh` or `Rsh` by a
-/// single count; at 32 bits the upper half is 0. No memory is taken.
+/// Facts known about the result of an operation on the destination `a` and the operand `b` (RFC
+/// 9669, section 4.1). Its range is that of `transfer_range`, cut by the bits. The operands' known
+/// bits decide its bits if the operation is `And`, `Or`, `Xor`, `Mov`, or a `Lsh` or `Rsh` by a
+/// single count; at 32 bits the upper half is 0. Allocates no memory.
 pub fn transfer(op: Op, width: Width, a: Known, b: Known) -> Known
     ensures contains { (x y : ℕ) → Contains a x → Contains b y → Contains result (result_of op width x y) }
     ensures single { (x y : ℕ) → IsOnly (range_of a) x → IsOnly (range_of b) y → IsOnly (range_of result) (result_of op width x y) }

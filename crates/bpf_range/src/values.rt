@@ -10,8 +10,8 @@ pub struct Range {
     pub ghost ordered: { lo ≤ hi },
 }
 
-/// The numbers that are `value` once the bits of `unknown` are taken out: each bit of a number is
-/// known to be 1, known to be 0 or unknown. No bit is in both.
+/// The numbers that equal `value` after clearing the bits of `unknown`: each bit of a number is
+/// known to be 1, known to be 0, or unknown. No bit is in both.
 #[derive(Clone, Copy, Debug, PartialEq, Eq)]
 pub struct Bits {
     pub value: u64,

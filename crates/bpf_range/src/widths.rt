@@ -18,7 +18,7 @@ pub fn greatest(width: Width) -> u64
     }
 }
 
-/// The greatest number of a width without the sign's bit.
+/// The greatest number of a width with a sign bit of 0.
 pub fn greatest_positive(width: Width) -> u64
     ensures { result + 1 ≡ half width }
 {
@@ -40,7 +40,7 @@ pub fn greatest_part(size: Size) -> u64
     }
 }
 
-/// The greatest number of a size without the sign's bit.
+/// The greatest number of a size with a sign bit of 0.
 pub fn greatest_positive_part(size: Size) -> u64
     ensures { result + result + 2 ≡ size_modulus size }
 {
@@ -60,8 +60,8 @@ pub fn all(max: u64) -> Range
     Range { lo: 0, hi: max }
 }
 
-/// The low 32 bits of the numbers of a range: both ends cut where they agree in the upper half, and
-/// else all numbers of 32 bits.
+/// The low 32 bits of the numbers of a range: both ends cut if they agree in the upper half,
+/// otherwise all numbers of 32 bits.
 fn low_half(a: Range) -> Range
     ensures fits { result.hi < 2 ^ 32 }
     ensures covers { (x : ℕ) → In a x → In result (x % 2 ^ 32) }
@@ -75,7 +75,7 @@ fn low_half(a: Range) -> Range
     }
 }
 
-/// The numbers that an operation of the width takes, from those of 64 bits.
+/// The numbers of a range, cut to the width.
 pub fn at_width(width: Width, a: Range) -> Range
     ensures fits { result.hi < modulus width }
     ensures covers { (x : ℕ) → In a x → In result (x % modulus width) }

@@ -1,4 +1,4 @@
--- What the absence of faults of structure says.
+-- Consequences of a structure without faults.
 use Rattle.std.proofs.Common.{◌≡◌, ◌≢◌, ℕ, zero, suc, ◌+◌, [], ◌∷◌, subst, inl, inr, ℤ, pos, negsuc, ◌<◌, ◌≤◌, length, refl, sym, ap, ◌∙◌, arith, List, Option, Some, None, Bool, true, false, ⊎_elim, ◌==◌}
 use Rattle.std.specs.Prelude.{◌≤ℤ◌, if◌then◌else◌, IsSome, nat_le, slice_get, ◌⊎◌}
 use Rattle.std.specs.Option.{option_and_then, option_flatten, is_some}
@@ -71,9 +71,9 @@ zeros (suc n) (suc i) = zeros n i
 pub start_config : (bytes argument : List ℕ) (env : Env) → IsInput bytes argument env → IsConfig (start bytes argument env)
 start_config bytes argument env input = record { eleven = refl; stack_fits = refl; are_bytes = input.are_bytes; are_argument = input.are_argument; are_stack = zeros 512; now_fits = input.now_fits; who_fits = input.who_fits }
 
--- ---- where instructions begin
+-- ---- units at which instructions begin
 
--- what stands at a unit: the end, or an instruction that begins there
+-- a unit that is the end of the code, or at which an instruction begins
 abbrev Behind : List (Option Insn) → ℕ → Type 0
 Behind os u = (u ≡ length os) ⊎ IsSome (option_flatten (slice_get os u))
 
@@ -158,7 +158,7 @@ goes_on code at (Wide d n) has e = first_other _ _ e
 fault_none : (code : List Insn) (at : ℕ) (i : Insn) → IsBuilt code → fetch code at ≡ Some i → insn_fault code at i ≡ None
 fault_none code at i b e = sym (ap (option_and_then (insn_fault code at)) e) ∙ b.each at
 
--- where an instruction goes on to the next one, that begins
+-- if an instruction continues at the next unit, an instruction begins there
 pub next_begins : (code : List Insn) (at : ℕ) (i : Insn) → IsBuilt code → fetch code at ≡ Some i → HasNext i → IsSome (fetch code (at + units_of i))
 next_begins code at i b e has = ⊎_elim
     (λ (last : at + units_of i ≡ unit_count code). absurd (not_last code at (units_of i) (goes_on code at i has (fault_none code at i b e)) last))
@@ -176,7 +176,7 @@ target_begins code at k e = out (nat_le (unit_count code) (at + 1 + k)) e
     out true h = let f : ⊥ = cc in absurd f
     out false h = wide (is_some (fetch code (at + 1 + k))) h
 
--- where an instruction jumps to, one begins
+-- an instruction begins at the target of each jump
 pub jump_begins : (code : List Insn) (at k : ℕ) (i : Insn) → IsBuilt code → fetch code at ≡ Some i → HasJump i → distance_of i ≡ pos k → IsSome (fetch code (at + 1 + k))
 jump_begins code at k i b e has far = by_form i (fault_none code at i b e) has far
   where

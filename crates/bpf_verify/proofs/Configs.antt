@@ -1,4 +1,4 @@
--- What a step keeps.
+-- Properties of configurations that a step preserves.
 use Rattle.std.proofs.Common.{◌≡◌, ℕ, ℤ, pos, negsuc, zero, suc, ◌+◌, ◌-◌, ◌/◌, ◌^◌, ◌<◌, ◌≤◌, length, take, drop, Some, None, Bool, true, false, ◌∙◌, subst, arith, List, [], ◌∷◌, ◌++◌, lit<, length-drop}
 use Rattle.std.specs.Prelude.{slice_set, ◌==◌, nat_le, ◌+ℤ◌, if◌then◌else◌}
 use Rattle.std.specs.Option.{option_and_then, option_map}

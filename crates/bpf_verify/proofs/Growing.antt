@@ -36,7 +36,7 @@ within_units [] u h = let f : ⊥ = cc in absurd f
 within_units (x ∷ xs) zero h = omega arith
 within_units (x ∷ xs) (suc u) h = let l : u < length xs = within_units xs u h in omega arith
 
--- an instruction begins at a unit of the states
+-- a unit at which an instruction begins has a place in the states
 pub begins_within : (code : List Insn) (states : States) (u : ℕ) → AreStates code states → IsSome (fetch code u) → u < length states
 begins_within code states u are h = let l : u < unit_count code = within_units (slots code) u h in rw are.long l
 
@@ -72,7 +72,7 @@ arrived code old new at to added c later begins are j config e f = record {
 adds_none : (code : List Insn) (old new : States) (at : ℕ) → AreStates code old → new ≡ old → Adds code old new at
 adds_none code old new at are e = rw e (record { grows = record { long = refl; same = λ u p. refl; more = λ c f. f }; are = are })
 
--- an edge that leads to a later unit adds a state there, and what fits the edge fits it
+-- joining the state on an edge into a later unit, which configurations that fit the edge then fit
 pub adds_edge : (code : List Insn) (old new : States) (at to : ℕ) (edge : Option State) → at < to → (IsSome edge → IsSome (fetch code to)) → AreStates code old → Follows old new to edge → Adds code old new at
 adds_edge code old new at to None later begins are e = adds_none code old new at are e
 adds_edge code old new at to (Some added) later begins are j = adds_one code old new at to added later (begins refl) are j
@@ -95,7 +95,7 @@ grows_again old mid new at g h = record {
 adds_again : (code : List Insn) (old mid new : States) (at : ℕ) → Adds code old mid at → Adds code mid new at → Adds code old new at
 adds_again code old mid new at g h = record { grows = grows_again old mid new at g.grows h.grows; are = h.are }
 
--- what was consistent below stays so
+-- consistency at earlier units is preserved
 pub still : (code : List Insn) (old new : States) (at p : ℕ) → Grows old new at → p ≤ at → ConsistentAt code old p → ConsistentAt code new p
 still code old new at p g below k = λ c e f.
     let back : state_at new c.place ≡ state_at old c.place = g.same c.place (omega arith) in
@@ -134,7 +134,7 @@ visits code old mid new at i s e known here sound g h next jump = λ c place fit
     inr (record { next = d; steps = step_is code i c d at_c goes.1 a.begins; later = rw place a.later; fits = a.fits }))
     (sound c fits.config f)
 
--- the instruction at a unit is taken, and what is known on its edges is added
+-- the instruction at a unit is visited, and the states on its edges are joined into their targets
 visited : (code : List Insn) (old mid new : States) (at n to : ℕ) (i : Insn) (s : State) (e : Edges)
     → IsBuilt code → fetch code at ≡ Some i → state_at old at ≡ Some s → AreStates code old → Flows i s e
     → n ≡ units_of i → ((k : ℕ) → distance_of i ≡ pos k → to ≡ at + 1 + k)

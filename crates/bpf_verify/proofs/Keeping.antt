@@ -1,4 +1,4 @@
--- What a pass keeps of what it knows.
+-- The states that a pass keeps.
 use Rattle.std.proofs.Common.{◌≡◌, ℤ, ℕ, zero, suc, ◌<◌, length, refl, sym, ap, ◌∙◌, arith, [], ◌∷◌, Option, None, Bool, ⊎_elim}
 use Rattle.std.specs.Prelude.{slice_set}
 use Rattle.std.proofs.Math.ListN.{length-set}
@@ -26,14 +26,14 @@ set_here [] i o h = absurd (omega arith)
 set_here (x ∷ xs) zero o h = refl
 set_here (x ∷ xs) (suc i) o h = set_here xs i o (omega arith)
 
--- the same state comes to a unit of both
+-- setting the same state in both lists preserves equality at a unit
 same_set : (known kept : States) (to u : ℕ) (o : Option State) → to < length known → to < length kept → state_at kept u ≡ state_at known u → state_at (slice_set kept to o) u ≡ state_at (slice_set known to o) u
 same_set known kept to u o k l h = ⊎_elim
     (λ (e : u ≡ to). rw e (set_here kept to o l ∙ sym (set_here known to o k)))
     (λ (ne : u ≡ to → ⊥). get_other kept to u o ne ∙ h ∙ sym (get_other known to u o ne))
     (cases_eq u to)
 
--- one that was taken away is put back with more
+-- putting a joined state back after `take` preserves `Ready`
 pub ready_put : (known kept : States) (to : ℕ) (o : Option State) → Ready known kept to → (u : ℕ) → Ready known kept u → Ready (slice_set known to o) (slice_set (slice_set kept to None) to o) u
 ready_put known kept to o r u h = rw (set_again kept to None o) (record {
   within = rw (length-set kept to o) h.within;
@@ -79,7 +79,7 @@ not_both (StoreImm n b off k) p e j = j
 not_both (Store n b off s) p e j = j
 not_both (Wide d n) p e j = j
 
--- what is no conditional jump goes on one way at most
+-- an instruction other than a conditional jump continues in at most one way
 pub one_way : (i : Insn) (s t : State) (w : Way) → IsPlain i → ((u : State) → Flows i s (edges_of w t u)) → w ≡ way.Both → ⊥
 one_way i s t w plain f e =
     let b : (u : State) → Flows i s (edges_of way.Both t u) = rw e at f in

@@ -1,4 +1,4 @@
--- A code has one fault of its structure, or none.
+-- A code has at most one fault of its structure.
 use Rattle.std.proofs.Common.{◌≡◌, ◌<◌, ◌≤◌, sym, ap, ◌∙◌, arith, List, [], Some, None, ⊎_elim}
 use Rattle.std.proofs.lemmas.Bool.{cases_lt}
 use Rattle.std.proofs.lemmas.Option.{same_Some}
@@ -9,7 +9,7 @@ use Rattle.bpf_verify.specs.Structure.{unit_fault, IsBuilt, IsFirst, IsMisbuilt}
 some_none : (f : VerifyFault) → Some f ≡ None → ⊥
 some_none f e = cc
 
--- no fault stands before the first
+-- no instruction before the first fault has a fault
 not_before : (code : List Insn) (f g : VerifyFault) (a : IsFirst code f) (b : IsFirst code g) → a.at < b.at → ⊥
 not_before code f g a b less = some_none f (sym a.is ∙ b.before a.at less)
 

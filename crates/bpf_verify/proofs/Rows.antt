@@ -9,7 +9,7 @@ use Rattle.bpf_flow.specs.States.{kind_in}
 use Rattle.bpf_verify.specs.States.{States, state_at}
 use Rattle.bpf_verify.specs.Kinds.{IsAt, Extends, IsRow, IsRowOf, AreRowsOf, AddsRow}
 
--- a row with the place of one register more
+-- a row with the place of the next register
 pub one_place : (pool : List Kind) (row : List ℕ) (n place : ℕ) (s : State) → n < length row → ((r : ℕ) → r < n → IsAt pool (slice_index_or row r 0) (kind_in s r)) → IsAt pool place (kind_in s n) → (r : ℕ) → r < n + 1 → IsAt pool (slice_index_or (slice_set row n place) r 0) (kind_in s r)
 one_place pool row n place s long before here =
     below_more (λ r. IsAt pool (slice_index_or (slice_set row n place) r 0) (kind_in s r)) n
@@ -23,7 +23,7 @@ row_stays old new None (Some s) more is = is
 row_stays old new (Some row) None more is = is
 row_stays old new (Some row) (Some s) more is = λ r l. more _ _ (is r l)
 
--- the rows of one unit more
+-- the rows of one more unit
 at_end : (P : ℕ → Option (List ℕ) → Type 0) (xs : List (Option (List ℕ))) (x : Option (List ℕ)) → ((u : ℕ) → u < length xs → P u (option_flatten (slice_get xs u))) → P (length xs) x → (u : ℕ) → u < length xs + 1 → P u (option_flatten (slice_get (xs ++ x ∷ []) u))
 at_end P [] x h l zero b = l
 at_end P [] x h l (suc u) b = absurd (omega arith)
@@ -35,6 +35,6 @@ one_row old new rows rows' states states' are adds same long = λ u h.
     rw adds.rows_are (rw (same u (omega (arith, long)))
     (at_end (λ n row. IsRow new row (state_at states n)) rows adds.row (λ n l. row_stays old new _ _ adds.extends (are n l)) adds.is_row u (omega (arith, long))))
 
--- that unit is counted
+-- adding a row increases the number of rows by one
 pub row_counted : {old new : List Kind} {rows rows' : List (Option (List ℕ))} {o : Option State} → AddsRow old new rows rows' o → length rows' ≡ length rows + 1
 row_counted {rows = rows} adds = rw adds.rows_are (length-append rows (adds.row ∷ []))

@@ -1,4 +1,4 @@
--- A program whose states hang together is safe.
+-- A program with consistent states is safe.
 use Rattle.std.proofs.Common.{◌≡◌, ℕ, zero, suc, ◌+◌, ◌<◌, ◌≤◌, length, refl, sym, ap, ◌∙◌, subst, arith, List, [], ◌∷◌, ◌++◌, Option, Some, None, ⊎_elim, inl, inr, true, false}
 use Rattle.std.specs.Prelude.{slice_get, ◌⊎◌, IsSome}
 use Rattle.std.specs.Option.{option_and_then, option_flatten, is_some}
@@ -12,7 +12,7 @@ use Rattle.bpf_verify.specs.States.{States}
 use Rattle.bpf_verify.specs.Stopped.{HoldAlways}
 use Rattle.bpf_verify.specs.Verified.{FitsAt, GoesOn, IsVerified}
 
--- how many instructions begin before a unit, and in all
+-- the number of instructions that begin before a unit, and of all
 one : Option Insn → ℕ
 one None = 0
 one (Some i) = 1
@@ -55,7 +55,7 @@ unfolding count
 count_all [] = refl
 count_all (i ∷ is) = count_one i (slots is) ∙ ap suc (count_all is)
 
--- where a configuration goes on or ends, an instruction begins
+-- an instruction begins at the place of each configuration that continues or ends
 begins : (code : List Insn) (c : Config) → Goes code c → IsSome (fetch code c.place)
 begins code c g = at (fetch code c.place) g
   where
@@ -103,7 +103,7 @@ safe code states v = λ bytes argument env input n c r.
     let l : n ≤ rank (slots code) c.place = h.least in
     (g, omega arith)
 
--- what is known is true of each run
+-- the states are true of each run
 pub hold_always : (code : List Insn) (states : States) → IsVerified code states → HoldAlways code states
 hold_always code states v = λ bytes argument env input n c r.
     let h : Holds code states n c = holds code states v (start bytes argument env) (v.starts bytes argument env input) n c r in

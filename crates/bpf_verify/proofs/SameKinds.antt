@@ -1,4 +1,4 @@
--- What is known of two numbers is the same if its parts are.
+-- Two `Known` values are equal if their parts are.
 use Rattle.std.proofs.Common.{◌≡◌, ◌∙◌, ◌≤◌, ℕ, Bool, true, false, refl, ap, subst, bit_and}
 use Rattle.std.proofs.Math.Bool.{◌&&◌}
 use Rattle.std.proofs.Math.Dec.{eqb}

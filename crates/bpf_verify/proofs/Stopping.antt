@@ -1,4 +1,4 @@
--- Where the pass stops, and that what it knows then is true.
+-- The unit at which the pass stops, and the proof that its states are then true.
 use Rattle.std.proofs.Common.{◌≡◌, ℕ, zero, suc, ◌<◌, sym, ◌∙◌, subst, refl, arith, List, Some, ⊎_elim}
 use Rattle.std.proofs.lemmas.Option.{same_Some}
 use Rattle.bpf_insn.specs.declared.insn.Insn.{Insn}
@@ -14,7 +14,7 @@ use Rattle.bpf_verify.specs.Verified.{FitsAt, GoesOn, Starts}
 use Rattle.bpf_verify.specs.Visits.{AreStates, ConsistentAt}
 use Rattle.bpf_verify.proofs.Safety.{ended_stops}
 
--- the fault of an instruction stops the pass there
+-- the fault of an instruction stops the pass at that instruction
 pub stops_there : (f : FlowFault) (at unit : ℕ) → stopping_unit (placed_fault f at) ≡ Some unit → unit ≡ at
 stops_there flow.Unset at unit e = sym (same_Some at unit e)
 stops_there flow.HelperArgument at unit e = sym (same_Some at unit e)
@@ -41,11 +41,11 @@ fits_along code states at k first fits (suc n) c r before =
     subst (λ (y : Config). FitsAt states y) same (GoesOn.fits x))
     (k.each b.place below b refl f)
 
--- what is known when the pass comes to a unit is true of each run until it has been there
+-- the states of a pass that has come to a unit are true of each run until the run has been there
 pub hold_until : (code : List Insn) (states : States) (at : ℕ) → AreTaken code states at → HoldUntil code states at
 hold_until code states at k = λ bytes argument env input n c comes. fits_along code states at k (start bytes argument env) (k.starts bytes argument env input) n c comes.chain comes.before
 
--- where an instruction is at fault, what is known is that with which the pass came to it
+-- if an instruction is invalid, the states are those with which the pass came to it
 pub stopped : (code : List Insn) (old new : States) (at : ℕ) (fault : VerifyFault) → AreStates code old → Starts old → ((p : ℕ) → p < at → ConsistentAt code old p) → Stays old new at fault → IsStopped code new fault
 stopped code old new at fault are starts each stays = λ unit is.
     let s : (unit ≡ at) × KeepsAt old new at = stays unit is in

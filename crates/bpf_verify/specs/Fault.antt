@@ -6,7 +6,7 @@ use Rattle.bpf_flow.specs.declared.fault.FlowFault.TheVariants as flow
 use Rattle.bpf_verify.specs.declared.fault.VerifyFault.{VerifyFault}
 use Rattle.bpf_verify.specs.declared.fault.VerifyFault.TheVariants.{NoMemory, Empty, FrameWritten, NoHelper, Backward, JumpOut, JumpIntoWide, FallsOff, Unset, HelperArgument, ExitNotNumber, NotPointer, PointerOp, PointerRange, PointerStored, ArgumentWritten, OutOfRecord, OutOfArgument, OutOfStack}
 
--- the fault of an instruction at its place
+-- the fault of an instruction, with its unit
 abbrev pub placed_fault : FlowFault → ℕ → VerifyFault
 placed_fault flow.Unset at = Unset at
 placed_fault flow.HelperArgument at = HelperArgument at
@@ -42,7 +42,7 @@ place_of (OutOfRecord at) = Some at
 place_of (OutOfArgument at) = Some at
 place_of (OutOfStack at) = Some at
 
--- a name, and in brackets a place where there is one
+-- a name, followed by a place in brackets if there is one
 abbrev pub placed_text : List ℕ → Option ℕ → List ℕ
 placed_text name None = name
 placed_text name (Some at) = with_place name at

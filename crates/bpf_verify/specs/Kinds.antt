@@ -18,7 +18,7 @@ Extends old new = (place : ℕ) (kind : Kind) → IsAt old place kind → IsAt n
 abbrev pub IsRowOf : List Kind → List ℕ → State → Type 0
 IsRowOf pool row s = (r : ℕ) → r < 11 → IsAt pool (slice_index_or row r 0) (kind_in s r)
 
--- a row where there is a state, and none where there is none
+-- a row if there is a state, otherwise `None`
 abbrev pub IsRow : List Kind → Option (List ℕ) → Option State → Type 0
 IsRow pool None None = Unit {0}
 IsRow pool None (Some s) = ⊥
@@ -29,12 +29,12 @@ IsRow pool (Some row) (Some s) = IsRowOf pool row s
 abbrev pub AreRowsOf : List Kind → List (Option (List ℕ)) → States → Type 0
 AreRowsOf pool rows states = (u : ℕ) → u < length rows → IsRow pool (option_flatten (slice_get rows u)) (state_at states u)
 
--- one for each unit
+-- one row for each unit
 pub record AreRows (pool : List Kind) (rows : List (Option (List ℕ))) (states : States) : Type 0 where
   pub long : length rows ≡ length states
   pub each : AreRowsOf pool rows states
 
--- a unit more, with its state if there is one
+-- one more row, for a unit with or without a state
 pub record AddsRow (old new : List Kind) (rows rows' : List (Option (List ℕ))) (state : Option State) : Type 0 where
   pub row : Option (List ℕ)
   pub is_row : IsRow new row state

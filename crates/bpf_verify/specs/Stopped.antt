@@ -1,4 +1,4 @@
--- What is known of a program at which the pass stops, and that it is true of the program's runs.
+-- The states of a pass that stops at a fault, and their truth for the program's runs.
 use Rattle.std.specs.Prelude.{ℕ, ◌≡◌, ◌<◌, ◌⊎◌, List, Option, Some, None, IsSome}
 use Rattle.bpf_insn.specs.declared.insn.Insn.{Insn}
 use Rattle.bpf_helpers.specs.declared.values.Env.{Env}
@@ -12,7 +12,7 @@ use Rattle.bpf_verify.specs.States.{States, state_at}
 use Rattle.bpf_verify.specs.Verified.{FitsAt, Starts}
 use Rattle.bpf_verify.specs.Visits.{AreStates, ConsistentAt}
 
--- the unit of the instruction at which the pass stops, for the faults of instructions that are reached
+-- the unit of the invalid instruction, for the faults that the pass finds
 abbrev pub stopping_unit : VerifyFault → Option ℕ
 stopping_unit NoMemory = None
 stopping_unit Empty = None
@@ -34,31 +34,31 @@ stopping_unit (OutOfRecord at) = Some at
 stopping_unit (OutOfArgument at) = Some at
 stopping_unit (OutOfStack at) = Some at
 
--- A run comes to a configuration in so many steps, and was at units below this one until then.
+-- A run comes to the configuration in n steps, and all its earlier places are below `at`.
 pub record ComesTo (code : List Insn) (first : Config) (at n : ℕ) (c : Config) : Type 0 where
   pub chain : Reaches code n first c
   pub before : (m : ℕ) (b : Config) → m < n → Reaches code m first b → b.place < at
 
--- What the states say is true of each run until it has been at the unit.
+-- The states are true of each run until it has been at the unit.
 abbrev pub HoldUntil : List Insn → States → ℕ → Type 0
 HoldUntil code states at =
     (bytes argument : List ℕ) (env : Env) → IsInput bytes argument env
     → (n : ℕ) (c : Config) → ComesTo code (start bytes argument env) at n c → FitsAt states c
 
--- What the states say is true of each run, wherever it comes.
+-- The states are true of each run at each step.
 abbrev pub HoldAlways : List Insn → States → Type 0
 HoldAlways code states =
     (bytes argument : List ℕ) (env : Env) → IsInput bytes argument env
     → (n : ℕ) (c : Config) → Reaches code n (start bytes argument env) c → FitsAt states c
 
--- The states with which the pass comes to a unit: each start fits, and from what fits below the unit each run ends or goes on to
--- what fits.
+-- The states with which the pass comes to a unit: each start fits, and each run that fits below the unit ends or continues to a
+-- configuration that fits.
 pub record AreTaken (code : List Insn) (states : States) (at : ℕ) : Type 0 where
   pub are : AreStates code states
   pub starts : Starts states
   pub each : (p : ℕ) → p < at → ConsistentAt code states p
 
--- The pass has come to the unit, where a state stands, and all that it knows is true of the runs.
+-- The pass has come to the unit, which has a state, and all its states are true of the runs.
 pub record StopsAt (code : List Insn) (states : States) (at : ℕ) : Type 0 where
   pub taken : AreTaken code states at
   pub stands : IsSome (state_at states at)
@@ -68,15 +68,15 @@ pub record StopsAt (code : List Insn) (states : States) (at : ℕ) : Type 0 wher
 abbrev pub IsStopped : List Insn → States → VerifyFault → Type 0
 IsStopped code states fault = (at : ℕ) → stopping_unit fault ≡ Some at → StopsAt code states at
 
--- A state stands at the unit, and none is added.
+-- The unit has a state, and no state is added.
 pub record KeepsAt (old new : States) (at : ℕ) : Type 0 where
   pub stands : IsSome (state_at old at)
   pub same : new ≡ old
 
--- Where the instruction at a unit is at fault, nothing is added.
+-- If the instruction at a unit is invalid, no state is added.
 abbrev pub Stays : States → States → ℕ → VerifyFault → Type 0
 Stays old new at fault = (unit : ℕ) → stopping_unit fault ≡ Some unit → (unit ≡ at) × KeepsAt old new at
 
--- The instruction at a unit is at fault, and nothing was added, or memory ran out.
+-- The instruction at a unit is invalid and no state was added, or memory ran out.
 abbrev pub Halts : VerifyFault → ℕ → States → States → Type 0
 Halts fault at old new = (fault ≡ NoMemory) ⊎ ((flow : FlowFault) × (fault ≡ placed_fault flow at) × (new ≡ old))

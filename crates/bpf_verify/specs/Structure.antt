@@ -1,4 +1,4 @@
--- What is wrong with an instruction, reached or not, and why a code is refused (own).
+-- The structural faults of instructions, reached or not, and the reasons to refuse a code (own).
 use Rattle.std.specs.Prelude.{ℕ, ◌≡◌, ◌≢◌, ⊤, ◌+◌, ◌<◌, ◌⊎◌, ◌==◌, nat_le, if◌then◌else◌, ℤ, pos, negsuc, List, [], Option, Some, None, IsSome}
 use Rattle.std.specs.Option.{option_and_then, is_some}
 use Rattle.bpf_insn.specs.declared.insn.Insn.{Insn}
@@ -10,7 +10,7 @@ use Rattle.bpf_verify.specs.declared.fault.VerifyFault.TheVariants.{NoMemory, Em
 
 -- ---- the structure
 
--- one fault, or else another
+-- the first of two faults
 abbrev pub first_of : Option VerifyFault → Option VerifyFault → Option VerifyFault
 first_of None b = b
 first_of (Some f) b = Some f
@@ -19,7 +19,7 @@ first_of (Some f) b = Some f
 abbrev pub frame_fault : ℕ → ℕ → Option VerifyFault
 frame_fault at d = if d == 10 then Some (FrameWritten at) else None
 
--- A helper that is called is there.
+-- Each helper that is called exists.
 abbrev pub helper_fault : ℕ → ℤ → Option VerifyFault
 helper_fault at id = if is_some (numbered id) then None else Some (NoHelper at)
 
@@ -28,7 +28,7 @@ abbrev pub jump_fault : List Insn → ℕ → ℤ → Option VerifyFault
 jump_fault code at (pos k) = if nat_le (unit_count code) (at + 1 + k) then Some (JumpOut at) else (if is_some (fetch code (at + 1 + k)) then None else Some (JumpIntoWide at))
 jump_fault code at (negsuc k) = Some (Backward at)
 
--- An instruction of n units that goes on to the next one is not the last.
+-- An instruction of n units that continues to the next one is not the last.
 abbrev pub end_fault : List Insn → ℕ → ℕ → Option VerifyFault
 end_fault code at n = if at + n == unit_count code then Some (FallsOff at) else None
 
@@ -46,11 +46,11 @@ insn_fault code at (StoreImm n b off k) = end_fault code at 1
 insn_fault code at (Store n b off s) = end_fault code at 1
 insn_fault code at (Wide d n) = first_of (frame_fault at d) (end_fault code at 2)
 
--- the fault of the instruction that begins at a unit, if one begins there and has one
+-- the fault of the instruction that begins at a unit, if there is one
 abbrev pub unit_fault : List Insn → ℕ → Option VerifyFault
 unit_fault code at = option_and_then (insn_fault code at) (fetch code at)
 
--- There are instructions, and none has a fault.
+-- There is an instruction, and no instruction has a fault.
 pub record IsBuilt (code : List Insn) : Type 0 where
   pub some : code ≢ []
   pub each : (at : ℕ) → unit_fault code at ≡ None
@@ -61,13 +61,13 @@ pub record IsFirst (code : List Insn) (fault : VerifyFault) : Type 0 where
   pub is : unit_fault code at ≡ Some fault
   pub before : (u : ℕ) → u < at → unit_fault code u ≡ None
 
--- The structure is at fault: there is no instruction, or the first instruction that has a fault has this one.
+-- The structure is invalid: there is no instruction, or this is the fault of the first instruction that has one.
 abbrev pub IsMisbuilt : List Insn → VerifyFault → Type 0
 IsMisbuilt code fault = ((code ≡ []) × (fault ≡ Empty)) ⊎ IsFirst code fault
 
--- ---- what comes of it
+-- ---- refusals
 
--- A fault of an instruction that is reached stands where an instruction begins. Memory may run out at any time.
+-- A fault that the pass may report: an instruction begins at its unit. Memory may run out at any time.
 abbrev pub IsMet : List Insn → VerifyFault → Type 0
 IsMet code NoMemory = ⊤
 IsMet code Empty = ⊥
@@ -89,6 +89,6 @@ IsMet code (OutOfRecord at) = IsSome (fetch code at)
 IsMet code (OutOfArgument at) = IsSome (fetch code at)
 IsMet code (OutOfStack at) = IsSome (fetch code at)
 
--- Why a code is refused: its structure is at fault, or else the fault was met in the pass over its instructions.
+-- A code is refused because its structure is invalid, or else because of a fault met in the pass over its instructions.
 abbrev pub IsRefused : List Insn → VerifyFault → Type 0
 IsRefused code fault = IsMisbuilt code fault ⊎ (IsBuilt code × IsMet code fault)

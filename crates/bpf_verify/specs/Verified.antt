@@ -1,4 +1,4 @@
--- A program with its states, and how they hang together.
+-- A program with its states, and their consistency.
 use Rattle.std.specs.Prelude.{ℕ, ◌≡◌, ◌<◌, ◌⊎◌, length, List, Option, Some, IsSome}
 use Rattle.std.specs.Option.{option_map}
 use Rattle.bpf_insn.specs.declared.insn.Insn.{Insn}
@@ -11,7 +11,7 @@ use Rattle.bpf_flow.specs.declared.state.State.{State}
 use Rattle.bpf_flow.specs.States.{IsConfig, Fits, kind_in}
 use Rattle.bpf_verify.specs.States.{States, state_at}
 
--- The kind that the state at a unit gives a register, where a state stands there.
+-- The kind that the state at a unit gives a register, if there is a state.
 abbrev pub kind_at : States → ℕ → ℕ → Option Kind
 kind_at states at r = option_map (λ s. kind_in s r) (state_at states at)
 
@@ -22,14 +22,14 @@ pub record FitsAt (states : States) (c : Config) : Type 0 where
   pub fits : Fits state c
   pub config : IsConfig c
 
--- The run goes on to a later unit, and fits there.
+-- The run continues to a later unit, and fits there.
 pub record GoesOn (code : List Insn) (states : States) (c : Config) : Type 0 where
   pub next : Config
   pub steps : step code c ≡ Some next
   pub later : c.place < next.place
   pub fits : FitsAt states next
 
--- From a configuration that fits, the run ends or goes on.
+-- From a configuration that fits, the run ends or continues.
 abbrev pub Consistent : List Insn → States → Type 0
 Consistent code states = (c : Config) → FitsAt states c → IsSome (ended code c) ⊎ GoesOn code states c
 
@@ -37,15 +37,15 @@ Consistent code states = (c : Config) → FitsAt states c → IsSome (ended code
 abbrev pub Starts : States → Type 0
 Starts states = (bytes argument : List ℕ) (env : Env) → IsInput bytes argument env → FitsAt states (start bytes argument env)
 
--- The states of an accepted program: one or none for each unit, and none but where an instruction begins. Each
--- start fits, and each run goes on from what fits to what fits.
+-- The states of an accepted program: at most one for each unit, and only at units at which an instruction begins. Each start fits, and
+-- each run that fits ends or continues to a configuration that fits.
 pub record IsVerified (code : List Insn) (states : States) : Type 0 where
   pub long : length states ≡ unit_count code
   pub begin : (u : ℕ) → IsSome (state_at states u) → IsSome (fetch code u)
   pub starts : Starts states
   pub each : Consistent code states
 
--- what an accepted program and its states are, as one value
+-- an accepted program and its states, as one value
 pub record Accepted : Type 0 where
   pub code : List Insn
   pub states : States

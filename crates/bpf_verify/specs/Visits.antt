@@ -1,4 +1,4 @@
--- States that grow while the instructions are taken.
+-- States that grow during the pass over the instructions.
 use Rattle.std.specs.Prelude.{ℕ, ◌≡◌, ◌<◌, ◌≤◌, ◌⊎◌, Bool, true, pos, ◌+◌, List, length, slice_set, Option, Some, None, IsSome}
 use Rattle.bpf_insn.specs.declared.insn.Insn.{Insn}
 use Rattle.bpf_insn.specs.Code.{fetch, unit_count, units_of}
@@ -9,42 +9,42 @@ use Rattle.bpf_flow.specs.Steps.{Edges, Flows, distance_of}
 use Rattle.bpf_verify.specs.States.{States, state_at}
 use Rattle.bpf_verify.specs.Verified.{FitsAt, GoesOn}
 
--- There is a place for each unit, and states stand where instructions begin alone.
+-- There is a place for each unit, and only units at which an instruction begins have a state.
 pub record AreStates (code : List Insn) (states : States) : Type 0 where
   pub long : length states ≡ unit_count code
   pub begin : (u : ℕ) → IsSome (state_at states u) → IsSome (fetch code u)
 
--- A state is put at the unit, which has all that fits the one that stood there or the one that is added.
+-- The state at the unit becomes one that all configurations fit that fit the old state or the added one.
 pub record Joins (old new : States) (to : ℕ) (added : State) : Type 0 where
   pub both : State
   pub is : new ≡ slice_set old to (Some both)
   pub kept : (s : State) (c : Config) → state_at old to ≡ Some s → Fits s c → Fits both c
   pub takes : (c : Config) → Fits added c → Fits both c
 
--- What is known on an edge is added at the unit where it leads, if the edge may be taken.
+-- The state on an edge is joined into its target, if the edge may be taken.
 abbrev pub Follows : States → States → ℕ → Option State → Type 0
 Follows old new to None = new ≡ old
 Follows old new to (Some added) = Joins old new to added
 
--- What is known on both edges is added at the units where they lead.
+-- The states on both edges are joined into their targets.
 pub record Settles (old new : States) (next to : ℕ) (edges : Edges) : Type 0 where
   pub between : States
   pub first : Follows old between next edges.next
   pub second : Follows between new to edges.jump
 
--- The instruction with what is known before it is taken: what is known after it is added where it goes on.
+-- The instruction is visited with the state before it: the states on its edges are joined into their targets.
 pub record Visited (i : Insn) (s : State) (old new : States) (next to : ℕ) : Type 0 where
   pub edges : Edges
   pub flows : Flows i s edges
   pub settles : Settles old new next to edges
 
--- the same at a unit
+-- the same for the instruction at a unit
 pub record VisitedAt (i : Insn) (s : State) (old new : States) (at : ℕ) : Type 0 where
   pub to : ℕ
   pub far : (k : ℕ) → distance_of i ≡ pos k → to ≡ at + 1 + k
   pub taken : Visited i s old new (at + units_of i) to
 
--- a unit whose state is kept as it is known
+-- a unit whose kept state is the known one
 pub record Ready (known kept : States) (u : ℕ) : Type 0 where
   pub within : u < length kept
   pub noted : u < length known
@@ -56,7 +56,7 @@ pub record Keeps (all : Bool) (at : ℕ) (known kept : States) : Type 0 where
   pub whole : all ≡ true → kept ≡ known
   pub rest : (u : ℕ) → at ≤ u → state_at kept u ≡ state_at known u
 
--- The new states have all that fits the old ones, and up to the unit they are the old ones.
+-- Configurations that fit the old states fit the new ones, and up to the unit the states are unchanged.
 pub record Grows (old new : States) (at : ℕ) : Type 0 where
   pub long : length new ≡ length old
   pub same : (u : ℕ) → u ≤ at → state_at new u ≡ state_at old u
@@ -67,12 +67,12 @@ pub record Adds (code : List Insn) (old new : States) (at : ℕ) : Type 0 where
   pub grows : Grows old new at
   pub are : AreStates code new
 
--- a later place, where an instruction begins and the configuration fits
+-- the configuration is at a later place, at which an instruction begins, and fits there
 pub record Arrived (code : List Insn) (states : States) (at : ℕ) (c : Config) : Type 0 where
   pub later : at < c.place
   pub begins : IsSome (fetch code c.place)
   pub fits : FitsAt states c
 
--- From a configuration at this unit that fits, the run ends or goes on.
+-- From a configuration at this unit that fits, the run ends or continues.
 abbrev pub ConsistentAt : List Insn → States → ℕ → Type 0
 ConsistentAt code states at = (c : Config) → c.place ≡ at → FitsAt states c → IsSome (ended code c) ⊎ GoesOn code states c

@@ -1,4 +1,4 @@
-//! Which programs are accepted.
+//! Accepts or refuses programs.
 
 ghost use Rattle.std.specs.Prelude.{◌≡◌, ℕ, IfOk, IfErr, IsErrAnd, None};
 ghost use Rattle.bpf_helpers.specs.Runs.{Safe};
@@ -16,8 +16,8 @@ use crate::visits::pass_over;
 use bpf_insn::{Code, encode};
 use std::alloc::{AllocError, Allocator};
 
-/// Accepts a program, as `verify` does where there is memory for what is known before each of its instructions, which comes with it; or
-/// says why not, and also what was known when the fault was met. Where the fault is one of the structure, nothing was known.
+/// Like `verify`, but also returns the state before each instruction, which takes more memory. An error has the states at the time of the
+/// fault, but no state if the structure is invalid.
 pub fn examine<A: Allocator + Copy>(alloc: A, code: Code<A>) -> Result<Examined<A>, Refused<A>>
     ensures value { IfOk result (λ v. v.code ≡ code) }
     ensures safe { IfOk result (λ v. Safe v.code) }
@@ -45,11 +45,10 @@ pub fn examine<A: Allocator + Copy>(alloc: A, code: Code<A>) -> Result<Examined<
     }
 }
 
-/// Accepts a program, which is then safe, or says why not and gives it back.
+/// Accepts a program, which is then safe, or refuses it and gives it back with the fault.
 ///
-/// The structure comes first: each instruction is tested, the lowest first, whether anything reaches it or
-/// not. Then each instruction that is reached is taken once, the lowest first, with what is known before it;
-/// its first fault is told. `NoMemory` comes only where the structure has no fault.
+/// The structure is tested first: each instruction in order, reached or not. Then each reached instruction is visited once, in order,
+/// with the state before it. Only the first fault is reported. `NoMemory` implies that the structure has no fault.
 pub fn verify<A: Allocator + Copy>(
     alloc: A,
     code: Code<A>,

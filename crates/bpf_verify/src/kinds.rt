@@ -9,18 +9,18 @@ use bpf_flow::State;
 use bpf_range::Kind;
 use std::alloc::{AllocError, Allocator};
 
-/// The kinds of registers at each unit. A row has, for each register, the place of its kind in the pool. Units that follow one another
-/// mostly differ in one register, so they share the other kinds.
+/// The kinds of registers at each unit. A row has, for each register, the place of its kind in the pool. Consecutive units mostly differ
+/// in one register, so they share the other kinds.
 #[derive(Drop)]
 pub(crate) struct Kinds<A: Allocator> {
     pub(crate) pool: Vec<Kind, A>,
-    // One for each unit so far, or `None` if no state is there.
+    // One row for each unit so far; `None` if the unit has no state.
     pub(crate) rows: Vec<Option<[u16; 11]>, A>,
-    // The last row, by which the next one finds its kinds.
+    // The last row. The next one looks there first for its kinds.
     last: [u16; 11],
 }
 
-// Whether two kinds are the same.
+// Compares two kinds.
 fn is_same(one: &Kind, other: &Kind) -> bool
     ensures { result ≡ true → one.now ≡ other.now }
 {
@@ -37,7 +37,7 @@ fn is_same(one: &Kind, other: &Kind) -> bool
 }
 
 impl<A: Allocator> Kinds<A> {
-    /// No units, with memory for the rows of n units and for as many kinds.
+    /// Creates a table of no units, with memory for the rows of `units` units and for as many kinds.
     pub(crate) fn new(alloc: A, units: usize) -> Result<Kinds<A>, AllocError>
     where
         A: Copy,
@@ -82,7 +82,7 @@ impl<A: Allocator> Kinds<A> {
         Ok(())
     }
 
-    // The place of a kind: a likely one, the first, where `Unset` is, or a new one.
+    // The place of a kind: the likely one, the first one (which has `Unset`), or a new one.
     fn place(&mut self, likely: u16, kind: &Kind) -> Result<u16, AllocError>
         requires few { length self.old.pool.items < 0x1_0000 }
         ensures at { IfOk result (λ place. IsAt self.new.pool.items place kind.now) }
@@ -101,7 +101,7 @@ impl<A: Allocator> Kinds<A> {
         Ok(place)
     }
 
-    // Whether a kind is at a place of the pool.
+    // Returns true if the pool has the kind at a place.
     fn is_at(&self, place: u16, kind: &Kind) -> bool
         ensures { result ≡ true → IsAt self.now.pool.items place kind.now }
     {
@@ -111,7 +111,7 @@ impl<A: Allocator> Kinds<A> {
         }
     }
 
-    /// Drops the memory that no kind takes.
+    /// Drops unused memory of the pool.
     pub(crate) fn shrink(&mut self)
         ensures pool { self.new.pool.items ≡ self.old.pool.items }
         ensures rows { self.new.rows.items ≡ self.old.rows.items }
@@ -119,7 +119,7 @@ impl<A: Allocator> Kinds<A> {
         self.pool.shrink_to_fit();
     }
 
-    /// The kind of a register at a unit. `None` if no state is there.
+    /// The kind of a register at a unit. `None` if the unit has no state.
     pub(crate) fn get(&self, at: usize, register: usize) -> Option<Kind>
         requires { register ≤ 10 }
         ensures { (states : States) → AreRows self.now.pool.items self.now.rows.items states → result ≡ kind_at states at register }

@@ -1,9 +1,8 @@
-//! Which programs are accepted, and what is known before each of their instructions.
+//! The verifier: accepts or refuses programs, and computes the state before each of their instructions.
 //!
-//! `verify` tests a program's structure and then takes its instructions once, the lowest first, with
-//! what is known of the registers before each. What it accepts is safe: it never reads a register that
-//! was not set, touches nothing outside its record, argument and stack, stays in its code, and ends
-//! within as many steps as it has instructions.
+//! `verify` tests a program's structure and then visits its instructions once, in order, with the state of the registers before each. An
+//! accepted program is safe: it reads no register that was not set, touches nothing outside its record, argument and stack, stays in its
+//! code, and takes at most as many steps as it has instructions.
 #![tactic(auto)]
 
 mod examined;

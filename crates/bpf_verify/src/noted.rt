@@ -1,4 +1,4 @@
-// States that only clauses read, so that what is proved of a program can speak of all that the pass knew of it, and none of it is kept.
+// States that only clauses read: they let proofs speak of all states of a pass without storing any at run time.
 ghost use Rattle.std.specs.Prelude.{◌≡◌, slice_set, replicate, Some, None};
 ghost use base.Fml.{ftrue};
 ghost use Rattle.bpf_verify.specs.States.{States as StateList};
@@ -6,7 +6,7 @@ ghost use Rattle.bpf_verify.specs.States.{States as StateList};
 use bpf_flow::State;
 use std::marker::Model;
 
-/// The states of a program, by unit, as clauses see them. It has none itself and owns nothing.
+/// The states of a program, by unit, for clauses. It is empty at run time and owns nothing.
 pub struct Noted {
     pub ghost states: { StateList },
 }
@@ -16,7 +16,7 @@ impl Model for Noted {
 }
 
 impl Noted {
-    /// No state at any of so many units.
+    /// Creates the value with no state at any of `units` units.
     pub(crate) fn none(units: usize) -> Noted
         ensures { result.states ≡ replicate units None }
     {
@@ -24,7 +24,7 @@ impl Noted {
         Noted {}
     }
 
-    /// The same with a state at a unit.
+    /// Returns the same states with one changed.
     #[inline(always)]
     pub(crate) fn with(&self, at: usize, state: &State) -> Noted
         ensures { result.states ≡ slice_set self.now.states at (Some state.now) }
@@ -35,7 +35,7 @@ impl Noted {
     }
 }
 
-// It owns nothing, so it may go to any thread, and any thread may share it.
+// It owns nothing, so any thread may own or share it.
 unsafe impl Send for Noted {}
 
 unsafe impl Sync for Noted {}

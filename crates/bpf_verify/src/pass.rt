@@ -1,4 +1,4 @@
-//! What a pass over a program's instructions knows on its way.
+//! The states of a pass over a program's instructions.
 
 ghost use Rattle.std.specs.Prelude.{◌≡◌, ◌<◌, ◌+◌, ℕ, Bool, length, replicate, Some, None, IfOk};
 ghost use Rattle.std.specs.Option.{option_map};
@@ -12,14 +12,14 @@ use crate::table::States;
 use bpf_flow::{State, join_states};
 use std::alloc::{AllocError, Allocator};
 
-/// The states that are known, as clauses see them, and those that are kept: all, or those of the units ahead.
+/// The states of a pass: all of them for clauses, and those that are kept, which are all or those of the units ahead.
 #[derive(Drop)]
 pub(crate) struct Pass<A: Allocator> {
     pub(crate) noted: Noted,
     pub(crate) kept: States<A>,
 }
 
-/// What fits the old state, where there was one, or the new one.
+/// The join of the old state, if there is one, and the new one.
 fn joined<A: Allocator>(old: Option<Box<State, A>>, state: Box<State, A>) -> Box<State, A>
     ensures new { (c : _) → Fits (box_value state) c → Fits (box_value result) c }
     ensures kept { (s : _) (c : _) → option_map box_value old ≡ Some s → Fits s c → Fits (box_value result) c }
@@ -34,7 +34,7 @@ fn joined<A: Allocator>(old: Option<Box<State, A>>, state: Box<State, A>) -> Box
 }
 
 impl<A: Allocator + Copy> Pass<A> {
-    /// Nothing is known of so many units.
+    /// Creates a pass without states, for `units` units.
     pub(crate) fn new(alloc: A, units: usize) -> Result<Pass<A>, AllocError>
         ensures noted { IfOk result (λ p. p.noted.states ≡ replicate units None) }
         ensures kept { IfOk result (λ p. p.kept ≡ replicate units None) }
@@ -46,7 +46,7 @@ impl<A: Allocator + Copy> Pass<A> {
         })
     }
 
-    /// What is known at a unit. It is kept there if all is.
+    /// Takes the state of a unit; clones it instead if all states are kept.
     pub(crate) fn take(
         &mut self,
         alloc: A,
@@ -68,7 +68,7 @@ impl<A: Allocator + Copy> Pass<A> {
         }
     }
 
-    /// Adds what is known on an edge to the unit where it leads.
+    /// Joins the state on an edge into its target.
     pub(crate) fn add(&mut self, to: usize, state: Box<State, A>)
         requires { Ready self.old.noted.states self.old.kept to }
         ensures joins { Joins self.old.noted.states self.new.noted.states to (box_value state) }

@@ -5,8 +5,8 @@ use crate::table::States;
 use bpf_insn::Code;
 use std::alloc::{Allocator, Global};
 
-/// A program that is refused: why, and what was known before its instructions when that was found. Up to the instruction at fault
-/// this is what `verify` knows of them; nothing is known where the fault is one of the structure.
+/// A refused program: the fault, and the states at the time of the fault. Up to the invalid instruction they are those of `verify`. There
+/// are no states if the structure is invalid.
 #[derive(Drop)]
 pub struct Refused<A: Allocator = Global> {
     pub fault: VerifyFault,

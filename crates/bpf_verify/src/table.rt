@@ -9,8 +9,8 @@ use bpf_flow::State;
 use std::alloc::{AllocError, Allocator, Global};
 use std::marker::Model;
 
-/// For each unit of a program what is known before the instruction there, if anything is: nothing is known where no edge leads.
-/// A unit of which nothing is known takes the room of a pointer.
+/// The state before the instruction at each unit. There is no state if no edge leads to the unit. A unit without a state takes the room
+/// of a pointer.
 #[derive(Drop)]
 pub struct States<A: Allocator = Global> {
     boxes: Vec<Option<Box<State, A>>, A>,
@@ -25,7 +25,7 @@ impl<A: Allocator> Model for States<A> {
 }
 
 impl<A: Allocator> States<A> {
-    /// The states of no units, which take no memory.
+    /// The states of no units. Allocates no memory.
     pub(crate) fn empty(alloc: A) -> States<A>
         ensures { result ≡ [] }
     {
@@ -34,7 +34,7 @@ impl<A: Allocator> States<A> {
         }
     }
 
-    /// No state at any of so many units.
+    /// Creates the table with no state at any of `units` units.
     pub(crate) fn none(alloc: A, units: usize) -> Result<States<A>, AllocError>
         ensures { IfOk result (λ s. s ≡ replicate units None) }
     {
@@ -56,7 +56,7 @@ impl<A: Allocator> States<A> {
         Some(&**boxed)
     }
 
-    /// Puts a state at a unit, in the place of the one that stands there.
+    /// Sets the state at a unit; drops the old one.
     pub(crate) fn put(&mut self, at: usize, state: Box<State, A>)
         requires { at < length self.old }
         ensures { self.new ≡ slice_set self.old at (Some (box_value state)) }
@@ -64,7 +64,7 @@ impl<A: Allocator> States<A> {
         self.boxes[at] = Some(state);
     }
 
-    /// Takes the state at a unit away.
+    /// Removes the state at a unit.
     pub(crate) fn take(&mut self, at: usize) -> Option<Box<State, A>>
         requires { at < length self.old }
         ensures value { option_map box_value result ≡ state_at self.old at }

@@ -24,7 +24,7 @@ use bpf_flow::{FlowFault, State, Way, flow, flow_branch};
 use bpf_insn::{Code, Insn, Operand, Test, Width};
 use std::alloc::{AllocError, Allocator};
 
-/// How far an instruction jumps.
+/// The jump distance of an instruction.
 fn distance(insn: Insn) -> i64
     ensures value { result ≡ distance_of insn }
     ensures small { result ≤ℤ pos 0x8000_0000 }
@@ -37,7 +37,7 @@ fn distance(insn: Insn) -> i64
     }
 }
 
-/// Adds what is known after an instruction to the unit to which it goes on, where it goes one way at most.
+/// Joins the state after an instruction into the unit at which it continues, if there is one. The way is not `Both`.
 fn settle<A: Allocator + Copy>(
     pass: &mut Pass<A>,
     way: Way,
@@ -59,7 +59,7 @@ fn settle<A: Allocator + Copy>(
     }
 }
 
-/// Takes an instruction that is no conditional jump: what is known after it is added where it goes on.
+/// Visits an instruction other than a conditional jump: joins the state after it into the unit at which it continues.
 fn visit_plain<A: Allocator + Copy>(
     pass: &mut Pass<A>,
     insn: Insn,
@@ -82,7 +82,7 @@ fn visit_plain<A: Allocator + Copy>(
     Ok(())
 }
 
-/// Takes a conditional jump: what is known on its edges is added where they lead.
+/// Visits a conditional jump: joins the states on its edges into their targets.
 fn visit_branch<A: Allocator + Copy>(
     pass: &mut Pass<A>,
     test: Test,
@@ -114,7 +114,7 @@ fn visit_branch<A: Allocator + Copy>(
     Ok(())
 }
 
-/// Takes the instruction at a unit with what is known before it.
+/// Visits the instruction at a unit with the state before it.
 fn visit_insn<A: Allocator + Copy>(
     alloc: A,
     pass: &mut Pass<A>,
@@ -155,8 +155,8 @@ fn visit_insn<A: Allocator + Copy>(
     }
 }
 
-/// Takes the instruction at a unit, if a state is there: adds what is known after it where it goes on, and notes the kinds of registers
-/// before it. The result is what stands at the unit, made ready.
+/// Visits the instruction at a unit, if there is a state: joins the states on its edges into their targets, and adds the kinds of
+/// registers before it. Returns the unit's executable form.
 fn visit<A: Allocator + Copy>(
     alloc: A,
     code: &Code<A>,
@@ -194,8 +194,8 @@ fn visit<A: Allocator + Copy>(
     Ok(flat)
 }
 
-/// What the pass over a program has found: its states, as clauses see them, those that are kept, what stands at its units, made ready, and
-/// the kinds of registers there.
+/// The result of a pass over a program: its states for clauses, the kept states, and the executable form and kinds of registers of each
+/// unit.
 #[derive(Drop)]
 pub(crate) struct Passed<A: Allocator> {
     pub(crate) noted: Noted,
@@ -204,7 +204,7 @@ pub(crate) struct Passed<A: Allocator> {
     pub(crate) kinds: Kinds<A>,
 }
 
-/// The pass before its first instruction: what is known at the start.
+/// Begins the pass with the state at the start.
 fn begin<A: Allocator + Copy>(alloc: A, code: &Code<A>) -> Result<Pass<A>, AllocError>
     requires { IsBuilt code.now }
     ensures are { IfOk result (λ p. AreStates code.now p.noted.states) }
@@ -217,8 +217,8 @@ fn begin<A: Allocator + Copy>(alloc: A, code: &Code<A>) -> Result<Pass<A>, Alloc
     Ok(pass)
 }
 
-/// Takes each instruction of a code whose structure has no fault once, the lowest first. The error is the first fault, and the states
-/// that are kept where the pass stopped: all that it knew, or those of the units ahead.
+/// Visits each reached instruction once, in order. The structure has no fault. The error is the first fault with the kept states at that
+/// time: all of them, or those of the units ahead.
 pub(crate) fn pass_over<A: Allocator + Copy>(
     alloc: A,
     code: &Code<A>,

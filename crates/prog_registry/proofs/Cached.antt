@@ -1,4 +1,4 @@
--- Verdicts, as they are kept.
+-- The stored verdicts.
 use Rattle.std.proofs.Common.{◌≡◌, ℕ, ◌-◌, List, [], ◌∷◌, take, Contains, Option, Some, None, Bool, true, false, refl, sym, ◌∙◌, ap, subst, ⊎_elim}
 use Rattle.std.specs.Option.{option_map, option_map_or}
 use Rattle.std.specs.Map.{lookup, lookup_entry, remove_entry}
@@ -15,9 +15,9 @@ use Rattle.prog_registry.specs.Judged.{IsJudged}
 use Rattle.prog_registry.specs.Verdicts.{Verdict, verdict_on, AreVerdicts}
 use Rattle.prog_registry.specs.Kept.{plain, AreKept}
 
--- ---- what the verdicts are
+-- ---- the verdicts
 
--- the verdict that is found on an image is one on it
+-- a stored verdict on an image is true of it
 pub found_judged : (verdicts : List Verdict) (image : List ℕ) (fault : VerifyFault) → AreVerdicts verdicts → verdict_on verdicts image ≡ Some fault → IsJudged image fault
 found_judged verdicts image fault are e =
     let found = Contains-lookup (bytes_eq image) verdicts fault e in

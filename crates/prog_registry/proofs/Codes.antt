@@ -11,7 +11,7 @@ use Rattle.bpf_verify.specs.Verified.{Accepted, image_in}
 use Rattle.prog_registry.specs.Judged.{IsProgramOf, IsSized}
 use Rattle.prog_registry.specs.Programs.{StandsAt, ArePrograms}
 
--- one image, one code
+-- an image has at most one code
 pub same_code : (a b : List Insn) (image : List ℕ) → IsImage a image → IsImage b image → a ≡ b
 same_code a b image x y = image_tells a b x.is_code.each y.is_code.each (sym x.spelling ∙ y.spelling)
 
@@ -24,7 +24,7 @@ image_sized code image is = let sized = image_is_whole code image is in record {
 pub program_sized : (p : Accepted) (image : List ℕ) → IsProgramOf image p → IsSized image
 program_sized p image one = image_sized p.code image (image_of_program image p one)
 
--- the program that has an image
+-- the program with an image
 pub stands_program : (programs : List Accepted) (image : List ℕ) (id : ℕ) → ArePrograms programs → StandsAt programs image id → (p : Accepted) × IsProgramOf image p
 stands_program programs image id are stands = by_program (slice_get programs id) (λ p. are.each id p) (sym (slice_get-map image_in programs id) ∙ stands) where
   by_program : (o : Option Accepted) → ((p : Accepted) → o ≡ Some p → Rattle.prog_registry.specs.Judged.IsProgram p) → option_map image_in o ≡ Some image → (p : Accepted) × IsProgramOf image p

@@ -1,4 +1,4 @@
--- Programs and the numbers of their images, as they are kept.
+-- The stored programs and the numbers of their images.
 use Rattle.std.proofs.Common.{◌≡◌, ℕ, ◌<◌, ◌≤◌, ◌⊎◌, List, [], ◌∷◌, ◌++◌, length, Option, Some, None, IfSome, IfNone, Bool, true, false, refl, sym, ◌∙◌, ap, subst, ⊎_elim, arith, length-append}
 use Rattle.std.specs.Prelude.{slice_get}
 use Rattle.std.specs.Arc.{arc_value}
@@ -16,7 +16,7 @@ use Rattle.prog_registry.specs.Programs.{program_limit, images_of, StandsAt, IsN
 use Rattle.prog_registry.specs.Kept.{values_of, number_of, IsKept}
 use Rattle.prog_registry.proofs.Places.{still, last, stood}
 
--- ---- images with one more
+-- ---- one more image
 
 images_long : (programs : List Accepted) → length (images_of programs) ≡ length programs
 images_long programs = simp length-map
@@ -45,7 +45,7 @@ module _ {Z : Type 0} where
   found_nowhere programs numbers image None kept e = λ id stands. some_none id (sym (kept.listed image id stands) ∙ sym e)
   found_nowhere programs numbers image (Some id) kept e = tt
 
-  -- of another image the same is found after a pair was put in
+  -- adding a pair changes no look-up of another image
   other_found : (key : Vec ℕ Z) (old new : List (Vec ℕ Z × ℕ)) (image : List ℕ) → KeepsOthers (λ x y. bytes_eq x.items y.items) (λ k. bytes_eq key.items k.items) old new
       → bytes_eq key.items image ≡ false → number_of new image ≡ number_of old image
   unfolding KeepsOthers
@@ -61,7 +61,7 @@ module _ {Z : Type 0} where
           let f : true ≡ false = sym three ∙ differ in
           f
 
-  -- a new program's image is found under the next number
+  -- a new program's image has the next number
   pub kept_added : (programs : List Accepted) (p : Accepted) (image : List ℕ) (key : Vec ℕ Z) (old new : List (Vec ℕ Z × ℕ))
       → IsKept programs old → length programs < program_limit → IsNew programs image → IsProgramOf image p → key.items ≡ image
       → lookup (λ k. bytes_eq key.items k.items) new ≡ Some (length programs)
@@ -105,6 +105,6 @@ module _ {Z : Type 0} where
         (λ (h : (id ≡ length programs) × (p ≡ q)). subst IsProgram h.1 one.is)
         (stood programs p id q e)
 
-  -- the programs that are shared, with one more
+  -- the shared programs after adding one
   pub values_more : (old middle new : List (Arc Accepted Z)) (a : Arc Accepted Z) (p : Accepted) → new ≡ middle ++ a ∷ [] → middle ≡ old → arc_value a ≡ p → values_of new ≡ values_of old ++ p ∷ []
   values_more old middle new a p e same value = ap values_of (e ∙ ap (λ (xs : List (Arc Accepted Z)). xs ++ a ∷ []) same) ∙ (map-append arc_value old (a ∷ []) ∙ ap (λ (x : Accepted). values_of old ++ x ∷ []) value)

@@ -1,4 +1,4 @@
--- What holds of a result that is no error.
+-- The property of a result that is not an error.
 use Rattle.std.proofs.Common.{◌≡◌, false}
 use Rattle.std.specs.Prelude.{Result, Ok, Err, OnOk}
 use Rattle.std.specs.Result.{is_err}

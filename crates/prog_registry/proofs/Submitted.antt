@@ -1,4 +1,4 @@
--- What the outcomes of a submission say of faults.
+-- The faults of a submission.
 use Rattle.std.proofs.Common.{◌≡◌, ◌≢◌, ℕ, ◌%◌, ◌/◌, ◌<◌, ◌⊎◌, List, length, IfOk, IfErr, refl, ◌∙◌, ap, subst, inl, inr, ⊎_elim, arith}
 use Rattle.std.specs.Prelude.{Result, Ok, Err, IsErrOf, ◌↔◌}
 use Rattle.bpf_insn.specs.declared.insn.Insn.{Insn}
@@ -25,7 +25,7 @@ undecoded f = Err (Decode f)
 abbrev unaccepted : VerifyFault → Result ProgId RegFault
 unaccepted f = Err (Verify f)
 
--- ---- programs that are given
+-- ---- images of programs
 
 given_program : (old : Registered) (image : List ℕ) (id : ℕ) (new : Registered) → ArePrograms old.programs → Gives old image id new → (p : Accepted) × IsProgramOf image p
 given_program old image id new are gives = ⊎_elim
@@ -33,9 +33,9 @@ given_program old image id new are gives = ⊎_elim
     (λ (h : Adds old image id new). (h.program, h.is))
     gives
 
--- ---- bytes that are no image
+-- ---- bytes that are not an image
 
--- Either the bytes are as many as a code's, and no fault of the decoder is told, or one is.
+-- Either the number of bytes is possible for a code and no fault of the decoder is reported, or one is.
 abbrev Decodes : List ℕ → Result ProgId RegFault → Type 0
 Decodes image r = (IsSized image × ((f : DecodeFault) → r ≡ Err (Decode f) → ⊥)) ⊎ ((f : DecodeFault) × (r ≡ Err (Decode f)) × IsUndecoded image f)
 
@@ -49,7 +49,7 @@ decodes old new image (Err Full) are ok err = inl (program_sized err.1.0.program
 same_decode : (f g : DecodeFault) (r : Result ProgId RegFault) → r ≡ Err (Decode f) → r ≡ Err (Decode g) → f ≡ g
 same_decode f g r a b = cc
 
--- a fault that comes where the bytes are no whole number of units
+-- the fault if the bytes are not whole units
 unwhole : (image : List ℕ) (f : DecodeFault) → IsUndecoded image f → length image % 8 ≢ 0 → f ≡ Length
 unwhole image decode.NoMemory und n = absurd (und.told refl)
 unwhole image Length und n = refl
@@ -59,7 +59,7 @@ unwhole image (HalfWide at) und n = absurd (n und.has.whole)
 unwhole image (Register at) und n = absurd (n und.has.whole)
 unwhole image (Reserved at) und n = absurd (n und.has.whole)
 
--- a fault that comes where they are too many
+-- the fault if there are too many bytes
 unshort : (image : List ℕ) (f : DecodeFault) → IsUndecoded image f → IsWhole image → unit_limit < length image / 8 → f ≡ TooLong
 unshort image decode.NoMemory und w l = absurd (und.told refl)
 unshort image Length und w l = absurd (und.has w)
@@ -89,7 +89,7 @@ too_long_told old new image r are ok err = ⊎_elim
     ))
     (decodes old new image r are ok err)
 
--- ---- codes whose structure is at fault
+-- ---- codes with an invalid structure
 
 unbuilt : (image : List ℕ) (code : List Insn) (fault : VerifyFault) (p : Accepted) → IsProgramOf image p → IsImage code image → IsMisbuilt code fault → ⊥
 unbuilt image code fault p one is mis = built_not p.code fault one.is.built (subst (λ (c : List Insn). IsMisbuilt c fault) (same_code code p.code image is (image_of_program image p one)) mis)

@@ -1,4 +1,4 @@
--- The text of a fault: its name, and what it has in brackets (own).
+-- The text of a fault: its name, and its details in brackets (own).
 use Rattle.std.specs.Prelude.{ℕ, List, ◌++◌, codes}
 use Rattle.bpf_insn.specs.Decoding.{fault_text as decode_text}
 use Rattle.bpf_verify.specs.Fault.{fault_text as verify_text}

@@ -1,4 +1,4 @@
--- What comes of an image: an accepted program, or a fault (own).
+-- The result for an image: an accepted program, or a fault (own).
 use Rattle.std.specs.Prelude.{ℕ, ◌≡◌, ◌≢◌, List}
 use Rattle.bpf_insn.specs.declared.insn.Insn.{Insn}
 use Rattle.bpf_insn.specs.declared.fault.DecodeFault.{DecodeFault}
@@ -24,25 +24,25 @@ pub record IsProgramOf (image : List ℕ) (p : Accepted) : Type 0 where
   pub is : IsProgram p
   pub spelled : image_in p ≡ image
 
--- The bytes are the image of no code, and this is what is wrong with them.
+-- The bytes are not the image of a code, and have this fault.
 pub record IsUndecoded (image : List ℕ) (fault : DecodeFault) : Type 0 where
   pub has : HasFault image fault
   pub told : fault ≢ decode.NoMemory
   pub none : (code : List Insn) → IsImage code image → ⊥
 
--- The bytes are the image of a code, which is refused for this.
+-- The bytes are the image of a code, which is refused with this fault.
 pub record IsJudged (image : List ℕ) (fault : VerifyFault) : Type 0 where
   pub code : List Insn
   pub is : IsImage code image
   pub refused : IsRefused code fault
   pub told : fault ≢ verify.NoMemory
 
--- The bytes are as many as those of a code can be.
+-- The number of bytes is possible for a code.
 pub record IsSized (image : List ℕ) : Type 0 where
   pub whole : IsWhole image
   pub short : IsShort image
 
--- Why an image gives no accepted program. Memory may run out after the tests of the length.
+-- The image gives no accepted program, for this reason. Memory may run out after the tests of the length.
 abbrev pub Condemns : List ℕ → RegFault → Type 0
 Condemns image NoMemory = IsSized image
 Condemns image (Decode fault) = IsUndecoded image fault

@@ -1,4 +1,4 @@
--- How programs and verdicts are kept.
+-- The representation of programs and verdicts.
 use Rattle.std.specs.Prelude.{ℕ, ◌≡◌, List, map, Option, Some}
 use Rattle.std.specs.Arc.{arc_value}
 use Rattle.std.specs.declared.sync.Arc.{Arc}
@@ -12,15 +12,15 @@ use Rattle.prog_registry.specs.Programs.{StandsAt, ArePrograms}
 use Rattle.prog_registry.specs.Verdicts.{Verdict, AreVerdicts}
 
 module _ {Z : Type 0} where
-  -- the programs that are shared
+  -- the shared programs
   abbrev pub values_of : List (Arc Accepted Z) → List Accepted
   values_of shared = map arc_value shared
 
-  -- the number under which an image is found
+  -- the number that an image maps to
   abbrev pub number_of : List (Vec ℕ Z × ℕ) → List ℕ → Option ℕ
   number_of numbers image = lookup (λ k. bytes_eq image k.items) numbers
 
-  -- each image is found under its number, and no other
+  -- each image maps to its number, and no other bytes map to a number
   pub record IsKept (programs : List Accepted) (numbers : List (Vec ℕ Z × ℕ)) : Type 0 where
     pub are : ArePrograms programs
     pub found : (image : List ℕ) (id : ℕ) → number_of numbers image ≡ Some id → StandsAt programs image id

@@ -1,4 +1,4 @@
--- A registry, and what a call of `submit` does to it (own).
+-- A registry, and the effect of `submit` on it (own).
 use Rattle.std.specs.Prelude.{ℕ, ◌≡◌, ◌<◌, ◌++◌, ◌⊎◌, List, [], ◌∷◌, length, None}
 use Rattle.bpf_verify.specs.declared.fault.VerifyFault.{VerifyFault}
 use Rattle.bpf_verify.specs.Verified.{Accepted}
@@ -8,14 +8,14 @@ use Rattle.prog_registry.specs.Judged.{IsProgramOf, IsUndecoded, IsJudged, IsSiz
 use Rattle.prog_registry.specs.Programs.{StandsAt, IsNew, program_limit}
 use Rattle.prog_registry.specs.Verdicts.{Recent, verdict_on, with_verdict, Recalls}
 
--- the programs by number, and the verdicts that are kept
+-- the programs by number, and the stored verdicts
 pub record Registered : Type 0 where
   pub programs : List Accepted
   pub recent : Recent
 
--- ---- a number is given
+-- ---- submissions that get a number
 
--- The program of a new image goes after the others, and its number is how many there were.
+-- The program of a new image goes last, and its number is the previous number of programs.
 pub record Adds (old : Registered) (image : List ℕ) (id : ℕ) (new : Registered) : Type 0 where
   pub is_new : IsNew old.programs image
   pub unjudged : verdict_on old.recent.verdicts image ≡ None
@@ -26,34 +26,34 @@ pub record Adds (old : Registered) (image : List ℕ) (id : ℕ) (new : Register
   pub programs : new.programs ≡ old.programs ++ program ∷ []
   pub recent : new.recent ≡ old.recent
 
--- The number is that of the image, and nothing changes, or the image is new.
+-- The number is that of a known image and nothing changes, or the image is new.
 abbrev pub Gives : Registered → List ℕ → ℕ → Registered → Type 0
 Gives old image id new = (StandsAt old.programs image id × (new ≡ old)) ⊎ Adds old image id new
 
--- ---- a number is refused
+-- ---- submissions that are refused
 
--- The verdict was kept, and nothing changes but it.
+-- The verdict was stored, and only the verdicts change.
 pub record RecallsIn (old : Registered) (image : List ℕ) (fault : VerifyFault) (new : Registered) : Type 0 where
   pub programs : new.programs ≡ old.programs
   pub recent : Recalls old.recent image fault new.recent
 
--- The verdict is new. It is kept, or nothing changes.
+-- The verdict is new. It is stored, or nothing changes.
 pub record Keeps (old : Registered) (image : List ℕ) (fault : VerifyFault) (new : Registered) : Type 0 where
   pub unjudged : verdict_on old.recent.verdicts image ≡ None
   pub programs : new.programs ≡ old.programs
   pub recent : (new.recent ≡ with_verdict old.recent image fault) ⊎ (new.recent ≡ old.recent)
 
--- Neither a number nor a verdict was kept of the image.
+-- The image has neither a number nor a stored verdict.
 pub record IsUnheard (old : Registered) (image : List ℕ) : Type 0 where
   pub is_new : IsNew old.programs image
   pub unjudged : verdict_on old.recent.verdicts image ≡ None
 
--- There is an accepted program of these bytes.
+-- The bytes are the image of an accepted program.
 pub record IsAccepted (image : List ℕ) : Type 0 where
   pub program : Accepted
   pub is : IsProgramOf image program
 
--- Why an image gets no number, and what is left of the registry.
+-- The image gets no number, for this reason; the registry's state after that.
 abbrev pub Refuses : Registered → List ℕ → RegFault → Registered → Type 0
 Refuses old image NoMemory new = IsUnheard old image × (IsSized image × (new ≡ old))
 Refuses old image (Decode fault) new = IsUnheard old image × (IsUndecoded image fault × (new ≡ old))

@@ -6,28 +6,28 @@ use Rattle.lru.specs.LruCache.{promoted}
 use Rattle.bpf_verify.specs.declared.fault.VerifyFault.{VerifyFault}
 use Rattle.prog_registry.specs.Judged.{IsJudged}
 
--- an image, and what was wrong with it
+-- an image, and its fault
 abbrev pub Verdict : Type 0
 Verdict = List ℕ × VerifyFault
 
--- the verdicts that are kept, the one asked for last first, and how many answers were given from them
+-- the stored verdicts, most recently used first, and the number of answers from them
 pub record Recent : Type 0 where
   pub verdicts : List Verdict
   pub recalls : ℕ
 
--- the verdict that is kept on an image
+-- the stored verdict on an image
 abbrev pub verdict_on : List Verdict → List ℕ → Option VerifyFault
 verdict_on verdicts image = lookup (bytes_eq image) verdicts
 
--- Each is a verdict of the verifier on that very image.
+-- Each is the verifier's verdict on that image.
 abbrev pub AreVerdicts : List Verdict → Type 0
 AreVerdicts verdicts = (v : Verdict) → Contains verdicts v → IsJudged v.0 v.1
 
--- a new verdict goes first; of 64 the last one goes
+-- a new verdict goes first; the last of 64 is removed
 abbrev pub with_verdict : Recent → List ℕ → VerifyFault → Recent
 with_verdict old image fault = record { verdicts = (image, fault) ∷ take 63 old.verdicts; recalls = old.recalls }
 
--- The verdict was kept. It goes first, and the answer is counted, up to the greatest number of 64 bits.
+-- The verdict was stored. It goes first, and the answer is counted, up to the greatest number of 64 bits.
 pub record Recalls (old : Recent) (image : List ℕ) (fault : VerifyFault) (new : Recent) : Type 0 where
   pub was : verdict_on old.verdicts image ≡ Some fault
   pub first : new.verdicts ≡ promoted (bytes_eq image) old.verdicts

@@ -1,20 +1,20 @@
-//! Why an image gets no number.
+//! The reasons for which an image gets no number.
 
 use bpf_insn::DecodeFault;
 use bpf_verify::VerifyFault;
 use std::error::Error;
 use std::fmt;
 
-/// Why an image gets no number. It prints as its name, and what it has in brackets.
+/// The reason for which an image gets no number. It prints as its name, with the details in brackets.
 #[derive(Clone, Copy, Debug, PartialEq, Eq)]
 pub enum RegFault {
-    /// Memory ran out, at whatever step.
+    /// Memory ran out, at any step.
     NoMemory,
-    /// The image is no program.
+    /// The image is not a program.
     Decode(DecodeFault),
     /// The program is not accepted.
     Verify(VerifyFault),
-    /// The program is accepted and new, and there are 4,096 already.
+    /// The program is accepted and new, but the registry already has 4,096.
     Full,
 }
 

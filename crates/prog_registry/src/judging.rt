@@ -24,8 +24,7 @@ fn decoded<A: Allocator>(alloc: A, image: &[u8]) -> Result<Code<A>, RegFault>
 /// The accepted program of an image.
 ///
 /// # Errors
-/// `Decode` with the decoder's fault, `Verify` with the verifier's, and `NoMemory` where either ran out
-/// of memory.
+/// `Decode` with the decoder's fault, `Verify` with the verifier's, and `NoMemory` if either ran out of memory.
 pub fn judge<A: Allocator + Copy>(alloc: A, image: &[u8]) -> Result<Verified<A>, RegFault>
     ensures ok { IfOk result (IsProgramOf image.now) }
     ensures err { IfErr result (Condemns image.now) }

@@ -1,8 +1,8 @@
 //! Accepted programs by number, and the verdicts on images that were refused.
 //!
-//! `Registry::submit` takes an image, decodes and verifies it once, and gives its number. An image that
-//! is there has its number again, found by its bytes. Of the images that the verifier refused, the last
-//! 64 are kept with what was wrong with them, so that they are not verified again.
+//! `Registry::submit` takes an image, decodes and verifies it once, and returns its number. A known image, found by
+//! its bytes, gets its number again. The last 64 images that the verifier refused are stored with their faults, so
+//! that they are not verified again.
 #![tactic(auto)]
 
 mod fault;

@@ -13,14 +13,13 @@ use std::hash::{BuildHasherDefault, FoldHasher};
 use std::marker::Model;
 use std::sync::Arc;
 
-/// The most programs of a registry.
+/// The maximum number of programs of a registry.
 pub const PROGRAM_LIMIT: usize = 4096;
 
 /// The numbers of images.
 type Numbers<A> = HashMap<Vec<u8, A>, u32, BuildHasherDefault<FoldHasher>, A>;
 
-/// Accepted programs in the order in which they came, no two of one image. A program's number is its
-/// place.
+/// Accepted programs with distinct images, in the order of their arrival. A program's number is its place.
 #[derive(Drop)]
 pub struct Programs<A: Allocator> {
     list: Vec<Arc<Verified<A>, A>, A>,
@@ -40,7 +39,7 @@ impl<A: Allocator> Model for Programs<A> {
 }
 
 impl<A: Allocator> Programs<A> {
-    /// No programs. It takes no memory.
+    /// Creates an empty list. Allocates no memory.
     pub fn new(alloc: A) -> Programs<A>
     where
         A: Copy,
@@ -60,7 +59,7 @@ impl<A: Allocator> Programs<A> {
         *self.list.allocator()
     }
 
-    /// The number of an image that is there, in constant time on average.
+    /// The number of a known image, in constant time on average. `None` if the image is new.
     pub fn find(&self, image: &[u8]) -> Option<u32>
         ensures some { IfSome result (StandsAt self.now image.now) }
         ensures none { IfNone result (IsNew self.now image.now) }
@@ -69,7 +68,7 @@ impl<A: Allocator> Programs<A> {
         self.numbers.get(image).copied()
     }
 
-    /// The program of a number.
+    /// The program with a number.
     pub fn get(&self, number: u32) -> Option<&Arc<Verified<A>, A>>
         ensures value { option_map (λ p. arc_value p.now) result ≡ slice_get self.now number }
         ensures programs { ArePrograms self.now }
@@ -77,7 +76,7 @@ impl<A: Allocator> Programs<A> {
         self.list.get(number as usize)
     }
 
-    /// Whether there are as many as there may be.
+    /// Returns true if the maximum number of programs is reached.
     pub fn is_full(&self) -> bool
         ensures value { IsTrue result ↔ (length self.now ≡ program_limit) }
         ensures programs { ArePrograms self.now }
@@ -85,8 +84,7 @@ impl<A: Allocator> Programs<A> {
         self.list.len() == PROGRAM_LIMIT
     }
 
-    /// Adds the program of a new image after the others, where there is room. All growths come first, so
-    /// without memory nothing changes.
+    /// Adds the program of a new image as the last one. All allocations come first, so nothing changes if one fails.
     pub fn add(&mut self, image: &[u8], program: Verified<A>) -> Result<u32, AllocError>
     where
         A: Copy,
@@ -109,7 +107,7 @@ impl<A: Allocator> Programs<A> {
     }
 }
 
-// An image that is copied, and its program to be shared.
+// Copies the image, and makes the program shareable.
 fn keyed<A: Allocator + Copy>(
     alloc: A,
     image: &[u8],

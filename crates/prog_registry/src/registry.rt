@@ -28,8 +28,8 @@ use std::sync::Arc;
 #[derive(Clone, Copy, Debug, PartialEq, Eq)]
 pub struct ProgId(pub u32);
 
-/// Accepted programs by number, and the verdicts on the images that were refused last. Clauses see both as
-/// lists, and how many answers were given from the verdicts.
+/// Accepted programs by number, and the most recent verdicts on refused images. Clauses see both as lists, and the
+/// number of answers from stored verdicts.
 #[derive(Drop)]
 pub struct Registry<A: Allocator = Global> {
     programs: Programs<A>,
@@ -45,10 +45,10 @@ impl<A: Allocator> Model for Registry<A> {
 }
 
 impl<A: Allocator + Copy> Registry<A> {
-    /// No programs and no verdicts. It takes the memory for where verdicts stand.
+    /// Creates a registry without programs and verdicts. Allocates the table of verdicts.
     ///
     /// # Errors
-    /// `AllocError` where there is no memory for it.
+    /// `AllocError` if allocation fails.
     pub fn new(alloc: A) -> Result<Registry<A>, AllocError>
         ensures { IfOk result (λ r. r ≡ record { programs = []; recent = record { verdicts = []; recalls = 0 } }) }
     {
@@ -61,8 +61,7 @@ impl<A: Allocator + Copy> Registry<A> {
 }
 
 impl<A: Allocator> Registry<A> {
-    /// The program of a number, which it keeps for ever, or none where the number was not given. No memory
-    /// is taken.
+    /// The program with a number; it never changes. `None` if the number was not given. Allocates no memory.
     pub fn get(&self, id: ProgId) -> Option<&Arc<Verified<A>, A>>
         ensures value { option_map (λ p. arc_value p.now) result ≡ slice_get self.now.programs id.0 }
         ensures programs { ArePrograms self.now.programs }
@@ -70,7 +69,7 @@ impl<A: Allocator> Registry<A> {
         self.programs.get(id.0)
     }
 
-    /// How many verdicts are kept. No memory is taken.
+    /// The number of stored verdicts. Allocates no memory.
     pub fn recent(&self) -> usize
         ensures value { result ≡ length self.now.recent.verdicts }
         ensures few { result ≤ 64 }
@@ -79,8 +78,7 @@ impl<A: Allocator> Registry<A> {
         self.verdicts.len()
     }
 
-    /// How many answers were given from the kept verdicts. It stays at the greatest number. No memory is
-    /// taken.
+    /// The number of answers from stored verdicts. It stays at the greatest number. Allocates no memory.
     pub fn recalls(&self) -> u64
         ensures { result ≡ self.now.recent.recalls }
     {
@@ -89,8 +87,8 @@ impl<A: Allocator> Registry<A> {
 }
 
 impl<A: Allocator + Copy> Registry<A> {
-    // The accepted program of an image of which neither a number nor a verdict is kept. The verdict on one
-    // that is refused is kept, if there is memory for it.
+    // Decodes and verifies an image that has neither a number nor a stored verdict. If the verifier refuses it, the
+    // verdict is stored if there is memory for it.
     fn judge_new(&mut self, image: &[u8]) -> Result<Verified<A>, RegFault>
         requires { IsUnheard self.old image.now }
         ensures same { OnOk result (self.new ≡ self.old) }
@@ -108,7 +106,7 @@ impl<A: Allocator + Copy> Registry<A> {
         }
     }
 
-    // The next number, for the accepted program of an image of which neither a number nor a verdict is kept.
+    // Gives the next number to the accepted program of an image that has neither a number nor a stored verdict.
     #[tactic(auto, using(crate::proofs::Codes::program_sized))]
     fn enlist(&mut self, image: &[u8], program: Verified<A>) -> Result<ProgId, RegFault>
         requires unheard { IsUnheard self.old image.now }
@@ -125,7 +123,7 @@ impl<A: Allocator + Copy> Registry<A> {
         Ok(ProgId(id))
     }
 
-    // What `submit` does.
+    // The body of `submit`.
     fn number(&mut self, image: &[u8]) -> Result<ProgId, RegFault>
         ensures ok { IfOk result (λ id. Gives self.old image.now id.0 self.new) }
         ensures err { IfErr result (λ fault. Refuses self.old image.now fault self.new) }
@@ -141,35 +139,35 @@ impl<A: Allocator + Copy> Registry<A> {
         self.enlist(image, program)
     }
 
-    /// The number of an image's program, which is added where it is new.
+    /// Returns the number of an image's program, and adds the program if it is new.
     ///
-    /// An image that is there has its number again, in constant time on average, and nothing changes. A new
-    /// one is decoded and verified, unless the verdict on it is kept, and gets the next number, from 0.
+    /// A known image gets its number again, in constant time on average, and nothing changes. A new image is decoded
+    /// and verified, unless a verdict on it is stored, and gets the next number, from 0.
     ///
     /// # Errors
-    /// - `Decode` where the image is no program.
-    /// - `Verify` where the program is not accepted. The programs stay as they are. The verdict is kept as the
-    ///   one asked for last; where it was kept already, it is the answer, and is counted.
-    /// - `Full` where the program is accepted and new, and there are 4,096.
-    /// - `NoMemory` where memory ran out. It is never kept.
+    /// - `Decode` if the image is not a program.
+    /// - `Verify` if the program is not accepted. The programs are unchanged. The verdict is stored as the most
+    ///   recently used one. If it was stored before, it is the answer, and is counted.
+    /// - `Full` if the program is accepted and new, and there are 4,096 already.
+    /// - `NoMemory` if memory ran out. It is never stored.
     ///
-    /// After a fault other than `Verify` nothing has changed. Where there is no memory to keep a verdict, it
-    /// is answered and not kept.
+    /// After a fault other than `Verify` nothing has changed. If there is no memory to store a verdict, it is
+    /// returned and not stored.
     pub fn submit(&mut self, image: &[u8]) -> Result<ProgId, RegFault>
-        // What comes of it.
+        // The result.
         ensures ok { IfOk result (λ id. Gives self.old image.now id.0 self.new) }
         ensures err { IfErr result (λ fault. Refuses self.old image.now fault self.new) }
 
-        // An image that is there has its number, and a number keeps its program.
+        // A known image gets its number again, and a number keeps its program.
         ensures known { (id : ℕ) → StandsAt self.old.programs image.now id → IsOkAnd result (λ r. r.0 ≡ id) × (self.new ≡ self.old) }
         ensures stands { IfOk result (λ id. StandsAt self.new.programs image.now id.0) }
         ensures keeps { (id : ℕ) (p : Accepted) → slice_get self.old.programs id ≡ Some p → slice_get self.new.programs id ≡ Some p }
 
-        // A verdict that is kept is the answer.
+        // A stored verdict is the answer.
         ensures recalled { (fault : Fault) → IsNew self.old.programs image.now → verdict_on self.old.recent.verdicts image.now ≡ Some fault →
             IsErrOf result (RegFault.Verify fault) × RecallsIn self.old image.now fault self.new }
 
-        // When faults come.
+        // The conditions of faults.
         ensures length { IsErrOf result (RegFault.Decode Length) ↔ (length image.now % 8 ≢ 0) }
         ensures too_long { IsErrOf result (RegFault.Decode TooLong) ↔ (IsWhole image.now × (unit_limit < length image.now / 8)) }
         ensures structure { (code : List Insn) (fault : Fault) → IsImage code image.now → IsMisbuilt code fault →

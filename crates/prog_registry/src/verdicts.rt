@@ -1,4 +1,4 @@
-//! The verdicts on images that were refused last.
+//! The most recent verdicts on refused images.
 
 ghost use Rattle.std.specs.Prelude.{◌≡◌, ◌≤◌, [], None, IfSome, IfNone, IfOk, OnOk, OnErr, length};
 ghost use Rattle.prog_registry.specs.Judged.{IsJudged};
@@ -10,11 +10,10 @@ use std::alloc::{AllocError, Allocator};
 use std::marker::Model;
 use std::num::NonZeroUsize;
 
-/// The most verdicts that are kept.
+/// The maximum number of stored verdicts.
 pub const VERDICT_LIMIT: usize = 64;
 
-/// What the verifier found wrong with images, the one asked for last first, and how many answers were
-/// given from it.
+/// The verifier's faults by image, most recently used first, and the number of answers from here.
 #[derive(Drop)]
 pub struct Verdicts<A: Allocator> {
     cache: LruCache<Vec<u8, A>, VerifyFault, DefaultHasher, A>,
@@ -33,10 +32,10 @@ impl<A: Allocator> Model for Verdicts<A> {
 }
 
 impl<A: Allocator> Verdicts<A> {
-    /// No verdicts, with memory for where 64 stand.
+    /// Creates an empty table with room for 64 verdicts.
     ///
     /// # Errors
-    /// `AllocError` where there is no memory for it.
+    /// `AllocError` if allocation fails.
     pub fn new(alloc: A) -> Result<Verdicts<A>, AllocError>
     where
         A: Copy,
@@ -47,7 +46,7 @@ impl<A: Allocator> Verdicts<A> {
         Ok(Verdicts { cache, recalls: 0 })
     }
 
-    /// How many verdicts are kept.
+    /// The number of stored verdicts.
     pub fn len(&self) -> usize
         ensures value { result ≡ length self.now.verdicts }
         ensures few { result ≤ 64 }
@@ -56,14 +55,14 @@ impl<A: Allocator> Verdicts<A> {
         self.cache.len()
     }
 
-    /// How many answers were given from here. It stays at the greatest number.
+    /// The number of answers from here. It stays at the greatest number.
     pub fn recalls(&self) -> u64
         ensures { result ≡ self.now.recalls }
     {
         self.recalls
     }
 
-    /// The verdict on an image, where it is kept. It is then the one asked for last, and is counted.
+    /// The stored verdict on an image, if there is one. It becomes the most recently used one, and is counted.
     pub fn recall(&mut self, image: &[u8]) -> Option<VerifyFault>
         ensures some { IfSome result (λ fault. Recalls self.old image.now fault self.new) }
         ensures judged { IfSome result (IsJudged image.now) }
@@ -76,11 +75,10 @@ impl<A: Allocator> Verdicts<A> {
         Some(fault)
     }
 
-    /// Keeps the verdict on an image that has none here, in the place of the one asked for least lately
-    /// where there are 64.
+    /// Stores the verdict on an image without one. If there are 64, it replaces the least recently used one.
     ///
     /// # Errors
-    /// `AllocError` where there is no memory for it. Nothing changes then.
+    /// `AllocError` if allocation fails; nothing has changed then.
     pub fn keep(&mut self, alloc: A, image: &[u8], fault: VerifyFault) -> Result<(), AllocError>
     where
         A: Copy,

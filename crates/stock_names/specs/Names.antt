@@ -34,7 +34,7 @@ name_of stocks.RateLimit = codes "rate_limit"
 name_of stocks.Semaphore = codes "semaphore"
 name_of stocks.TokenBucket = codes "token_bucket"
 
--- The code of a program, whose meaning is proved.
+-- The code of a program. Its meaning is proved.
 abbrev pub code_of : Stock → List Insn
 code_of stocks.Counter = counter
 code_of stocks.BoundedAdd = bounded_add
@@ -55,7 +55,7 @@ abbrev of_name : Option Stock → ProgramWord
 of_name (Some s) = words.Stock s
 of_name None = words.Unknown
 
--- What a word names: a stock program by its name after an @, or a file.
+-- A word that begins with @ names a stock program, or is unknown; any other word names a file.
 abbrev pub word_named : List ℕ → ProgramWord
 word_named [] = words.File
 word_named (c ∷ name) = cond (nat_eq c 64) (of_name (stock_named name)) words.File

@@ -39,7 +39,7 @@ pub enum Stock {
     TokenBucket,
 }
 
-/// All stock programs, in the order in which they are listed.
+/// All stock programs, in listing order.
 pub const ALL: [Stock; 10] = [
     Stock::Counter,
     Stock::BoundedAdd,
@@ -62,7 +62,7 @@ pub const NAMES: &str =
 pub enum ProgramWord {
     /// A file: the word does not begin with `@`.
     File,
-    /// A stock program: its name stands after the `@`.
+    /// A stock program: the word is its name after an `@`.
     Stock(Stock),
     /// No stock program has the name after the `@`.
     Unknown,
@@ -104,7 +104,7 @@ impl Stock {
         }
     }
 
-    /// The program with a name. Returns `None` if there is none.
+    /// The program with a name. `None` if no program has this name.
     #[tactic(auto, unfolding(crate::specs::Names::stock_named))]
     pub fn named(name: &[u8]) -> Option<Stock>
         ensures { result ≡ stock_named name.now }
@@ -145,7 +145,7 @@ impl Stock {
         encode(alloc, &self.code(alloc)?)
     }
 
-    /// Makes a text of the program, one instruction a line, which the assembler takes back to the same code.
+    /// Makes a text of the program, one instruction a line. The assembler turns it back into the same code.
     ///
     /// # Errors
     /// `AllocError` if an allocation fails.
@@ -155,7 +155,7 @@ impl Stock {
         disassemble(alloc, &self.code(alloc)?)
     }
 
-    /// Makes what a file of the program has: its image, or its text.
+    /// Makes the contents of a file of the program: its image, or its text.
     ///
     /// # Errors
     /// `AllocError` if an allocation fails.

@@ -56,7 +56,7 @@ module _ (bytes argument : List ℕ) (env : Env) (i : IsInput bytes argument env
         bound_fits = fits 8 argument i.are_argument;
       }
 
-  -- the number is above the bound already
+  -- the number is already above the bound
   above : bound argument < number_at 0 bytes → Finds bytes argument env
   above is =
       let f = facts in

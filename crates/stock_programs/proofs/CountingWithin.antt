@@ -73,7 +73,7 @@ module _ (bytes argument : List ℕ) (env : Env) (i : IsInput bytes argument env
     ceiling_fits = fits 16 argument i.are_argument;
   }
 
-  -- ---- the pieces of the ways
+  -- ---- the pieces of the paths
 
   module _ (stack : List ℕ) (word : ℕ) where
     abbrev at : ℕ → ℕ → Config
@@ -167,16 +167,16 @@ module _ (bytes argument : List ℕ) (env : Env) (i : IsInput bytes argument env
         let test_2 : nat_lt (ceiling argument) sum ≡ false = le-ltb _ _ below in
         simp (facts.in_record, small sum fit, small (floor argument) n.floor_fits, small (ceiling argument) n.ceiling_fits, test, test_2)
 
-  -- ---- all ways
+  -- ---- all paths
 
-  -- two numbers that are the sum are the same
+  -- the sum is unique
   one_sum : (a b : ℕ) → SumIs old (amount argument) a → SumIs old (amount argument) b → a ≡ b
   one_sum a b (inl x) (inl y) = sym x.1 ∙ y.1
   one_sum a b (inl x) (inr y) = let less : amount argument < 2 ^ 63 = x.0 in let more : 2 ^ 63 ≤ amount argument = y.0 in absurd (omega arith)
   one_sum a b (inr x) (inl y) = let less : amount argument < 2 ^ 63 = y.0 in let more : 2 ^ 63 ≤ amount argument = x.0 in absurd (omega arith)
   one_sum a b (inr x) (inr y) = let p : old ≡ a + (2 ^ 64 - amount argument) = x.1 in let q : old ≡ b + (2 ^ 64 - amount argument) = y.1 in omega arith
 
-  -- the sum is a number of 64 bits; a way of m steps leads to its test
+  -- the sum is a number of 64 bits; a path of m steps leads to its test
   tests : (m sum : ℕ) → sum < 2 ^ 64 → SumIs old (amount argument) sum
       → ((stack : List ℕ) (word : ℕ) → walk m bounded_counter (at stack word 9 (amount argument)) ≡ Some (at stack word 15 sum)) → Finds bytes argument env
   tests m sum fit is way = elim (cases_lt sum (floor argument)) [
@@ -217,7 +217,7 @@ module _ (bytes argument : List ℕ) (env : Env) (i : IsInput bytes argument env
     ]
   ]
 
-  -- there is no number of 64 bits that is the sum
+  -- no number of 64 bits is the sum
   leaves : (r8 : ℕ) → ((s : ℕ) → IsWithin bytes argument s → ⊥)
       → ((stack : List ℕ) (word : ℕ) → walk 3 bounded_counter (at stack word 9 (amount argument)) ≡ Some (at stack word 22 r8)) → Finds bytes argument env
   leaves r8 none way = record {
@@ -228,7 +228,7 @@ module _ (bytes argument : List ℕ) (env : Env) (i : IsInput bytes argument env
     says = inr (inl (record { long = long; outside = none; code_is = refl; word_is = refl; bytes_are = refl }));
   }
 
-  -- a sum that is past 2 ^ 64 - 1, or below 0, is in no bounds
+  -- a sum above 2 ^ 64 - 1 or below 0 is not within the bounds
   past : amount argument < 2 ^ 63 → 2 ^ 64 ≤ old + amount argument → (s : ℕ) → IsWithin bytes argument s → ⊥
   past up over s within = elim within.is [
     | inl x ↦ let sum : old + amount argument ≡ s = x.1 in let down : s ≤ ceiling argument = within.high in let k : Known = known in omega (arith, k.ceiling_fits)

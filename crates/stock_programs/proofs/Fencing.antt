@@ -116,7 +116,7 @@ module _ (bytes argument : List ℕ) (env : Env) (i : IsInput bytes argument env
         says = inr (inr (inr (inl (record { long = long; held = held; other = other; code_is = refl; word_is = refl; bytes_are = refl }))));
       }
 
-  -- ---- the pieces of the other ways
+  -- ---- the pieces of the other paths
 
   module _ (stack : List ℕ) (word : ℕ) where
     abbrev at : ℕ → Value → List ℕ → Config
@@ -251,9 +251,9 @@ module _ (bytes argument : List ℕ) (env : Env) (i : IsInput bytes argument env
           is_own,
         )
 
-  -- ---- all ways
+  -- ---- all paths
 
-  -- A grant, by a way of a and then b steps to `grant`.
+  -- A grant, by a path of a and then b steps to `grant`.
   record Grant (a b new : ℕ) (now_bytes : List ℕ) : Type 0 where
     in_it : nat_le 16 (length now_bytes) ≡ true
     leads : (stack : List ℕ) (word : ℕ) (n : ℕ) (o : Outcome) → forward n (b + (a + 0)) fenced_lease (at_grant stack word new now_bytes) ≡ Some o

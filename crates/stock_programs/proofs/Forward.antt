@@ -1,4 +1,4 @@
--- A run as a function that goes forward. The outcome that it gives is the one with which the run ends.
+-- A run as a function from its first instruction to its outcome. The run ends with this outcome.
 use Rattle.std.proofs.Common.{ℕ, zero, suc, ◌≡◌, ◌+◌, refl, sym, ap, ◌∙◌, subst, List, replicate, Option, Some, None, arith}
 use Rattle.std.specs.Option.{option_and_then, option_map}
 use Rattle.std.proofs.lemmas.Option.{same_Some}
@@ -100,8 +100,8 @@ abbrev pub later : ℕ → ℕ → ℕ
 later zero k = k
 later (suc n) k = later n (suc k)
 
--- The configuration after n steps. A proof about many instructions is cut into pieces, each with the configuration at its end written out: a
--- configuration that was only computed grows with each step.
+-- The configuration after n steps. A proof about many instructions is cut into pieces, and each piece writes out the configuration at its
+-- end: a configuration that was only computed grows with each step.
 abbrev pub walk : ℕ → List Insn → Config → Option Config
 walk zero code c = Some c
 walk (suc n) code c = option_and_then (walk n code) (step code c)

@@ -60,7 +60,7 @@ module _ (bytes argument : List ℕ) (env : Env) (i : IsInput bytes argument env
   inside : nat_le 16 (length (splice bytes 0 (little_bytes 8 env.now))) ≡ true
   inside = let l : 16 ≤ length bytes = long.of_record in still_inside bytes 0 env.now 16 (omega arith) l
 
-  -- ---- where the ways meet: the record has a window that lasts
+  -- ---- the common point of the paths: the record has a window that is not over
 
   module _ (stack : List ℕ) (word : ℕ) where
     abbrev at_count : List ℕ → ℕ → Config
@@ -95,7 +95,7 @@ module _ (bytes argument : List ℕ) (env : Env) (i : IsInput bytes argument env
         let o : (window argument + (2 ^ 64 - ago)) % 2 ^ 64 ≡ window argument - ago = omega arith in
         simp (in_it, reads 8 now_bytes, is, small (most argument) s, small count c, small (window argument) r, small ago a, g, o)
 
-  -- ---- the ways to it
+  -- ---- the paths to it
 
   in_window : Lasts bytes argument env.now → (stack : List ℕ) (word : ℕ) → walk 11 rate_limit (begin stack word bytes argument env) ≡ Some (at_count stack word bytes (env.now - began bytes))
   in_window lasts stack word =
@@ -134,7 +134,7 @@ module _ (bytes argument : List ℕ) (env : Env) (i : IsInput bytes argument env
       let j : nat_lt (env.now - began bytes) (window argument) ≡ false = le-ltb _ _ is in
       simp (t.record_passes, t.argument_passes, t.in_record, t.in_argument, t.whole_argument, u, reads 0 bytes, reads 0 argument, reads 8 argument, small env.now n, small (began bytes) p, small (window argument) r, small (env.now - began bytes) q, g, h, j)
 
-  -- ---- all ways
+  -- ---- all paths
 
   abbrev fresh : List ℕ
   fresh = with_number (with_number bytes 0 env.now) 8 0
@@ -171,7 +171,7 @@ module _ (bytes argument : List ℕ) (env : Env) (i : IsInput bytes argument env
     }
   ]
 
-  -- a new window, to which a way of m steps leads
+  -- a new window after a path of m steps
   begins : (m : ℕ) → IsOver bytes argument env.now → ((stack : List ℕ) (word : ℕ) → walk m rate_limit (begin stack word bytes argument env) ≡ Some (at_count stack word fresh 0)) → Finds bytes argument env
   begins m over way = elim (cases_lt 0 (most argument)) [
     | inl below ↦ record {

@@ -68,7 +68,7 @@ module _ (bytes argument : List ℕ) (env : Env) (i : IsInput bytes argument env
     capacity_fits = fits 8 argument i.are_argument;
   }
 
-  -- ---- where the ways meet: the time at which the bucket is full is known
+  -- ---- the common point of the paths: the time at which the bucket is full is known
 
   -- the tests and numbers of a cost that is not above the capacity
   record Gap (start : ℕ) : Type 0 where
@@ -191,7 +191,7 @@ module _ (bytes argument : List ℕ) (env : Env) (i : IsInput bytes argument env
           test_2,
         )
 
-  -- a way of m steps to it
+  -- a path of m steps to it
   record Way (m start : ℕ) : Type 0 where
     leads : (stack : List ℕ) (word : ℕ) → walk m token_bucket (begin stack word bytes argument env) ≡ Some (at_take stack word start)
     is : start ≡ start_at bytes env.now
@@ -240,7 +240,7 @@ module _ (bytes argument : List ℕ) (env : Env) (i : IsInput bytes argument env
         is = omega arith;
       }
 
-  -- ---- all ways
+  -- ---- all paths
 
   taken : (m start : ℕ) → Way m start → start < 2 ^ 64 → env.now ≤ start → Finds bytes argument env
   taken m start way fit late =

@@ -50,7 +50,7 @@ pub record IsAdded (bytes argument : List ℕ) (o : Outcome) : Type 0 where
   pub word_is : o.word ≡ 0
   pub bytes_are : o.bytes ≡ with_number bytes 0 (number_at 0 bytes + amount argument)
 
--- The sum is above the bound, and the number stays.
+-- The sum is above the bound, and the number is unchanged.
 pub record IsTooMuch (bytes argument : List ℕ) (o : Outcome) : Type 0 where
   pub long : HasLengths 8 16 bytes argument
   pub above : bound argument < number_at 0 bytes + amount argument

@@ -80,7 +80,7 @@ pub record IsMoved (bytes argument : List ℕ) (o : Outcome) : Type 0 where
   pub code_is : o.code ≡ 1
   pub bytes_are : o.bytes ≡ with_number bytes 0 o.word
 
--- The sum is below the floor or above the ceiling. The number stays, and is the reply word.
+-- The sum is below the floor or above the ceiling. The number is unchanged, and is the reply word.
 pub record IsOutside (bytes argument : List ℕ) (o : Outcome) : Type 0 where
   pub long : HasLengths 8 24 bytes argument
   pub outside : (sum : ℕ) → IsWithin bytes argument sum → ⊥

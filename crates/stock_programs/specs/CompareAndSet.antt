@@ -40,7 +40,7 @@ expected argument = number_at 0 argument
 abbrev pub replacement : List ℕ → ℕ
 replacement argument = number_at 8 argument
 
--- ---- the answers; the reply word is the number as it was
+-- ---- the answers; the reply word is the old number
 
 -- The number was the expected one, and is replaced.
 pub record IsSet (bytes argument : List ℕ) (o : Outcome) : Type 0 where
@@ -50,7 +50,7 @@ pub record IsSet (bytes argument : List ℕ) (o : Outcome) : Type 0 where
   pub word_is : o.word ≡ number_at 0 bytes
   pub bytes_are : o.bytes ≡ with_number bytes 0 (replacement argument)
 
--- The number is not the expected one, and stays.
+-- The number is not the expected one, and is unchanged.
 pub record IsOther (bytes argument : List ℕ) (o : Outcome) : Type 0 where
   pub long : HasLengths 8 16 bytes argument
   pub other : number_at 0 bytes ≢ expected argument

@@ -65,7 +65,7 @@ fenced_lease =
 
 -- ---- the record
 
--- The last token that was given out; 0 if none was.
+-- The last token that was given out; 0 if there was none.
 abbrev pub token : List ℕ → ℕ
 token bytes = number_at 16 bytes
 
@@ -85,7 +85,7 @@ pub record IsTaken (bytes argument : List ℕ) (now : ℕ) (o : Outcome) : Type 
   pub word_is : o.word ≡ token bytes + 1
   pub bytes_are : o.bytes ≡ with_number (with_owner bytes (asker argument) (token bytes + 1)) 8 (end_of now (term argument))
 
--- The asker has the lease already, and keeps the token. The end is new.
+-- The asker already has the lease, and keeps the token. The end is new.
 pub record IsRenewed (bytes argument : List ℕ) (now : ℕ) (o : Outcome) : Type 0 where
   pub long : HasLengths 24 16 bytes argument
   pub held : now < until bytes

@@ -65,7 +65,7 @@ with_lease bytes who end = with_number (with_number bytes 0 who) 8 end
 abbrev pub asker : List ℕ → ℕ
 asker argument = number_at 0 argument
 
--- How long the asker wants the lease. A term of 0 gives it back.
+-- The time for which the asker wants the lease. A term of 0 gives it back.
 abbrev pub term : List ℕ → ℕ
 term argument = number_at 8 argument
 

@@ -1,4 +1,4 @@
--- What it means that a program obeys a relation.
+-- The definition of a program that obeys a relation.
 use Rattle.std.specs.Prelude.{ℕ, List}
 use Rattle.bpf_insn.specs.declared.insn.Insn.{Insn}
 use Rattle.bpf_helpers.specs.declared.values.Env.{Env}

@@ -1,4 +1,4 @@
--- Numbers of 8 bytes, the lowest byte first, in a list of bytes.
+-- Numbers of 8 bytes, little-endian, in a list of bytes.
 use Rattle.std.specs.Prelude.{ℕ, List, drop}
 use Rattle.byteorder.specs.Endian.{little_bytes, little_number}
 use Rattle.bpf_helpers.specs.Machine.{splice}

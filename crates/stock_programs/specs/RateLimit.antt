@@ -53,14 +53,14 @@ rate_limit =
 
 -- ---- the record and the argument
 
--- When the window began, and how many runs it has admitted.
+-- The time at which the window began, and the number of runs that it has admitted.
 abbrev pub began : List ℕ → ℕ
 began bytes = number_at 0 bytes
 
 abbrev pub admitted : List ℕ → ℕ
 admitted bytes = number_at 8 bytes
 
--- How long a window lasts, and how many runs it admits.
+-- The length of a window in time, and the number of runs that it admits.
 abbrev pub window : List ℕ → ℕ
 window argument = number_at 0 argument
 
@@ -78,7 +78,7 @@ pub record Lasts (bytes argument : List ℕ) (now : ℕ) : Type 0 where
 abbrev pub IsOver : List ℕ → List ℕ → ℕ → Type 0
 IsOver bytes argument now = (now < began bytes) ⊎ (window argument ≤ now - began bytes)
 
--- One run more in a window that lasts. The reply word is how many more the window admits.
+-- One more run in a window that is not over. The reply word is the number of further runs that the window admits.
 pub record IsAdmitted (bytes argument : List ℕ) (now : ℕ) (o : Outcome) : Type 0 where
   pub long : HasLengths 16 16 bytes argument
   pub lasts : Lasts bytes argument now
@@ -96,7 +96,7 @@ pub record IsFirst (bytes argument : List ℕ) (now : ℕ) (o : Outcome) : Type 
   pub word_is : o.word ≡ most argument - 1
   pub bytes_are : o.bytes ≡ with_number (with_number bytes 0 now) 8 1
 
--- The window has admitted as many as it may. The reply word is how long it lasts.
+-- The window has admitted its maximum number of runs. The reply word is the time until it is over.
 pub record IsFull (bytes argument : List ℕ) (now : ℕ) (o : Outcome) : Type 0 where
   pub long : HasLengths 16 16 bytes argument
   pub lasts : Lasts bytes argument now
@@ -104,7 +104,7 @@ pub record IsFull (bytes argument : List ℕ) (now : ℕ) (o : Outcome) : Type 0
   pub code_is : o.code ≡ 0
   pub word_is : o.word ≡ window argument - (now - began bytes)
 
--- No window lasts, and a new one would admit none.
+-- The window is over, and a new one would admit no run.
 pub record AdmitsNone (bytes argument : List ℕ) (now : ℕ) (o : Outcome) : Type 0 where
   pub long : HasLengths 16 16 bytes argument
   pub over : IsOver bytes argument now

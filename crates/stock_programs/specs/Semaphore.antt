@@ -49,7 +49,7 @@ semaphore =
 abbrev pub holders : List ℕ → ℕ
 holders bytes = number_at 0 bytes
 
--- Whether a permit is wanted: 0 gives one back.
+-- Not 0 if a permit is wanted; 0 gives one back.
 abbrev pub wanted : List ℕ → ℕ
 wanted argument = number_at 0 argument
 

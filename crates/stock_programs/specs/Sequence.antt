@@ -51,7 +51,7 @@ pub record IsNewer (bytes argument : List ℕ) (o : Outcome) : Type 0 where
   pub word_is : o.word ≡ number_at 0 argument
   pub bytes_are : o.bytes ≡ take message_size argument ++ drop message_size bytes
 
--- It is as old as the message in the record, or older.
+-- Its number is at most that of the message in the record.
 pub record IsOld (bytes argument : List ℕ) (o : Outcome) : Type 0 where
   pub long : HasLengths message_size message_size bytes argument
   pub old : number_at 0 argument ≤ number_at 0 bytes

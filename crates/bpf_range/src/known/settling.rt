@@ -1,4 +1,4 @@
-//! What a range tells of bits, and bits of a range.
+//! Settling: bits from a range, and a range from bits.
 
 ghost use Rattle.std.specs.Prelude.{◌≡◌, ◌≤◌, ℕ};
 ghost use Rattle.bpf_range.specs.Sets.{Contains, In, Within, HasBits, range_of};
@@ -9,8 +9,8 @@ use crate::bits::any_bits;
 use crate::filling::fill;
 use crate::values::{Bits, Range};
 
-/// The range, and its bits with those of the lower end above the highest in which the ends differ:
-/// there all numbers of the range agree.
+/// The range with its bits. The bits above the highest one in which the ends differ are those of
+/// the lower end: all numbers of the range agree in them.
 #[tactic(auto, using(crate::proofs::FillFacts::shared, crate::proofs::FillFacts::shared_apart))]
 pub fn share_high_bits(range: Range, bits: Bits) -> Known
     ensures keeps { (x : ℕ) → In range x → HasBits bits x → Contains result x }
@@ -26,9 +26,9 @@ pub fn share_high_bits(range: Range, bits: Bits) -> Known
     }
 }
 
-/// The numbers of a range that have such bits. The range is cut to the least and the greatest
-/// number with such bits; where nothing would be left, it stays and no bit is known. Then the bits
-/// above the highest in which its ends differ are known to be those of its lower end.
+/// The numbers of a range that have these bits. The range is cut to the least and the greatest
+/// number with these bits. If nothing is left, the range is unchanged and no bit is known. Then the
+/// bits above the highest one in which the ends differ are those of the lower end.
 #[tactic(auto, using(crate::proofs::MatchFacts::match_least, crate::proofs::MatchFacts::match_greatest))]
 pub fn settle(range: Range, bits: Bits) -> Known
     ensures keeps { (x : ℕ) → In range x → HasBits bits x → Contains result x }

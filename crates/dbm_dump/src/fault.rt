@@ -23,7 +23,7 @@ pub enum DumpFault {
     Crowded(u64, KeyHead),
     /// The text ends before the dump does.
     CutOff,
-    /// No memory was left.
+    /// Allocation failed.
     NoMemory,
 }
 

@@ -21,7 +21,7 @@ const GDBM_HEADER: &[u8] =
 /// The dump of the pairs of a database, in a format. One in our own format or in gdbm's reads back to these pairs.
 ///
 /// # Errors
-/// `AllocError` where there is no memory for the text.
+/// `AllocError` if allocation fails.
 pub fn dump_pairs(
     alloc: Global,
     format: Format,

@@ -89,7 +89,7 @@ impl<'a> Keys<'a> {
 /// The subcommand `keys`, as `clap` is told it.
 ///
 /// # Errors
-/// `AllocError` where no memory is left.
+/// `AllocError` if allocation fails.
 pub fn keys_command<'a>(alloc: Global) -> Result<Command<'a>, AllocError>
     ensures { IfOk result (IsSubcommand spec.keys) }
 {

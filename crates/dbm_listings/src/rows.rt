@@ -50,7 +50,7 @@ pub fn keys_listing(null: bool) -> Listing
 /// A row for each pair whose key begins with a prefix.
 ///
 /// # Errors
-/// `AllocError` where no memory is left for the text.
+/// `AllocError` if allocation fails.
 pub fn show_rows<A: Allocator + Copy>(
     alloc: A,
     notation: &Notation<A>,

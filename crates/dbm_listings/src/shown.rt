@@ -21,7 +21,7 @@ pub enum Shown<'a> {
 /// Puts what a line shows of a database after a text, and tells whether its prefix is bytes; where it is not, nothing is put there.
 ///
 /// # Errors
-/// `AllocError` where no memory is left.
+/// `AllocError` if allocation fails.
 pub fn show_listing(
     alloc: Global,
     notation: &Notation<Global>,

@@ -48,7 +48,7 @@ impl<'a> Stats<'a> {
 /// The subcommand `stats`, as `clap` is told it.
 ///
 /// # Errors
-/// `AllocError` where no memory is left.
+/// `AllocError` if allocation fails.
 pub fn stats_command<'a>(alloc: Global) -> Result<Command<'a>, AllocError>
     ensures { IfOk result (IsSubcommand spec.stats) }
 {

@@ -56,7 +56,7 @@ impl<'a> Delete<'a> {
 /// The subcommand `delete`, as `clap` is told it.
 ///
 /// # Errors
-/// `AllocError` where no memory is left.
+/// `AllocError` if allocation fails.
 pub fn delete_command<'a>(alloc: Global) -> Result<Command<'a>, AllocError>
     ensures { IfOk result (IsSubcommand spec.delete) }
 {

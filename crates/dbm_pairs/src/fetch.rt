@@ -62,7 +62,7 @@ impl<'a> Fetch<'a> {
 /// The subcommand `fetch`, as `clap` is told it.
 ///
 /// # Errors
-/// `AllocError` where no memory is left.
+/// `AllocError` if allocation fails.
 pub fn fetch_command<'a>(alloc: Global) -> Result<Command<'a>, AllocError>
     ensures { IfOk result (IsSubcommand spec.fetch) }
 {
@@ -124,7 +124,7 @@ impl Subcommand for Fetch<'_> {
 /// The answer to a fetch: in a line, or of a raw one the bytes of the value alone.
 ///
 /// # Errors
-/// `AllocError` where no memory is left.
+/// `AllocError` if allocation fails.
 pub fn look_as(
     alloc: Global,
     notation: &Notation<Global>,

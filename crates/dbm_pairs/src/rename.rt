@@ -74,7 +74,7 @@ impl<'a> Rename<'a> {
 /// The subcommand `rename`, as `clap` is told it.
 ///
 /// # Errors
-/// `AllocError` where no memory is left.
+/// `AllocError` if allocation fails.
 pub fn rename_command<'a>(alloc: Global) -> Result<Command<'a>, AllocError>
     ensures { IfOk result (IsSubcommand spec.rename) }
 {

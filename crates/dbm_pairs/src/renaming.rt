@@ -13,7 +13,7 @@ use store_cmd::{Command, Reply};
 /// Gives a pair another key: the one that the command of a store has in the place of its value.
 ///
 /// # Errors
-/// `AllocError` where no memory is left.
+/// `AllocError` if allocation fails.
 pub fn rename(
     alloc: Global,
     notation: &Notation<Global>,

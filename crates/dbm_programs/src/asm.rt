@@ -44,7 +44,7 @@ impl<'a> Asm<'a> {
 /// The subcommand `asm`, as `clap` is told it.
 ///
 /// # Errors
-/// `AllocError` where no memory is left.
+/// `AllocError` if allocation fails.
 pub fn asm_command<'a>(alloc: Global) -> Result<Command<'a>, AllocError>
     ensures { IfOk result (IsSubcommand spec.asm) }
 {

@@ -46,7 +46,7 @@ impl<'a> Disasm<'a> {
 /// The subcommand `disasm`, as `clap` is told it.
 ///
 /// # Errors
-/// `AllocError` where no memory is left.
+/// `AllocError` if allocation fails.
 pub fn disasm_command<'a>(alloc: Global) -> Result<Command<'a>, AllocError>
     ensures { IfOk result (IsSubcommand spec.disasm) }
 {

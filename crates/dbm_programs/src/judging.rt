@@ -23,7 +23,7 @@ pub fn verify_file(alloc: Global, file: &[u8], is_image: bool) -> Result<Report,
 /// Whether an image is that of an accepted program.
 ///
 /// # Errors
-/// `AllocError` where no memory is left.
+/// `AllocError` if allocation fails.
 pub fn judge_image(alloc: Global, image: &[u8]) -> Result<Report, AllocError>
     ensures { IfOk result (Judges image.now) }
 {
@@ -37,7 +37,7 @@ pub fn judge_image(alloc: Global, image: &[u8]) -> Result<Report, AllocError>
 /// The line `accepted UNITS`.
 ///
 /// # Errors
-/// `AllocError` where no memory is left for the text.
+/// `AllocError` if allocation fails.
 pub fn show_accepted<A: Allocator + Copy>(alloc: A, units: usize) -> Result<Vec<u8, A>, AllocError>
     ensures { IfOk result (λ text. text.items ≡ accepted_line units) }
 {

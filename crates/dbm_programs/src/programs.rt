@@ -39,7 +39,7 @@ impl<'a> Programs<'a> {
     /// program has the name.
     ///
     /// # Errors
-    /// `AllocError` if an allocation fails.
+    /// `AllocError` if allocation fails.
     pub fn text(&self, alloc: Global) -> Result<Option<String>, AllocError> {
         let Some(name) = self.name else {
             return Ok(Some(show_all(alloc)?));
@@ -63,7 +63,7 @@ fn stock_named(name: &str) -> Option<Stock> {
 /// The subcommand `programs`, as `clap` is told it.
 ///
 /// # Errors
-/// `AllocError` if an allocation fails.
+/// `AllocError` if allocation fails.
 pub fn programs_command<'a>(alloc: Global) -> Result<Command<'a>, AllocError>
     ensures { IfOk result (IsSubcommand spec.programs) }
 {

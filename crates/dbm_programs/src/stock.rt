@@ -7,7 +7,7 @@ use stock_names::{ALL, Stock};
 /// Lists the stock programs, a line each.
 ///
 /// # Errors
-/// `AllocError` if an allocation fails.
+/// `AllocError` if allocation fails.
 pub fn show_all(alloc: Global) -> Result<String, AllocError> {
     let mut text = String::new(alloc);
     for stock in &ALL {
@@ -19,7 +19,7 @@ pub fn show_all(alloc: Global) -> Result<String, AllocError> {
 /// Describes one: what it is for, its record, its argument, how it may end, its reply word, and an example.
 ///
 /// # Errors
-/// `AllocError` if an allocation fails.
+/// `AllocError` if allocation fails.
 pub fn show_one(alloc: Global, stock: Stock) -> Result<String, AllocError> {
     let mut text = String::new(alloc);
     write_line(&mut text, stock)?;

@@ -57,7 +57,7 @@ impl<'a> Verify<'a> {
 /// The subcommand `verify`, as `clap` is told it.
 ///
 /// # Errors
-/// `AllocError` where no memory is left.
+/// `AllocError` if allocation fails.
 pub fn verify_command<'a>(alloc: Global) -> Result<Command<'a>, AllocError>
     ensures { IfOk result (IsSubcommand spec.verify) }
 {
@@ -215,7 +215,7 @@ fn behind(rows: String, last: Report) -> Result<Report, AllocError>
 /// Why the program of a file is refused, in a sentence, and nothing where it is accepted or is none.
 ///
 /// # Errors
-/// `AllocError` where no memory is left.
+/// `AllocError` if allocation fails.
 pub fn refusal_of(
     alloc: Global,
     file: &[u8],

@@ -23,7 +23,7 @@ pub struct Report {
 /// The answer to a command that changes no file.
 ///
 /// # Errors
-/// `AllocError` where no memory is left.
+/// `AllocError` if allocation fails.
 pub fn look(
     alloc: Global,
     notation: &Notation<Global>,
@@ -44,7 +44,7 @@ pub fn look(
 /// The answer to a command after which the files are written. A run may be one that is to end with a certain code.
 ///
 /// # Errors
-/// `AllocError` where no memory is left.
+/// `AllocError` if allocation fails.
 pub fn change(
     alloc: Global,
     notation: &Notation<Global>,
@@ -81,7 +81,7 @@ fn answer_line(
 /// The text of an answer, as a line.
 ///
 /// # Errors
-/// `AllocError` where no memory is left.
+/// `AllocError` if allocation fails.
 pub fn shown(
     alloc: Global,
     notation: &Notation<Global>,
@@ -154,7 +154,7 @@ pub fn printed(text: Vec<u8>) -> Report
 /// The line `ok N`.
 ///
 /// # Errors
-/// `AllocError` where no memory is left for the text.
+/// `AllocError` if allocation fails.
 pub fn show_ok<A: Allocator + Copy>(alloc: A, count: usize) -> Result<Vec<u8, A>, AllocError>
     ensures { IfOk result (λ text. text.items ≡ ok_line count) }
 {

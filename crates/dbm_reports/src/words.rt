@@ -8,7 +8,7 @@ use std::alloc::{AllocError, Global};
 /// A word as it was given; of a raw one, whose bytes are those of the word itself, the word that spells them in a notation.
 ///
 /// # Errors
-/// `AllocError` where no memory is left.
+/// `AllocError` if allocation fails.
 pub fn word_asked(
     alloc: Global,
     notation: &Notation<Global>,

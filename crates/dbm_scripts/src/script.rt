@@ -68,7 +68,7 @@ impl<'a> Script<'a> {
 /// The subcommand `script`, as `clap` is told it.
 ///
 /// # Errors
-/// `AllocError` where no memory is left.
+/// `AllocError` if allocation fails.
 pub fn script_command<'a>(alloc: Global) -> Result<Command<'a>, AllocError>
     ensures { IfOk result (IsSubcommand spec.script) }
 {

@@ -8,7 +8,7 @@ use std::alloc::{AllocError, Global};
 /// Whether a line of a script is neither empty nor asks anything.
 ///
 /// # Errors
-/// `AllocError` where no memory is left.
+/// `AllocError` if allocation fails.
 pub fn has_bad_line(
     alloc: Global,
     notation: &Notation<Global>,

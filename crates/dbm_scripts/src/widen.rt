@@ -48,7 +48,7 @@ impl<'a> Widen<'a> {
 /// The subcommand `widen`, as `clap` is told it.
 ///
 /// # Errors
-/// `AllocError` where no memory is left.
+/// `AllocError` if allocation fails.
 pub fn widen_command<'a>(alloc: Global) -> Result<Command<'a>, AllocError>
     ensures { IfOk result (IsSubcommand spec.widen) }
 {

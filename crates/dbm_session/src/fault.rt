@@ -12,7 +12,7 @@ pub enum SessionFault<F: Drop> {
     TooLong,
     /// An answer was not written.
     Write,
-    /// No memory was left.
+    /// Allocation failed.
     NoMemory,
     /// The database was not saved.
     Save(F),

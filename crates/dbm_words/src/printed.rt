@@ -11,7 +11,7 @@ pub fn is_plain(c: char) -> bool {
     c.escape_debug().next() == Some(c)
 }
 
-/// A text of lines. Plain characters print as themselves, any other as an escape such as `\u{1b}`.
+/// A text of lines. LF and plain characters print as themselves, any other as an escape such as `\u{1b}`.
 #[derive(Clone, Copy)]
 pub struct Printed<'a>(pub &'a str);
 

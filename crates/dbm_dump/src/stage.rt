@@ -210,7 +210,7 @@ fn gap_step(left: u64, line: &[u8]) -> Option<Next>
     None
 }
 
-// A line if `left` pairs are left.
+// A line while `left` pairs are left.
 fn pairs_step(alloc: Global, left: u64, line: &[u8]) -> Result<Option<Next>, AllocError>
     ensures { IfOk result (λ s. s ≡ spec.pairs_step left line.now) }
 {

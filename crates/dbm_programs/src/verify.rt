@@ -122,7 +122,7 @@ fn explain_file(alloc: Global, file: &[u8], is_image: bool) -> Result<Report, Re
     Ok(explain_image(alloc, image.as_slice(), source)?)
 }
 
-// The text of a program's file. Returns `None` if the file is not text.
+// The text of a program's file. Returns `None` if the file is an image or not text.
 fn source_of(file: &[u8], is_image: bool) -> Option<&str> {
     if is_image {
         return None;

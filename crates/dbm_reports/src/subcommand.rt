@@ -13,7 +13,7 @@ use std::io::Read;
 
 /// A subcommand with its arguments and options. `serve` is proved once for all of them.
 pub trait Subcommand {
-    /// Why it failed.
+    /// The error of the subcommand.
     type Fault: Drop;
 
     // The possible reports, from the notation, the bytes of the files and standard input.

@@ -46,7 +46,7 @@ pieces_whole byte text is =
     slice_split_none (λ b. eqb b byte) text
     (λ k d l. fails_before_first (λ b. eqb b byte) text k d (far (position_or_len (λ b. eqb b byte) text) (length text) k _ refl is l))
 
--- seven or more words are not a command
+-- seven or more words are not a request
 pub too_many_words : {A : Type 0} (n : Notation A) (a b c d e f rest : List ℕ) → None ≡ ask_of n (a ∷ b ∷ c ∷ d ∷ e ∷ f ∷ pieces_of 32 rest)
 too_many_words {A = A} n a b c d e f rest = none (pieces_of 32 rest) (let long = length-slice_split (λ x. eqb x 32) rest in omega arith)
   where

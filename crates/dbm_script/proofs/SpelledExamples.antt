@@ -40,6 +40,6 @@ cr_lf : (lines : Lines) (time : Option TimeOfDay) → spelled_line lines time (c
 cr_lf OfScript time = refl
 cr_lf OfBatch time = refl
 
--- a single CR is not a command in any notation
+-- a single CR is neither a request nor a task in any notation
 asks_nothing : {A : Type 0} (notation : Notation A) → (ask_of notation (pieces_of 32 (13 ∷ [])) ≡ None) × (task_of notation (pieces_of 32 (13 ∷ [])) ≡ None)
 asks_nothing notation = (refl, refl)

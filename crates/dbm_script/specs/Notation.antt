@@ -28,7 +28,7 @@ bytes_of (Layout kinds) text = bytes_of_text text
 
 -- ---- answers
 
--- bytes in lower-case hex, or a dot for none
+-- bytes in lower-case hex, or a dot for no bytes
 abbrev pub hex_shown : List ℕ → List ℕ
 hex_shown [] = codes "."
 hex_shown (b ∷ bs) = encode_lower (b ∷ bs)

@@ -27,8 +27,8 @@ pub enum Ask<A: Allocator> {
     Run(RunAsk<A>),
 }
 
-/// Reads the request in a line. Returns `None` if the line is not a request. One space separates two words. Reads no more words than it needs
-/// to decide. A program image is in hex in each notation.
+/// Reads the request in a line. Returns `None` if the line is not a request. One space separates two words. Reads no more words than it
+/// needs to decide. A program image is in hex in each notation.
 ///
 /// # Errors
 /// `AllocError` if allocation fails.

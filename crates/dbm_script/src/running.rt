@@ -44,7 +44,7 @@ pub fn answer_run<A: Allocator + Copy>(
     }
 }
 
-/// The command of a run. Returns `None` if its program is missing.
+/// The command of a run. Returns `None` if no program has its number.
 ///
 /// # Errors
 /// `AllocError` if the reference count of the program is at its maximum.

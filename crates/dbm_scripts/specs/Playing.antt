@@ -51,12 +51,12 @@ PlaysAs true notation before input most after report =
     (IfSome input (λ bytes. has_bad_line notation bytes ≡ false) × Plays notation before input most after report)
     ⊎ (IfSome input (λ bytes. has_bad_line notation bytes ≡ true) × IsBarred before after report)
 
--- on an empty database, which is then dropped
+-- a script on an empty database, which is then dropped
 abbrev pub PlaysAlone : Bool → Notation Global → Form → Option (List ℕ) → ℕ → Report → Type 0
 PlaysAlone strict notation form input most report =
     (after : Database) × (PlaysAs strict notation (empty_database (key_bytes_of form.unsigned) (page_size_of form.wide)) input most after report × (report.database ≡ None))
 
--- on a database, which is then written
+-- a script on a database, which is then written
 abbrev pub PlaysOn : Bool → Notation Global → Option (List ℕ) → ℕ → Report → Database → Type 0
 PlaysOn strict notation input most report before = (after : Database) × (PlaysAs strict notation before input most after report × (report.database ≡ Some after))
 

@@ -174,8 +174,8 @@ pub record Ends (n : Notation Global) (db : Database) (lines : List (List ℕ)) 
   pub written : Appends old new text
   pub kept : Logs log log' (calls ++ DidSave after ∷ [])
 
--- Only the first lines were answered. The writer has a prefix of their answers, or all of them. The log has their calls, followed by at
--- most one more save, which may have failed.
+-- Only the first lines were answered. The writer has a prefix of their answers, or all of them. The log has their calls, followed by
+-- further calls with at most one save. That save may have failed.
 pub record Stops (n : Notation Global) (db : Database) (lines : List (List ℕ)) (old new : Option (List ℕ)) (log log' : Option (List HostCall)) : Type 0 where
   pub done : List (List ℕ)
   pub behind : List (List ℕ)

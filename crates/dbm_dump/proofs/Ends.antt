@@ -28,12 +28,12 @@ whole_before pair (Some r) = at_end (is_end r.stage)
     at_end true = refl
     at_end false = refl
 
--- the same pairs follow a line
+-- appending the same pairs
 whole_on : (o : Option Next) (f g : Stage → Option Read) → ((s : Stage) → whole (f s) ≡ whole (g s)) → whole (read_on o f) ≡ whole (read_on o g)
 whole_on None f g same = refl
 whole_on (Some n) f g same = whole_before n.pair (f n.stage) ∙ ap (with_pairs (pair_list n.pair)) (same n.stage) ∙ sym (whole_before n.pair (g n.stage))
 
--- an empty line at the end
+-- an empty line at the end changes nothing
 whole_empty : (s : Stage) → whole (read s []) ≡ whole (read s ([] ∷ []))
 whole_empty First = refl
 whole_empty Title = refl
@@ -60,13 +60,13 @@ pub whole_lines : (s : Stage) (pieces : List (List ℕ)) → whole (read s (dump
 whole_lines s [] = refl
 whole_lines s (first ∷ others) = whole_on (step s first) (λ t. read t (without_empty_end others)) (λ t. read t others) (λ t. whole_without t others)
 
--- ---- the lines that are left after others
+-- ---- the remaining lines
 
 abbrev pub lines_after : List (List ℕ) → List (List ℕ) → List (List ℕ)
 lines_after [] pieces = dump_lines pieces
 lines_after (line ∷ lines) pieces = without_empty_end pieces
 
--- a piece is a line
+-- a piece is a line, unless it is empty and the last
 kept_line : (line : List ℕ) (behind : List (List ℕ)) → (line ∷ behind ≡ [] ∷ [] → ⊥) → kept behind line (without_empty_end behind) ≡ line ∷ without_empty_end behind
 kept_line [] [] h = absurd (h refl)
 kept_line (c ∷ cs) [] h = refl
@@ -91,9 +91,9 @@ pub empty_after : (done : List (List ℕ)) → 1 < length done + 1 → lines_aft
 empty_after [] h = absurd (omega arith)
 empty_after (d ∷ ds) h = refl
 
--- ---- what is read
+-- ---- reading the next line
 
--- a first line, or one that is not the empty end
+-- the first line, or a line that is not the empty end
 pub gives_first : (number : ℕ) (left : Option (List (List ℕ))) (line : List ℕ) (left' : Option (List (List ℕ))) → number ≡ 1 → Gives left true line left' → GivesLine number left true line left'
 gives_first number left line left' first gives = (gives, λ is. first)
 
@@ -118,7 +118,7 @@ gives_more number left line u known gives more = (gives, λ is. absurd (no is))
         let first = empty_first left line (lines_left u known) is gives in
         false≢true (sym more ∙ is_end_of u.ended line (is_over u.ended u.rest known first.1) first.0)
 
--- the end of a text
+-- the last piece is the empty end
 last_piece : (left : Option (List (List ℕ))) (line : List ℕ) (left' : Option (List (List ℕ))) → line ≡ [] → (left' ≡ Some []) → Gives left true line left' → IsEmptyEnd left
 last_piece None line left' none last gives = tt
 last_piece (Some []) line left' none last gives = absurd gives
@@ -144,7 +144,7 @@ gives_end number left line u known more gives end =
     let is = both_true u.ended line end in
     inr (more, last_piece left line (lines_left u known) is.1 (none_left u.ended u.rest known is.0) gives)
 
--- a piece after the first, by whether it is the empty end
+-- a piece after the first, by cases on whether it is the empty end
 pub gives_rest : (number : ℕ) (left : Option (List (List ℕ))) (line : List ℕ) (u : Unread) (known : Option (List ℕ)) (b : Bool) → 1 < number → Gives left true line (lines_left u known) → IsEnd u line ≡ b
     → GivesLine number left (not b) line (lines_left u known)
 gives_rest number left line u known true more gives is = gives_end number left line u known more gives is

@@ -1,4 +1,4 @@
--- Texts without a byte: hex, decimals and base64.
+-- Texts that do not contain a byte: hex, decimals and base64.
 use Rattle.std.proofs.Common.{◌≡◌, ℕ, ◌+◌, ◌*◌, ◌/◌, ◌%◌, ◌<◌, ◌^◌, Bool, true, false, cond, List, [], ◌∷◌, ◌++◌, length, get_or, replicate, decimal, refl, ap, ◌∙◌, inl, inr, arith, eqb}
 use Rattle.std.specs.List.{All}
 use Rattle.std.proofs.lemmas.Bool.{cases_lt, ne_eqb}
@@ -32,7 +32,7 @@ free-append byte xs ys p q = All-append (λ b. eqb b byte ≡ false) xs ys p q
 pub free-cons : (byte c : ℕ) (cs : List ℕ) → eqb c byte ≡ false → IsFree byte cs → IsFree byte (c ∷ cs)
 free-cons byte c cs p q = All-cons (λ b. eqb b byte ≡ false) c cs p q
 
--- a symbol of a table, and 0 past its end
+-- a symbol of a table, or 0 past its end
 symbol : (byte : ℕ) (table : List ℕ) → 0 < byte → IsFree byte table → (i : ℕ) → eqb (get_or table i 0) byte ≡ false
 symbol byte table some h i = elim (cases_lt i (length table)) [
   | inl lt ↦ All-get_or (λ b. eqb b byte ≡ false) table i 0 lt h
@@ -53,7 +53,7 @@ pub free-shown : (byte : ℕ) → 0 < byte → eqb 46 byte ≡ false → IsFree 
 free-shown byte some dot h [] = free-cons byte 46 [] dot (All-nil (λ b. eqb b byte ≡ false))
 free-shown byte some dot h (b ∷ bs) = free-hex byte some h (b ∷ bs)
 
--- a decimal has digits alone
+-- a decimal has only digits
 pub free-decimal : (byte n : ℕ) → byte < 48 → n < 2 ^ 64 → IsFree byte (decimal n)
 free-decimal byte n low h =
     decimal_by_steps (λ (m : ℕ) (ds : List ℕ). IsFree byte ds)

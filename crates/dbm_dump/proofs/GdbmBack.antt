@@ -30,11 +30,11 @@ use Rattle.dbm_dump.proofs.Ends.{whole_lines}
 use Rattle.dbm_dump.proofs.Free.{IsFree, free, free-append, free-base64, free-decimal}
 use Rattle.dbm_dump.proofs.PlainBack.{line_reads}
 
--- what lines give after a step
+-- the result of reading the rest of a text after a step
 abbrev reads_on : Option Next → List ℕ → Option Read
 reads_on steps rest = read_on steps (λ s. read s (pieces_of 10 rest))
 
--- the first line of a text
+-- reading the first line of a text
 line_steps : (stage : Stage) (line rest : List ℕ) (steps : Option Next) → IsFree 10 line → step stage line ≡ steps → read stage (pieces_of 10 (line ++ 10 ∷ rest)) ≡ reads_on steps rest
 line_steps stage line rest steps whole is = ap (read stage) (piece_first line rest whole) ∙ ap (λ (o : Option Next). reads_on o rest) is
 

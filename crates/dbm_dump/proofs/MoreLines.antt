@@ -1,4 +1,4 @@
--- Lines that are read one after another.
+-- Reading lines in sequence.
 use Rattle.std.proofs.Common.{◌≡◌, ℕ, List, [], ◌∷◌, ◌++◌, Option, Some, None, refl, sym, ap, ◌∙◌, append_assoc}
 use Rattle.std.proofs.lemmas.List.{append-nil}
 use Rattle.std.proofs.lemmas.Option.{same_Some, none-some}
@@ -8,7 +8,7 @@ use Rattle.dbm_dump.specs.declared.stage.Next.{Next}
 use Rattle.dbm_dump.specs.Steps.{step}
 use Rattle.dbm_dump.specs.Reading.{Read, before_read, pair_list, read, read_on, read_so}
 
--- what the next line gives
+-- reading the next line
 one_line : (stage : Stage) (line : List ℕ) (r : Read) (n : Next) → read_so [] stage ≡ r → step r.stage line ≡ Some n
     → read stage (line ∷ []) ≡ Some (read_so (r.pairs ++ pair_list n.pair) n.stage)
 one_line stage line r n is steps =
@@ -33,7 +33,7 @@ on_first : (o : Option Next) (lines : List (List ℕ)) (line : List ℕ) (r : Re
 on_first None lines line r n gives steps more = absurd (none-some r gives)
 on_first (Some m) lines line r n gives steps more = behind_one m.pair m.stage (read m.stage lines) lines line r n refl gives steps (more m.stage)
 
--- one line more
+-- reading one more line
 pub read_more : (start : Stage) (done : List (List ℕ)) (line : List ℕ) (r : Read) (n : Next) → read start done ≡ Some r → step r.stage line ≡ Some n
     → read start (done ++ line ∷ []) ≡ Some (read_so (r.pairs ++ pair_list n.pair) n.stage)
 read_more start [] line r n is steps = one_line start line r n (same_Some _ r is) steps

@@ -1,4 +1,4 @@
--- Pairs that are stored one after another.
+-- Storing pairs in sequence.
 use Rattle.std.proofs.Common.{◌≡◌, ◌≤◌, ℕ, List, [], ◌∷◌, ◌++◌, length, true, Option, Some, None, Result, Ok, Err, IfErr, IsErrAnd, IsSomeAnd, inr, refl, sym, ◌∙◌, subst, arith}
 use Rattle.std.specs.declared.alloc.Global.{Global}
 use Rattle.sdbm_addr.specs.declared.Mode.{Mode}
@@ -28,26 +28,26 @@ pub StoresAll-append : (mode : Mode) (db mid db' : Database) (pairs more : List 
 StoresAll-append mode db mid db' [] more p q = subst (λ (d : Database). StoresAll mode d more db') p q
 StoresAll-append mode db mid db' (e ∷ pairs) more p q = (p.0, (p.1.0, StoresAll-append mode p.0 mid db' pairs more p.1.1 q))
 
--- that leads to one database
+-- the database after the pairs is unique
 pub StoresAll-unique : (mode : Mode) (db a b : Database) (pairs : List Pair) → StoresAll mode db pairs a → StoresAll mode db pairs b → b ≡ a
 StoresAll-unique mode db a b [] p q = q ∙ sym p
 StoresAll-unique mode db a b (e ∷ pairs) p q =
     let same = Acts-unique db (answered mode p.1.0.0 e) (answered mode q.1.0.0 e) p.0 q.0 refl refl p.1.0.1.1 q.1.0.1.1 in
     StoresAll-unique mode q.0 a b pairs (subst (λ (d : Database). StoresAll mode d pairs a) same.1 p.1.1) q.1.1
 
--- a fault that is this one, of which Q holds
+-- a fault that equals e, for which Q holds
 pub as_err : {T E : Type 0} (Q : E → Type 0) {e : E} (r : Result T E) → IsErrAnd r (λ fault. fault ≡ e) → Q e → IfErr r Q
 as_err Q (Ok x) is q = tt
 as_err Q (Err fault) is q = subst Q (sym is) q
 
--- the entry of a pair that is answered
+-- the log entry of a store that was answered
 pub entry_of : (mode : Mode) (db after : Database) (answer : Answer Global) (e : Entry Global) (key value : List ℕ) → IsAnswerTo Global db (Store key value mode) answer after → answer ≡ Replied e
     → Acts db (answered mode e.reply (key, value)) after
 entry_of mode db after answer e key value is replied =
     let h : IsAnswerTo Global db (Store key value mode) (Replied e) after = subst (λ (a : Answer Global). IsAnswerTo Global db (Store key value mode) a after) replied is in
     subst (λ (x : Entry Global). Acts db x after) (λ i. record { session = h.1.0 i; command = h.1.1.0 i; reply = e.reply }) h.1.1.1
 
--- a store has no other answer
+-- a store has no further replies
 pub no_other : (mode : Mode) (db after : Database) (key value : List ℕ) (r : Reply Global) → Acts db (answered mode r (key, value)) after → (r ≡ reply.Stored → ⊥) → (r ≡ reply.Exists → ⊥)
     → (r ≡ reply.Crowded → ⊥) → ⊥
 no_other mode db after key value reply.Stored acts p q s = p refl
@@ -64,13 +64,13 @@ no_other Replace db after key value reply.Deleted acts p q s = acts.move.changes
 no_other Replace db after key value (reply.Ran code word) acts p q s = acts.move.changes
 no_other Replace db after key value (reply.Count n) acts p q s = acts.move.changes
 
--- the answer to a pair that finds no room
+-- the reply Crowded to a pair
 pub crowded : (mode : Mode) (db after : Database) (answer : Answer Global) (e : Entry Global) (key value : List ℕ) → IsAnswerTo Global db (Store key value mode) answer after → answer ≡ Replied e
     → e.reply ≡ reply.Crowded → Acts db (answered mode reply.Crowded (key, value)) after
 crowded mode db after answer e key value is replied full =
     subst (λ (r : Reply Global). Acts db (answered mode r (key, value)) after) full (entry_of mode db after answer e key value is replied)
 
--- the answer to a pair that is stored, or whose key is there
+-- the reply to a pair that is stored, or whose key exists
 pub stores : (mode : Mode) (db after : Database) (answer : Answer Global) (e : Entry Global) (key value : List ℕ) (r : Reply Global) → IsAnswerTo Global db (Store key value mode) answer after
     → answer ≡ Replied e → e.reply ≡ r → is_done r ≡ true → StoresOne mode db (key, value) after
 stores mode db after answer e key value r is replied same done =
@@ -100,6 +100,6 @@ pub at_most_one : (o : Option Pair) → length (pair_list o) ≤ 1
 at_most_one None = omega arith
 at_most_one (Some e) = omega arith
 
--- the head of a key whose bytes were read
+-- the head of a key that was read
 pub head_of : (key bytes : List ℕ) (head : KeyHead) → bytes ≡ key → IsHead bytes head → IsHead key head
 head_of key bytes head same is = subst (λ (k : List ℕ). IsHead k head) same is

@@ -1,4 +1,4 @@
--- Pairs that are written one by one.
+-- Writing pairs one by one.
 use Rattle.std.proofs.Common.{◌≡◌, ℕ, ◌+◌, ◌<◌, ◌≤◌, List, [], ◌∷◌, ◌++◌, true, false, length, take, get_or, eqb, append_assoc, codes, decimal, refl, sym, ap, subst, ◌∙◌, arith}
 use Rattle.std.specs.List.{All, flat_map}
 use Rattle.std.proofs.lemmas.Bool.{false≢true, ne_eqb}
@@ -17,7 +17,7 @@ texts_more f pairs i e h is =
     ap (flat_map f) (take_more pairs i e h) ∙ flat_map-append f (take i pairs) (get_or pairs i e ∷ [])
     ∙ ap (λ (text : List ℕ). flat_map f (take i pairs) ++ text) (append-nil (f (get_or pairs i e)) ∙ ap f (sym is))
 
--- bytes that are none have no line
+-- no bytes have no line
 pub text_none : (bytes : List ℕ) → eqb (length bytes) 0 ≡ true → text_lines bytes ≡ []
 text_none [] h = refl
 text_none (b ∷ bs) h = absurd (false≢true (sym (ne_eqb (length (b ∷ bs)) 0 (λ is. omega arith)) ∙ h))
@@ -26,7 +26,7 @@ pub text_some : (bytes : List ℕ) → eqb (length bytes) 0 ≡ false → text_l
 text_some [] h = absurd (false≢true (sym h))
 text_some (b ∷ bs) h = refl
 
--- three texts, one after another
+-- appending three texts
 pub three : (old one two three' : List ℕ) (a b c : List ℕ) → one ≡ old ++ a → two ≡ one ++ b → three' ≡ two ++ c → three' ≡ old ++ (a ++ (b ++ c))
 three old one two three' a b c p q r =
     r ∙ ap (λ (t : List ℕ). t ++ c) (q ∙ ap (λ (t : List ℕ). t ++ b) p) ∙ append_assoc (old ++ a) b c ∙ append_assoc old a (b ++ c)
@@ -68,7 +68,7 @@ gdbm_whole pairs i zero one two text h p q r s =
     ∙ ap (λ (t : List ℕ). t ++ gdbm_end (length pairs)) all
     ∙ append_assoc gdbm_header (flat_map gdbm_pair pairs) (gdbm_end (length pairs))
 
--- the length of a datum, and its line
+-- the lines of an empty datum
 pub datum_empty : (old one two text bytes : List ℕ) → eqb (length bytes) 0 ≡ true → one ≡ old ++ codes "#:len=" → two ≡ one ++ decimal (length bytes) → text ≡ two ++ 10 ∷ []
     → text ≡ old ++ datum_lines bytes
 datum_empty old one two text bytes none p q r =

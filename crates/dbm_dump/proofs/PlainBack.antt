@@ -31,7 +31,7 @@ use Rattle.dbm_dump.proofs.Free.{IsFree, free, free-append, free-cons, free-deci
 
 -- ---- one pair
 
--- bytes that are shown are read
+-- reading bytes in hex returns the bytes
 two_digits : (a b : ℕ) (rest : List ℕ) → bytes_eq (a ∷ b ∷ rest) (codes ".") ≡ false
 two_digits a b rest = grind arith
 
@@ -61,7 +61,7 @@ pair_reads e h =
 whole_words : (e : Pair) → IsFree 10 (pair_words e)
 whole_words e = free-append 10 (hex_shown e.0) (32 ∷ hex_shown e.1) (no_end e.0) (free-cons 10 32 (hex_shown e.1) refl (no_end e.1))
 
--- two texts that are not the same
+-- two different texts
 differs : (a b : List ℕ) → (b ≡ a → ⊥) → bytes_eq a b ≡ false
 differs a b h = go (bytes_eq a b) refl
   where
@@ -69,7 +69,7 @@ differs a b h = go (bytes_eq a b) refl
     go false e = refl
     go true e = absurd (h (sym ((bytes_eq-Decides a b).0 e)))
 
--- the last line is no pair
+-- the last line is not a pair
 end_is_none : pair_of plain_end ≡ None
 end_is_none = ap pair_in (slice_split_none (λ b. eqb b 32) plain_end (free 32 plain_end refl))
 
@@ -94,7 +94,7 @@ pair_step left e h =
         ap (λ (b : Bool). cond b None (Some (record { stage = Pairs (left + 1 - 1); pair = Some e }))) (ne_eqb (left + 1) 0 (λ is. omega arith))
         ∙ ap (λ (n : ℕ). Some (record { stage = Pairs n; pair = Some e })) (let is : left + 1 - 1 ≡ left = omega arith in is)
 
--- the next line is read
+-- reading the next line
 pub line_reads : (stage next : Stage) (line rest : List ℕ) → IsFree 10 line → step stage line ≡ Some (goes next) → (r : Read) → read next (pieces_of 10 rest) ≡ Some r
     → read stage (pieces_of 10 (line ++ 10 ∷ rest)) ≡ Some (read_so r.pairs r.stage)
 line_reads stage next line rest whole steps r reads =

@@ -1,4 +1,4 @@
--- How far a dump was loaded.
+-- Progress through the lines of a dump.
 use Rattle.std.proofs.Common.{◌≡◌, ℕ, ◌+◌, ◌<◌, List, [], ◌∷◌, ◌++◌, length, length-append, Bool, true, false, cond, Option, Some, None, IfSome, inl, inr, refl, sym, ap, ◌∙◌, subst, append_assoc, arith}
 use Rattle.std.proofs.lemmas.List.{append-nil}
 use Rattle.sdbm_addr.specs.declared.Mode.{Mode}
@@ -20,7 +20,7 @@ use Rattle.dbm_dump.proofs.Ends.{after_line, empty_after, line_after, lines_afte
 use Rattle.dbm_dump.proofs.MoreLines.{read_more}
 use Rattle.dbm_dump.proofs.MorePairs.{StoresAll-append, StoresAll-unique}
 
--- so many lines are done, and others are left
+-- `number - 1` lines are done, and the rest are left
 pub record Progress (start : Stage) (mode : Mode) (db : Database) (input : List ℕ) (number : ℕ) (left : Option (List (List ℕ))) (loading : Loading) : Type 0 where
   pub done : List (List ℕ)
   pub pieces : List (List ℕ)
@@ -32,7 +32,7 @@ pub record Progress (start : Stage) (mode : Mode) (db : Database) (input : List 
   pub stores : StoresAll mode db pairs loading.image
   pub count_is : loading.count ≡ length pairs
 
--- the next line, and the pieces behind it
+-- the next line, and the pieces after it
 pub record NextLine (done : List (List ℕ)) (pieces : List (List ℕ)) (line : List ℕ) (left' : Option (List (List ℕ))) : Type 0 where
   pub behind : List (List ℕ)
   pub behind_is : left' ≡ Some behind
@@ -66,7 +66,7 @@ taken start mode db input number left loading line left' after p gives takes =
       count_is = takes.count_is ∙ ap (λ (n : ℕ). n + length (pair_list takes.next.pair)) p.count_is ∙ sym (length-append p.pairs (pair_list takes.next.pair));
     }
 
--- no line is left
+-- no lines are left
 no_more : (done pieces : List (List ℕ)) (number : ℕ) (line : List ℕ) (left' : Option (List (List ℕ))) → number ≡ length done + 1 → GivesLine number (Some pieces) false line left' → lines_after done pieces ≡ []
 no_more done pieces number line left' is (inl gives) = ap (lines_after done) (no_line pieces line left' gives) ∙ none_after done
 no_more done pieces number line left' is (inr end) = ap (lines_after done) end.1 ∙ empty_after done (subst (λ (n : ℕ). 1 < n) is end.0)
@@ -99,7 +99,7 @@ cut_off start mode db input number left loading line left' p gives end =
       stores = p.stores;
     }
 
--- a fault of the next line
+-- a fault in the next line
 at_line : (start : Stage) (mode : Mode) (db : Database) (input : List ℕ) (number n : ℕ) (left : Option (List (List ℕ))) (loading : Loading) (line : List ℕ) (behind : List (List ℕ)) (P : Stage → Database → List ℕ → Type 0)
     → (p : Progress start mode db input number left loading) → lines_after p.done p.pieces ≡ line ∷ behind → n ≡ number → P loading.stage loading.image line → AtLine start mode db input n P
 at_line start mode db input number n left loading line behind P p next same holds = record {
@@ -156,9 +156,9 @@ line_fault start mode db input number left loading (fault.Crowded n key) p is = 
 line_fault start mode db input number left loading fault.CutOff p is = absurd is
 line_fault start mode db input number left loading fault.NoMemory p is = tt
 
--- ---- where the bytes are known
+-- ---- if the bytes are known
 
--- nothing was read yet
+-- nothing is read yet
 pub begun : (start : Stage) (mode : Mode) (db : Database) (input : List ℕ) (u : Unread) (loading : Loading) → u.rest ≡ [] → u.ended ≡ false → loading.image ≡ db → loading.stage ≡ start → loading.count ≡ 0
     → Progress start mode db input 1 (lines_left u (Some input)) loading
 begun start mode db input u loading rest ended image stage count = record {

@@ -1,4 +1,4 @@
--- The formats of a dump, by their names.
+-- The names of dump formats.
 use Rattle.std.specs.Prelude.{ℕ, List, cond, codes, Option, Some, None}
 use Rattle.std.specs.Borrow.{Bor}
 use Rattle.std.specs.Str.{bytes_eq}
@@ -12,19 +12,19 @@ use Rattle.dbm_dump.specs.declared.stage.Role.TheVariants.{Key}
 abbrev pub named : List ℕ → Option Format
 named name = cond (bytes_eq name (codes "text")) (Some Plain) (cond (bytes_eq name (codes "gdbm")) (Some Gdbm) (cond (bytes_eq name (codes "redis")) (Some Redis) None))
 
--- the format of a dump that is written: our own, where none is named
+-- the format to write: our own if no name is given
 abbrev pub format_of : Option (Bor (List ℕ)) → Option Format
 format_of None = Some Plain
 format_of (Some name) = named name.now
 
--- how the reading of a dump of a format begins, where it can be read
+-- the first stage of reading a format, if it can be read
 abbrev pub start_in : Option Format → Option Stage
 start_in None = None
 start_in (Some Plain) = Some Title
 start_in (Some Gdbm) = Some (Between 0 Key)
 start_in (Some Redis) = None
 
--- how the reading of a dump begins: as its first line tells, where no format is named
+-- the first stage of reading a dump; if no name is given, the first line determines the format
 abbrev pub start_of : Option (Bor (List ℕ)) → Option Stage
 start_of None = Some First
 start_of (Some name) = start_in (named name.now)

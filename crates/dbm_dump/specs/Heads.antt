@@ -7,7 +7,7 @@ pub record IsHead (key : List ℕ) (head : KeyHead) : Type 0 where
   pub len_is : head.len ≡ length key
   pub bytes_are : take (length key) head.bytes ≡ take 32 key
 
--- the head of a key is reported if the key is known
+-- the fault reports the head of the key if the key is known
 abbrev pub IsReported : Option (List ℕ) → Option KeyHead → Type 0
 IsReported None None = ⊤
 IsReported None (Some head) = ⊥

@@ -1,4 +1,4 @@
--- Dumps that are loaded into a database.
+-- Loading a dump into a database.
 use Rattle.std.specs.Prelude.{◌≡◌, ◌⊎◌, ℕ, ◌+◌, ◌<◌, ◌++◌, Bool, true, false, List, [], ◌∷◌, length, Option, Some, None, IsSomeAnd, ⊤}
 use Rattle.std.specs.declared.alloc.Global.{Global}
 use Rattle.sdbm_addr.specs.declared.PageSize.{PageSize}
@@ -24,32 +24,32 @@ use Rattle.dbm_dump.specs.declared.stage.Stage.{Stage}
 use Rattle.dbm_dump.specs.declared.stage.Stage.TheVariants.{Within}
 use Rattle.dbm_dump.specs.declared.stage.Next.{Next}
 
--- a line has at most so many bytes
+-- the longest line, in bytes
 abbrev pub line_limit : ℕ
 line_limit = 16384
 
--- ---- pairs that are stored
+-- ---- storing pairs
 
--- the answer to a pair that is to be stored
+-- the log entry for storing a pair
 abbrev pub answered : Mode → Reply Global → Pair → Entry Global
 answered mode answer e = record { session = 0; command = Store e.0 e.1 mode; reply = answer }
 
--- the pair is stored, or its key is there, where pairs that are there stay
+-- the pair is stored, or its key exists and the mode keeps existing pairs
 abbrev pub is_done : Reply Global → Bool
 is_done reply.Stored = true
 is_done reply.Exists = true
 is_done _ = false
 
--- A pair is stored as by `replace` or by `insert`, with its answer.
+-- A pair is stored as by `replace` or `insert`, with its reply.
 abbrev pub StoresOne : Mode → Database → Pair → Database → Type 0
 StoresOne mode before e after = (answer : Reply Global) × ((is_done answer ≡ true) × Acts before (answered mode answer e) after)
 
--- Each pair is stored, in their order: the database after it.
+-- The pairs are stored in order: the database after them.
 abbrev pub StoresAll : Mode → Database → List Pair → Database → Type 0
 StoresAll mode before [] after = after ≡ before
 StoresAll mode before (e ∷ es) after = (mid : Database) × (StoresOne mode before e mid × StoresAll mode mid es after)
 
--- The text is a dump, and so many pairs of it were stored. That leads to no other database.
+-- The text is a dump, and its `count` pairs were stored. The resulting database is unique.
 pub record IsLoaded (start : Stage) (mode : Mode) (before : Database) (input : List ℕ) (count : ℕ) (after : Database) : Type 0 where
   pub pairs : List Pair
   pub reads : pairs_of start input ≡ Some pairs
@@ -57,14 +57,14 @@ pub record IsLoaded (start : Stage) (mode : Mode) (before : Database) (input : L
   pub count_is : count ≡ length pairs
   pub only : (other : Database) → StoresAll mode before pairs other → other ≡ after
 
--- ---- why not
+-- ---- faults
 
--- the bytes of the datum that is begun
+-- the length of the datum that has begun
 abbrev pub open_len : Stage → ℕ
 open_len (Within seen role len text) = len
 open_len _ = 0
 
--- the key of the value that was begun
+-- the key of the value that has begun
 abbrev pub key_in : Role → Option (List ℕ)
 key_in Key = None
 key_in (Value key) = Some key
@@ -73,15 +73,16 @@ abbrev pub open_key : Stage → Option (List ℕ)
 open_key (Within seen role len text) = key_in role
 open_key _ = None
 
--- a pair is larger than pairs may be, and its key is reported
+-- the pair is over the size limit, and the fault reports its key
 abbrev pub IsLargePair : PageSize → Option KeyHead → Pair → Type 0
 IsLargePair size key e = (pair_limit size < length e.0 + length e.1) × IsReported (Some e.0) key
 
--- A line brings a pair, or the length of a key or a value, that is larger than pairs may be. The key of the pair is reported if it is known.
+-- The pair in a line, or the length of its key or value, is over the size limit. The fault reports the key if it is known.
 abbrev pub IsLarge : PageSize → Option KeyHead → Next → Type 0
 IsLarge size key s = ((pair_limit size < open_len s.stage) × IsReported (open_key s.stage) key) ⊎ IsSomeAnd s.pair (IsLargePair size key)
 
--- P holds of a line, by its number from 1 on: of how far the lines before it lead, and of the database in which their pairs were stored
+-- P holds for the line with this number, from 1 on. Its arguments are the stage after the lines before it, the database with their pairs,
+-- and the line.
 pub record AtLine (start : Stage) (mode : Mode) (db : Database) (input : List ℕ) (number : ℕ) (P : Stage → Database → List ℕ → Type 0) : Type 0 where
   pub before : List (List ℕ)
   pub line : List ℕ
@@ -94,14 +95,14 @@ pub record AtLine (start : Stage) (mode : Mode) (db : Database) (input : List �
   pub stores : StoresAll mode db so_far.pairs mid
   pub holds : P so_far.stage mid line
 
--- a line may not stand where it does
+-- the line is invalid at this stage
 abbrev pub IsBad : Stage → Database → List ℕ → Type 0
 IsBad stage mid line = step stage line ≡ None
 
 abbrev pub IsOversized : PageSize → Option KeyHead → Stage → Database → List ℕ → Type 0
 IsOversized size key stage mid line = ((line_limit < length line) × (key ≡ None)) ⊎ ((s : Next) × ((step stage line ≡ Some s) × IsLarge size key s))
 
--- the pair of a line finds no room, and its key is reported
+-- the pair of a line does not fit in the database, and the fault reports its key
 pub record FindsNoRoom (mode : Mode) (db : Database) (key : KeyHead) (next : Next) : Type 0 where
   pub pair : Pair
   pub pair_is : next.pair ≡ Some pair
@@ -109,11 +110,11 @@ pub record FindsNoRoom (mode : Mode) (db : Database) (key : KeyHead) (next : Nex
   pub after : Database
   pub refused : Acts db (answered mode reply.Crowded pair) after
 
--- the pair of a line finds no room in the database
+-- the pair of a line does not fit in the database
 abbrev pub IsCrowded : Mode → KeyHead → Stage → Database → List ℕ → Type 0
 IsCrowded mode key stage mid line = (next : Next) × ((step stage line ≡ Some next) × FindsNoRoom mode mid key next)
 
--- The lines end too early. The pairs of all of them were stored.
+-- The dump is truncated. The pairs of all its lines were stored.
 pub record IsCutOff (start : Stage) (mode : Mode) (db : Database) (input : List ℕ) : Type 0 where
   pub all : Read
   pub reads : read start (lines_of input) ≡ Some all
@@ -132,17 +133,17 @@ IsLoadFault start mode db input fault.NoMemory = ⊤
 
 -- ---- one line
 
--- nothing but an empty last piece is left, if the bytes are known
+-- only an empty last piece is left, if the bytes are known
 abbrev pub IsEmptyEnd : Option (List (List ℕ)) → Type 0
 IsEmptyEnd None = ⊤
 IsEmptyEnd (Some pieces) = pieces ≡ [] ∷ []
 
--- the next of the pieces that are left is a line, but for an empty last one after the first line
+-- returns the next piece as a line, except for an empty last piece after the first line
 abbrev pub GivesLine : ℕ → Option (List (List ℕ)) → Bool → List ℕ → Option (List (List ℕ)) → Type 0
 GivesLine number left true line left' = Gives left true line left' × (left ≡ Some ([] ∷ []) → number ≡ 1)
 GivesLine number left false line left' = Gives left false line left' ⊎ ((1 < number) × IsEmptyEnd left)
 
--- the line is too long, or another fault, of which nothing is said
+-- the line is too long, or reading failed for another reason
 abbrev pub IsLineFault : ℕ → Option (List (List ℕ)) → DumpFault → Type 0
 IsLineFault number left fault.BadFormat = ⊥
 IsLineFault number left fault.Read = ⊤
@@ -152,7 +153,7 @@ IsLineFault number left (fault.Crowded n key) = ⊥
 IsLineFault number left fault.CutOff = ⊥
 IsLineFault number left fault.NoMemory = ⊤
 
--- a line is read, and its pair, where it has one, is stored
+-- a line was read, and its pair was stored if it has one
 pub record TakesLine (mode : Mode) (old : Loading) (line : List ℕ) (new : Loading) : Type 0 where
   pub next : Next
   pub steps : step old.stage line ≡ Some next
@@ -162,7 +163,7 @@ pub record TakesLine (mode : Mode) (old : Loading) (line : List ℕ) (new : Load
   pub kind : new.image.kind ≡ old.image.kind
   pub size : new.image.size ≡ old.image.size
 
--- a pair is too large, or finds no room, and its key is reported
+-- a pair is too large or does not fit, and the fault reports its key
 abbrev pub IsStoreFault : Mode → Database → Pair → ℕ → DumpFault → Type 0
 IsStoreFault mode db e number fault.BadFormat = ⊥
 IsStoreFault mode db e number fault.Read = ⊥
@@ -172,7 +173,7 @@ IsStoreFault mode db e number (fault.Crowded n key) = (n ≡ number) × (IsHead 
 IsStoreFault mode db e number fault.CutOff = ⊥
 IsStoreFault mode db e number fault.NoMemory = ⊤
 
--- a line may not stand there, or what it brings is too large, or finds no room
+-- a line is invalid at this stage, or its pair is too large or does not fit
 abbrev pub IsStepFault : Mode → Loading → List ℕ → ℕ → DumpFault → Type 0
 IsStepFault mode loading line number fault.BadFormat = ⊥
 IsStepFault mode loading line number fault.Read = ⊥

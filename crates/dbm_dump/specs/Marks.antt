@@ -1,4 +1,4 @@
--- What the lines of a dump say.
+-- The meaning of the lines of a dump.
 use Rattle.std.specs.Prelude.{ℕ, ◌==◌, List, [], ◌∷◌, cond, codes, length, take, drop, Option, Some, None}
 use Rattle.std.specs.Str.{bytes_eq}
 use Rattle.sdbm_addr.specs.Pairs.{Pair}
@@ -8,7 +8,7 @@ use Rattle.dbm_script.specs.Numbers.{number_of}
 use Rattle.dbm_dump.specs.declared.marks.Mark.{Mark}
 use Rattle.dbm_dump.specs.declared.marks.Mark.TheVariants.{Len, Count, Note, Text, Bad}
 
--- what follows a text with which a line begins
+-- the rest of the line after `front`, if it begins with it
 abbrev pub behind : List ℕ → List ℕ → Option (List ℕ)
 behind front line = cond (bytes_eq (take (length front) line) front) (Some (drop (length front) line)) None
 
@@ -16,7 +16,7 @@ abbrev pub number_in : Option (List ℕ) → Option ℕ
 number_in None = None
 number_in (Some digits) = number_of 18446744073709551615 digits
 
--- the number after a text with which a line begins
+-- the number after `front`, if the line begins with it
 abbrev pub number_behind : List ℕ → List ℕ → Option ℕ
 number_behind front line = number_in (behind front line)
 
@@ -58,7 +58,7 @@ len_or (Some digits) other = len_mark (number_in (Some digits))
 abbrev pub sign_of : List ℕ → Mark
 sign_of line = len_or (behind (codes "#:len=") line) (count_or_note (behind (codes "#:count=") line))
 
--- the mark of a line: a length, a count, any other that begins with '#' or is empty, or text in base64
+-- the kind of a line: a length, a count, any other line that begins with '#' or is empty, or text in base64
 abbrev pub mark_of : List ℕ → Mark
 mark_of [] = Note
 mark_of (c ∷ cs) = cond (c == 35) (sign_of (c ∷ cs)) Text

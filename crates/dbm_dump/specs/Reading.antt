@@ -10,7 +10,7 @@ use Rattle.dbm_dump.specs.declared.stage.Stage.TheVariants.{First}
 use Rattle.dbm_dump.specs.declared.stage.Next.{Next}
 use Rattle.dbm_dump.specs.Steps.{step, is_end}
 
--- the pairs of some lines, and what was read with them
+-- the pairs of some lines, and the stage after them
 pub record Read : Type 0 where
   pub pairs : List Pair
   pub stage : Stage
@@ -22,7 +22,7 @@ abbrev pub pair_list : Option Pair → List Pair
 pair_list None = []
 pair_list (Some e) = e ∷ []
 
--- the pair of a line, where it has one, before those of others
+-- prepends the pair of a line, if it has one
 abbrev pub before_read : Option Pair → Option Read → Option Read
 before_read pair None = None
 before_read pair (Some r) = Some (read_so (pair_list pair ++ r.pairs) r.stage)
@@ -31,7 +31,7 @@ abbrev pub read_on : Option Next → (Stage → Option Read) → Option Read
 read_on None rest = None
 read_on (Some s) rest = before_read s.pair (rest s.stage)
 
--- what lines give in order, where each may stand there
+-- the result of reading lines in order, if each is valid at its stage
 abbrev pub read : Stage → List (List ℕ) → Option Read
 read stage [] = Some (read_so [] stage)
 read stage (line ∷ lines) = read_on (step stage line) (λ (s : Stage). read s lines)
@@ -42,23 +42,23 @@ whole (Some r) = cond (is_end r.stage) (Some r.pairs) None
 
 -- ---- the lines of a text
 
--- a line before others, for which what is kept of them is known; a last line that is empty is dropped
+-- prepends a line to `rest`, its followers after filtering; drops the line if it is empty and the last
 abbrev pub kept : List (List ℕ) → List ℕ → List (List ℕ) → List (List ℕ)
 kept [] [] rest = []
 kept [] (c ∷ cs) rest = (c ∷ cs) ∷ []
 kept (other ∷ others) line rest = line ∷ rest
 
--- lines without the last one if it is empty
+-- the lines, except an empty last one
 abbrev pub without_empty_end : List (List ℕ) → List (List ℕ)
 without_empty_end [] = []
 without_empty_end (line ∷ lines) = kept lines line (without_empty_end lines)
 
--- The same, but the first line stays.
+-- The same, except that the first line always stays.
 abbrev pub dump_lines : List (List ℕ) → List (List ℕ)
 dump_lines [] = []
 dump_lines (first ∷ others) = first ∷ without_empty_end others
 
--- The lines of a text: each ends with LF, and the last one may lack it. A text without bytes has one empty line.
+-- The lines of a text: each ends with LF, which the last one may lack. An empty text has one empty line.
 abbrev pub lines_of : List ℕ → List (List ℕ)
 lines_of text = dump_lines (pieces_of 10 text)
 
@@ -66,17 +66,17 @@ lines_of text = dump_lines (pieces_of 10 text)
 abbrev pub pairs_of : Stage → List ℕ → Option (List Pair)
 pairs_of start text = whole (read start (lines_of text))
 
--- ---- dumps that were written
+-- ---- written dumps
 
--- both have bytes
+-- key and value consist of bytes
 abbrev pub AreBytes : Pair → Type 0
 AreBytes e = IsBytes e.0 × IsBytes e.1
 
--- and their lengths can be told
+-- and their lengths fit in 64 bits
 abbrev pub IsGood : Pair → Type 0
 IsGood e = ((length e.0 < 2 ^ 64) × (length e.1 < 2 ^ 64)) × AreBytes e
 
--- the text of a dump has these pairs; the commands for Redis are not read
+-- reading the dump returns these pairs; commands for Redis cannot be read
 abbrev pub ReadsBack : Format → List ℕ → List Pair → Type 0
 ReadsBack Plain text pairs = pairs_of First text ≡ Some pairs
 ReadsBack Gdbm text pairs = pairs_of First text ≡ Some pairs

@@ -1,4 +1,4 @@
--- What each line of a dump may say, by what was read before it.
+-- The effect of each line of a dump, by the stage before it.
 use Rattle.std.specs.Prelude.{ℕ, ◌==◌, ◌+◌, ◌-◌, ◌*◌, ◌/◌, ◌||◌, nat_le, Bool, true, false, List, [], ◌∷◌, ◌++◌, cond, codes, length, Option, Some, None, Result, Ok, Err}
 use Rattle.std.specs.Str.{bytes_eq}
 use Rattle.base64.specs.Engines.{standard}
@@ -43,12 +43,12 @@ abbrev pub gap_step : ℕ → List ℕ → Option Next
 gap_step left [] = Some (goes (Pairs left))
 gap_step left (c ∷ cs) = None
 
--- one of the pairs that are left
+-- a line with one of the remaining pairs
 abbrev pub listed : ℕ → Option Pair → Option Next
 listed left None = None
 listed left (Some e) = cond (left == 0) None (Some (record { stage = Pairs (left - 1); pair = Some e }))
 
--- the last line, where so many pairs are left
+-- the last line, if no pairs are left
 abbrev pub closes : ℕ → Option Next
 closes left = goes_if (left == 0) Over
 
@@ -58,29 +58,29 @@ pairs_step left (c ∷ cs) = cond (bytes_eq (c ∷ cs) plain_end) (closes left) 
 
 -- ---- gdbm's
 
--- the groups of four among so many characters hold so many bytes
+-- `count` characters of base64 hold at least `len` bytes in their complete groups of four
 abbrev pub holds : ℕ → ℕ → Bool
 holds len count = nat_le len (count / 4 * 3)
 
 abbrev pub is_full : ℕ → List ℕ → Bool
 is_full len text = holds len (length text)
 
--- the bytes of a datum that is a key, or a value after a key
+-- a complete datum: a key, or the value for a key
 abbrev pub closed : ℕ → Role → List ℕ → Option Next
 closed seen Key bytes = Some (goes (Between seen (Value bytes)))
 closed seen (Value key) bytes =
     cond (seen == 18446744073709551615) None (Some (record { stage = Between (seen + 1) Key; pair = Some (key, bytes) }))
 
--- what a text decodes to is a datum, where it has just so many bytes
+-- a decoded datum, if it has exactly `len` bytes
 abbrev pub decoded : ℕ → Role → ℕ → Result (List ℕ) DecodeError → Option Next
 decoded seen role len (Ok bytes) = cond (length bytes == len) (closed seen role bytes) None
 decoded seen role len (Err error) = None
 
--- a datum of so many bytes, of which a text is there
+-- a datum of `len` bytes after some of its text was read
 abbrev pub grown : ℕ → Role → ℕ → List ℕ → Option Next
 grown seen role len text = cond (is_full len text) (decoded seen role len (decode_of standard text)) (Some (goes (Within seen role len text)))
 
--- so many pairs were read
+-- the end of the dump, if its count is right
 abbrev pub ended : ℕ → Role → ℕ → Option Next
 ended seen Key n = goes_if (n == seen) Over
 ended seen (Value key) n = None
@@ -93,7 +93,7 @@ between_step seen role mark.Note = Some (goes (Between seen role))
 between_step seen role mark.Text = None
 between_step seen role mark.Bad = None
 
--- The line may stand after this text of a datum: it is the last line of the datum, or base64 that may go on.
+-- The line may follow this text of a datum: it completes the datum, or the base64 may continue after it.
 abbrev pub may_follow : ℕ → List ℕ → List ℕ → Bool
 may_follow len text line = is_full len (text ++ line) || is_open text line
 
@@ -113,14 +113,14 @@ over_step mark.Note = Some (goes Over)
 over_step mark.Text = None
 over_step mark.Bad = None
 
--- ---- either
+-- ---- either format
 
--- the first line of gdbm's begins with '#'
+-- in gdbm's format, the first line begins with '#'
 abbrev pub first_step : List ℕ → Option Next
 first_step [] = title_step []
 first_step (c ∷ cs) = cond (c == 35) (between_step 0 Key (mark_of (c ∷ cs))) (title_step (c ∷ cs))
 
--- what a line adds, where it may stand there
+-- the effect of a line, if it is valid at this stage
 abbrev pub step : Stage → List ℕ → Option Next
 step First line = first_step line
 step Title line = title_step line
@@ -133,7 +133,7 @@ step (Between seen role) line = between_step seen role (mark_of line)
 step (Within seen role len text) line = within_step seen role len text line (mark_of line)
 step Over line = over_step (mark_of line)
 
--- a dump may end there
+-- the dump may end at this stage
 abbrev pub is_end : Stage → Bool
 is_end Over = true
 is_end _ = false

@@ -1,4 +1,4 @@
--- Base64 text that is not complete yet.
+-- Incomplete base64 text.
 use Rattle.std.specs.Prelude.{ℕ, ◌==◌, ◌+◌, ◌-◌, ◌%◌, ◌||◌, nat_eq, Bool, false, cond, List, codes, length, take}
 use Rattle.std.specs.Char.{is_ascii_alphanumeric}
 use Rattle.std.specs.List.{ends_with, list_all}
@@ -14,6 +14,6 @@ ends_padded text = ends_with nat_eq text (codes "=")
 abbrev pub without_pad : ℕ → List ℕ → List ℕ
 without_pad count line = cond (count % 4 == 3) (cond (ends_padded line) (take (length line - 1) line) line) line
 
--- The line may follow the text in a base64 text that goes on after it: both have symbols only, except for that '='.
+-- The line may follow the text in a base64 text that continues after it: both have only symbols, except for that '='.
 abbrev pub is_open : List ℕ → List ℕ → Bool
 is_open text line = cond (ends_padded text) false (list_all is_symbol (without_pad (length text + length line) line))

@@ -12,7 +12,7 @@ use Rattle.dbm_script.specs.Notation.{hex_shown}
 use Rattle.dbm_dump.specs.declared.format.Format.{Format}
 use Rattle.dbm_dump.specs.declared.format.Format.TheVariants.{Plain, Gdbm, Redis}
 
--- a text and the end of a line, and then more
+-- a text, an LF and a second text
 infixr 10 ◌⏎◌
 abbrev pub ◌⏎◌ : List ℕ → List ℕ → List ℕ
 text ⏎ rest = text ++ (10 ∷ rest)
@@ -30,15 +30,15 @@ abbrev pub pages_line : PageSize → List ℕ
 pages_line Small = codes "pages 1024"
 pages_line Wide = codes "pages 8192"
 
--- key and value in hex, a space between them
+-- key and value in hex, separated by a space
 abbrev pub pair_words : Pair → List ℕ
 pair_words e = hex_shown e.0 ++ (32 ∷ hex_shown e.1)
 
--- a pair in a line
+-- the line of a pair
 abbrev pub pair_line : Pair → List ℕ
 pair_line e = pair_words e ⏎ []
 
--- how keys hash, how large pages are and how many pairs there are
+-- the header: the hash of keys, the page size and the number of pairs
 abbrev pub plain_header : KeyBytes → PageSize → ℕ → List ℕ
 plain_header kind size count = title ⏎ keys_line kind ⏎ pages_line size ⏎ (codes "count " ++ decimal count) ⏎ [] ⏎ []
 
@@ -46,18 +46,18 @@ plain_header kind size count = title ⏎ keys_line kind ⏎ pages_line size ⏎ 
 abbrev pub plain_end : List ℕ
 plain_end = codes "end"
 
--- then the pairs, and the last line
+-- the header, the pairs and the last line
 abbrev pub plain_text : KeyBytes → PageSize → List Pair → List ℕ
 plain_text kind size pairs = plain_header kind size (length pairs) ++ (flat_map pair_line pairs ++ (plain_end ⏎ []))
 
 -- ---- gdbm's
 
--- some bytes in base64, in a line; none have no line
+-- bytes in base64, on a line; no bytes have no line
 abbrev pub text_lines : List ℕ → List ℕ
 text_lines [] = []
 text_lines (b ∷ bs) = encode_of standard (b ∷ bs) ⏎ []
 
--- the length of some bytes, and then their text
+-- the length of some bytes, and then the bytes in base64
 abbrev pub datum_lines : List ℕ → List ℕ
 datum_lines bytes = (codes "#:len=" ++ decimal (length bytes)) ⏎ text_lines bytes
 
@@ -70,7 +70,7 @@ gdbm_header = codes "# GDBM dump file created by Boddurci" ⏎ codes "#:version=
 abbrev pub gdbm_end : ℕ → List ℕ
 gdbm_end count = (codes "#:count=" ++ decimal count) ⏎ codes "# End of data" ⏎ []
 
--- a header, the pairs, and how many there are
+-- the header, the pairs and their number
 abbrev pub gdbm_text : List Pair → List ℕ
 gdbm_text pairs = gdbm_header ++ (flat_map gdbm_pair pairs ++ gdbm_end (length pairs))
 
@@ -80,7 +80,7 @@ gdbm_text pairs = gdbm_header ++ (flat_map gdbm_pair pairs ++ gdbm_end (length p
 abbrev pub bulk : List ℕ → List ℕ
 bulk bytes = 36 ∷ (decimal (length bytes) ++ (13 ∷ 10 ∷ (bytes ++ 13 ∷ 10 ∷ [])))
 
--- three words follow, of which SET is the first
+-- an array of three words with SET as the first
 abbrev pub set_front : List ℕ
 set_front = codes "*3" ++ (13 ∷ 10 ∷ (codes "$3" ++ (13 ∷ 10 ∷ (codes "SET" ++ 13 ∷ 10 ∷ []))))
 

@@ -1,4 +1,4 @@
-//! Why a dump was not written or not loaded.
+//! Errors of dumps.
 ghost use Rattle.std.specs.Prelude.{◌≡◌};
 ghost use Rattle.dbm_dump.specs.declared.fault.DumpFault.TheVariants.{NoMemory};
 
@@ -7,23 +7,23 @@ use std::alloc::AllocError;
 use std::error::Error;
 use std::fmt;
 
-/// Why a dump was not written or not loaded. It prints as its name, with the number of a line, from 1 on.
+/// Why writing or loading a dump failed. It prints as its name, with the number of the line, from 1 on.
 #[derive(Clone, Copy, Debug)]
 pub enum DumpFault {
-    /// The format is none that is written, or none that is read.
+    /// The format is unknown, or cannot be read.
     BadFormat,
     /// The reader failed.
     Read,
-    /// The line with this number, the first such, may not stand where it does.
+    /// The line with this number is invalid in its place. It is the first invalid line.
     BadDump(u64),
-    /// The line with this number has more than 16,384 bytes, or brings a pair, a key or a value that is larger than pairs may be. The key
-    /// of the pair is told, where it is known.
+    /// The line with this number has more than 16,384 bytes, or its pair, key or value is over the size limit. Includes the key of the pair
+    /// if it is known.
     TooLarge(u64, Option<KeyHead>),
-    /// The pair of the line with this number finds no room in the database: too many keys share their hash with its key, which is told.
+    /// The pair of the line with this number does not fit in the database: too many keys share the hash of its key. Includes the key.
     Crowded(u64, KeyHead),
-    /// The text ends before the dump does.
+    /// The dump is truncated.
     CutOff,
-    /// No memory was left.
+    /// Allocation failed.
     NoMemory,
 }
 

@@ -1,4 +1,4 @@
-//! The formats of a dump, by their names.
+//! The formats of dumps, and their names.
 ghost use Rattle.std.specs.Prelude.{◌≡◌};
 ghost use Rattle.dbm_dump.specs.Formats.{format_of, named, start_in, start_of};
 
@@ -7,15 +7,15 @@ use crate::stage::{Role, Stage};
 /// The format of a dump.
 #[derive(Clone, Copy, Debug, PartialEq, Eq)]
 pub enum Format {
-    /// Our own, `text`: a header, a line for each pair in hex, and a last line that says that it is whole.
+    /// `text`, our own format: a header, a line for each pair in hex, and a last line that marks the dump as complete.
     Plain,
     /// `gdbm`: the ASCII format of `gdbm_dump` and `gdbm_load`.
     Gdbm,
-    /// `redis`: a command SET for each pair, as `redis-cli --pipe` takes them. It is written alone, and not read.
+    /// `redis`: a SET command for each pair, for `redis-cli --pipe`. It can be written but not read.
     Redis,
 }
 
-/// The format in which a dump is written, by the name that was given, and our own without one. A name of no format gives none.
+/// The format to write, by name; our own if no name is given. Returns `None` if the name is unknown.
 pub fn format_of(name: Option<&str>) -> Option<Format>
     ensures { result ≡ format_of name.entry }
 {
@@ -25,8 +25,8 @@ pub fn format_of(name: Option<&str>) -> Option<Format>
     }
 }
 
-/// How the reading of a dump begins, by the name of its format; without a name its first line tells which it is. A name of no format
-/// that can be read gives none.
+/// The first stage of reading a dump, by the name of its format. If no name is given, the first line determines the format. Returns `None`
+/// if the format is unknown or cannot be read.
 pub fn start_of(name: Option<&str>) -> Option<Stage>
     ensures { result ≡ start_of name.entry }
 {
@@ -36,7 +36,7 @@ pub fn start_of(name: Option<&str>) -> Option<Stage>
     }
 }
 
-// How the reading of a dump of a format begins.
+// The first stage of reading a format.
 fn start_in(format: Option<Format>) -> Option<Stage>
     ensures { result ≡ start_in format }
 {
@@ -52,7 +52,7 @@ fn start_in(format: Option<Format>) -> Option<Stage>
     }
 }
 
-// The format with a name.
+// The format with this name.
 fn named(name: &[u8]) -> Option<Format>
     ensures { result ≡ named name.now }
 {

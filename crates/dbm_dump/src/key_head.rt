@@ -1,13 +1,13 @@
-//! The first bytes of a key, which a fault reports.
+//! The first bytes of a key, for error messages.
 ghost use Rattle.dbm_dump.specs.Heads.{IsHead};
 
 use std::fmt;
 
-/// At most this many bytes of a key are stored.
+/// The longest stored part of a key, in bytes.
 const HEAD_LEN: usize = 32;
 
-/// The first 32 bytes of a key, and its length. It prints as text in quotes if these bytes are UTF-8 without control characters, otherwise in
-/// hex, with two dots after a longer key.
+/// The first 32 bytes of a key, and its length. It prints as text in quotes if these bytes are UTF-8 without control characters, and
+/// otherwise in hex. Two dots mark a longer key.
 #[derive(Clone, Copy, Debug)]
 pub struct KeyHead {
     bytes: [u8; 32],
@@ -31,7 +31,7 @@ impl KeyHead {
         }
     }
 
-    // The bytes that are stored.
+    // The stored bytes.
     fn kept(&self) -> &[u8] {
         if self.len < HEAD_LEN {
             return &self.bytes[..self.len];
@@ -56,7 +56,7 @@ impl fmt::Display for KeyHead {
     }
 }
 
-// Bytes in hex, or a dot for none.
+// Prints bytes in hex, or a dot if there are no bytes.
 fn show_hex<W: fmt::Write>(bytes: &[u8], f: &mut fmt::Formatter<W>) -> fmt::Result {
     if bytes.is_empty() {
         return f.write_str(".");

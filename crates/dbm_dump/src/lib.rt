@@ -1,5 +1,5 @@
-//! Dumps: all pairs of a database as one text, in our own format, in gdbm's or as commands for Redis; and the pairs of such a text,
-//! stored one after another.
+//! Dumps: writes all pairs of a database as one text, in our own format, in gdbm's or as commands for Redis. Loads the pairs of the first
+//! two into a database.
 #![tactic(auto)]
 
 mod fault;

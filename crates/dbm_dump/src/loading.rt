@@ -1,4 +1,4 @@
-//! Dumps that are loaded into a database, line by line.
+//! Loads a dump into a database, line by line.
 ghost use Rattle.std.specs.Prelude.{◌≡◌, ◌<◌, ◌==◌, cond, length, true, false, IfOk, IfErr, IfSome};
 ghost use Rattle.dbm_lines.specs.Lines.{Gives, lines_left};
 ghost use Rattle.dbm_dump.specs.Steps.{is_end};
@@ -15,17 +15,17 @@ use std::alloc::Global;
 use std::io::Read;
 use store_cmd::{Command, Reply};
 
-/// A line has at most this many bytes: that of a pair of a database has at most 16,018.
+/// The longest line, in bytes. The line of a pair has at most 16,018.
 const LINE_LIMIT: usize = 16_384;
 
-/// A database into which a dump was loaded, and how many pairs the dump had.
+/// A database after loading a dump, and the number of pairs in the dump.
 #[derive(Drop)]
 pub struct Loaded {
     pub image: Image<Global>,
     pub count: u64,
 }
 
-// A database into which the pairs of a dump are being loaded, how far it was read, and how many there were.
+// The state of loading: the database, the stage of reading, and the number of pairs so far.
 #[derive(Drop)]
 struct Loading {
     image: Image<Global>,
@@ -33,14 +33,16 @@ struct Loading {
     count: u64,
 }
 
-/// Stores the pairs of a dump in a database, in their order, each as by `replace`, or as by `insert`, which leaves a pair that is there.
-/// The dump is read line by line, so it may have any length.
+/// Stores the pairs of a dump in a database, in order, each as by `replace` or `insert`; `insert` keeps an existing pair. A dump may have
+/// any length, because it is read line by line.
 ///
 /// # Errors
-/// The first that is met: `Read` if the reader fails, `BadDump` with the first line that is invalid where it stands, `TooLarge` with one of
-/// more than 16,384 bytes or one that brings a pair, or the length of a key or a value, above what pairs may have, `Crowded` with one
-/// whose pair finds no room, `CutOff` if the text ends before the dump does, and `NoMemory`. The LF at the end of a text begins no line.
-/// The database is dropped then.
+/// The first of these; the database is then dropped. The LF at the end of a text does not begin another line.
+/// - `Read` if the reader fails, and `NoMemory`.
+/// - `BadDump` with the number of the first line that is invalid in its place.
+/// - `TooLarge` with a line that has more than 16,384 bytes, or whose pair, key or value is over the size limit.
+/// - `Crowded` with a line whose pair does not fit in the database.
+/// - `CutOff` if the dump is truncated.
 pub fn load<R: Read>(
     alloc: Global,
     reader: &mut R,
@@ -68,8 +70,8 @@ pub fn load<R: Read>(
     Err(DumpFault::Read)
 }
 
-// Reads the next line, whose number this is. Returns whether there is one: nothing after the last LF of a text is no line, except for the
-// empty first line of an empty text.
+// Reads the next line, which has this number. Returns `false` if no lines are left. An empty piece after the last LF is not a line, except
+// in an empty text, whose first line is empty.
 fn next_line<R: Read>(
     lines: &mut Lines,
     reader: &mut R,
@@ -89,7 +91,7 @@ fn next_line<R: Read>(
     Ok(!is_empty_end(lines, line.as_slice()))
 }
 
-// Whether a piece of a text is empty and the last.
+// Returns `true` if a piece is empty and the last.
 fn is_empty_end(lines: &Lines, line: &[u8]) -> bool
     ensures { result ≡ cond lines.now.ended (length line.now == 0) false }
 {
@@ -99,7 +101,7 @@ fn is_empty_end(lines: &Lines, line: &[u8]) -> bool
     false
 }
 
-// Reads the text up to the next LF, or to its end, as the line with this number. Returns whether there is one.
+// Reads up to the next LF, or to the end of the text, as the line with this number. Returns `false` at the end of the text.
 fn next_piece<R: Read>(
     lines: &mut Lines,
     reader: &mut R,
@@ -117,7 +119,7 @@ fn next_piece<R: Read>(
     }
 }
 
-// The database where the lines end, if the dump may end there.
+// The loaded database, if the dump may end at this stage.
 fn finish(loading: Loading) -> Result<Loaded, DumpFault>
     ensures ok { IfOk result (λ r. (is_end loading.stage ≡ true) × ((r.image ≡ loading.image) × (r.count ≡ loading.count))) }
     ensures fault { IfErr result (λ fault. (is_end loading.stage ≡ false) × (fault ≡ DumpFault.CutOff)) }
@@ -133,7 +135,7 @@ fn finish(loading: Loading) -> Result<Loaded, DumpFault>
     Ok(Loaded { image, count })
 }
 
-// Reads a line, whose number this is, and stores its pair, where it has one.
+// Takes the line with this number, and stores its pair if it has one.
 fn take_line(
     alloc: Global,
     mode: Mode,
@@ -173,7 +175,7 @@ fn take_line(
     }
 }
 
-// Stores a pair of the line with this number.
+// Stores the pair of the line with this number.
 fn store_pair(
     alloc: Global,
     mode: Mode,

@@ -1,4 +1,4 @@
-//! What the lines of a dump say.
+//! Parses the lines of a dump.
 ghost use Rattle.std.specs.Prelude.{◌≡◌, IfOk, Some, option_map};
 ghost use Rattle.dbm_script.specs.Notation.{hex_bytes};
 ghost use Rattle.dbm_dump.specs.Marks.{behind, both, count_mark, len_mark, mark_of, number_behind, number_in, pair_of, sign_of};
@@ -7,22 +7,22 @@ use dbm_script::{Notation, first_piece, read_bytes, read_number};
 use sdbm_addr::Bytes;
 use std::alloc::{AllocError, Global};
 
-/// What a line of a dump in gdbm's format says.
+/// The kind of a line in gdbm's format.
 #[derive(Clone, Copy, Debug, PartialEq, Eq)]
 pub enum Mark {
-    /// Any other line that begins with '#', or an empty one.
+    /// Any other line that begins with '#', or an empty line.
     Note,
-    /// A key or a value of so many bytes begins.
+    /// The beginning of a key or a value of this length.
     Len(u64),
-    /// There were so many pairs.
+    /// The number of pairs in the dump.
     Count(u64),
     /// Text in base64.
     Text,
-    /// A length or a count that is no number.
+    /// A length or a count that is not a number.
     Bad,
 }
 
-/// What a line of a dump in gdbm's format says.
+/// The kind of a line in gdbm's format.
 pub fn mark_of(line: &[u8]) -> Mark
     ensures { result ≡ mark_of line.now }
 {
@@ -35,7 +35,7 @@ pub fn mark_of(line: &[u8]) -> Mark
     Mark::Text
 }
 
-// What a line says that begins with '#'.
+// The kind of a line that begins with '#'.
 fn sign_of(line: &[u8]) -> Mark
     ensures { result ≡ sign_of line.now }
 {
@@ -72,24 +72,24 @@ fn number_in(digits: &[u8]) -> Option<u64>
     read_number(digits, u64::MAX)
 }
 
-/// The number after a text with which a line begins, where it is so.
+/// The number after `front`, if the line begins with it.
 pub fn number_behind(front: &[u8], line: &[u8]) -> Option<u64>
     ensures { result ≡ number_behind front.now line.now }
 {
     number_in(behind(front, line)?)
 }
 
-// What follows a text with which a line begins, where it does so.
+// The rest of a line after `front`, if the line begins with it.
 fn behind<'a>(front: &[u8], line: &'a [u8]) -> Option<&'a [u8]>
     ensures { option_map (λ rest. rest.now) result ≡ behind front.now line.now }
 {
     line.strip_prefix(front)
 }
 
-/// The pair of a line, key and value in hex, where it is one.
+/// The pair of a line, key and value in hex. Returns `None` if the line is not a pair.
 ///
 /// # Errors
-/// `AllocError` where there is no memory for the pair.
+/// `AllocError` if allocation fails.
 pub fn pair_of(
     alloc: Global,
     line: &[u8],
@@ -107,7 +107,7 @@ pub fn pair_of(
     }
 }
 
-// A key and a value in hex, where both are.
+// A key and a value in hex. Returns `None` if one of them is invalid.
 fn both(
     alloc: Global,
     key: &[u8],

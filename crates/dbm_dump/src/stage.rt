@@ -1,4 +1,4 @@
-//! How far a dump was read, and what its next line adds.
+//! The stages of reading a dump, and the effect of the next line.
 ghost use Rattle.std.specs.Prelude.{◌≡◌, ◌++◌, IfOk, Some};
 ghost use Rattle.dbm_dump.specs.Heads.{IsReported};
 ghost use Rattle.dbm_dump.specs.Loading.{open_key, open_len};
@@ -14,7 +14,7 @@ use sdbm_addr::Bytes;
 use std::alloc::{AllocError, Global};
 use std::marker::Model;
 
-/// A text in base64, as far as it was read, seen as the list of its bytes.
+/// Incomplete base64 text. Its model is the list of its bytes.
 #[derive(Drop)]
 pub struct Part {
     text: Vec<u8>,
@@ -28,7 +28,7 @@ impl Model for Part {
     ghost view = { λ part. part.text.items };
 }
 
-/// What the next key or value of gdbm's format is.
+/// The role of the next datum in gdbm's format.
 #[derive(Drop)]
 pub enum Role {
     /// A key.
@@ -37,44 +37,44 @@ pub enum Role {
     Value(Bytes<Global>),
 }
 
-/// How far a dump was read.
+/// A stage of reading a dump.
 #[derive(Drop)]
 pub enum Stage {
-    /// Nothing was read; the first line tells the format.
+    /// The beginning. The first line determines the format.
     First,
-    /// Nothing was read of our own format.
+    /// The beginning of our own format.
     Title,
-    /// The title was read.
+    /// After the title.
     Keys,
-    /// How keys hash was read.
+    /// After the line with the hash of keys.
     Pages,
-    /// How large pages are was read.
+    /// After the line with the page size.
     Count,
-    /// How many pairs there are was read.
+    /// After the line with the number of pairs.
     Gap {
         left: u64,
     },
-    /// So many pairs are left.
+    /// Within the pairs, with `left` pairs to go.
     Pairs {
         left: u64,
     },
-    /// Of gdbm's format so many pairs were read, and what comes next begins with its length.
+    /// In gdbm's format, after `seen` pairs. A datum begins next, with its length.
     Between {
         seen: u64,
         role: Role,
     },
-    /// So many pairs were read, and of what has this length a text.
+    /// In gdbm's format, after `seen` pairs, within a datum of `len` bytes. `text` is its base64 so far.
     Within {
         seen: u64,
         role: Role,
         len: u64,
         text: Part,
     },
-    /// The end was read, of either format.
+    /// After the end, in either format.
     Over,
 }
 
-/// What a line adds to what was read.
+/// The effect of a line: the next stage, and the pair of the line if it has one.
 #[derive(Drop)]
 pub struct Next {
     pub stage: Stage,
@@ -82,14 +82,14 @@ pub struct Next {
 }
 
 impl Stage {
-    /// Whether a dump may end there.
+    /// Returns `true` if the dump may end at this stage.
     pub fn is_end(&self) -> bool
         ensures { result ≡ spec.is_end self.now }
     {
         matches!(self, Stage::Over)
     }
 
-    /// The bytes of the key or value that is begun, or 0.
+    /// The length of the datum that has begun, or 0.
     pub fn open_len(&self) -> u64
         ensures { result ≡ open_len self.now }
     {
@@ -99,7 +99,7 @@ impl Stage {
         }
     }
 
-    /// The key of the value that was begun, if a value was.
+    /// The key of the value that has begun, if any.
     pub fn open_key(&self) -> Option<KeyHead>
         ensures { IsReported (open_key self.now) result }
     {
@@ -113,10 +113,10 @@ impl Stage {
     }
 }
 
-/// What a line adds to what was read, where it may stand there.
+/// Reads a line. Returns `None` if it is invalid at this stage.
 ///
 /// # Errors
-/// `AllocError` where there is no memory for it. What was read is gone then.
+/// `AllocError` if allocation fails. The stage is then dropped.
 pub fn step(alloc: Global, stage: Stage, line: &[u8]) -> Result<Option<Next>, AllocError>
     ensures { IfOk result (λ s. s ≡ spec.step stage line.now) }
 {
@@ -146,7 +146,7 @@ fn goes(stage: Stage) -> Option<Next>
     Some(Next { stage, pair: None })
 }
 
-// The first line, which tells the format.
+// The first line, which determines the format.
 fn first_step(alloc: Global, line: &[u8]) -> Result<Option<Next>, AllocError>
     ensures { IfOk result (λ s. s ≡ spec.first_step line.now) }
 {
@@ -210,7 +210,7 @@ fn gap_step(left: u64, line: &[u8]) -> Option<Next>
     None
 }
 
-// A line where so many pairs are left.
+// A line while `left` pairs are left.
 fn pairs_step(alloc: Global, left: u64, line: &[u8]) -> Result<Option<Next>, AllocError>
     ensures { IfOk result (λ s. s ≡ spec.pairs_step left line.now) }
 {
@@ -224,7 +224,7 @@ fn pairs_step(alloc: Global, left: u64, line: &[u8]) -> Result<Option<Next>, All
     Ok(listed(left, pair))
 }
 
-// The last line, where so many pairs are left.
+// The last line, valid if no pairs are left.
 fn closes(left: u64) -> Option<Next>
     ensures { result ≡ spec.closes left }
 {
@@ -234,7 +234,7 @@ fn closes(left: u64) -> Option<Next>
     None
 }
 
-// One of the pairs that are left.
+// A line with one of the remaining pairs.
 fn listed(left: u64, pair: Option<(Bytes<Global>, Bytes<Global>)>) -> Option<Next>
     ensures { result ≡ spec.listed left pair }
 {
@@ -248,7 +248,7 @@ fn listed(left: u64, pair: Option<(Bytes<Global>, Bytes<Global>)>) -> Option<Nex
     })
 }
 
-// A line of gdbm's format between two keys or values.
+// A line of gdbm's format between two data.
 fn between_step(
     alloc: Global,
     seen: u64,
@@ -270,7 +270,7 @@ fn between_step(
     }
 }
 
-// The count of the pairs.
+// The line with the number of pairs.
 fn ended(seen: u64, role: Role, count: u64) -> Option<Next>
     ensures { result ≡ spec.ended seen role count }
 {
@@ -285,7 +285,7 @@ fn ended(seen: u64, role: Role, count: u64) -> Option<Next>
     }
 }
 
-// A line of gdbm's format within a key or a value.
+// A line of gdbm's format within a datum.
 fn within_step(
     alloc: Global,
     seen: u64,
@@ -315,14 +315,14 @@ fn within_step(
     }
 }
 
-// Whether a line may stand after this text of a datum of so many bytes: it completes the datum, or is base64 that may go on.
+// Returns `true` if a line may follow this text of a datum of `len` bytes: it completes the datum, or the base64 may continue after it.
 fn may_follow(len: u64, text: &Part, line: &[u8]) -> bool
     ensures { result ≡ spec.may_follow len text.now line.now }
 {
     holds(len, text.text.len() + line.len()) || is_open(text.text.as_slice(), line)
 }
 
-// A text, and a line after it.
+// Appends a line to a text.
 fn longer(text: Part, line: &[u8]) -> Result<Part, AllocError>
     ensures { IfOk result (λ longer. longer ≡ text ++ line.now) }
 {
@@ -331,7 +331,7 @@ fn longer(text: Part, line: &[u8]) -> Result<Part, AllocError>
     Ok(text)
 }
 
-// Whether the groups of four among so many characters hold so many bytes.
+// Returns `true` if the complete groups of four among `count` characters of base64 hold at least `len` bytes.
 fn holds(len: u64, count: usize) -> bool
     ensures { result ≡ spec.holds len count }
 {
@@ -344,7 +344,7 @@ fn is_full(len: u64, text: &Part) -> bool
     holds(len, text.text.len())
 }
 
-// A key or a value of so many bytes, of which a text is there.
+// A datum of `len` bytes after some of its text was read.
 fn grown(
     alloc: Global,
     seen: u64,
@@ -374,7 +374,7 @@ fn grown(
     }
 }
 
-// A key, or the value of a key, is read.
+// A complete key, or the complete value of a key.
 fn closed(seen: u64, role: Role, bytes: Bytes<Global>) -> Option<Next>
     ensures { result ≡ spec.closed seen role bytes }
 {

@@ -1,10 +1,10 @@
-//! Base64 text that is not complete yet: which lines may follow.
+//! Incomplete base64 text, and the lines that may follow it.
 ghost use Rattle.std.specs.Prelude.{◌≡◌};
 ghost use Rattle.std.specs.List.{list_all};
 ghost use Rattle.dbm_dump.specs.Symbols.{is_open, is_symbol, without_pad};
 
-/// Whether `line` may follow `text` in a base64 text that goes on after it: both have symbols only, except for one `=` at the end of the
-/// line that is the third character of its group of four.
+/// Returns `true` if `line` may follow `text` in a base64 text that continues after it. Both have only symbols, except that `line` may end
+/// with one `=` if that is the third character of its group of four.
 pub fn is_open(text: &[u8], line: &[u8]) -> bool
     ensures { result ≡ is_open text.now line.now }
 {

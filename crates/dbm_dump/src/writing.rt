@@ -1,4 +1,4 @@
-//! The text of a dump.
+//! Writes dumps.
 ghost use Rattle.std.specs.Prelude.{◌≡◌, ◌<◌, ◌^◌, ◌++◌, IfOk, OnOk, Some, decimal, length};
 ghost use Rattle.std.specs.List.{flat_map};
 ghost use Rattle.hex.specs.Hex.{IsBytes};
@@ -14,14 +14,14 @@ use itoa::Buffer;
 use sdbm_addr::{Bytes, KeyBytes, PageSize};
 use std::alloc::{AllocError, Global};
 
-/// What stands before the pairs in gdbm's format.
+/// The header of gdbm's format.
 const GDBM_HEADER: &[u8] =
     b"# GDBM dump file created by Boddurci\n#:version=1.1\n#:format=standard\n# End of header\n";
 
-/// The dump of the pairs of a database, in a format. One in our own format or in gdbm's reads back to these pairs.
+/// The dump of these pairs in a format. Reading a dump in our own format or in gdbm's returns the same pairs.
 ///
 /// # Errors
-/// `AllocError` where there is no memory for the text.
+/// `AllocError` if allocation fails.
 pub fn dump_pairs(
     alloc: Global,
     format: Format,
@@ -95,7 +95,7 @@ fn pages_line(size: PageSize) -> &'static [u8]
     }
 }
 
-// A number in decimal after a text.
+// Appends a number in decimal to `text`.
 fn show_number(number: usize, text: &mut Vec<u8>) -> Result<(), AllocError>
     ensures { OnOk result (text.new.items ≡ text.old.items ++ decimal number) }
 {
@@ -103,7 +103,7 @@ fn show_number(number: usize, text: &mut Vec<u8>) -> Result<(), AllocError>
     text.extend_from_slice(digits.format(number).as_bytes())
 }
 
-// The line of a pair after a text.
+// Appends the line of a pair to `text`.
 fn show_pair(key: &[u8], value: &[u8], text: &mut Vec<u8>) -> Result<(), AllocError>
     ensures text { OnOk result (text.new.items ≡ text.old.items ++ pair_line (key.now, value.now)) }
     ensures bytes { AreBytes (key.now, value.now) }
@@ -114,7 +114,7 @@ fn show_pair(key: &[u8], value: &[u8], text: &mut Vec<u8>) -> Result<(), AllocEr
     Ok(text.push(b'\n')?)
 }
 
-// gdbm's format: a header, the pairs, and how many there are.
+// gdbm's format: a header, the pairs, and their number.
 fn gdbm_dump(alloc: Global, pairs: &[(Bytes<Global>, Bytes<Global>)]) -> Result<Vec<u8>, AllocError>
     ensures text { IfOk result (λ text. text.items ≡ spec.gdbm_text pairs.now) }
     ensures reads { IfOk result (λ text. pairs_of Stage.First text.items ≡ Some pairs.now) }
@@ -130,7 +130,7 @@ fn gdbm_dump(alloc: Global, pairs: &[(Bytes<Global>, Bytes<Global>)]) -> Result<
     Ok(text)
 }
 
-// A key and a value in gdbm's format after a text.
+// Appends a key and a value in gdbm's format to `text`.
 fn show_data(alloc: Global, key: &[u8], value: &[u8], text: &mut Vec<u8>) -> Result<(), AllocError>
     ensures text { OnOk result (text.new.items ≡ text.old.items ++ spec.gdbm_pair (key.now, value.now)) }
     ensures good { OnOk result (IsGood (key.now, value.now)) }
@@ -139,7 +139,7 @@ fn show_data(alloc: Global, key: &[u8], value: &[u8], text: &mut Vec<u8>) -> Res
     show_datum(alloc, value, text)
 }
 
-// The length of some bytes, and then their base64 in a line, after a text. No bytes have no line.
+// Appends the length of a datum, and then its base64 on a line, to `text`. An empty datum has no line.
 fn show_datum(alloc: Global, bytes: &[u8], text: &mut Vec<u8>) -> Result<(), AllocError>
     ensures text { OnOk result (text.new.items ≡ text.old.items ++ spec.datum_lines bytes.now) }
     ensures bytes { IsBytes bytes.now }
@@ -156,7 +156,7 @@ fn show_datum(alloc: Global, bytes: &[u8], text: &mut Vec<u8>) -> Result<(), All
     Ok(text.push(b'\n')?)
 }
 
-// A command for Redis for each pair.
+// A SET command for each pair.
 fn redis_dump(
     alloc: Global,
     pairs: &[(Bytes<Global>, Bytes<Global>)],
@@ -170,7 +170,7 @@ fn redis_dump(
     Ok(text)
 }
 
-// The command SET of a key and a value after a text.
+// Appends the SET command of a key and a value to `text`.
 fn show_set(key: &[u8], value: &[u8], text: &mut Vec<u8>) -> Result<(), AllocError>
     ensures { OnOk result (text.new.items ≡ text.old.items ++ spec.redis_pair (key.now, value.now)) }
 {
@@ -179,7 +179,7 @@ fn show_set(key: &[u8], value: &[u8], text: &mut Vec<u8>) -> Result<(), AllocErr
     show_bulk(value, text)
 }
 
-// The length of some bytes, and then the bytes, after a text.
+// Appends the length of some bytes, and then the bytes, to `text`.
 fn show_bulk(bytes: &[u8], text: &mut Vec<u8>) -> Result<(), AllocError>
     ensures { OnOk result (text.new.items ≡ text.old.items ++ spec.bulk bytes.now) }
 {

@@ -1,4 +1,4 @@
--- Lines that were given, where the bytes of the reader are known.
+-- The lines that a reader with known bytes returned.
 use Rattle.std.proofs.Common.{◌≡◌, ℕ, List, [], ◌∷◌, ◌++◌, Bool, true, false, not, cond, length, Option, Some, None, option_map, IfSome, refl, sym, ap, ◌∙◌, arith, eqb}
 use Rattle.std.proofs.lemmas.Bool.{false≢true}
 use Rattle.std.proofs.lemmas.List.Splits.{length-slice_split}
@@ -14,21 +14,21 @@ pub next_line : (others : List (List ℕ)) (line : List ℕ) (left : Option (Lis
 next_line [] line left gives = absurd gives
 next_line (l ∷ ls) line left gives = (ls, (ap (λ (x : List ℕ). x ∷ ls) (sym gives.0), gives.1))
 
--- none is left
+-- no lines are left
 pub no_line : (others : List (List ℕ)) (line : List ℕ) (left : Option (List (List ℕ))) → Gives (Some others) false line left → others ≡ []
 no_line [] line left gives = refl
 no_line (l ∷ ls) line left gives = absurd gives
 
 -- ---- lines that end with LF
 
--- a text has a piece
+-- every text has at least one piece
 pub some_pieces : (text : List ℕ) → pieces_of 10 text ≡ [] → ⊥
 some_pieces text none =
     let long = length-slice_split (λ x. eqb x 10) text in
     let nothing : length (pieces_of 10 text) ≡ 0 = ap length none in
     omega arith
 
--- where lines are left, the reader has not ended
+-- if lines are left, the reader has not ended
 is_open : (u : Unread) (known : Option (List ℕ)) (l : List ℕ) (ls : List (List ℕ)) → lines_left u known ≡ Some (l ∷ ls) → u.ended ≡ false
 is_open u known l ls left = by_end u.ended refl
   where
@@ -39,7 +39,7 @@ is_open u known l ls left = by_end u.ended refl
         no : l ∷ ls ≡ [] → ⊥
         no h = cc
 
--- where no line is left, it has
+-- if no lines are left, the reader has ended
 pub is_over : (ended : Bool) (rest : List ℕ) (known : Option (List ℕ)) → lines_left (record { rest = rest; ended = ended }) known ≡ Some [] → ended ≡ true
 is_over true rest known left = refl
 is_over false rest None left = absurd (cc)
@@ -62,7 +62,7 @@ gives_none None line left' gives = tt
 gives_none (Some []) line left' gives = (refl, gives)
 gives_none (Some (l ∷ ls)) line left' gives = absurd gives
 
--- what follows of known bytes
+-- a consequence that holds for known bytes
 pub known : (known : Option (List ℕ)) (P Q : List ℕ → Type 0) → ((input : List ℕ) → P input → Q input) → IfSome known P → IfSome known Q
 known None P Q f h = tt
 known (Some input) P Q f h = f input h

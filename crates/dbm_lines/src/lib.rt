@@ -1,4 +1,4 @@
-//! The lines of a reader, of which no more is kept than a line and a buffer.
+//! Splits the bytes of a reader into lines. Memory holds one line and a buffer.
 #![tactic(auto)]
 
 ghost use Rattle.std.specs.Prelude.{◌≡◌, ◌≤◌, [], false, vec_len, IfOk, IsErrOf};
@@ -11,14 +11,14 @@ use std::alloc::{AllocError, Global};
 use std::io::Read;
 use std::marker::Model;
 
-/// Why a reader gave no line.
+/// Why the next line could not be read.
 #[derive(Clone, Copy, Debug, PartialEq, Eq)]
 pub enum LineFault {
     /// The reader failed.
     Read,
-    /// The line has more bytes than it may have.
+    /// The line is longer than the limit.
     TooLong,
-    /// No memory was left.
+    /// Allocation failed.
     NoMemory,
 }
 
@@ -30,7 +30,7 @@ impl From<AllocError> for LineFault {
     }
 }
 
-/// What was read from a reader and is not given yet, and whether that is all.
+/// A buffer of bytes that were read but not yet returned. It also records whether the input has ended.
 #[derive(Drop)]
 pub struct Lines {
     buffer: Vec<u8>,
@@ -49,7 +49,7 @@ impl Model for Lines {
 }
 
 impl Lines {
-    /// The lines of a reader of which nothing was read.
+    /// An empty buffer, for a reader at its beginning.
     pub fn new(alloc: Global) -> Self
         ensures rest { result.rest ≡ [] }
         ensures open { result.ended ≡ false }
@@ -61,19 +61,19 @@ impl Lines {
         }
     }
 
-    /// Whether all lines were given.
+    /// Returns `true` if no lines are left.
     pub fn has_ended(&self) -> bool
         ensures { result ≡ self.now.ended }
     {
         self.ended
     }
 
-    /// Puts the next line of the reader, without its end, in place of `line`, and tells whether there is one. After the last LF
-    /// stands one more, which may be empty. No more is read than it takes to have the line.
+    /// Replaces `line` by the next line, without its LF. Returns `false` if no lines are left. The bytes after the last LF are one more
+    /// line, which may be empty. Reads no more than the line needs.
     ///
     /// # Errors
-    /// `Read` where the reader fails or is interrupted, `TooLong` where the line has more than `most` bytes, and `NoMemory`. What was
-    /// read is of no use then.
+    /// `Read` if the reader fails or is interrupted, `TooLong` if the line has more than `most` bytes, and `NoMemory`. On error, the bytes
+    /// read so far are lost.
     pub fn next<R: Read>(
         &mut self,
         reader: &mut R,
@@ -102,8 +102,8 @@ impl Lines {
         }
     }
 
-    /// Like `next`, for a reader whose lines all end with LF. Returns `false` once what follows the last LF is in `line`: nothing, or a line
-    /// that was cut off.
+    /// Like `next`, for a reader whose lines all end with LF. Returns `false` when `line` has the bytes after the last LF: none, or an
+    /// incomplete line.
     ///
     /// # Errors
     /// Those of `next`.
@@ -122,7 +122,7 @@ impl Lines {
         Ok(!self.has_ended())
     }
 
-    // Puts what was read, up to the next LF, after a text, and tells whether there is one.
+    // Moves the buffered bytes up to the next LF to the end of `line`. Returns `false` if there is no LF.
     fn take_piece(&mut self, line: &mut Vec<u8>) -> Result<bool, AllocError>
         ensures taken { IfOk result (λ found. TakesPiece found self.old.rest line.old.items line.new.items self.new.rest) }
         ensures same { self.new.ended ≡ self.old.ended }
@@ -142,7 +142,7 @@ impl Lines {
         }
     }
 
-    // Reads on, and tells whether there was more.
+    // Fills the empty buffer. Returns `false` at the end of the input.
     fn refill<R: Read>(&mut self, reader: &mut R) -> Result<bool, LineFault>
         ensures read { IfOk result (λ _. Consumes (R.remaining reader.old) (R.remaining reader.new) self.new.rest) }
         ensures more { IfOk result (λ more. Refills more self.new.rest (R.remaining reader.new)) }

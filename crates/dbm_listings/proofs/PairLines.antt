@@ -1,4 +1,4 @@
--- Pairs listed one by one.
+-- Listing pairs one by one.
 use Rattle.std.proofs.Common.{◌≡◌, ℕ, ◌+◌, ◌<◌, nat_eq, List, [], ◌∷◌, ◌++◌, length, take, drop, get_or, ap, sym, ◌∙◌}
 use Rattle.std.proofs.lemmas.Grind.{flat_map-append}
 use Rattle.std.proofs.lemmas.List.{map_more, map-append, take-append-drop}
@@ -16,7 +16,7 @@ rows-append n listing prefix xs ys =
     ap (flat_map (row_of n listing)) (filter-append (λ (e : Pair). starts_with nat_eq e.0 prefix) xs ys)
     ∙ flat_map-append (row_of n listing) (chosen prefix xs) (chosen prefix ys)
 
--- what follows the end of a list of lent pairs
+-- the default past the end of a list of borrowed pairs
 abbrev pub nothing_lent : Bor (List ℕ) × Bor (List ℕ)
 nothing_lent = (record { ref_ptr = (0, 0); now = [] }, record { ref_ptr = (0, 0); now = [] })
 
@@ -25,7 +25,7 @@ pub rows_more : {A : Type 0} (n : Notation A) (listing : Listing) (prefix : List
 rows_more n listing prefix lent i d h =
     ap (rows n listing prefix) (map_more pair_lent lent i d h) ∙ rows-append n listing prefix (pairs_lent (take i lent)) (pair_lent (get_or lent i d) ∷ [])
 
--- the rows before a pair, its own, and those after it
+-- the rows before a pair, its own row, and the rows after it
 pub rows_around : {A : Type 0} (n : Notation A) (listing : Listing) (prefix : List ℕ) (lent : List (Bor (List ℕ) × Bor (List ℕ))) (i : ℕ) (d : Bor (List ℕ) × Bor (List ℕ)) → i < length lent
     → rows n listing prefix (pairs_lent lent)
     ≡ (rows n listing prefix (pairs_lent (take i lent)) ++ rows n listing prefix (pair_lent (get_or lent i d) ∷ [])) ++ rows n listing prefix (pairs_lent (drop (i + 1) lent))

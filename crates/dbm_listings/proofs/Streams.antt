@@ -1,4 +1,4 @@
--- Rows of which the first were written.
+-- Writing rows in parts.
 use Rattle.std.proofs.Common.{◌≡◌, ◌∙◌, ap, sym, subst, ℕ, ◌+◌, ◌<◌, ◌^◌, List, Option, None, Bool, true, false, cond, ◌++◌, length, take, append_assoc, arith, length-append, refl}
 use Rattle.std.proofs.lemmas.List.{take-append-le}
 use Rattle.std.proofs.Math.Seq.{take-append-add}
@@ -20,7 +20,7 @@ use Rattle.dbm_listings.specs.Streams.{IsSplit}
 pub appends_both : (a b c : Option (List ℕ)) (x y z : List ℕ) → Appends a b x → Appends b c y → z ≡ x ++ y → Appends a c z
 appends_both a b c x y z p q e = subst (Appends a c) (sym e) (Appends-trans a b c x y p q)
 
--- a part after a text that was written
+-- a part of a text, after a text that was written
 pub part_behind : (a b c : Option (List ℕ)) (t u v : List ℕ) → Appends a b t → WritesPart b c u → v ≡ t ++ u → WritesPart a c v
 part_behind a b c t u v p q e =
     subst (WritesPart a c) (sym e)
@@ -30,7 +30,7 @@ part_behind a b c t u v p q e =
       appends = appends_both a b c t (take q.count u) _ p q.appends (take-append-add t u q.count);
     })
 
--- a part of the first bytes is a part of all
+-- a part of a prefix is a part of the text
 pub part_within : (a c : Option (List ℕ)) (u w v : List ℕ) → WritesPart a c u → v ≡ u ++ w → WritesPart a c v
 part_within a c u w v q e =
     subst (WritesPart a c) (sym e)
@@ -40,11 +40,11 @@ part_within a c u w v q e =
       appends = subst (Appends a c) (sym (take-append-le q.count u w (omega (arith, q.within)))) q.appends;
     })
 
--- nothing of a text that has a byte
+-- nothing of a nonempty text was written
 pub nothing_part : (a : Option (List ℕ)) (text : List ℕ) → 0 < length text → WritesPart a a text
 nothing_part a text some = record { count = 0; within = some; appends = Appends-nil a }
 
--- a text is written after another
+-- writing more text
 pub split_more : (a b c : Option (List ℕ)) (room more made left text all : List ℕ) → IsSplit a b room text → made ≡ room ++ more → all ≡ text ++ more → IsSplit b c left made → IsSplit a c left all
 split_more a b c room more made left text all before is_made is_all after = record {
   written = before.written ++ after.written;
@@ -52,21 +52,21 @@ split_more a b c room more made left text all before is_made is_all after = reco
   together = is_all ∙ ap (λ (xs : List ℕ). xs ++ more) before.together ∙ append_assoc before.written room more ∙ ap (λ (xs : List ℕ). before.written ++ xs) (sym is_made ∙ after.together) ∙ sym (append_assoc before.written after.written left);
 }
 
--- a row that was made after the room's, and of which not all was written
+-- a row was added to the buffer, and writing the buffer failed
 pub part_of_step : (old mid new : Option (List ℕ)) (room row made first rest all : List ℕ) → IsSplit old mid room first → made ≡ room ++ row → all ≡ (first ++ row) ++ rest → WritesPart mid new made → WritesPart old new all
 part_of_step old mid new room row made first rest all before is_made is_all part =
     let together : first ++ row ≡ before.written ++ made =
     ap (λ (xs : List ℕ). xs ++ row) before.together ∙ append_assoc before.written room row ∙ ap (λ (xs : List ℕ). before.written ++ xs) (sym is_made) in
     part_within old new (first ++ row) rest all (part_behind old mid new before.written made (first ++ row) before.appends part together) is_all
 
--- a row that has no room
+-- allocation failed for a row
 pub part_of_want : (old mid : Option (List ℕ)) (room row first rest all : List ℕ) → IsSplit old mid room first → all ≡ (first ++ row) ++ rest → 0 < length row → WritesPart old mid all
 part_of_want old mid room row first rest all before is_all some =
     part_of_step old mid mid room row (room ++ row) first rest all before refl is_all (nothing_part mid (room ++ row) (omega (arith, some, length-append room row)))
 
 -- ---- reports
 
--- a report of a text
+-- a report with this text
 abbrev pub report_of : Vec ℕ → (text : List ℕ) → length text < 2 ^ 63 → Report
 report_of v text small = record {
   text = record { ptr = v.ptr; len = length text; cap = length text; alloc = v.alloc; items = text; ok = (refl, omega arith); small = small };
@@ -91,7 +91,7 @@ printed_text v text all old new small is printed = record {
   short = tt;
 }
 
--- no memory is left for a row
+-- the fault if allocation fails for a row
 pub wanting : (text : List ℕ) (old new : Option (List ℕ)) (is_written : Bool) → (is_written ≡ false → Keeps old new) → WasCutShort (Prints text) old new
     → IsUnserved {F = ReportFault} (Prints text) (λ fault. fault ≡ NoMemory) old new (cond is_written Write (Unreported NoMemory))
 wanting text old new true kept cut = cut

@@ -1,4 +1,4 @@
--- What `keys` takes and asks, what comes of it, and why nothing does.
+-- The arguments of `keys`, its possible reports, and the conditions of its faults.
 use Rattle.std.specs.Prelude.{◌≡◌, List, ◌∷◌, codes, IsSomeAnd}
 use Rattle.clap.specs.Words.{Shape, Row}
 use Rattle.dbm_words.specs.Given.{IsForm, IsGiven, IsNotation, IsWord, is_given}

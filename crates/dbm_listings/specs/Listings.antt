@@ -1,4 +1,4 @@
--- What is shown of a database, and why nothing is.
+-- The output of the listing subcommands, and the conditions of their faults.
 use Rattle.std.specs.Prelude.{◌≡◌, ℕ, Bool, true, false, cond, List, codes, Option, None, ◌≢◌}
 use Rattle.std.specs.FinMap as map
 use Rattle.std.specs.Borrow.{Bor}
@@ -19,27 +19,27 @@ use Rattle.dbm_reports.specs.Databases.{IsShut}
 use Rattle.dbm_reports.specs.Reports.{Prints, ok_line}
 use Rattle.dbm_reports.specs.Causes.{Causes, no_causes}
 
--- the pairs whose keys begin with a prefix, sorted by their keys
+-- prints the pairs whose keys begin with a prefix, sorted by key
 abbrev pub Lists : Notation Global → Listing → List ℕ → Report → Database → Type 0
 Lists notation listing prefix report db = Prints (rows notation listing prefix (map.entries (map_of db))) report
 
--- a number of pairs, in a line or as an object
+-- a number of pairs, as a line or as an object
 abbrev pub count_shown : Bool → ℕ → List ℕ
 count_shown json n = cond json (count_object (codes "ok") n) (ok_line n)
 
--- how many pairs there are
+-- prints the number of pairs
 abbrev pub Counts : Bool → Report → Database → Type 0
 Counts json report db = Prints (count_shown json (map.len (map_of db))) report
 
--- the numbers of a database, as text or as an object
+-- the statistics of a database, as text or as an object
 abbrev pub figures_shown : Bool → Stats Global → List ℕ
 figures_shown json stats = cond json (figures_object stats) (figures_text stats)
 
--- what is in a database, in numbers
+-- prints the statistics of a database
 abbrev pub Figures : Bool → Report → Database → Type 0
 Figures json report db = (stats : Stats Global) × (AreStats db stats × Prints (figures_shown json stats) report)
 
--- a listing: its prefix comes before the files
+-- the faults of a listing: its prefix is checked before the files
 abbrev pub listing_causes : Notation Global → Form → Given → Option (Bor (List ℕ)) → Causes
 listing_causes notation form given prefix = record no_causes {
   words = (reads_hex notation ≡ true) × (prefix_asked notation prefix ≡ None);

@@ -1,8 +1,8 @@
--- Rows of which the first were written.
+-- Writing rows in parts.
 use Rattle.std.specs.Prelude.{◌≡◌, ℕ, ◌++◌, List, Option}
 use Rattle.std.specs.Io.KnownBytes.{Appends}
 
--- the first bytes of a text were written, and a room has the rest
+-- a prefix of the text was written, and the buffer has the rest
 pub record IsSplit (old new : Option (List ℕ)) (room text : List ℕ) : Type 0 where
   pub written : List ℕ
   pub appends : Appends old new written

@@ -1,4 +1,4 @@
-//! `check`: whether the files are a database.
+//! `check`: checks whether the files are a database.
 ghost use Rattle.std.specs.Prelude.{◌≡◌, IfOk, IfSome, IsNone, false};
 ghost use Rattle.clap.specs.Words.{found_of, rows_of};
 ghost use Rattle.dbm_words.specs.CommandLine.{IsSubcommand};
@@ -17,7 +17,7 @@ use sdbm_files::Image;
 use std::alloc::{AllocError, Global};
 use std::io::Read;
 
-/// Whether the files are a database, and how many pairs it has.
+/// The subcommand `check`. Prints the number of pairs if the files are a database.
 #[derive(Clone, Copy, Debug)]
 pub struct Check<'a> {
     pub base: &'a str,
@@ -26,7 +26,7 @@ pub struct Check<'a> {
 }
 
 impl<'a> Check<'a> {
-    /// What the matches of `check` ask. There is none where they lack a word that it has to have.
+    /// Reads the matches of `check`. Returns `None` if a required argument is missing.
     pub fn matched(matches: &ArgMatches<'a>) -> Option<Check<'a>>
         ensures some { IfSome result (CheckAsks (rows_of (found_of matches.now))) }
         ensures none { IsNone result → has_words spec.check.rules (rows_of (found_of matches.now)) ≡ false }
@@ -38,16 +38,16 @@ impl<'a> Check<'a> {
         })
     }
 
-    /// Its words, as sentences show them.
+    /// The arguments that messages may show.
     pub fn words(&self) -> Words<'a> {
         Words::on(Some(self.base), self.form)
     }
 }
 
-/// The subcommand `check`, as `clap` is told it.
+/// Declares the subcommand `check` for `clap`.
 ///
 /// # Errors
-/// `AllocError` where no memory is left.
+/// `AllocError` if allocation fails.
 pub fn check_command<'a>(alloc: Global) -> Result<Command<'a>, AllocError>
     ensures { IfOk result (IsSubcommand spec.check) }
 {
@@ -95,7 +95,7 @@ impl Subcommand for Check<'_> {
     }
 }
 
-// How many pairs there are, in a line or as a JSON object.
+// Reports the number of pairs, as a line or as a JSON object.
 fn counted(alloc: Global, image: &Image<Global>, json: bool) -> Result<Report, AllocError>
     ensures { IfOk result (λ report. Counts json report image.now) }
 {

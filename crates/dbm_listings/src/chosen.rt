@@ -1,4 +1,4 @@
-//! What a listing reads: its prefix and its database.
+//! The input of a listing: its prefix and its database.
 ghost use Rattle.std.specs.Prelude.{◌≡◌, Some, IfOk, IfErr};
 ghost use Rattle.dbm_reports.specs.Causes.{IsCaused};
 ghost use Rattle.dbm_reports.specs.Databases.{IsOpened};
@@ -12,10 +12,10 @@ use sdbm_addr::Bytes;
 use sdbm_files::Image;
 use std::alloc::{AllocError, Global};
 
-/// The prefix that a word asks, and then the database of the files.
+/// Reads the prefix, and then opens the database of the files.
 ///
 /// # Errors
-/// `BadHex`, or as text `BadText`, where the prefix is no bytes, and those of `open`.
+/// `BadHex` (or in a text notation `BadText`) if the prefix is invalid, and those of `open`.
 pub fn open_asked(
     alloc: Global,
     notation: &Notation<Global>,
@@ -34,7 +34,7 @@ pub fn open_asked(
     Ok((begin, image))
 }
 
-// The prefix that a word asks; without one it has no bytes.
+// Reads the prefix; without the option it is empty.
 fn read_prefix(
     alloc: Global,
     notation: &Notation<Global>,

@@ -1,4 +1,4 @@
-//! `keys`: keys, sorted by their bytes.
+//! `keys`: lists keys, sorted by their bytes.
 ghost use Rattle.std.specs.Prelude.{◌≡◌, IfOk, IfErr, IfSome, IsNone, false, is_some};
 ghost use Rattle.clap.specs.Words.{found_of, rows_of};
 ghost use Rattle.dbm_words.specs.CommandLine.{IsSubcommand};
@@ -18,7 +18,7 @@ use dbm_words::{Form, Named, NotationOptions, Words, form, has_flag, notation, s
 use std::alloc::{AllocError, Global};
 use std::io::Write;
 
-/// All keys, or those that begin with a prefix: with `null` as raw bytes, each ended by a zero byte.
+/// The subcommand `keys`. Lists all keys, or those that begin with a prefix. With `null` they are raw bytes, each ended by a zero byte.
 #[derive(Clone, Copy, Debug)]
 pub struct Keys<'a> {
     pub base: &'a str,
@@ -29,7 +29,7 @@ pub struct Keys<'a> {
 }
 
 impl<'a> Keys<'a> {
-    /// What the matches of `keys` ask. There is none where they lack a word that it has to have.
+    /// Reads the matches of `keys`. Returns `None` if a required argument is missing.
     pub fn matched(matches: &ArgMatches<'a>) -> Option<Keys<'a>>
         ensures some { IfSome result (KeysAsks (rows_of (found_of matches.now))) }
         ensures none { IsNone result → has_words spec.keys.rules (rows_of (found_of matches.now)) ≡ false }
@@ -43,7 +43,7 @@ impl<'a> Keys<'a> {
         })
     }
 
-    /// Its words, as sentences show them.
+    /// The arguments that messages may show.
     pub fn words(&self) -> Words<'a> {
         Words {
             first: match self.prefix {
@@ -58,7 +58,7 @@ impl<'a> Keys<'a> {
         }
     }
 
-    /// Serves it: writes its rows as they are made.
+    /// Serves the subcommand: writes its rows while they are made.
     ///
     /// # Errors
     /// Those of `serve_rows`.
@@ -86,10 +86,10 @@ impl<'a> Keys<'a> {
     }
 }
 
-/// The subcommand `keys`, as `clap` is told it.
+/// Declares the subcommand `keys` for `clap`.
 ///
 /// # Errors
-/// `AllocError` where no memory is left.
+/// `AllocError` if allocation fails.
 pub fn keys_command<'a>(alloc: Global) -> Result<Command<'a>, AllocError>
     ensures { IfOk result (IsSubcommand spec.keys) }
 {

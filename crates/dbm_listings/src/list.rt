@@ -1,4 +1,4 @@
-//! `list`: pairs, sorted by the bytes of their keys.
+//! `list`: lists pairs, sorted by the bytes of their keys.
 ghost use Rattle.std.specs.Prelude.{◌≡◌, IfOk, IfErr, IfSome, IsNone, false, is_some};
 ghost use Rattle.clap.specs.Words.{found_of, rows_of};
 ghost use Rattle.dbm_words.specs.CommandLine.{IsSubcommand};
@@ -22,8 +22,8 @@ use dbm_words::{
 use std::alloc::{AllocError, Global};
 use std::io::Write;
 
-/// All pairs, or those whose keys begin with a prefix: with `null` as raw bytes, each key and value ended by a zero byte, with
-/// `json` as objects.
+/// The subcommand `list`. Lists all pairs, or those whose keys begin with a prefix. With `null` they are raw bytes, each key and each value
+/// ended by a zero byte. With `json` they are objects.
 #[derive(Clone, Copy, Debug)]
 pub struct List<'a> {
     pub base: &'a str,
@@ -35,7 +35,7 @@ pub struct List<'a> {
 }
 
 impl<'a> List<'a> {
-    /// What the matches of `list` ask. There is none where they lack a word that it has to have.
+    /// Reads the matches of `list`. Returns `None` if a required argument is missing.
     pub fn matched(matches: &ArgMatches<'a>) -> Option<List<'a>>
         ensures some { IfSome result (ListAsks (rows_of (found_of matches.now))) }
         ensures none { IsNone result → has_words spec.list.rules (rows_of (found_of matches.now)) ≡ false }
@@ -50,7 +50,7 @@ impl<'a> List<'a> {
         })
     }
 
-    /// Its words, as sentences show them.
+    /// The arguments that messages may show.
     pub fn words(&self) -> Words<'a> {
         Words {
             first: match self.prefix {
@@ -65,7 +65,7 @@ impl<'a> List<'a> {
         }
     }
 
-    /// Serves it: writes its rows as they are made.
+    /// Serves the subcommand: writes its rows while they are made.
     ///
     /// # Errors
     /// Those of `serve_rows`.
@@ -93,10 +93,10 @@ impl<'a> List<'a> {
     }
 }
 
-/// The subcommand `list`, as `clap` is told it.
+/// Declares the subcommand `list` for `clap`.
 ///
 /// # Errors
-/// `AllocError` where no memory is left.
+/// `AllocError` if allocation fails.
 pub fn list_command<'a>(alloc: Global) -> Result<Command<'a>, AllocError>
     ensures { IfOk result (IsSubcommand spec.list) }
 {

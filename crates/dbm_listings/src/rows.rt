@@ -1,4 +1,4 @@
-//! Pairs and keys in rows.
+//! Rows for pairs and keys.
 ghost use Rattle.std.specs.Prelude.{◌≡◌, ◌++◌, ◌∷◌, ◌<◌, [], length, IfOk, OnOk, OnErr};
 ghost use Rattle.dbm_listings.specs.Rows.{key_line, keys_listing, pair_line, pair_object, pairs_listing, raw, row_of, rows};
 ghost use Rattle.sdbm_files.specs.Lent.{pair_lent, pairs_lent};
@@ -9,22 +9,22 @@ use dbm_script::{Notation, show_bytes, show_value};
 use dbm_stats::show_string;
 use std::alloc::{AllocError, Allocator};
 
-/// How pairs are listed, each in a row.
+/// The form of the rows of a listing.
 #[derive(Clone, Copy)]
 pub enum Listing {
-    /// Key and value in a line.
+    /// A line with key and value.
     Pairs,
-    /// The bytes of the key and of the value, a zero byte after each.
+    /// The bytes of the key and of the value, each ended by a zero byte.
     RawPairs,
-    /// An object in a line.
+    /// A line with an object.
     Objects,
-    /// The key in a line.
+    /// A line with the key.
     Keys,
-    /// The bytes of the key, and a zero byte.
+    /// The bytes of the key, ended by a zero byte.
     RawKeys,
 }
 
-/// How `list` lists pairs, by its options. JSON objects stand in lines.
+/// The form of the rows of `list`. `json` takes precedence over `null`.
 pub fn pairs_listing(null: bool, json: bool) -> Listing
     ensures { result ≡ pairs_listing null json }
 {
@@ -37,7 +37,7 @@ pub fn pairs_listing(null: bool, json: bool) -> Listing
     Listing::Pairs
 }
 
-/// How `keys` lists pairs, by its option.
+/// The form of the rows of `keys`.
 pub fn keys_listing(null: bool) -> Listing
     ensures { result ≡ keys_listing null }
 {
@@ -50,7 +50,7 @@ pub fn keys_listing(null: bool) -> Listing
 /// A row for each pair whose key begins with a prefix.
 ///
 /// # Errors
-/// `AllocError` where no memory is left for the text.
+/// `AllocError` if allocation fails.
 pub fn show_rows<A: Allocator + Copy>(
     alloc: A,
     notation: &Notation<A>,
@@ -67,10 +67,10 @@ pub fn show_rows<A: Allocator + Copy>(
     Ok(text)
 }
 
-/// The row of a pair, where its key begins with a prefix.
+/// Appends the row of a pair to `text` if its key begins with a prefix.
 ///
 /// # Errors
-/// `AllocError` where no memory is left for a row, which has a byte at least.
+/// `AllocError` if allocation fails. The row then has at least one byte.
 pub fn show_chosen<A: Allocator + Copy>(
     alloc: A,
     notation: &Notation<A>,
@@ -89,7 +89,7 @@ pub fn show_chosen<A: Allocator + Copy>(
     show_row(alloc, notation, listing, key, value, text)
 }
 
-// The row of a pair.
+// Appends the row of a pair.
 fn show_row<A: Allocator + Copy>(
     alloc: A,
     notation: &Notation<A>,
@@ -109,7 +109,7 @@ fn show_row<A: Allocator + Copy>(
     }
 }
 
-// A pair in a line.
+// Appends a line with a pair.
 fn show_line<A: Allocator + Copy>(
     alloc: A,
     notation: &Notation<A>,
@@ -125,7 +125,7 @@ fn show_line<A: Allocator + Copy>(
     Ok(text.push(b'\n')?)
 }
 
-// A key in a line.
+// Appends a line with a key.
 fn show_key<A: Allocator>(
     notation: &Notation<A>,
     key: &[u8],
@@ -137,7 +137,7 @@ fn show_key<A: Allocator>(
     Ok(text.push(b'\n')?)
 }
 
-// The bytes of a key and a value, a zero byte after each.
+// Appends the bytes of a key and a value, each ended by a zero byte.
 fn show_raw_pair<A: Allocator>(
     key: &[u8],
     value: &[u8],
@@ -149,7 +149,7 @@ fn show_raw_pair<A: Allocator>(
     show_raw(value, text)
 }
 
-// Bytes, and a zero byte.
+// Appends bytes and a zero byte.
 fn show_raw<A: Allocator>(bytes: &[u8], text: &mut Vec<u8, A>) -> Result<(), AllocError>
     ensures { OnOk result (text.new.items ≡ text.old.items ++ raw bytes.now) }
 {
@@ -157,7 +157,7 @@ fn show_raw<A: Allocator>(bytes: &[u8], text: &mut Vec<u8, A>) -> Result<(), All
     Ok(text.push(0)?)
 }
 
-// A pair as an object, in a line.
+// Appends a line with a pair as an object.
 fn show_object<A: Allocator + Copy>(
     alloc: A,
     notation: &Notation<A>,
@@ -174,7 +174,7 @@ fn show_object<A: Allocator + Copy>(
     text.extend_from_slice(b"}\n")
 }
 
-// Bytes as a JSON string: as they are shown in a line.
+// Appends bytes as a JSON string, in their notation.
 fn show_quoted_bytes<A: Allocator + Copy>(
     alloc: A,
     notation: &Notation<A>,
@@ -188,7 +188,7 @@ fn show_quoted_bytes<A: Allocator + Copy>(
     show_string(word.as_slice(), text)
 }
 
-// The bytes of a value as a JSON string.
+// Appends the bytes of a value as a JSON string.
 fn show_quoted_value<A: Allocator + Copy>(
     alloc: A,
     notation: &Notation<A>,

@@ -1,4 +1,4 @@
-//! What the lines of a session show of a database that is open.
+//! Listings of an open database, for the lines of a session.
 
 use crate::rows::{Listing, show_rows};
 use dbm_script::{Notation, read_bytes};
@@ -7,21 +7,21 @@ use sdbm_files::Image;
 use sdbm_stats::stats_of;
 use std::alloc::{AllocError, Global};
 
-/// What a line shows of a database. A prefix is a word in its notation.
+/// A listing. A prefix is a word in its notation.
 #[derive(Clone, Copy)]
 pub enum Shown<'a> {
-    /// What `list` prints.
+    /// The output of `list`.
     Pairs(Option<&'a [u8]>),
-    /// What `keys` prints.
+    /// The output of `keys`.
     Keys(Option<&'a [u8]>),
-    /// What `stats` prints.
+    /// The output of `stats`.
     Stats,
 }
 
-/// Puts what a line shows of a database after a text, and tells whether its prefix is bytes; where it is not, nothing is put there.
+/// Appends a listing of a database to `text`. Returns `false` and appends nothing if the prefix is invalid.
 ///
 /// # Errors
-/// `AllocError` where no memory is left.
+/// `AllocError` if allocation fails.
 pub fn show_listing(
     alloc: Global,
     notation: &Notation<Global>,
@@ -41,7 +41,7 @@ pub fn show_listing(
     }
 }
 
-// Puts a row for each pair whose key begins with a prefix after a text, and tells whether the prefix is bytes.
+// Appends a row for each pair whose key begins with a prefix. Returns `false` if the prefix is invalid.
 fn put_rows(
     alloc: Global,
     notation: &Notation<Global>,

@@ -1,4 +1,4 @@
-//! `stats`: what is in a database, in numbers.
+//! `stats`: prints the statistics of a database.
 ghost use Rattle.std.specs.Prelude.{◌≡◌, IfOk, IfSome, IsNone, false, length};
 ghost use Rattle.clap.specs.Words.{found_of, rows_of};
 ghost use Rattle.dbm_words.specs.CommandLine.{IsSubcommand};
@@ -18,7 +18,7 @@ use sdbm_stats::{Stats as Numbers, stats_of};
 use std::alloc::{AllocError, Global};
 use std::io::Read;
 
-/// What is in a database, in numbers.
+/// The subcommand `stats`.
 #[derive(Clone, Copy, Debug)]
 pub struct Stats<'a> {
     pub base: &'a str,
@@ -27,7 +27,7 @@ pub struct Stats<'a> {
 }
 
 impl<'a> Stats<'a> {
-    /// What the matches of `stats` ask. There is none where they lack a word that it has to have.
+    /// Reads the matches of `stats`. Returns `None` if a required argument is missing.
     pub fn matched(matches: &ArgMatches<'a>) -> Option<Stats<'a>>
         ensures some { IfSome result (StatsAsks (rows_of (found_of matches.now))) }
         ensures none { IsNone result → has_words spec.stats.rules (rows_of (found_of matches.now)) ≡ false }
@@ -39,16 +39,16 @@ impl<'a> Stats<'a> {
         })
     }
 
-    /// Its words, as sentences show them.
+    /// The arguments that messages may show.
     pub fn words(&self) -> Words<'a> {
         Words::on(Some(self.base), self.form)
     }
 }
 
-/// The subcommand `stats`, as `clap` is told it.
+/// Declares the subcommand `stats` for `clap`.
 ///
 /// # Errors
-/// `AllocError` where no memory is left.
+/// `AllocError` if allocation fails.
 pub fn stats_command<'a>(alloc: Global) -> Result<Command<'a>, AllocError>
     ensures { IfOk result (IsSubcommand spec.stats) }
 {
@@ -95,7 +95,7 @@ impl Subcommand for Stats<'_> {
     }
 }
 
-// What is in a database, in numbers, as text or as a JSON object.
+// Reports the statistics of a database, as text or as a JSON object.
 fn figures(alloc: Global, image: &Image<Global>, json: bool) -> Result<Report, AllocError>
     ensures { IfOk result (λ report. Figures json report image.now) }
 {
@@ -104,7 +104,7 @@ fn figures(alloc: Global, image: &Image<Global>, json: bool) -> Result<Report, A
     Ok(printed(text))
 }
 
-// The numbers of a database as text or as a JSON object.
+// The statistics of a database, as text or as a JSON object.
 fn show_figures(alloc: Global, stats: &Numbers<Global>, json: bool) -> Result<Vec<u8>, AllocError>
     requires { length stats.now.bars.items ≡ 10 }
     ensures { IfOk result (λ text. text.items ≡ figures_shown json stats.now) }

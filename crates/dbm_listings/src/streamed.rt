@@ -1,4 +1,4 @@
-//! Rows that are written as they are made: no more of them stand in memory than are written at once.
+//! Writes rows while they are made. Memory holds only a buffer of them.
 ghost use Rattle.std.specs.Prelude.{◌≡◌, ◌+◌, ◌<◌, ◌^◌, [], None, cond, false, length, IfOk, IfErr, IsSomeAnd, OnOk, OnErr};
 ghost use Rattle.std.specs.Io.KnownBytes.{Appends, Keeps};
 ghost use Rattle.sdbm_files.specs.Lent.{pairs_lent};
@@ -20,22 +20,21 @@ use sdbm_files::Image;
 use std::alloc::{AllocError, Global};
 use std::io::Write;
 
-// The bytes of the room that rows are made in.
+// The initial capacity of the buffer for rows, in bytes.
 const ROOM: usize = 131_072;
 
-// A room with so many bytes is written.
+// A buffer with at least this many bytes is written.
 const FULL: usize = 65_536;
 
-// A text has fewer bytes.
+// The length of a text is below this.
 const TEXT_LIMIT: usize = 0x8000_0000_0000_0000;
 
-/// Serves a listing: reads the prefix, opens the database, and writes a row for each pair whose key begins with the prefix. It makes
-/// the rows twice: first it counts their bytes, and then it writes them.
+/// Serves a listing: reads the prefix, opens the database, and writes a row for each pair whose key begins with the prefix. The rows are
+/// made twice: first to count their bytes, and then to write them.
 ///
 /// # Errors
-/// `Unreported` with the faults of `open_asked`, and then nothing was written: with `NoMemory` also where the rows have 2^63 bytes or
-/// more. `Write` where the writer fails, or where no memory is left for a row after those that were written: the first bytes of the
-/// rows were.
+/// `Unreported` if nothing was written: with the faults of `open_asked`, and with `NoMemory` also if the rows have 2^63 or more bytes.
+/// `Write` if the writer fails, or if allocation fails after some rows were written. A part of the rows is then written.
 pub fn serve_rows<W: Write>(
     alloc: Global,
     notation: &Notation<Global>,
@@ -58,7 +57,7 @@ pub fn serve_rows<W: Write>(
     }
 }
 
-// Counts the bytes of a database's rows, and writes the rows.
+// Counts the bytes of the rows of a database, and then writes the rows.
 fn print_rows<W: Write>(
     alloc: Global,
     notation: &Notation<Global>,
@@ -87,7 +86,8 @@ fn print_rows<W: Write>(
     }
 }
 
-// An empty room that has taken the rows, as many at once as are written at once. They are a text that a report can have.
+// Makes all rows once to count their bytes, which have to be fewer than 2^63. Returns the cleared buffer, whose capacity is then enough for
+// writing.
 fn measured_room(
     alloc: Global,
     notation: &Notation<Global>,
@@ -109,7 +109,7 @@ fn measured_room(
     Ok(room)
 }
 
-// Counts the bytes of a full room, and clears it.
+// Counts the bytes of a full buffer, and clears it.
 fn count_full(count: usize, room: &mut Vec<u8>) -> Result<usize, AllocError>
     ensures { IfOk result (λ sum. sum + length room.new.items ≡ count + length room.old.items) }
 {
@@ -121,7 +121,7 @@ fn count_full(count: usize, room: &mut Vec<u8>) -> Result<usize, AllocError>
     Ok(sum)
 }
 
-// The bytes of two texts, where one text could have both.
+// The sum of two lengths, if it is below `TEXT_LIMIT`.
 fn sum_of(count: usize, more: usize) -> Result<usize, AllocError>
     ensures sum { IfOk result (λ sum. sum ≡ count + more) }
     ensures small { IfOk result (λ sum. sum < 2 ^ 63) }
@@ -135,7 +135,7 @@ fn sum_of(count: usize, more: usize) -> Result<usize, AllocError>
     Ok(sum)
 }
 
-// Makes the rows in an empty room, and writes them.
+// Makes the rows in an empty buffer, and writes them.
 fn write_rows<W: Write>(
     alloc: Global,
     notation: &Notation<Global>,
@@ -166,7 +166,7 @@ fn write_rows<W: Write>(
     Ok(())
 }
 
-// The fault where no memory is left for a row.
+// The fault if allocation fails for a row.
 fn want_of_memory(is_written: bool) -> Unserved<ReportFault>
     ensures { result ≡ cond is_written Unserved.Write (Unserved.Unreported ReportFault.NoMemory) }
 {
@@ -176,7 +176,7 @@ fn want_of_memory(is_written: bool) -> Unserved<ReportFault>
     Unserved::Unreported(ReportFault::NoMemory)
 }
 
-// Writes a full room, and clears it. Says whether any rows were written.
+// Writes a full buffer, and clears it. Returns `true` if any rows have been written so far.
 fn write_full<W: Write>(
     is_written: bool,
     room: &mut Vec<u8>,

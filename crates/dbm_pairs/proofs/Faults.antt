@@ -1,4 +1,4 @@
--- Words that are no command.
+-- Words that are not a command.
 use Rattle.std.proofs.Common.{◌≡◌, ℕ, List, None, Bool, true, false, cond, refl}
 use Rattle.std.specs.declared.alloc.Global.{Global}
 use Rattle.dbm_script.specs.Commands.{command_of}
@@ -10,7 +10,7 @@ use Rattle.dbm_reports.specs.declared.fault.ReportFault.TheVariants.{BadHex, Bad
 use Rattle.dbm_reports.specs.Causes.{IsCaused}
 use Rattle.dbm_pairs.specs.Commands.{command_causes}
 
--- words that are no command, in hex or as text
+-- words that are not a command, in hex or as text
 pub no_command : (n : Notation Global) (form : Form) (given : Given) (words : List (List ℕ)) → command_of n words ≡ None → IsCaused (command_causes n form given words) (cond (reads_hex n) BadHex BadText)
 no_command n form given words none = by_reading (reads_hex n) refl
   where

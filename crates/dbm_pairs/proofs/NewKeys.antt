@@ -1,4 +1,4 @@
--- Keys that were read as the words of a store.
+-- The two keys of a rename, read as the words of a store.
 use Rattle.std.proofs.Common.{◌≡◌, Bool, true, false, List, ℕ, Option, Some, None, ap, is_some, sym}
 use Rattle.std.specs.declared.alloc.Global.{Global}
 use Rattle.std.proofs.lemmas.Option.{none-some}

@@ -1,4 +1,4 @@
--- A command on the database of the files, by words as those of a line.
+-- A command on the database of the files, from words like those of a line.
 use Rattle.std.specs.Prelude.{◌≡◌, ℕ, Bool, true, false, cond, List, [], ◌∷◌, codes, Option, Some, None, ◌≢◌}
 use Rattle.std.specs.declared.alloc.Global.{Global}
 use Rattle.sdbm_addr.specs.Database.{Database}
@@ -15,7 +15,7 @@ use Rattle.dbm_reports.specs.Databases.{IsOpened, IsShut}
 use Rattle.dbm_script.specs.Notation.{reads_hex}
 use Rattle.dbm_reports.specs.Causes.{Causes, no_causes}
 
--- the words of a command on the database of the files, of which P holds
+-- the words are a command, and P holds for it and the database of the files
 pub record OnCommand (notation : Notation Global) (form : Form) (given : Given) (words : List (List ℕ)) (P : Database → Command Global → Type 0) : Type 0 where
   pub before : Database
   pub opened : IsOpened form given before
@@ -23,7 +23,7 @@ pub record OnCommand (notation : Notation Global) (form : Form) (given : Given) 
   pub is : command_of notation words ≡ Some command
   pub holds : P before command
 
--- the words that the subcommands ask, as those of a line
+-- the words of the subcommands, like those of a line
 abbrev pub fetch_words : List ℕ → List (List ℕ)
 fetch_words key = codes "fetch" ∷ (key ∷ [])
 
@@ -36,7 +36,7 @@ store_words key value insert = store_name insert ∷ (key ∷ (value ∷ []))
 abbrev pub delete_words : List ℕ → List (List ℕ)
 delete_words key = codes "delete" ∷ (key ∷ [])
 
--- a command: its words come before the files
+-- the faults of a command: its words are checked before the files
 abbrev pub command_causes : Notation Global → Form → Given → List (List ℕ) → Causes
 command_causes notation form given words = record no_causes {
   words = (reads_hex notation ≡ true) × (command_of notation words ≡ None);
@@ -44,7 +44,7 @@ command_causes notation form given words = record no_causes {
   opening = λ reason. (command_of notation words ≢ None) × IsShut form given reason;
 }
 
--- the value that a reply tells, and that an answer does
+-- the value in a reply, and in an answer
 abbrev pub found_in : {A : Type 0} → Reply A → Option (List ℕ)
 found_in (Found value) = Some value
 found_in _ = None

@@ -1,4 +1,4 @@
--- What `delete` takes and asks, what comes of it, and why nothing does.
+-- The arguments of `delete`, its possible reports, and the conditions of its faults.
 use Rattle.std.specs.Prelude.{◌≡◌, List, ◌∷◌, codes, None}
 use Rattle.clap.specs.Words.{Shape, Row}
 use Rattle.dbm_words.specs.Given.{IsForm, IsNotation, IsWord, is_given}

@@ -1,4 +1,4 @@
--- What `fetch` takes and asks, what comes of it, and why nothing does.
+-- The arguments of `fetch`, its possible reports, and the conditions of its faults.
 use Rattle.std.specs.Prelude.{◌≡◌, ℕ, Bool, true, false, List, [], ◌∷◌, codes, Option, Some, None}
 use Rattle.clap.specs.Words.{Shape, Row}
 use Rattle.dbm_words.specs.Given.{IsForm, IsNotation, IsWord, is_given}
@@ -24,12 +24,12 @@ abbrev pub FetchAsks : List Row → Fetch → Type 0
 FetchAsks rows fetch =
     IsWord (codes "BASE") rows fetch.base × (IsForm rows fetch.form × (IsNotation rows fetch.notation × (IsWord (codes "KEY") rows fetch.key × ((fetch.raw ≡ is_given (codes "raw") rows) × (fetch.raw_key ≡ is_given (codes "raw-key") rows)))))
 
--- the bytes of a value, none where there is no value
+-- the bytes of a value; no bytes if there is no value
 abbrev pub bytes_or_none : Option (List ℕ) → List ℕ
 bytes_or_none None = []
 bytes_or_none (Some bytes) = bytes
 
--- a command is answered, by the bytes of the value that it finds and nothing else
+-- prints only the bytes of the value that the command finds
 pub record ShowsValue (before : Database) (command : Command Global) (report : Report) : Type 0 where
   pub answer : Answer Global
   pub after : Database
@@ -38,7 +38,7 @@ pub record ShowsValue (before : Database) (command : Command Global) (report : R
   pub status_is : report.status ≡ answer_status answer
   pub written : report.database ≡ None
 
--- the answer in a line, or the bytes of the value alone
+-- prints the answer as a line, or only the bytes of the value
 abbrev pub FetchShows : Bool → Notation Global → Database → Command Global → Report → Type 0
 FetchShows false n before command report = Looks n before command report
 FetchShows true n before command report = ShowsValue before command report

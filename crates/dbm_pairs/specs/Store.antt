@@ -1,4 +1,4 @@
--- What `store` takes and asks, what comes of it, and why nothing does.
+-- The arguments of `store`, its possible reports, and the conditions of its faults.
 use Rattle.std.specs.Prelude.{◌≡◌, ◌≢◌, ◌&&◌, ℕ, Bool, true, false, List, ◌∷◌, None, codes, Option, IfSome}
 use Rattle.std.specs.Str.{bytes_eq}
 use Rattle.store_cmd.specs.declared.Command.{Command}
@@ -29,27 +29,27 @@ StoreAsks rows store =
 abbrev pub takes_input : Store → Bool
 takes_input store = store.raw_value && bytes_eq store.value.now (codes "-")
 
--- a store of another value
+-- replaces the value of a store
 abbrev pub with_value : List ℕ → Command Global → Command Global
 with_value value (asked.Store key old mode) = asked.Store key value mode
 with_value value command = command
 
--- the words of a store, by that of its value
+-- the words of a store, given the word of its value
 abbrev pub words_by : Notation Global → Store → List ℕ → List (List ℕ)
 words_by n store value = store_words (word_asked store.raw_key n store.key.now) value store.insert
 
--- the words ask a store, and the files open
+-- the words are a store, and the files can be opened
 abbrev pub MayRead : Notation Global → Store → Given → Type 0
 MayRead n store given = (command_of n (words_by n store (codes ".")) ≢ None) × Opens store.form given
 
--- standard input is read after the words and the files
+-- standard input is read after checking the words and opening the files
 abbrev pub input_store_causes : Notation Global → Store → Given → Option (List ℕ) → Causes
 input_store_causes n store given input = record (command_causes n store.form given (words_by n store (codes "."))) {
   reading = MayRead n store given;
   long = MayRead n store given × IsLongScript input;
 }
 
--- what is known of a store, by whether it takes its value from standard input
+-- the possible reports of a store, and its faults; the flag says whether its value is standard input
 abbrev pub store_by : Bool → Notation Global → Store → Given → Option (List ℕ) → Known
 store_by false n store given input = record {
   reports = λ report. OnCommand n store.form given (words_by n store (word_asked store.raw_value n store.value.now)) (λ db command. Changes n db command None report);

@@ -15,10 +15,10 @@ use sdbm_files::Image;
 use std::alloc::Global;
 use store_cmd::{Command, Entry, Reply};
 
-/// The command that words ask, and the database of the files. The words are read first.
+/// Reads the command in the words, and then opens the database of the files.
 ///
 /// # Errors
-/// `BadHex`, or as text `BadText`, where a word is no bytes, and those of `open`.
+/// `BadHex` (or in a text notation `BadText`) if a word is invalid, and those of `open`.
 pub fn command_on(
     alloc: Global,
     notation: &Notation<Global>,
@@ -35,10 +35,10 @@ pub fn command_on(
     Ok((image, command))
 }
 
-/// The command that words ask.
+/// Reads the command in the words.
 ///
 /// # Errors
-/// `BadHex`, or as text `BadText`, where a word is no bytes, and `NoMemory`.
+/// `BadHex` (or in a text notation `BadText`) if a word is invalid, and `NoMemory`.
 pub fn command_in(
     alloc: Global,
     notation: &Notation<Global>,
@@ -54,7 +54,7 @@ pub fn command_in(
     Ok(command)
 }
 
-/// The value that an answer tells, or else the answer.
+/// The value in an answer. Returns the answer as the error if it has no value.
 pub fn value_of(answer: Answer<Global>) -> Result<Bytes<Global>, Answer<Global>>
     ensures ok { IfOk result (λ value. value_in answer ≡ Some value) }
     ensures err { IfErr result (λ other. (other ≡ answer) × (value_in answer ≡ None)) }
@@ -77,7 +77,7 @@ pub fn value_of(answer: Answer<Global>) -> Result<Bytes<Global>, Answer<Global>>
     }
 }
 
-/// The word for a key, as sentences show it; a raw one is always bytes.
+/// The word of a key, if messages may show it. A raw word is always valid, so no message shows it.
 pub fn named_key<'a>(word: &'a str, raw: bool) -> Option<Named<'a>> {
     if raw {
         return None;

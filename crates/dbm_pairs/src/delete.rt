@@ -1,4 +1,4 @@
-//! `delete`: the pair of a key is gone.
+//! `delete`: deletes the pair of a key.
 ghost use Rattle.std.specs.Prelude.{◌≡◌, IfOk, IfSome, IsNone, false};
 ghost use Rattle.clap.specs.Words.{found_of, rows_of};
 ghost use Rattle.dbm_words.specs.CommandLine.{IsSubcommand};
@@ -17,19 +17,19 @@ use dbm_words::{Form, NotationOptions, Words, aliased_subcommand, form, has_flag
 use std::alloc::{AllocError, Global};
 use std::io::Read;
 
-/// The pair of a key is to be deleted.
+/// The subcommand `delete`.
 #[derive(Clone, Copy, Debug)]
 pub struct Delete<'a> {
     pub base: &'a str,
     pub form: Form,
     pub notation: NotationOptions<'a>,
     pub key: &'a str,
-    /// The bytes of the key are those of its word.
+    /// The key is not decoded: its bytes are those of the word.
     pub raw_key: bool,
 }
 
 impl<'a> Delete<'a> {
-    /// What the matches of `delete` ask. There is none where they lack a word that it has to have.
+    /// Reads the matches of `delete`. Returns `None` if a required argument is missing.
     pub fn matched(matches: &ArgMatches<'a>) -> Option<Delete<'a>>
         ensures some { IfSome result (DeleteAsks (rows_of (found_of matches.now))) }
         ensures none { IsNone result → has_words spec.delete.rules (rows_of (found_of matches.now)) ≡ false }
@@ -43,7 +43,7 @@ impl<'a> Delete<'a> {
         })
     }
 
-    /// Its words, as sentences show them.
+    /// The arguments that messages may show.
     pub fn words(&self) -> Words<'a> {
         Words {
             first: named_key(self.key, self.raw_key),
@@ -53,10 +53,10 @@ impl<'a> Delete<'a> {
     }
 }
 
-/// The subcommand `delete`, as `clap` is told it.
+/// Declares the subcommand `delete` for `clap`.
 ///
 /// # Errors
-/// `AllocError` where no memory is left.
+/// `AllocError` if allocation fails.
 pub fn delete_command<'a>(alloc: Global) -> Result<Command<'a>, AllocError>
     ensures { IfOk result (IsSubcommand spec.delete) }
 {

@@ -1,4 +1,4 @@
-//! `fetch`: the value of a key.
+//! `fetch`: prints the value of a key.
 ghost use Rattle.std.specs.Prelude.{◌≡◌, IfOk, IfSome, IsNone, false};
 ghost use Rattle.clap.specs.Words.{found_of, rows_of};
 ghost use Rattle.dbm_words.specs.CommandLine.{IsSubcommand};
@@ -20,21 +20,21 @@ use std::alloc::{AllocError, Global};
 use std::io::Read;
 use store_cmd::Command as Asked;
 
-/// The value of a key.
+/// The subcommand `fetch`.
 #[derive(Clone, Copy, Debug)]
 pub struct Fetch<'a> {
     pub base: &'a str,
     pub form: Form,
     pub notation: NotationOptions<'a>,
     pub key: &'a str,
-    /// The bytes of the value alone are printed.
+    /// Prints only the bytes of the value.
     pub raw: bool,
-    /// The bytes of the key are those of its word.
+    /// The key is not decoded: its bytes are those of the word.
     pub raw_key: bool,
 }
 
 impl<'a> Fetch<'a> {
-    /// What the matches of `fetch` ask. There is none where they lack a word that it has to have.
+    /// Reads the matches of `fetch`. Returns `None` if a required argument is missing.
     pub fn matched(matches: &ArgMatches<'a>) -> Option<Fetch<'a>>
         ensures some { IfSome result (FetchAsks (rows_of (found_of matches.now))) }
         ensures none { IsNone result → has_words spec.fetch.rules (rows_of (found_of matches.now)) ≡ false }
@@ -49,7 +49,7 @@ impl<'a> Fetch<'a> {
         })
     }
 
-    /// Its words, as sentences show them.
+    /// The arguments that messages may show.
     pub fn words(&self) -> Words<'a> {
         Words {
             first: named_key(self.key, self.raw_key),
@@ -59,10 +59,10 @@ impl<'a> Fetch<'a> {
     }
 }
 
-/// The subcommand `fetch`, as `clap` is told it.
+/// Declares the subcommand `fetch` for `clap`.
 ///
 /// # Errors
-/// `AllocError` where no memory is left.
+/// `AllocError` if allocation fails.
 pub fn fetch_command<'a>(alloc: Global) -> Result<Command<'a>, AllocError>
     ensures { IfOk result (IsSubcommand spec.fetch) }
 {
@@ -121,10 +121,10 @@ impl Subcommand for Fetch<'_> {
     }
 }
 
-/// The answer to a fetch: in a line, or of a raw one the bytes of the value alone.
+/// The report of a fetch: the answer as a line, or with `raw` only the bytes of the value.
 ///
 /// # Errors
-/// `AllocError` where no memory is left.
+/// `AllocError` if allocation fails.
 pub fn look_as(
     alloc: Global,
     notation: &Notation<Global>,
@@ -140,7 +140,7 @@ pub fn look_as(
     look(alloc, notation, image, command)
 }
 
-// The bytes of the value that a command finds.
+// The report with only the bytes of the value that a command finds.
 fn look_raw(
     alloc: Global,
     image: Image<Global>,
@@ -158,7 +158,7 @@ fn look_raw(
     })
 }
 
-// The bytes of the value that an answer tells, none where it tells none.
+// The bytes of the value in an answer; no bytes if it has no value.
 fn value_bytes(alloc: Global, answer: Answer<Global>) -> Result<Vec<u8>, AllocError>
     ensures { IfOk result (λ text. text.items ≡ bytes_or_none (value_in answer)) }
 {

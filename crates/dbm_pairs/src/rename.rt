@@ -1,4 +1,4 @@
-//! `rename`: a pair gets another key.
+//! `rename`: changes the key of a pair.
 ghost use Rattle.std.specs.Prelude.{◌≡◌, IfOk, IfSome, IsNone, false};
 ghost use Rattle.clap.specs.Words.{found_of, rows_of};
 ghost use Rattle.dbm_words.specs.CommandLine.{IsSubcommand};
@@ -19,7 +19,7 @@ use dbm_words::{Form, Named, NotationOptions, Words, form, has_flag, notation, s
 use std::alloc::{AllocError, Global};
 use std::io::Read;
 
-/// The pair of a key is to get another key, with `replace` also where a pair has that one.
+/// The subcommand `rename`. With `replace`, the pair that already has the new key is replaced.
 #[derive(Clone, Copy, Debug)]
 pub struct Rename<'a> {
     pub base: &'a str,
@@ -28,12 +28,12 @@ pub struct Rename<'a> {
     pub key: &'a str,
     pub new_key: &'a str,
     pub replace: bool,
-    /// The bytes of both keys are those of their words.
+    /// The keys are not decoded: their bytes are those of the words.
     pub raw_key: bool,
 }
 
 impl<'a> Rename<'a> {
-    /// What the matches of `rename` ask. There is none where they lack a word that it has to have.
+    /// Reads the matches of `rename`. Returns `None` if a required argument is missing.
     pub fn matched(matches: &ArgMatches<'a>) -> Option<Rename<'a>>
         ensures some { IfSome result (RenameAsks (rows_of (found_of matches.now))) }
         ensures none { IsNone result → has_words spec.rename.rules (rows_of (found_of matches.now)) ≡ false }
@@ -49,7 +49,7 @@ impl<'a> Rename<'a> {
         })
     }
 
-    /// Its words, as sentences show them.
+    /// The arguments that messages may show.
     pub fn words(&self) -> Words<'a> {
         Words {
             first: named_key(self.key, self.raw_key),
@@ -59,7 +59,7 @@ impl<'a> Rename<'a> {
         }
     }
 
-    // The word for its new key, as sentences show it.
+    // The word of the new key, if messages may show it.
     fn named_new_key(&self) -> Option<Named<'a>> {
         if self.raw_key {
             return None;
@@ -71,10 +71,10 @@ impl<'a> Rename<'a> {
     }
 }
 
-/// The subcommand `rename`, as `clap` is told it.
+/// Declares the subcommand `rename` for `clap`.
 ///
 /// # Errors
-/// `AllocError` where no memory is left.
+/// `AllocError` if allocation fails.
 pub fn rename_command<'a>(alloc: Global) -> Result<Command<'a>, AllocError>
     ensures { IfOk result (IsSubcommand spec.rename) }
 {

@@ -1,4 +1,4 @@
-//! A pair that gets another key.
+//! Changes the key of a pair.
 ghost use Rattle.std.specs.Prelude.{◌≡◌, IfOk, IfErr, None, Some, true};
 ghost use Rattle.dbm_pairs.specs.Rename.{RenamesBy, Renames, StoresAnew, is_stored, is_store};
 
@@ -10,10 +10,10 @@ use sdbm_files::Image;
 use std::alloc::{AllocError, Global};
 use store_cmd::{Command, Reply};
 
-/// Gives a pair another key: the one that the command of a store has in the place of its value.
+/// Changes the key of a pair. `keys` is a store command with the new key instead of the value.
 ///
 /// # Errors
-/// `AllocError` where no memory is left.
+/// `AllocError` if allocation fails.
 pub fn rename(
     alloc: Global,
     notation: &Notation<Global>,
@@ -35,7 +35,7 @@ pub fn rename(
     })
 }
 
-// Gives a pair another key: the line that is printed, and the status.
+// Changes the key of a pair. Returns the line to print, and the status.
 fn rename_pair(
     alloc: Global,
     notation: &Notation<Global>,
@@ -54,7 +54,7 @@ fn rename_pair(
     }
 }
 
-// Stores a value under a new key, and then deletes the old one, where it is another.
+// Stores a value under the new key, and then deletes the old key if it is different.
 fn store_anew(
     alloc: Global,
     notation: &Notation<Global>,
@@ -84,7 +84,7 @@ fn store_anew(
     Ok((text, 0))
 }
 
-// Whether an answer is that a pair was stored.
+// Returns `true` if an answer says that a pair was stored.
 fn is_stored(answer: &Answer<Global>) -> bool
     ensures { result ≡ is_stored answer.now }
 {

@@ -1,4 +1,4 @@
-//! `store`: a pair in place of the old one, or with `--insert` only where its key is not there.
+//! `store`: stores a pair. With `--insert` it keeps an existing pair.
 ghost use Rattle.std.specs.Prelude.{◌≡◌, IfErr, IfOk, IfSome, IsNone, None, false, is_some, true};
 ghost use Rattle.clap.specs.Words.{found_of, rows_of};
 ghost use Rattle.dbm_words.specs.CommandLine.{IsSubcommand};
@@ -24,7 +24,7 @@ use std::alloc::{AllocError, Global};
 use std::io::Read;
 use store_cmd::Command as Asked;
 
-/// A pair is to be stored, with `insert` only where its key is not there.
+/// The subcommand `store`. With `insert` it keeps an existing pair.
 #[derive(Clone, Copy, Debug)]
 pub struct Store<'a> {
     pub base: &'a str,
@@ -33,14 +33,14 @@ pub struct Store<'a> {
     pub key: &'a str,
     pub value: &'a str,
     pub insert: bool,
-    /// The bytes of the key are those of its word.
+    /// The key is not decoded: its bytes are those of the word.
     pub raw_key: bool,
-    /// The bytes of the value are those of its word.
+    /// The value is not decoded: its bytes are those of the word.
     pub raw_value: bool,
 }
 
 impl<'a> Store<'a> {
-    /// What the matches of `store` ask. There is none where they lack a word that it has to have.
+    /// Reads the matches of `store`. Returns `None` if a required argument is missing.
     pub fn matched(matches: &ArgMatches<'a>) -> Option<Store<'a>>
         ensures some { IfSome result (StoreAsks (rows_of (found_of matches.now))) }
         ensures none { IsNone result → has_words spec.store.rules (rows_of (found_of matches.now)) ≡ false }
@@ -57,7 +57,7 @@ impl<'a> Store<'a> {
         })
     }
 
-    /// Its words, as sentences show them.
+    /// The arguments that messages may show.
     pub fn words(&self) -> Words<'a> {
         Words {
             first: named_key(self.key, self.raw_key),
@@ -67,7 +67,7 @@ impl<'a> Store<'a> {
         }
     }
 
-    // The word for its value, as sentences show it.
+    // The word of the value, if messages may show it.
     fn named_value(&self) -> Option<Named<'a>> {
         if self.raw_value {
             return None;
@@ -79,10 +79,10 @@ impl<'a> Store<'a> {
     }
 }
 
-/// The subcommand `store`, as `clap` is told it.
+/// Declares the subcommand `store` for `clap`.
 ///
 /// # Errors
-/// `AllocError` where no memory is left.
+/// `AllocError` if allocation fails.
 pub fn store_command<'a>(alloc: Global) -> Result<Command<'a>, AllocError>
     ensures { IfOk result (IsSubcommand spec.store) }
 {
@@ -162,7 +162,7 @@ pub fn store_name(insert: bool) -> &'static [u8]
     if insert { b"insert" } else { b"replace" }
 }
 
-// A store of the word for its value.
+// Stores the value from its word.
 fn store_word(
     alloc: Global,
     notation: &Notation<Global>,
@@ -180,7 +180,7 @@ fn store_word(
     Ok(change(alloc, notation, image, command, None)?)
 }
 
-// A store of all of standard input, which is read after the words and the files.
+// Stores all of standard input, which is read after checking the words and opening the files.
 fn store_input<R: Read>(
     alloc: Global,
     notation: &Notation<Global>,
@@ -200,14 +200,14 @@ fn store_input<R: Read>(
     Ok(change(alloc, notation, image, command, None)?)
 }
 
-/// Whether the value is all of standard input.
+/// Returns `true` if the value is all of standard input.
 pub fn takes_input(store: &Store<'_>) -> bool
     ensures { result ≡ takes_input store.now }
 {
     store.raw_value && store.value == "-"
 }
 
-// A store of another value.
+// Replaces the value of a store.
 fn with_value(command: Asked<Global>, value: Bytes<Global>) -> Asked<Global>
     ensures { result ≡ with_value value command }
 {

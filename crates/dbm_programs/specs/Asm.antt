@@ -1,4 +1,4 @@
--- What `asm` takes and asks, what comes of it, and why nothing does.
+-- The arguments of `asm`, its possible reports, and the conditions of its faults.
 use Rattle.std.specs.Prelude.{◌≡◌, List, [], ◌∷◌, ◌++◌, codes, ℕ}
 use Rattle.clap.specs.Words.{Shape, Row}
 use Rattle.dbm_words.specs.Given.{IsWord}
@@ -20,7 +20,7 @@ abbrev pub AsmAsks : List Row → Asm → Type 0
 AsmAsks rows asm =
     IsWord (codes "FILE") rows asm.file
 
--- the program image of the one code that a text denotes, in hex, in a line
+-- a line with the image, in hex, of the only code that the text denotes
 pub record IsAssembled (text line : List ℕ) : Type 0 where
   pub code : List Insn
   pub denotes : Denotes text code

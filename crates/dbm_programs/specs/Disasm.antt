@@ -1,4 +1,4 @@
--- What `disasm` takes and asks, what comes of it, and why nothing does.
+-- The arguments of `disasm`, its possible reports, and the conditions of its faults.
 use Rattle.std.specs.Prelude.{◌≡◌, List, [], ◌∷◌, codes, ℕ}
 use Rattle.clap.specs.Words.{Shape, Row}
 use Rattle.dbm_words.specs.Given.{IsWord}
@@ -21,14 +21,14 @@ abbrev pub DisasmAsks : List Row → Disasm → Type 0
 DisasmAsks rows disasm =
     IsWord (codes "FILE") rows disasm.file
 
--- a text of the code that a program image spells
+-- a text of the code in a program image
 pub record IsDisassembled (image text : List ℕ) : Type 0 where
   pub code : List Insn
   pub is_image : IsImage code image
   pub denotes : Denotes text code
   pub is : text ≡ text_of code
 
--- the file of a program's image
+-- the faults of the file of a program's image
 abbrev pub image_causes : List ℕ → Causes
 image_causes file = record no_causes { decoding = IsUndecoded file }
 

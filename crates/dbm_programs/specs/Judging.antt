@@ -1,4 +1,4 @@
--- What is said of the image of a program.
+-- The verdict on the image of a program.
 use Rattle.std.specs.Prelude.{◌≡◌, ℕ, ◌/◌, ◌++◌, ◌⊎◌, Bool, true, false, List, [], ◌∷◌, codes, decimal, length, None}
 use Rattle.bpf_insn.specs.declared.insn.Insn.{Insn}
 use Rattle.bpf_insn.specs.Code.{IsImage}
@@ -8,36 +8,36 @@ use Rattle.dbm_script.specs.Images.{Denies}
 use Rattle.dbm_reports.specs.declared.report.Report.{Report}
 use Rattle.dbm_reports.specs.Reports.{Prints, IsFileImage, Refuses}
 
--- how many units an accepted program has, in a line
+-- a line with the number of units of an accepted program
 abbrev pub accepted_line : ℕ → List ℕ
 accepted_line units = codes "accepted " ++ (decimal units ++ 10 ∷ [])
 
--- An image is that of an accepted program, or it gets no number in a registry without programs, for this.
+-- Reports that the image is an accepted program, or the reason why an empty registry refuses it.
 abbrev pub Judges : List ℕ → Report → Type 0
 Judges image report =
     (IsAccepted image × Prints (accepted_line (length image / 8)) report) ⊎ ((fault : RegFault) × (Denies [] image fault × Refuses fault 1 None report))
 
--- what is said of the image of a program's file
+-- reports the verdict on the image of a program's file
 abbrev pub Verifies : Bool → List ℕ → Report → Type 0
 Verifies is_image file report = (image : List ℕ) × (IsFileImage is_image file image × Judges image report)
 
--- Rows of a text, and then what is said in another report.
+-- The report is some rows, an LF, and then the text of `last`.
 pub record EndsAs (last report : Report) : Type 0 where
   pub rows : List ℕ
   pub text_is : report.text.items ≡ rows ++ 10 ∷ last.text.items
   pub status_is : report.status ≡ last.status
   pub written : report.database ≡ last.database
 
--- Rows, and then what is said of a program image without them.
+-- The report is some rows, and then the verdict on a program image.
 abbrev pub EndsJudged : List ℕ → Report → Type 0
 EndsJudged image report = (last : Report) × (Judges image last × EndsAs last report)
 
--- what is said of an image whose program is explained: of one that is the image of no code, that alone
+-- the verdict on an image, after the rows of its explanation; if the image cannot be decoded, only the verdict
 abbrev pub IsExplained : List ℕ → Report → Type 0
 IsExplained image report =
     ((code : List Insn) × (IsImage code image × EndsJudged image report)) ⊎ (((code : List Insn) → IsImage code image → ⊥) × Judges image report)
 
--- what is said of the image of a program's file, explained
+-- reports the explained verdict on the image of a program's file
 abbrev pub Explains : Bool → List ℕ → Report → Type 0
 Explains is_image file report = (image : List ℕ) × (IsFileImage is_image file image × IsExplained image report)
 

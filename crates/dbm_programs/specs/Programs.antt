@@ -1,4 +1,4 @@
--- What `programs` takes and asks.
+-- The arguments of `programs`.
 use Rattle.std.specs.Prelude.{List, [], ◌∷◌, codes}
 use Rattle.clap.specs.Words.{Shape, Row, new_rule}
 use Rattle.dbm_words.specs.Given.{IsGiven}

@@ -1,4 +1,4 @@
--- What `verify` takes and asks, what comes of it, and why nothing does.
+-- The arguments of `verify`, its possible reports, and the conditions of its faults.
 use Rattle.std.specs.Prelude.{◌≡◌, List, [], ◌∷◌, codes}
 use Rattle.clap.specs.Words.{Shape, Row}
 use Rattle.dbm_words.specs.Given.{IsWord, is_given}

@@ -1,4 +1,4 @@
-//! `asm`: the image of a program's text.
+//! `asm`: prints the image of a program's text.
 ghost use Rattle.std.specs.Prelude.{◌≡◌, IfOk, IfSome, IsNone, false};
 ghost use Rattle.clap.specs.Words.{found_of, rows_of};
 ghost use Rattle.dbm_words.specs.CommandLine.{IsSubcommand};
@@ -14,14 +14,14 @@ use dbm_words::{Subject, Words, subcommand, word};
 use std::alloc::{AllocError, Global};
 use std::io::Read;
 
-/// The image of a program's text.
+/// The subcommand `asm`.
 #[derive(Clone, Copy, Debug)]
 pub struct Asm<'a> {
     pub file: &'a str,
 }
 
 impl<'a> Asm<'a> {
-    /// What the matches of `asm` ask. There is none where they lack a word that it has to have.
+    /// Reads the matches of `asm`. Returns `None` if a required argument is missing.
     pub fn matched(matches: &ArgMatches<'a>) -> Option<Asm<'a>>
         ensures some { IfSome result (AsmAsks (rows_of (found_of matches.now))) }
         ensures none { IsNone result → has_words spec.asm.rules (rows_of (found_of matches.now)) ≡ false }
@@ -31,7 +31,7 @@ impl<'a> Asm<'a> {
         })
     }
 
-    /// Its words, as sentences show them.
+    /// The arguments that messages may show.
     pub fn words(&self) -> Words<'a> {
         Words {
             subject: Subject::Asm,
@@ -41,10 +41,10 @@ impl<'a> Asm<'a> {
     }
 }
 
-/// The subcommand `asm`, as `clap` is told it.
+/// Declares the subcommand `asm` for `clap`.
 ///
 /// # Errors
-/// `AllocError` where no memory is left.
+/// `AllocError` if allocation fails.
 pub fn asm_command<'a>(alloc: Global) -> Result<Command<'a>, AllocError>
     ensures { IfOk result (IsSubcommand spec.asm) }
 {

@@ -1,4 +1,4 @@
-//! `disasm`: the text of a program's image.
+//! `disasm`: prints the text of a program's image.
 ghost use Rattle.std.specs.Prelude.{◌≡◌, IfOk, IfSome, IsNone, false};
 ghost use Rattle.clap.specs.Words.{found_of, rows_of};
 ghost use Rattle.dbm_words.specs.CommandLine.{IsSubcommand};
@@ -16,14 +16,14 @@ use dbm_words::{Subject, Words, subcommand, word};
 use std::alloc::{AllocError, Global};
 use std::io::Read;
 
-/// The text of a program's image.
+/// The subcommand `disasm`.
 #[derive(Clone, Copy, Debug)]
 pub struct Disasm<'a> {
     pub file: &'a str,
 }
 
 impl<'a> Disasm<'a> {
-    /// What the matches of `disasm` ask. There is none where they lack a word that it has to have.
+    /// Reads the matches of `disasm`. Returns `None` if a required argument is missing.
     pub fn matched(matches: &ArgMatches<'a>) -> Option<Disasm<'a>>
         ensures some { IfSome result (DisasmAsks (rows_of (found_of matches.now))) }
         ensures none { IsNone result → has_words spec.disasm.rules (rows_of (found_of matches.now)) ≡ false }
@@ -33,7 +33,7 @@ impl<'a> Disasm<'a> {
         })
     }
 
-    /// Its words, as sentences show them.
+    /// The arguments that messages may show.
     pub fn words(&self) -> Words<'a> {
         Words {
             subject: Subject::Disasm,
@@ -43,10 +43,10 @@ impl<'a> Disasm<'a> {
     }
 }
 
-/// The subcommand `disasm`, as `clap` is told it.
+/// Declares the subcommand `disasm` for `clap`.
 ///
 /// # Errors
-/// `AllocError` where no memory is left.
+/// `AllocError` if allocation fails.
 pub fn disasm_command<'a>(alloc: Global) -> Result<Command<'a>, AllocError>
     ensures { IfOk result (IsSubcommand spec.disasm) }
 {

@@ -1,4 +1,4 @@
-//! Whether the program of a file is accepted, or why it is refused.
+//! The verdict on the program of a file.
 ghost use Rattle.std.specs.Prelude.{◌≡◌, IfOk, IfErr};
 ghost use Rattle.dbm_reports.specs.Causes.{IsCaused, file_causes};
 ghost use Rattle.dbm_programs.specs.Judging.{Judges, Verifies, accepted_line};
@@ -8,7 +8,8 @@ use itoa::Buffer;
 use prog_registry::Registry;
 use std::alloc::{AllocError, Allocator, Global};
 
-/// Whether the program of a file is accepted, or why not, as a line of a script would say it that submits its image first.
+/// Reports the verdict on the program of a file: accepted, or refused with the reason. The reason reads like the answer to the first line
+/// of a script, if that line submits the image.
 ///
 /// # Errors
 /// Those of `file_image`, and `NoMemory`.
@@ -20,10 +21,10 @@ pub fn verify_file(alloc: Global, file: &[u8], is_image: bool) -> Result<Report,
     Ok(judge_image(alloc, image.as_slice())?)
 }
 
-/// Whether an image is that of an accepted program.
+/// Reports the verdict on a program image.
 ///
 /// # Errors
-/// `AllocError` where no memory is left.
+/// `AllocError` if allocation fails.
 pub fn judge_image(alloc: Global, image: &[u8]) -> Result<Report, AllocError>
     ensures { IfOk result (Judges image.now) }
 {
@@ -37,7 +38,7 @@ pub fn judge_image(alloc: Global, image: &[u8]) -> Result<Report, AllocError>
 /// The line `accepted UNITS`.
 ///
 /// # Errors
-/// `AllocError` where no memory is left for the text.
+/// `AllocError` if allocation fails.
 pub fn show_accepted<A: Allocator + Copy>(alloc: A, units: usize) -> Result<Vec<u8, A>, AllocError>
     ensures { IfOk result (λ text. text.items ≡ accepted_line units) }
 {

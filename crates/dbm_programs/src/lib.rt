@@ -1,4 +1,4 @@
-//! The subcommands that are about programs alone: `asm`, `disasm`, `verify` and `programs`.
+//! The subcommands that use no database: `asm`, `disasm`, `verify` and `programs`.
 #![tactic(auto)]
 
 mod asm;

@@ -1,4 +1,4 @@
-//! `programs`: the stock programs, and what each takes and answers.
+//! `programs`: lists the stock programs, with their arguments and replies.
 ghost use Rattle.std.specs.Prelude.{IfOk};
 ghost use Rattle.clap.specs.Words.{found_of, rows_of};
 ghost use Rattle.dbm_words.specs.CommandLine.{IsSubcommand};
@@ -11,14 +11,14 @@ use dbm_words::{Words, subcommand, word};
 use std::alloc::{AllocError, Global};
 use stock_names::{ProgramWord, Stock, read_word};
 
-/// Lists the stock programs, or describes the one that is named.
+/// The subcommand `programs`. Lists the stock programs, or describes the named one.
 #[derive(Clone, Copy, Debug)]
 pub struct Programs<'a> {
     pub name: Option<&'a str>,
 }
 
 impl<'a> Programs<'a> {
-    /// What the matches of `programs` ask.
+    /// Reads the matches of `programs`.
     pub fn matched(matches: &ArgMatches<'a>) -> Programs<'a>
         ensures { ProgramsAsks (rows_of (found_of matches.now)) result }
     {
@@ -27,7 +27,7 @@ impl<'a> Programs<'a> {
         }
     }
 
-    /// Its words, as sentences show them.
+    /// The arguments that messages may show.
     pub fn words(&self) -> Words<'a> {
         Words {
             file: self.name,
@@ -35,11 +35,11 @@ impl<'a> Programs<'a> {
         }
     }
 
-    /// What is printed: a line for each stock program, or the table of the one that is named, with or without `@`. `None` if no stock
+    /// The text to print: a line for each stock program, or the table of the named one, with or without `@`. Returns `None` if no stock
     /// program has the name.
     ///
     /// # Errors
-    /// `AllocError` if an allocation fails.
+    /// `AllocError` if allocation fails.
     pub fn text(&self, alloc: Global) -> Result<Option<String>, AllocError> {
         let Some(name) = self.name else {
             return Ok(Some(show_all(alloc)?));
@@ -51,7 +51,7 @@ impl<'a> Programs<'a> {
     }
 }
 
-// The stock program with a name, with or without `@`.
+// The stock program with this name, with or without `@`.
 fn stock_named(name: &str) -> Option<Stock> {
     match read_word(name.as_bytes()) {
         ProgramWord::Stock(stock) => Some(stock),
@@ -60,10 +60,10 @@ fn stock_named(name: &str) -> Option<Stock> {
     }
 }
 
-/// The subcommand `programs`, as `clap` is told it.
+/// Declares the subcommand `programs` for `clap`.
 ///
 /// # Errors
-/// `AllocError` if an allocation fails.
+/// `AllocError` if allocation fails.
 pub fn programs_command<'a>(alloc: Global) -> Result<Command<'a>, AllocError>
     ensures { IfOk result (IsSubcommand spec.programs) }
 {

@@ -1,13 +1,13 @@
-//! What each stock program takes and answers, in words.
+//! Descriptions of the stock programs: their arguments and replies.
 
 use std::alloc::{AllocError, Global};
 use std::fmt::Write;
 use stock_names::{ALL, Stock};
 
-/// Lists the stock programs, a line each.
+/// Lists the stock programs, one in each line.
 ///
 /// # Errors
-/// `AllocError` if an allocation fails.
+/// `AllocError` if allocation fails.
 pub fn show_all(alloc: Global) -> Result<String, AllocError> {
     let mut text = String::new(alloc);
     for stock in &ALL {
@@ -16,10 +16,10 @@ pub fn show_all(alloc: Global) -> Result<String, AllocError> {
     Ok(text)
 }
 
-/// Describes one: what it is for, its record, its argument, how it may end, its reply word, and an example.
+/// Describes a stock program: its purpose, its record, its argument, its codes, its reply word, and an example.
 ///
 /// # Errors
-/// `AllocError` if an allocation fails.
+/// `AllocError` if allocation fails.
 pub fn show_one(alloc: Global, stock: Stock) -> Result<String, AllocError> {
     let mut text = String::new(alloc);
     write_line(&mut text, stock)?;
@@ -29,13 +29,13 @@ pub fn show_one(alloc: Global, stock: Stock) -> Result<String, AllocError> {
     Ok(text)
 }
 
-// The notes that hold for each of them.
+// Notes that apply to every program.
 const NOTES: &str = "\n\
     Numbers have 8 bytes, the lowest first. What follows in a longer record or argument is left alone.\n\
     \"Too short\": the record or the argument has fewer bytes, and nothing changes.\n\
     The last two words of the example are the length of a new record, and the time.\n";
 
-// The name of a program, and what it is for.
+// Writes the name and the purpose of a program.
 fn write_line(text: &mut String, stock: Stock) -> Result<(), AllocError> {
     let (name, purpose) = (stock.name(), purpose_of(stock));
     writeln!(text, "@{name:<17}{purpose}")

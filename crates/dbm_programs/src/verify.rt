@@ -1,4 +1,4 @@
-//! `verify`: whether a program is accepted, or why it is refused.
+//! `verify`: verifies a program, and prints why it is refused.
 ghost use Rattle.std.specs.Prelude.{◌≡◌, IfOk, IfSome, IsNone, false, IfErr};
 ghost use Rattle.clap.specs.Words.{found_of, rows_of};
 ghost use Rattle.dbm_words.specs.CommandLine.{IsSubcommand};
@@ -23,7 +23,7 @@ use prog_registry::RegFault;
 use std::alloc::{AllocError, Global};
 use std::io::Read;
 
-/// Whether a program is accepted: that of a text, or with `image` that of an image. With `explain` it is told why.
+/// The subcommand `verify`. The file is the text of a program, or with `image` its image. With `explain` the verdict is explained.
 #[derive(Clone, Copy, Debug)]
 pub struct Verify<'a> {
     pub file: &'a str,
@@ -32,7 +32,7 @@ pub struct Verify<'a> {
 }
 
 impl<'a> Verify<'a> {
-    /// What the matches of `verify` ask. There is none where they lack a word that it has to have.
+    /// Reads the matches of `verify`. Returns `None` if a required argument is missing.
     pub fn matched(matches: &ArgMatches<'a>) -> Option<Verify<'a>>
         ensures some { IfSome result (VerifyAsks (rows_of (found_of matches.now))) }
         ensures none { IsNone result → has_words spec.verify.rules (rows_of (found_of matches.now)) ≡ false }
@@ -44,7 +44,7 @@ impl<'a> Verify<'a> {
         })
     }
 
-    /// Its words, as sentences show them.
+    /// The arguments that messages may show.
     pub fn words(&self) -> Words<'a> {
         Words {
             image: self.image,
@@ -54,10 +54,10 @@ impl<'a> Verify<'a> {
     }
 }
 
-/// The subcommand `verify`, as `clap` is told it.
+/// Declares the subcommand `verify` for `clap`.
 ///
 /// # Errors
-/// `AllocError` where no memory is left.
+/// `AllocError` if allocation fails.
 pub fn verify_command<'a>(alloc: Global) -> Result<Command<'a>, AllocError>
     ensures { IfOk result (IsSubcommand spec.verify) }
 {
@@ -81,8 +81,8 @@ pub fn verify_command<'a>(alloc: Global) -> Result<Command<'a>, AllocError>
     subcommand(alloc, "verify", about, notes, args)
 }
 
-// With `explain` the line of `verify_file` stands after the program's instructions with what is known before each; of a file that is
-// the image of no program there is this line alone.
+// With `explain`, the line of `verify_file` comes after the instructions of the program, each with the facts known before it. If the image
+// cannot be decoded, only that line is printed.
 impl Subcommand for Verify<'_> {
     ghost use Rattle.std.specs.Prelude.{false};
     ghost use Rattle.dbm_programs.specs.Verify.{verify_in};
@@ -122,7 +122,7 @@ fn explain_file(alloc: Global, file: &[u8], is_image: bool) -> Result<Report, Re
     Ok(explain_image(alloc, image.as_slice(), source)?)
 }
 
-// The text of a program's file, where it is one.
+// The text of a program's file. Returns `None` if the file is an image or not text.
 fn source_of(file: &[u8], is_image: bool) -> Option<&str> {
     if is_image {
         return None;
@@ -130,7 +130,7 @@ fn source_of(file: &[u8], is_image: bool) -> Option<&str> {
     str::from_utf8(file).ok()
 }
 
-// What is said of a program image.
+// Explains the verdict on a program image.
 fn explain_image(alloc: Global, image: &[u8], source: Option<&str>) -> Result<Report, AllocError>
     ensures { IfOk result (IsExplained image.now) }
 {
@@ -141,7 +141,7 @@ fn explain_image(alloc: Global, image: &[u8], source: Option<&str>) -> Result<Re
     }
 }
 
-// What is said of the code of a program image.
+// Explains the verdict on the code of a program image.
 fn explain_code(
     alloc: Global,
     code: Code<Global>,
@@ -163,7 +163,7 @@ fn explain_code(
     }
 }
 
-// What is said of an accepted program of an image.
+// Explains why a program is accepted.
 fn explain_examined(
     alloc: Global,
     examined: Examined<Global>,
@@ -178,7 +178,7 @@ fn explain_examined(
     behind(rows, printed(line))
 }
 
-// What is said of a refused code of a program image.
+// Explains why a program is refused.
 fn explain_refusal(
     alloc: Global,
     program: Refused<Global>,
@@ -193,7 +193,7 @@ fn explain_refusal(
     behind(rows, last)
 }
 
-// Rows, and the line that is said after them.
+// Rows, an LF, and then the text of `last`.
 fn behind(rows: String, last: Report) -> Result<Report, AllocError>
     ensures { IfOk result (EndsAs last) }
 {
@@ -212,10 +212,10 @@ fn behind(rows: String, last: Report) -> Result<Report, AllocError>
     })
 }
 
-/// Why the program of a file is refused, in a sentence, and nothing where it is accepted or is none.
+/// Why the program of a file is refused, as a sentence. Returns `None` if it is accepted, or if the file is not a program.
 ///
 /// # Errors
-/// `AllocError` where no memory is left.
+/// `AllocError` if allocation fails.
 pub fn refusal_of(
     alloc: Global,
     file: &[u8],

@@ -1,4 +1,4 @@
--- The fault of a step, as a fault of the whole.
+-- Lifting the fault of a step to a fault of the subcommand.
 use Rattle.std.proofs.Common.{◌≡◌, ℕ, List, Result, Ok, Err, IfErr, IsErrAnd, sym, subst, IfOk}
 use Rattle.dbm_words.specs.declared.options.Form.{Form}
 use Rattle.dbm_reports.specs.declared.databases.Given.{Given}
@@ -10,12 +10,12 @@ use Rattle.sdbm_files.specs.declared.opening.OpenFault.TheVariants as opening
 use Rattle.dbm_reports.specs.Databases.{key_bytes_of, page_size_of}
 use Rattle.dbm_reports.specs.Causes.{IsCaused, open_fault, opening_causes}
 
--- the fault is this one, of which Q holds
+-- a fault that equals e, for which Q holds
 pub as_err : {T E : Type 0} (Q : E → Type 0) {e : E} (r : Result T E) → IsErrAnd r (λ fault. fault ≡ e) → Q e → IfErr r Q
 as_err Q (Ok x) is q = tt
 as_err Q (Err fault) is q = subst Q (sym is) q
 
--- files that do not open
+-- files that cannot be opened
 pub shut_fault : (form : Form) (given : Given) (kind : KeyBytes) (size : PageSize) (dir : List ℕ) (fault : OpenFault) → kind ≡ key_bytes_of form.unsigned → size ≡ page_size_of form.wide
     → dir ≡ given.dir.items → IsOpenFault kind size dir given.pag.bytes fault → IsCaused (opening_causes form given) (open_fault fault)
 shut_fault form given kind size dir fault kinds sizes dirs is = of fault

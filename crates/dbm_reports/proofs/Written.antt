@@ -1,4 +1,4 @@
--- A report that was written, or was not, as what comes of a subcommand.
+-- From a report that was written, or failed to be, to the result of a subcommand.
 use Rattle.std.proofs.Common.{◌≡◌, ℕ, List, Option, sym, subst}
 use Rattle.sdbm_addr.specs.Database.{Database}
 use Rattle.dbm_reports.specs.Served.{IsPrinted, IsUnserved}

@@ -1,4 +1,4 @@
--- Why nothing comes of a wish: the causes of each fault.
+-- The conditions for each fault of a subcommand.
 use Rattle.std.specs.Prelude.{◌≢◌, ℕ, ◌<◌, Bool, true, false, List, Option, IfSome, length, ⊤}
 use Rattle.std.specs.Str.{IsUtf8}
 use Rattle.sdbm_files.specs.declared.opening.OpenFault.{OpenFault}
@@ -18,23 +18,23 @@ use Rattle.dbm_reports.specs.declared.fault.ReportFault.{ReportFault}
 use Rattle.dbm_reports.specs.declared.fault.ReportFault.TheVariants.{BadHex, BadText, BadLayout, BadNumber, Open, NotText, Assemble, Decode, Read, TooLong, OutputTooLong, NoMemory}
 use Rattle.dbm_reports.specs.Databases.{IsShut}
 
--- the causes for which nothing comes of a wish
+-- the conditions under which a subcommand may fail
 pub record Causes : Type 1 where
-  -- a word is no bytes in hex or as text, the layout is none, or a word is no number
+  -- a word is not valid hex, text or layout, or not a number
   pub words : Type 0
   pub texts : Type 0
   pub layouts : Type 0
   pub numbers : Type 0
-  -- the files are no database
+  -- the files are not a database
   pub opening : OpenFault → Type 0
-  -- the file is no text, is the text of no program, or its image is none
+  -- the file is not text, its text is not a program, or its image is not a program
   pub no_text : Type 0
   pub assembling : AsmFault → Type 0
   pub decoding : DecodeFault → Type 0
   -- standard input could not be read, or is too long
   pub reading : Type 0
   pub long : Type 0
-  -- the answers to a script have too many bytes
+  -- the answers to a script are too long
   pub overlong : Type 0
 
 abbrev pub no_causes : Causes
@@ -52,7 +52,7 @@ no_causes = record {
   overlong = ⊥;
 }
 
--- A fault comes only for its cause. Memory may be wanted at any time.
+-- A fault occurs only under its condition. Allocation may fail at any time.
 abbrev pub IsCaused : Causes → ReportFault → Type 0
 IsCaused causes BadHex = causes.words
 IsCaused causes BadText = causes.texts
@@ -67,18 +67,18 @@ IsCaused causes TooLong = causes.long
 IsCaused causes OutputTooLong = causes.overlong
 IsCaused causes NoMemory = ⊤
 
--- files that do not open
+-- the files cannot be opened
 abbrev pub opening_causes : Form → Given → Causes
 opening_causes form given = record no_causes { opening = IsShut form given }
 
--- a script: at most 16,777,216 bytes
+-- a script of more than 16,777,216 bytes
 abbrev pub IsLongScript : Option (List ℕ) → Type 0
 IsLongScript input = IfSome input (λ bytes. 16777216 < length bytes)
 
 abbrev pub input_causes : Option (List ℕ) → Causes
 input_causes input = record no_causes { reading = ⊤; long = IsLongScript input }
 
--- the text of no program: the fault has a line, and is not `NoMemory`
+-- a text that is not a program; the fault has a line, and is not `NoMemory`
 abbrev pub IsUnassembled : List ℕ → AsmFault → Type 0
 IsUnassembled file fault = IsUtf8 file × (DenotesNone file × (IsLineOf fault.kind fault.line × (fault.kind ≢ kinds.NoMemory)))
 
@@ -89,24 +89,24 @@ text_causes file = record no_causes {
   assembling = λ fault. IsUnassembled file fault;
 }
 
--- a program's file, which may be any bytes where it is an image
+-- the file of a program; an image may have any bytes
 abbrev pub file_causes : Bool → List ℕ → Causes
 file_causes true file = no_causes
 file_causes false file = text_causes file
 
--- the fault of files that do not open
+-- the fault for files that cannot be opened
 abbrev pub open_fault : OpenFault → ReportFault
 open_fault opening.NoMemory = NoMemory
 open_fault reason = Open reason
 
--- the fault of words
+-- the fault for words
 abbrev pub word_fault : WordFault → ReportFault
 word_fault meant.BadHex = BadHex
 word_fault meant.BadText = BadText
 word_fault meant.BadNumber = BadNumber
 word_fault meant.NoMemory = NoMemory
 
--- the fault of lines
+-- the fault for lines
 abbrev pub lines_fault : LinesFault → ReportFault
 lines_fault lines.OutputTooLong = OutputTooLong
 lines_fault lines.NoMemory = NoMemory

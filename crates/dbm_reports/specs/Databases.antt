@@ -1,4 +1,4 @@
--- Databases from files, and how large they may be.
+-- Opening a database from its files, and its size limit.
 use Rattle.std.specs.Prelude.{◌≡◌, ℕ, ◌≤◌, ◌<◌, Bool, cond, List, length, Option, Some, None, ⊤}
 use Rattle.sdbm_addr.specs.declared.KeyBytes.{KeyBytes}
 use Rattle.sdbm_addr.specs.declared.KeyBytes.TheVariants.{Signed, Unsigned}
@@ -13,14 +13,14 @@ use Rattle.sdbm_files.specs.declared.opening.OpenFault.TheVariants as opening
 use Rattle.dbm_words.specs.declared.options.Form.{Form}
 use Rattle.dbm_reports.specs.declared.databases.Given.{Given}
 
--- how keys hash and how large pages are, by the options
+-- the hash of keys and the page size, from the options
 abbrev pub key_bytes_of : Bool → KeyBytes
 key_bytes_of unsigned = cond unsigned Unsigned Signed
 
 abbrev pub page_size_of : Bool → PageSize
 page_size_of wide = cond wide Wide Small
 
--- the files, read as the form says, spell this database and no other
+-- in this format, the files represent this database and no other
 pub record IsOpened (form : Form) (given : Given) (db : Database) : Type 0 where
   pub spells : SpellsDatabase db given.dir.items given.pag.bytes
   pub kind : db.kind ≡ key_bytes_of form.unsigned
@@ -28,24 +28,24 @@ pub record IsOpened (form : Form) (given : Given) (db : Database) : Type 0 where
   pub only : (other : Database) → other.kind ≡ key_bytes_of form.unsigned → other.size ≡ page_size_of form.wide
       → SpellsDatabase other given.dir.items given.pag.bytes → other ≡ db
 
--- the files open
+-- the files can be opened
 abbrev pub Opens : Form → Given → Type 0
 Opens form given = (db : Database) × IsOpened form given db
 
--- Why the files do not open. Where no memory is left the fault has a name of its own.
+-- Why the files cannot be opened. Out of memory is a separate fault.
 abbrev pub IsShut : Form → Given → OpenFault → Type 0
 IsShut form given opening.NoMemory = ⊥
 IsShut form given reason = IsOpenFault (key_bytes_of form.unsigned) (page_size_of form.wide) given.dir.items given.pag.bytes reason
 
--- the `.pag` of a database is longer than the program writes
+-- the `.pag` of the database is longer than the program writes
 abbrev pub IsTooLong : Database → Type 0
 IsTooLong db = (pag : List ℕ) → ArePagBytes db pag → pag_limit < length pag
 
--- the `.pag` of a database is one that the program writes
+-- the `.pag` of the database is within the limit that the program writes
 abbrev pub IsShort : Database → Type 0
 IsShort db = (pag : List ℕ) → ArePagBytes db pag → length pag ≤ pag_limit
 
--- a database that is to be written, where there is one, is one that the program writes
+-- the database to write, if any, is within the limit
 abbrev pub MayBeWritten : Option Database → Type 0
 MayBeWritten None = ⊤
 MayBeWritten (Some db) = IsShort db

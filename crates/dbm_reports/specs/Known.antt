@@ -1,4 +1,4 @@
--- What is known of a subcommand: what comes of it, and why nothing does.
+-- The possible reports of a subcommand, and the conditions of its faults.
 use Rattle.std.specs.Prelude.{Option, Some, None, ⊤}
 use Rattle.std.specs.declared.alloc.Global.{Global}
 use Rattle.dbm_script.specs.declared.notations.Notation.{Notation}
@@ -6,12 +6,12 @@ use Rattle.dbm_reports.specs.declared.report.Report.{Report}
 use Rattle.dbm_reports.specs.Causes.{Causes, no_causes}
 
 pub record Known : Type 1 where
-  -- what comes of it
+  -- the possible reports
   pub reports : Report → Type 0
-  -- why nothing comes of it
+  -- the conditions of faults
   pub causes : Causes
 
--- a layout that is none
+-- an invalid layout
 abbrev pub layout_causes : Option (Notation Global) → Causes
 layout_causes None = record no_causes { layouts = ⊤ }
 layout_causes (Some notation) = no_causes

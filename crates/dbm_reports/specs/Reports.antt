@@ -1,4 +1,4 @@
--- What comes of a subcommand: the text that it prints, its status, and the database that is to be written.
+-- The report of a subcommand: the text to print, its status, and the database to write.
 use Rattle.std.specs.Prelude.{◌≡◌, ◌==◌, ℕ, ◌++◌, Bool, true, false, cond, List, [], ◌∷◌, codes, decimal, Option, Some, None}
 use Rattle.std.specs.declared.alloc.Global.{Global}
 use Rattle.sdbm_addr.specs.Database.{Database}
@@ -19,19 +19,19 @@ use Rattle.dbm_reports.specs.declared.report.Report.{Report}
 use Rattle.dbm_reports.specs.declared.databases.Given.{Given}
 use Rattle.dbm_reports.specs.Databases.{IsOpened}
 
--- a text is printed, and that is all
+-- only prints a text
 pub record Prints (text : List ℕ) (report : Report) : Type 0 where
   pub text_is : report.text.items ≡ text
   pub status_is : report.status ≡ 0
   pub written : report.database ≡ None
 
--- a text is printed that goes so with the file, and that is all
+-- only prints a text that is related by R to the file
 abbrev pub PrintsOf : (List ℕ → List ℕ → Type 0) → List ℕ → Report → Type 0
 PrintsOf R file report = R file report.text.items × Prints report.text.items report
 
 -- ---- one command
 
--- the status is 1 where nothing was found, or where nothing was changed that was to be changed
+-- the status is 1 if nothing was found, or if a requested change was not made
 abbrev pub reply_status : {A : Type 0} → Reply A → ℕ
 reply_status (Found value) = 0
 reply_status Missing = 1
@@ -46,7 +46,7 @@ abbrev pub answer_status : {A : Type 0} → Answer A → ℕ
 answer_status (Replied entry) = reply_status entry.reply
 answer_status (Refused fault) = 1
 
--- a run is to end with this code: the status is 1 where it ended with another, and 3 where it did not run
+-- the status of a run with an expected code: 1 if it returned another code, and 3 if it did not run
 abbrev pub run_status : {A : Type 0} → ℕ → Reply A → ℕ
 run_status code (Ran ended word) = cond (ended == code) 0 1
 run_status code _ = 3
@@ -55,12 +55,12 @@ abbrev pub code_status : {A : Type 0} → ℕ → Answer A → ℕ
 code_status code (Replied entry) = run_status code entry.reply
 code_status code (Refused fault) = 3
 
--- the status that goes with an answer, where a run is to end with a code, or where nothing is asked of it
+-- the status of an answer, with or without an expected code
 abbrev pub status_of : {A : Type 0} → Option ℕ → Answer A → ℕ
 status_of None answer = answer_status answer
 status_of (Some code) answer = code_status code answer
 
--- a command is answered, by its answer in a line and the status that goes with it
+-- reports a command: prints its answer as a line, with the status of the answer
 pub record IsCommandReport (notation : Notation Global) (before : Database) (command : Command Global) (expect : Option ℕ) (after : Database) (report : Report) : Type 0 where
   pub answer : Answer Global
   pub answers : IsAnswerTo Global before command answer after
@@ -69,7 +69,7 @@ pub record IsCommandReport (notation : Notation Global) (before : Database) (com
   pub text_is : report.text.items ≡ answer_text notation answer ++ 10 ∷ []
   pub status_is : report.status ≡ status_of expect answer
 
--- a command that changes no file
+-- a command after which no file is written
 abbrev pub Looks : Notation Global → Database → Command Global → Report → Type 0
 Looks notation before command report = (after : Database) × (IsCommandReport notation before command None after report × (report.database ≡ None))
 
@@ -79,29 +79,29 @@ Changes notation before command expect report = (after : Database) × (IsCommand
 
 -- ---- the whole database
 
--- a number of pairs in a line
+-- a line with a number of pairs
 abbrev pub ok_line : ℕ → List ℕ
 ok_line n = codes "ok " ++ (decimal n ++ 10 ∷ [])
 
--- the database of the files, of which P holds
+-- P holds for the database of the files
 abbrev pub OnDatabase : Form → Given → (Database → Type 0) → Type 0
 OnDatabase form given P = (db : Database) × (IsOpened form given db × P db)
 
 -- ---- programs
 
--- a program image of the one code that a text denotes
+-- an image of the only code that the text denotes
 pub record IsTextImage (text image : List ℕ) : Type 0 where
   pub code : List Insn
   pub denotes : Denotes text code
   pub only : IsOnlyCode text code
   pub is_image : IsImage code image
 
--- the image of a program's file, which is the file itself, or that of the text in it
+-- the image from a program's file: the file itself, or the image of its text
 abbrev pub IsFileImage : Bool → List ℕ → List ℕ → Type 0
 IsFileImage true file image = image ≡ file
 IsFileImage false file image = IsTextImage file image
 
--- why a program image gets no number, in a line, with a status
+-- prints the reason for refusing a program image, with a status
 pub record Refuses (fault : RegFault) (status : ℕ) (database : Option Database) (report : Report) : Type 0 where
   pub text_is : report.text.items ≡ (codes "refused " ++ fault_text fault) ++ 10 ∷ []
   pub status_is : report.status ≡ status

@@ -1,4 +1,4 @@
--- What stands on the output, and which database is to be written, after a subcommand was served or was not.
+-- The output and the database to write after serving a subcommand.
 use Rattle.std.specs.Prelude.{◌≡◌, ℕ, List, Option, Some}
 use Rattle.std.specs.Io.KnownBytes.{Appends, Keeps}
 use Rattle.sdbm_addr.specs.Database.{Database, IsDatabase}
@@ -8,7 +8,7 @@ use Rattle.dbm_reports.specs.declared.serving.Unserved.TheVariants.{Unreported, 
 use Rattle.dbm_reports.specs.declared.report.Report.{Report}
 use Rattle.dbm_reports.specs.Databases.{IsTooLong, MayBeWritten}
 
--- The text of what comes of a subcommand was written, the status is its own, and so is the database that is to be written.
+-- The text of a report was written. The status and the database are those of the report.
 pub record IsPrinted (reports : Report → Type 0) (old new : Option (List ℕ)) (status : ℕ) (database : Option Database) : Type 0 where
   pub report : Report
   pub comes : reports report
@@ -17,13 +17,13 @@ pub record IsPrinted (reports : Report → Type 0) (old new : Option (List ℕ))
   pub database_is : database ≡ report.database
   pub short : MayBeWritten database
 
--- the first bytes of the text were written
+-- a prefix of the text was written
 pub record WasCutShort (reports : Report → Type 0) (old new : Option (List ℕ)) : Type 0 where
   pub report : Report
   pub comes : reports report
   pub part : WritesPart old new report.text.items
 
--- all of the text was written, and the database that is to be written is too long
+-- the whole text was written, but the database to write is too long
 pub record WasTooLong (reports : Report → Type 0) (old new : Option (List ℕ)) : Type 0 where
   pub report : Report
   pub comes : reports report
@@ -33,7 +33,7 @@ pub record WasTooLong (reports : Report → Type 0) (old new : Option (List ℕ)
   pub sound : IsDatabase database
   pub long : IsTooLong database
 
--- Before the text is written a fault has its cause, and nothing was written; `Write` leaves a part of the text, and `TooLong` all of it.
+-- A fault before writing satisfies its condition, and nothing was written. `Write` leaves a part of the text, and `TooLong` all of it.
 abbrev pub IsUnserved : {F : Type 0} → (Report → Type 0) → (F → Type 0) → Option (List ℕ) → Option (List ℕ) → Unserved F → Type 0
 IsUnserved reports causes old new (Unreported fault) = causes fault × Keeps old new
 IsUnserved reports causes old new Write = WasCutShort reports old new

@@ -1,4 +1,4 @@
-//! The database that files spell, and how large it may be.
+//! Opens the database of the files, and checks its size.
 ghost use Rattle.std.specs.Prelude.{◌≡◌, false, IsTrue, IfOk, IfErr};
 ghost use Rattle.sdbm_addr.specs.Database.{IsDatabase};
 ghost use Rattle.dbm_reports.specs.Databases.{IsOpened, IsShort, IsTooLong, key_bytes_of, page_size_of};
@@ -10,7 +10,7 @@ use sdbm_addr::{KeyBytes, PageSize};
 use sdbm_files::{Image, PAG_LIMIT, ReadPages};
 use std::alloc::Global;
 
-/// The files that a wish names, as they were read; a file of a database that is not there has no bytes.
+/// The contents of the files of a subcommand. A missing file of a database has no bytes.
 #[derive(Drop)]
 pub struct Given {
     pub dir: Vec<u8>,
@@ -18,7 +18,7 @@ pub struct Given {
     pub file: Vec<u8>,
 }
 
-/// How keys hash.
+/// The hash of keys.
 pub fn key_bytes_of(form: Form) -> KeyBytes
     ensures { result ≡ key_bytes_of form.unsigned }
 {
@@ -29,7 +29,7 @@ pub fn key_bytes_of(form: Form) -> KeyBytes
     }
 }
 
-/// How large pages are.
+/// The page size.
 pub fn page_size_of(form: Form) -> PageSize
     ensures { result ≡ page_size_of form.wide }
 {
@@ -40,7 +40,7 @@ pub fn page_size_of(form: Form) -> PageSize
     }
 }
 
-/// The database that the files spell. It shares its pages with what was read until it changes them.
+/// Opens the database of the files. Its pages are shared with `given` until they change.
 ///
 /// # Errors
 /// `Open` with the fault of the files, and `NoMemory`.
@@ -53,7 +53,7 @@ pub fn open(alloc: Global, given: &Given, form: Form) -> Result<Image<Global>, R
     Ok(image)
 }
 
-/// Whether a database is too large for the program: its `.pag` would be above `PAG_LIMIT`.
+/// Returns `true` if a database is too large for the program: its `.pag` would be longer than `PAG_LIMIT`.
 pub fn is_too_long(image: &Image<Global>) -> bool
     ensures long { IsTrue result → IsTooLong image.now }
     ensures short { result ≡ false → IsShort image.now }

@@ -1,4 +1,4 @@
-//! Why nothing comes of a wish.
+//! Errors of subcommands.
 ghost use Rattle.std.specs.Prelude.{◌≡◌, cond};
 ghost use Rattle.dbm_script.specs.Notation.{reads_hex};
 ghost use Rattle.dbm_reports.specs.declared.fault.ReportFault.TheVariants.{NoMemory};
@@ -11,34 +11,33 @@ use std::alloc::{AllocError, AllocFailed, Global};
 use std::error::Error;
 use std::fmt;
 
-/// Why nothing comes of a wish. It prints as its name, or as the fault within it, which is never that memory ran out.
+/// Why a subcommand failed before it printed anything. It prints as its name, or as the fault within it, which is never its `NoMemory`.
 #[derive(Clone, Copy, Debug)]
 pub enum ReportFault {
-    /// A key, a value or an argument is no hex and no dot.
+    /// A key, a value or an argument is neither hex nor a dot.
     BadHex,
-    /// A key, a value or an argument is no bytes as text.
+    /// A key, a value or an argument is not valid text.
     BadText,
-    /// The layout of values is none.
+    /// The layout of values is invalid.
     BadLayout,
-    /// A blank is neither a dot nor a number below 65,536, a time, a limit or a code is no number below 2^64, or a number of
-    /// workers none below 2^32.
-    /// Numbers have no leading zeros.
+    /// A number is invalid. A blank is a dot or a number below 65,536. A time, a limit or a code is below 2^64, and a number of workers
+    /// below 2^32. Numbers have no leading zeros.
     BadNumber,
-    /// The files are no database.
+    /// The files are not a database.
     Open(OpenFault),
     /// The file of a program's text is not UTF-8.
     NotText,
-    /// The text is no program.
+    /// The text is not a program.
     Assemble(AsmFault),
-    /// The image is no program.
+    /// The image is not a program.
     Decode(DecodeFault),
     /// Standard input could not be read.
     Read,
-    /// There are more than 16,777,216 bytes on standard input.
+    /// Standard input has more than 16,777,216 bytes.
     TooLong,
-    /// The answers to a script would have more bytes than `--max-output` allows.
+    /// The answers to a script are longer than `--max-output` allows.
     OutputTooLong,
-    /// No memory is left.
+    /// Allocation failed.
     NoMemory,
 }
 
@@ -125,7 +124,7 @@ impl From<LinesFault> for ReportFault {
     }
 }
 
-/// The fault of a word that is no bytes in a notation.
+/// The fault for invalid bytes in a notation.
 pub fn bad_words(notation: &Notation<Global>) -> ReportFault
     ensures { result ≡ cond (reads_hex notation.now) ReportFault.BadHex ReportFault.BadText }
 {

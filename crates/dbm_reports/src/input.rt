@@ -7,11 +7,10 @@ use dbm_script::{ScriptFault, read_all};
 use std::alloc::Global;
 use std::io::Read;
 
-/// All of standard input, at most 16,777,216 bytes.
+/// Reads all of standard input, at most 16,777,216 bytes.
 ///
 /// # Errors
-/// `Read` where it could not be read or a read was interrupted, `TooLong` above that many bytes, and `NoMemory`. What was read until
-/// then is gone.
+/// `Read` if reading fails or is interrupted, `TooLong` if there are more bytes, and `NoMemory`. On error, the bytes read so far are lost.
 pub fn read_input<R: Read>(alloc: Global, reader: &mut R) -> Result<Vec<u8>, ReportFault>
     ensures ok { IfOk result (λ all. IfSome (R.remaining reader.old) (λ input. all.items ≡ input)) }
     ensures short { IfOk result (λ all. length all.items ≤ 16777216) }

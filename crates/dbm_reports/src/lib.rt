@@ -1,5 +1,5 @@
-//! What a subcommand is, how one is served, and what several of them share: the database of the files, the answer to a command, standard
-//! input, the file of a program.
+//! The trait of subcommands, and how they are served. Also their shared parts: opening the database, answering a command, standard input,
+//! and the file of a program.
 #![tactic(auto)]
 
 mod databases;

@@ -1,4 +1,4 @@
-//! The notation that options ask.
+//! The notation that the options select.
 ghost use Rattle.std.specs.Prelude.{◌≡◌, IfErr, IfOk, None, Some};
 ghost use Rattle.dbm_reports.specs.Causes.{IsCaused};
 ghost use Rattle.dbm_reports.specs.Notations.{notation_by};
@@ -10,10 +10,10 @@ use dbm_script::Notation;
 use dbm_words::NotationOptions;
 use std::alloc::Global;
 
-/// How bytes are written by the options `--text` and `--as`: in hex where there is none of them.
+/// The notation from `--text` and `--as`, or hex without them.
 ///
 /// # Errors
-/// `BadLayout` where the layout is none, and `NoMemory`.
+/// `BadLayout` if the layout is invalid, and `NoMemory`.
 pub fn notation_by(
     alloc: Global,
     options: NotationOptions<'_>,

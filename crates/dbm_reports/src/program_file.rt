@@ -13,7 +13,7 @@ use prog_registry::RegFault;
 use sdbm_files::Image;
 use std::alloc::{AllocError, Global};
 
-/// The image of the program of which a file is the text.
+/// The image of the program whose text is in a file.
 ///
 /// # Errors
 /// Those of `file_image` for a text.
@@ -32,11 +32,11 @@ pub fn text_image(alloc: Global, file: &[u8]) -> Result<Vec<u8>, ReportFault>
     Ok(encode(alloc, &code)?)
 }
 
-/// The image of a program's file: the file itself, where it is an image, or that of the text in it.
+/// The image of a program's file: the file itself if it is an image, and otherwise the image of its text.
 ///
 /// # Errors
-/// `NoMemory`; and where the file is a text, `NotText` where it is not UTF-8, and `Assemble` where it is the text of no program, with
-/// a line and a fault. Which line and fault are told is `assemble`'s.
+/// `NoMemory`. For a text also `NotText` if it is not UTF-8, and `Assemble` if it is not a program, with the line and the fault from
+/// `assemble`.
 pub fn file_image(alloc: Global, file: &[u8], is_image: bool) -> Result<Vec<u8>, ReportFault>
     ensures ok { IfOk result (λ image. IsFileImage is_image file.now image.items) }
     ensures fault { IfErr result (IsCaused (file_causes is_image file.now)) }
@@ -47,11 +47,10 @@ pub fn file_image(alloc: Global, file: &[u8], is_image: bool) -> Result<Vec<u8>,
     text_image(alloc, file)
 }
 
-/// The line that says why a program image gets no number, with a status, and the database that is to be written. Memory that runs
-/// out has no such line.
+/// The report that a program image is refused: a line with the reason, a status, and the database to write. `NoMemory` has no such line.
 ///
 /// # Errors
-/// `AllocError` where no memory is left, or where that is the fault.
+/// `AllocError` if allocation fails, or if `fault` is `NoMemory`.
 pub fn refused(
     alloc: Global,
     fault: RegFault,

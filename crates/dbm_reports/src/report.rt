@@ -1,4 +1,4 @@
-//! What comes of a subcommand, and of a command on a database that is open.
+//! The report of a subcommand, and of a command on an open database.
 ghost use Rattle.std.specs.Prelude.{◌≡◌, ◌++◌, ◌∷◌, [], None, IfOk};
 ghost use Rattle.dbm_script.specs.Answers.{answer_text};
 ghost use Rattle.dbm_reports.specs.Reports.{IsCommandReport, Looks, Changes, answer_status, code_status, ok_line, run_status, status_of};
@@ -9,10 +9,10 @@ use sdbm_files::Image;
 use std::alloc::{AllocError, Allocator, Global};
 use store_cmd::{Command, Reply};
 
-/// The status of a run that is to end with a code, and did not run.
+/// The status if a run with an expected code did not run.
 pub const NOT_RUN: u8 = 3;
 
-/// What comes of a subcommand: the text that it prints, its status, and the database that is to be written, where one is.
+/// The result of a subcommand: the text to print, its status, and the database to write, if any.
 #[derive(Drop)]
 pub struct Report {
     pub text: Vec<u8>,
@@ -20,10 +20,10 @@ pub struct Report {
     pub database: Option<Image<Global>>,
 }
 
-/// The answer to a command that changes no file.
+/// The report of a command after which no file is written.
 ///
 /// # Errors
-/// `AllocError` where no memory is left.
+/// `AllocError` if allocation fails.
 pub fn look(
     alloc: Global,
     notation: &Notation<Global>,
@@ -41,10 +41,10 @@ pub fn look(
     })
 }
 
-/// The answer to a command after which the files are written. A run may be one that is to end with a certain code.
+/// The report of a command after which the files are written. `expect` is the expected code of a run, if any.
 ///
 /// # Errors
-/// `AllocError` where no memory is left.
+/// `AllocError` if allocation fails.
 pub fn change(
     alloc: Global,
     notation: &Notation<Global>,
@@ -63,7 +63,7 @@ pub fn change(
     })
 }
 
-// Answers a command: the line that is printed, and the status that goes with it.
+// Answers a command. Returns the line to print, and the status.
 fn answer_line(
     alloc: Global,
     notation: &Notation<Global>,
@@ -81,7 +81,7 @@ fn answer_line(
 /// The text of an answer, as a line.
 ///
 /// # Errors
-/// `AllocError` where no memory is left.
+/// `AllocError` if allocation fails.
 pub fn shown(
     alloc: Global,
     notation: &Notation<Global>,
@@ -95,7 +95,7 @@ pub fn shown(
     Ok(text)
 }
 
-// The status that goes with an answer, where a run is to end with a code, or where nothing is asked of it.
+// The status of an answer, with or without an expected code.
 fn status_of(answer: &Answer<Global>, expect: Option<u64>) -> u8
     ensures { result ≡ status_of expect answer.now }
 {
@@ -105,7 +105,7 @@ fn status_of(answer: &Answer<Global>, expect: Option<u64>) -> u8
     }
 }
 
-/// The status of an answer of which nothing is asked: 1 where nothing was found, or nothing changed that was to be changed.
+/// The status of an answer without an expected code: 1 if nothing was found, or if a requested change was not made.
 pub fn answer_status(answer: &Answer<Global>) -> u8
     ensures { result ≡ answer_status answer.now }
 {
@@ -118,7 +118,7 @@ pub fn answer_status(answer: &Answer<Global>) -> u8
     }
 }
 
-// The status of a run that is to end with a code, by its answer.
+// The status of the answer to a run with an expected code.
 fn code_status(answer: &Answer<Global>, code: u64) -> u8
     ensures { result ≡ code_status code answer.now }
 {
@@ -128,7 +128,7 @@ fn code_status(answer: &Answer<Global>, code: u64) -> u8
     }
 }
 
-// The same, by its reply.
+// The same for the reply to a run.
 fn run_status(reply: &Reply<Global>, code: u64) -> u8
     ensures { result ≡ run_status code reply.now }
 {
@@ -138,7 +138,7 @@ fn run_status(reply: &Reply<Global>, code: u64) -> u8
     }
 }
 
-/// A text that is printed, and that is all.
+/// A report that only prints a text.
 pub fn printed(text: Vec<u8>) -> Report
     ensures text { result.text ≡ text }
     ensures status { result.status ≡ 0 }
@@ -154,7 +154,7 @@ pub fn printed(text: Vec<u8>) -> Report
 /// The line `ok N`.
 ///
 /// # Errors
-/// `AllocError` where no memory is left for the text.
+/// `AllocError` if allocation fails.
 pub fn show_ok<A: Allocator + Copy>(alloc: A, count: usize) -> Result<Vec<u8, A>, AllocError>
     ensures { IfOk result (λ text. text.items ≡ ok_line count) }
 {

@@ -1,4 +1,4 @@
-//! How a subcommand is served: what comes of it is found, and then its lines are written.
+//! Serves a subcommand: makes its report, and then prints it.
 ghost use Rattle.std.specs.Prelude.{◌≡◌, false, IfOk, IfErr, OnOk, IsErrAnd, OnErr, Some, is_some};
 ghost use Rattle.sdbm_addr.specs.Database.{Database, IsDatabase};
 ghost use Rattle.dbm_reports.specs.Databases.{IsTooLong, MayBeWritten};
@@ -13,29 +13,29 @@ use sdbm_files::Image;
 use std::alloc::Global;
 use std::io::{Read, Write};
 
-/// What came of a subcommand that was served: its status, and the database where its files are to be written.
+/// The result of a subcommand: its status, and the database if its files are to be written.
 #[derive(Drop)]
 pub struct Served {
     pub status: u8,
     pub database: Option<Image<Global>>,
 }
 
-/// Why a subcommand was not served.
+/// Why serving a subcommand failed.
 #[derive(Drop)]
 pub enum Unserved<F: Drop> {
-    /// Nothing comes of it, and nothing was written.
+    /// The report failed, and nothing was written.
     Unreported(F),
-    /// Its lines could not all be written.
+    /// Writing its lines failed.
     Write,
-    /// Its lines were written, and `.pag` would be above `PAG_LIMIT`.
+    /// All its lines were written, but `.pag` would be longer than `PAG_LIMIT`.
     TooLong,
 }
 
-/// Serves a subcommand whose bytes are in a notation: what comes of it is found, and then its lines are written.
+/// Serves a subcommand: makes its report, and then writes its lines.
 ///
 /// # Errors
-/// `Unreported` with the fault of its `report`, and then nothing was written; `Write`, where the first bytes of its lines were; and
-/// `TooLong`, where all of them were.
+/// `Unreported` with the fault of `report` if nothing was written, `Write` if only a part of its lines was written, and `TooLong` if all of
+/// them were.
 pub fn serve<S: Subcommand, R: Read, W: Write>(
     alloc: Global,
     notation: &Notation<Global>,
@@ -58,7 +58,7 @@ pub fn serve<S: Subcommand, R: Read, W: Write>(
 /// Writes the lines of a report.
 ///
 /// # Errors
-/// `Write`, where the first bytes of its lines were written; and `TooLong`, where all of them were.
+/// `Write` if only a part of its lines was written, and `TooLong` if all of them were.
 pub fn write_report<F: Drop, W: Write>(
     report: Report,
     writer: &mut W,
@@ -79,7 +79,7 @@ pub fn write_report<F: Drop, W: Write>(
     })
 }
 
-// Refuses a database that is to be written and is too large.
+// Returns an error if the database to write is too large.
 fn check_length(database: &Option<Image<Global>>) -> Result<(), ()>
     ensures ok { OnOk result (MayBeWritten database.now) }
     ensures long { OnErr result ((db : Database) × ((database.now ≡ Some db) × (IsDatabase db × IsTooLong db))) }

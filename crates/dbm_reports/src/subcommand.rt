@@ -1,4 +1,4 @@
-//! What a subcommand is: what comes of it, and why nothing does.
+//! The trait of subcommands.
 ghost use Rattle.std.specs.Prelude.{◌≡◌, Bool, IfErr, IfOk, List, Option, false, is_some, ℕ};
 ghost use Rattle.std.specs.declared.alloc.Global.{Global};
 ghost use Rattle.dbm_script.specs.declared.notations.Notation.{Notation};
@@ -11,27 +11,27 @@ use dbm_script::Notation;
 use std::alloc::Global;
 use std::io::Read;
 
-/// A subcommand with its words and options. `serve` is proved once for all of them.
+/// A subcommand with its arguments and options. `serve` is proved once for all of them.
 pub trait Subcommand {
-    /// Why nothing comes of it.
+    /// The error of the subcommand.
     type Fault: Drop;
 
-    // What comes of it, by its notation, the bytes of its files and standard input.
+    // The possible reports, from the notation, the bytes of the files and standard input.
     ghost reports: { Self → Notation Global → Given → Option (List ℕ) → Report → Type 0 };
 
-    // The cause of each fault.
+    // The condition of each fault.
     ghost causes: { Self → Notation Global → Given → Option (List ℕ) → Self.Fault → Type 0 };
 
-    // The files of its database are written once it was served.
+    // True if the files of its database are written after it.
     ghost writes: { Self → Bool };
 
-    // It reads standard input.
+    // True if it reads standard input.
     ghost reads: { Self → Bool };
 
-    /// What comes of it. It is found before a line is written.
+    /// Makes its report, before a line is written.
     ///
     /// # Errors
-    /// The first that is met: words before files, and files before standard input.
+    /// The first fault: arguments are checked before files, and files before standard input.
     fn report<R: Read>(
         &self,
         alloc: Global,

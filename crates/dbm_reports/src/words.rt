@@ -1,14 +1,14 @@
-//! Words that are taken as they are.
+//! Raw words.
 ghost use Rattle.std.specs.Prelude.{◌≡◌, IfOk};
 ghost use Rattle.dbm_reports.specs.Words.{word_asked};
 
 use dbm_script::{Notation, show_bytes};
 use std::alloc::{AllocError, Global};
 
-/// A word as it was given; of a raw one, whose bytes are those of the word itself, the word that spells them in a notation.
+/// Returns the given word. A raw word is not decoded: its own bytes are returned in the notation.
 ///
 /// # Errors
-/// `AllocError` where no memory is left.
+/// `AllocError` if allocation fails.
 pub fn word_asked(
     alloc: Global,
     notation: &Notation<Global>,

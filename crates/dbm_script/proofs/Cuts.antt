@@ -1,4 +1,4 @@
--- A text cut at its first byte of a kind.
+-- Splitting a text at the first of some byte.
 use Rattle.std.proofs.Common.{◌≡◌, ℕ, ◌+◌, ◌-◌, ◌<◌, ◌≤◌, List, [], ◌∷◌, ◌++◌, length, take, drop, get_or, eqb, cond, take-append-drop, Bool, true, false, Some, None, refl, sym, ap, ◌∙◌, arith, rules}
 use Rattle.std.specs.Prelude.{nat_lt, position}
 use Rattle.std.specs.List.{position_or_len}
@@ -12,7 +12,7 @@ use Rattle.dbm_script.specs.Pieces.{pieces_of}
 use Rattle.dbm_script.specs.Lines.{ask_of}
 use Rattle.dbm_script.specs.declared.notations.Notation.{Notation}
 
--- no such byte before place k
+-- the first k bytes of the text do not include `byte`
 abbrev pub NoneBefore : ℕ → List ℕ → ℕ → Type 0
 NoneBefore byte text k = (j : ℕ) → 0 ≤ j → j < k → eqb (get_or text j 0) byte ≡ true → ⊥
 
@@ -31,7 +31,7 @@ pieces-first byte text k h none hit =
     ∙ slice_split_at (λ b. eqb b byte) (take k text) (get_or text k 0) (drop (k + 1) text) (none_passes byte text k (omega arith) none) hit
     ∙ ap (λ xs. take k text ∷ pieces_of byte xs) (sym (take_all (length text - (k + 1)) (drop (k + 1) text) (let l : length (drop (k + 1) text) ≡ length text - (k + 1) = length-drop (k + 1) text in omega arith)))
 
--- the same by the first place that passes
+-- pieces-first, with k as the result of position
 pub pieces_at : (byte : ℕ) (text : List ℕ) (k : ℕ) → position (λ b. eqb b byte) text ≡ Some k → pieces_of byte text ≡ take k text ∷ pieces_of byte (take (length text - (k + 1)) (drop (k + 1) text))
 pieces_at byte text k is =
     let found = position-Some (λ b. eqb b byte) text k 0 is in
@@ -46,7 +46,7 @@ pieces_whole byte text is =
     slice_split_none (λ b. eqb b byte) text
     (λ k d l. fails_before_first (λ b. eqb b byte) text k d (far (position_or_len (λ b. eqb b byte) text) (length text) k _ refl is l))
 
--- seven words and more ask nothing
+-- seven or more words are not a request
 pub too_many_words : {A : Type 0} (n : Notation A) (a b c d e f rest : List ℕ) → None ≡ ask_of n (a ∷ b ∷ c ∷ d ∷ e ∷ f ∷ pieces_of 32 rest)
 too_many_words {A = A} n a b c d e f rest = none (pieces_of 32 rest) (let long = length-slice_split (λ x. eqb x 32) rest in omega arith)
   where

@@ -1,4 +1,4 @@
--- Digits by their table, and pairs of them.
+-- Lemmas on hex digits, read by table, and on pairs of them.
 use Rattle.std.proofs.Common.{◌≡◌, ◌∙◌, ℕ, zero, suc, ◌+◌, ◌*◌, ◌<◌, ◌≤◌, true, List, [], ◌∷◌, Option, Some, None, Ok, Err, length, take, drop, slice_index, slice_index_or, refl, sym, ap, arith, add-zero}
 use Rattle.std.proofs.lemmas.Bool.{and_parts, eqb-true, true≢false}
 use Rattle.std.specs.Result.{result_ok}
@@ -30,19 +30,19 @@ read_small v small = grind arith
 pub read_large : (v : ℕ) → 15 < v → value_read v ≡ None
 read_large v large = grind arith
 
--- two digits that read
+-- a pair of valid digits
 pub pair_ok : (a b i h l : ℕ) → value_read h ≡ hex_digit_value a → value_read l ≡ hex_digit_value b → h ≤ 15 → l ≤ 15 → pair_value a b i ≡ Ok (h * 16 + l)
 pair_ok a b i h l ea eb small_h small_l =
     rw (sym ea ∙ read_small h small_h, sym eb ∙ read_small l small_l) refl
 
--- two digits one of which does not
+-- a pair with an invalid digit
 pub pair_high : (a b i h : ℕ) → value_read h ≡ hex_digit_value a → 15 < h → pair_value a b i ≡ Err (InvalidHexCharacter a i)
 pair_high a b i h ea large = rw (sym ea ∙ read_large h large) refl
 
 pub pair_low : (a b i h l : ℕ) → value_read h ≡ hex_digit_value a → value_read l ≡ hex_digit_value b → h ≤ 15 → 15 < l → pair_value a b i ≡ Err (InvalidHexCharacter b (i + 1))
 pair_low a b i h l ea eb small large = rw (sym ea ∙ read_small h small, sym eb ∙ read_large l large) refl
 
--- a text with such a pair is not read
+-- a text with an invalid pair is not hex
 pub refused : (s out : List ℕ) (i : ℕ) (e : FromHexError) → 2 * i + 1 < length s → pair_value (slice_index s (2 * i)) (slice_index s (2 * i + 1)) (2 * i) ≡ Err e
     → decode_pairs 0 s ≡ prepend (take i out) (decode_pairs (2 * i) (drop (2 * i) s)) → result_ok (decode_pairs 0 s) ≡ None
 refused s out i e fits bad inv = ap result_ok (decode_err s out i e fits bad inv)

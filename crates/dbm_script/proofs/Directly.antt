@@ -1,4 +1,4 @@
--- Lines that are answered from their words as they stand.
+-- Correctness of the fast path that answers a line without building a command.
 use Rattle.std.proofs.Common.{◌≡◌, ◌∙◌, ℕ, List, [], ◌∷◌, ◌++◌, Bool, true, false, Option, Some, None, unwrap_or, codes, refl, sym, ap, subst}
 use Rattle.std.specs.FinMap as map
 use Rattle.bpf_verify.specs.Verified.{Accepted}
@@ -25,7 +25,7 @@ use Rattle.dbm_script.specs.declared.lines.Ask.TheVariants.{Plain}
 use Rattle.dbm_script.specs.declared.notations.Notation.{Notation}
 use Rattle.dbm_script.proofs.HexWords.{hex_word, in_hex}
 
--- ---- a fetch
+-- ---- fetch
 
 unchanged : (A : Type 0) (db : Database) (n : ℕ) (value : Option (List ℕ)) → db ≡ changed_by db n (fetched {A = A} value).change
 unchanged A db n None = refl
@@ -38,7 +38,7 @@ fetch_acts {A} db ok place key value leads is =
     (ap (λ (v : Option (List ℕ)). (fetched {A = A} v).reply) (sym is))
     (unchanged A db place.page value ∙ ap (λ (v : Option (List ℕ)). changed_by db place.page (fetched {A = A} v).change) (sym is))
 
--- of a key that is not there, and of one that is
+-- a fetch of a missing key, and of an existing key
 pub fetch_missing : (A : Type 0) (n : Notation A) (db : Database) → IsDatabase db → (place : _) (key : List ℕ) → IsPlaceOf db key place → value_of (pairs_at db place.page) key ≡ None
     → AnswersCommand A n db (Fetch key) (codes "missing") db
 fetch_missing A n db ok place key leads is =
@@ -49,7 +49,7 @@ pub fetch_found : (A : Type 0) (n : Notation A) (db : Database) → IsDatabase d
 fetch_found A n db ok place key value leads is =
     (Replied (record { session = 0; command = Fetch key; reply = Found value }), ((tt, (refl, (refl, fetch_acts db ok place key (Some value) leads is))), refl))
 
--- the value of a key, by the pairs of its page
+-- the value of a key, from the pairs of its page
 pub on_page : (db : Database) (n : ℕ) (key : List ℕ) (page : Option (List Pair)) (value : Option (List ℕ)) → page ≡ map.get db.pages n → value_of (unwrap_or page []) key ≡ value → value_of (pairs_at db n) key ≡ value
 on_page db n key page value is e = ap (λ (p : Option (List Pair)). value_of (unwrap_or p []) key) (sym is) ∙ e
 
@@ -72,7 +72,7 @@ pub asks_store : {A : Type 0} (n : Notation A) (mode : Mode) (words a b key valu
 asks_store n mode words a b key value hex cut ea eb =
     ap (λ (ws : List (List ℕ)). ask_of n (store_name mode ∷ ws)) (cut ∙ ap (λ (ws : List (List ℕ)). a ∷ ws) (hex_word b value eb)) ∙ two_words n mode a b key value hex ea eb
 
--- a line that asks a command is answered as the command
+-- the answer to a line that contains a command is the answer to that command
 pub plain_line : (A : Type 0) (n : Notation A) (programs : List Accepted) (words : List (List ℕ)) (command : Command A) (done : Bool) (db db' : Database) (old new : List ℕ)
     → ask_of n words ≡ Some (Plain command) → IfAnswered A n command done db old db' new → IfDone A n programs words done db old db' new
 plain_line A n programs words command true db db' old new is adds = record {

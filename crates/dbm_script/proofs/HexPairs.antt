@@ -1,4 +1,4 @@
--- Pairs of digits, lane by lane, and texts in hex that follow one another.
+-- Decoding pairs of hex digits lane by lane, and decoding a concatenation.
 use Rattle.std.proofs.Common.{◌≡◌, ◌∙◌, ℕ, zero, suc, ◌+◌, ◌*◌, ◌%◌, ◌<◌, ◌≤◌, List, [], ◌∷◌, ◌++◌, Some, None, Result, Ok, Err, length, map, refl, sym, ap, arith}
 use Rattle.std.specs.Simd.Lanes.{Each1}
 use Rattle.std.specs.Result.{result_ok}
@@ -14,7 +14,7 @@ use Rattle.dbm_script.proofs.Vectors.{lane_reads}
 joined_byte : (h l : ℕ) → h ≤ 15 → l ≤ 15 → h * 16 + l ≡ (h * 16 % 256 + l) % 256
 joined_byte h l sh sl = omega arith
 
--- lanes that are all values give the bytes
+-- if all lanes are at most 15, joining them decodes the text
 pub decode_lanes : (i n : ℕ) (text : List ℕ) → length text ≡ 2 * n → Each1 (λ c. c < 256) text → Each1 (λ v. v ≤ 15) (map lane_value text) → decode_pairs i text ≡ Ok (joined (map lane_value text))
 unfolding decode_pairs
 decode_lanes i n [] long fits small = refl
@@ -33,7 +33,7 @@ small_read v w e = grind arith
 small_digit : (c v : ℕ) → c < 256 → hex_digit_value c ≡ Some v → lane_value c ≤ 15
 small_digit c v fits e = small_read (lane_value c) v (lane_reads c fits ∙ e)
 
--- a text that is read has only values
+-- all lanes of a valid text are at most 15
 pub small_lanes : (i : ℕ) (text out : List ℕ) → decode_pairs i text ≡ Ok out → Each1 (λ c. c < 256) text → Each1 (λ v. v ≤ 15) (map lane_value text)
 unfolding decode_pairs
 small_lanes i [] out e fits = tt
@@ -42,14 +42,14 @@ small_lanes i (a ∷ b ∷ rest) out e fits =
     let read = pair_read a b i (hex_digit_value a) (hex_digit_value b) (decode_pairs (i + 2) rest) out e in
     (small_digit a read.h fits.0 read.high_is, (small_digit b read.l fits.1.0 read.low_is, small_lanes (i + 2) rest read.bytes read.rest_is fits.1.1))
 
--- ---- texts one after another
+-- ---- concatenation
 
--- two digits and the bytes after them
+-- a pair of digits followed by a valid text
 read_pair : (a b i : ℕ) (rest : List ℕ) (h l : ℕ) (bytes : List ℕ) → hex_digit_value a ≡ Some h → hex_digit_value b ≡ Some l → decode_pairs (i + 2) rest ≡ Ok bytes → decode_pairs i (a ∷ b ∷ rest) ≡ Ok ((h * 16 + l) ∷ bytes)
 unfolding decode_pairs
 read_pair a b i rest h l bytes ea eb er = rw (ea, eb, er) refl
 
--- the number of the first digit is told only in a fault
+-- the start index only matters for errors
 read_at : (i j : ℕ) (text out : List ℕ) → decode_pairs i text ≡ Ok out → decode_pairs j text ≡ Ok out
 unfolding decode_pairs
 read_at i j [] out e = e
@@ -64,7 +64,7 @@ same_bytes : (x y : List ℕ) (r : Result (List ℕ) FromHexError) → r ≡ Ok 
 same_bytes x y (Ok z) ex ey = cc
 same_bytes x y (Err fault) ex ey = let f : ⊥ = cc in absurd f
 
--- both are read
+-- the concatenation of two valid texts is valid
 pub read_both : (i : ℕ) (a b x y : List ℕ) → decode_pairs i a ≡ Ok x → decode_pairs 0 b ≡ Ok y → decode_pairs i (a ++ b) ≡ Ok (x ++ y)
 unfolding decode_pairs
 read_both i [] b x y ea eb =
@@ -78,7 +78,7 @@ read_both i (c ∷ d ∷ rest) b x y ea eb =
     read_pair c d i (rest ++ b) read.h read.l (read.bytes ++ y) read.high_is read.low_is (read_both (i + 2) rest b read.bytes y read.rest_is eb)
     ∙ ap (λ (xs : List ℕ). Ok (xs ++ y)) bytes
 
--- what both together read
+-- the decoded bytes of two valid texts
 pub record AreRead (a b : List ℕ) : Type 0 where
   pub x : List ℕ
   pub y : List ℕ
@@ -107,13 +107,13 @@ none_read (Err fault) never = refl
 unread : (r : Result (List ℕ) FromHexError) (out : List ℕ) → result_ok r ≡ None → r ≡ Ok out → ⊥
 unread r out none is = none-some out (sym none ∙ ap result_ok is)
 
--- one of them is not read
+-- if the first text is invalid, the concatenation is invalid
 pub first_unread : (n : ℕ) (a b : List ℕ) → length a ≡ 2 * n → result_ok (decode_pairs 0 a) ≡ None → result_ok (decode_pairs 0 (a ++ b)) ≡ None
 first_unread n a b long none = none_read (decode_pairs 0 (a ++ b)) (λ out e. let parts = read_parts 0 n a b out long e in unread (decode_pairs 0 a) parts.x none parts.first)
 
 pub second_unread : (n : ℕ) (a b : List ℕ) → length a ≡ 2 * n → result_ok (decode_pairs 0 b) ≡ None → result_ok (decode_pairs 0 (a ++ b)) ≡ None
 second_unread n a b long none = none_read (decode_pairs 0 (a ++ b)) (λ out e. let parts = read_parts 0 n a b out long e in unread (decode_pairs 0 b) parts.y none parts.second)
 
--- a lane that is no value
+-- a text with a lane above 15 is invalid
 pub lanes_unread : (text : List ℕ) → Each1 (λ c. c < 256) text → (Each1 (λ v. v ≤ 15) (map lane_value text) → ⊥) → result_ok (decode_pairs 0 text) ≡ None
 lanes_unread text fits large = none_read (decode_pairs 0 text) (λ out e. large (small_lanes 0 text out e fits))

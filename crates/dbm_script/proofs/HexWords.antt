@@ -1,4 +1,4 @@
--- Words in hex, in which no space stands.
+-- A word in hex has no spaces.
 use Rattle.std.proofs.Common.{◌≡◌, ◌∙◌, ℕ, ◌+◌, ◌*◌, List, [], ◌∷◌, Bool, true, false, Option, Some, None, Result, Ok, Err, eqb, cond, codes, refl, sym, ap, subst}
 use Rattle.std.specs.Prelude.{◌%◌, ◌==◌, if◌then◌else◌, length}
 use Rattle.std.specs.Str.{bytes_eq}
@@ -16,11 +16,11 @@ use Rattle.dbm_script.specs.Pieces.{pieces_of}
 use Rattle.dbm_script.specs.declared.notations.Notation.{Notation}
 use Rattle.dbm_script.specs.declared.notations.Notation.TheVariants.{Hex, Text, Layout}
 
--- a digit is no space
+-- a digit is not a space
 no_space : (c v : ℕ) → hex_digit_value c ≡ Some v → eqb c 32 ≡ false
 no_space c v h = false_from_ne_true _ (λ e. none-some v (ap hex_digit_value (sym (eqb-true c 32 e)) ∙ h))
 
--- a pair of digits, and those after it
+-- a valid pair of digits, followed by a valid text
 pub record IsRead (high low : Option ℕ) (rest : Result (List ℕ) FromHexError) : Type 0 where
   pub h : ℕ
   pub l : ℕ
@@ -54,7 +54,7 @@ even : (text bytes : List ℕ) (odd : Bool) → result_ok (if odd then Err OddLe
 even text bytes true e = absurd (none-some bytes e)
 even text bytes false e = decoded text bytes (decode_pairs 0 text) refl e
 
--- one word
+-- a hex word has no space, so splitting at spaces leaves it whole
 one_word : (text bytes : List ℕ) (r : Result (List ℕ) FromHexError) (dot : Bool) → bytes_eq text (codes ".") ≡ dot → decode_of text ≡ r → cond dot (Some []) (result_ok r) ≡ Some bytes → pieces_of 32 text ≡ text ∷ []
 one_word text bytes r true is reads e =
     let dot : text ≡ codes "." = (bytes_eq-Decides text (codes ".")).0 is in
@@ -65,7 +65,7 @@ pub hex_word : (text bytes : List ℕ) → hex_bytes text ≡ Some bytes → pie
 hex_word [] bytes e = absurd (none-some bytes e)
 hex_word (c ∷ cs) bytes e = one_word (c ∷ cs) bytes (decode_of (c ∷ cs)) (bytes_eq (c ∷ cs) (codes ".")) refl refl e
 
--- a notation that is hex
+-- the hex notation reads words as hex
 pub in_hex : {A : Type 0} (n : Notation A) (word : List ℕ) → reads_hex n ≡ true → bytes_of n word ≡ hex_bytes word
 in_hex Hex word h = refl
 in_hex Text word h = absurd (true≢false (sym h))

@@ -1,4 +1,4 @@
--- Spelled out, a text has as many lines as before, and each stands for the one at its place.
+-- Expanding shorthand keeps the number of lines, and the place of each line.
 use Rattle.std.proofs.Common.{◌≡◌, ℕ, suc, zero, ◌<◌, List, [], ◌∷◌, ◌++◌, length, map, take, drop, cond, codes, decimal, Option, Some, None, Bool, true, false, Bor, eqb, refl, sym, ap, subst, ◌∙◌, arith, rules}
 use Rattle.std.proofs.lemmas.Bool.{eq-eqb, ne_eqb}
 use Rattle.std.proofs.lemmas.List.Splits.{length-slice_split, slice_split-cons_no, slice_split-cons_yes}
@@ -13,12 +13,12 @@ use Rattle.dbm_script.specs.declared.shorthand.TimeOfDay.{TimeOfDay}
 
 -- ---- texts without a byte
 
--- a text has no such byte
+-- the text does not contain the byte
 abbrev Lacks : ℕ → List ℕ → Type 0
 Lacks byte [] = ⊤
 Lacks byte (x ∷ xs) = (eqb x byte ≡ false) × Lacks byte xs
 
--- so has each of these
+-- no text of the list contains the byte
 abbrev AllLack : ℕ → List (List ℕ) → Type 0
 AllLack byte [] = ⊤
 AllLack byte (line ∷ lines) = Lacks byte line × AllLack byte lines
@@ -63,17 +63,17 @@ onto_lacks : (byte x : ℕ) (lines : List (List ℕ)) → eqb x byte ≡ false �
 onto_lacks byte x [] e p = ((e, tt), tt)
 onto_lacks byte x (line ∷ lines) e p = ((e, p.0), p.1)
 
--- a text with a byte more in front, by whether it is cut there
+-- prepending one byte, by cases on whether the text is split there
 piece_more : (byte x : ℕ) (xs : List ℕ) (b : Bool) → eqb x byte ≡ b → AllLack byte (pieces_of byte xs) → AllLack byte (pieces_of byte (x ∷ xs))
 piece_more byte x xs true e p = subst (AllLack byte) (sym (slice_split-cons_yes (λ b. eqb b byte) x xs e)) (tt, p)
 piece_more byte x xs false e p = subst (AllLack byte) (sym (slice_split-cons_no (λ b. eqb b byte) x xs e)) (onto_lacks byte x (pieces_of byte xs) e p)
 
--- no piece has the byte at which a text is cut
+-- no piece contains the separator
 pieces_lack : (byte : ℕ) (text : List ℕ) → AllLack byte (pieces_of byte text)
 pieces_lack byte [] = (tt, tt)
 pieces_lack byte (x ∷ xs) = piece_more byte x xs (eqb x byte) refl (pieces_lack byte xs)
 
--- a text without the byte is one piece, and the first one before the byte
+-- a text without the byte is a single piece; before the byte, it is the first piece
 one_piece : (byte : ℕ) (line : List ℕ) → Lacks byte line → pieces_of byte line ≡ line ∷ []
 one_piece byte [] p = refl
 one_piece byte (x ∷ xs) p = slice_split-cons_no (λ b. eqb b byte) x xs p.0 ∙ ap (onto_first x) (one_piece byte xs p.1)
@@ -82,12 +82,12 @@ cut_off : (byte : ℕ) (line rest : List ℕ) → Lacks byte line → pieces_of 
 cut_off byte [] rest p = slice_split-cons_yes (λ b. eqb b byte) byte rest (eq-eqb byte byte refl)
 cut_off byte (x ∷ xs) rest p = slice_split-cons_no (λ b. eqb b byte) x (xs ++ byte ∷ rest) p.0 ∙ ap (onto_first x) (cut_off byte xs rest p.1)
 
--- pieces that are joined are cut again as they were
+-- splitting the join of some pieces returns the pieces
 joined_pieces : (byte : ℕ) (line : List ℕ) (lines : List (List ℕ)) → AllLack byte (line ∷ lines) → pieces_of byte (join_with_byte byte (line ∷ lines)) ≡ line ∷ lines
 joined_pieces byte line [] p = one_piece byte line p.0
 joined_pieces byte line (next ∷ lines) p = cut_off byte line (join_with_byte byte (next ∷ lines)) p.0 ∙ ap (λ (ls : List (List ℕ)). line ∷ ls) (joined_pieces byte next lines p.1)
 
--- ---- lines that are spelled out
+-- ---- lines with expanded shorthand
 
 named_lacks : (line : List ℕ) → Lacks 10 line → Lacks 10 (fully_named line)
 named_lacks line p =
@@ -121,7 +121,7 @@ lines_stay lines time text = go (pieces_of 10 text) (let long = length-slice_spl
     go [] some p = absurd (search (rules, some))
     go (line ∷ rest) some p = joined_pieces 10 (spelled_line lines time line) (map (spelled_line lines time) rest) (lines_lack lines time (line ∷ rest) p)
 
--- the first line that is left, spelled out, stands before the others
+-- the remaining lines, expanded, begin with the expanded first line
 pub spelled_first : (f : List ℕ → List ℕ) (rest after : Option (Bor (List ℕ))) (left : Bor (List ℕ)) (short line : List ℕ) → rest ≡ Some left → pieces_of 10 left.now ≡ short ∷ pieces_left 10 after → f short ≡ line
     → map f (pieces_left 10 rest) ≡ line ∷ map f (pieces_left 10 after)
 spelled_first f rest after left short line is cut spelled =

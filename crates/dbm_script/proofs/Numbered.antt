@@ -1,4 +1,4 @@
--- Numbers of programs, from what a registry answers.
+-- From the answer of the registry to the number of a program.
 use Rattle.std.proofs.Common.{◌≡◌, ◌≢◌, ℕ, ◌++◌, List, Option, Some, None, inl, inr, ⊎_elim, refl, sym, ap, subst, ◌∙◌, codes, Result, OnOk}
 use Rattle.std.specs.Prelude.{slice_get, decimal, Ok, Err}
 use Rattle.std.specs.Option.{option_map}
@@ -16,11 +16,11 @@ use Rattle.dbm_script.specs.declared.notations.Notation.{Notation}
 use Rattle.dbm_script.specs.declared.lines.Ask.{Ask}
 use Rattle.dbm_script.specs.declared.lines.Ask.TheVariants.{Program}
 
--- the image of a program that stands at a place stands there
+-- a program's number is also the place of its image
 image_stands : (programs : List Accepted) (image : List ℕ) (p : Accepted) (id : ℕ) → slice_get programs id ≡ Some p → image_in p ≡ image → StandsAt programs image id
 image_stands programs image p id stands spelled = slice_get-map image_in programs id ∙ ap (option_map image_in) stands ∙ ap Some spelled
 
--- an image has one number, and there is one list of programs after it
+-- the number of an image, and the list of programs after it, are unique
 pub Numbers-unique : (programs : List Accepted) (image : List ℕ) (p : Accepted) (i j : ℕ) (a b : List Accepted)
     → Numbers programs image p i a → Numbers programs image p j b → (i ≡ j) × (a ≡ b)
 Numbers-unique programs image p i j a b (inl x) (inl y) = (x.only j (image_stands programs image p j y.stands y.spelled), x.same ∙ sym y.same)
@@ -28,12 +28,12 @@ Numbers-unique programs image p i j a b (inl x) (inr y) = absurd (y.is_new i (im
 Numbers-unique programs image p i j a b (inr x) (inl y) = absurd (x.is_new j (image_stands programs image p j y.stands y.spelled))
 Numbers-unique programs image p i j a b (inr x) (inr y) = (x.next ∙ sym y.next, x.more ∙ sym y.more)
 
--- an image that stands at a place is that of a program there
+-- an image in the list belongs to a program in the list
 program_there : (image : List ℕ) (o : Option Accepted) → option_map image_in o ≡ Some image → (p : Accepted) × ((o ≡ Some p) × (image_in p ≡ image))
 program_there image None e = let f : ⊥ = cc in absurd f
 program_there image (Some p) e = (p, (refl, same_Some (image_in p) image e))
 
--- a number that the registry gives
+-- the registry returned a number
 numbered : (old new : Registered) (image : List ℕ) (id : ℕ) → ((other : ℕ) → StandsAt old.programs image other → id ≡ other) → Gives old image id new
     → (p : Accepted) × Numbers old.programs image p id new.programs
 numbered old new image id only (inl there) =
@@ -42,7 +42,7 @@ numbered old new image id only (inl there) =
 numbered old new image id only (inr adds) =
     (adds.program, inr (record { is_new = adds.is_new; room = adds.room; is = adds.is; next = adds.next; more = adds.programs }))
 
--- a number that it refuses
+-- the registry refused the image
 denied : (old new : Registered) (image : List ℕ) (fault : RegFault) → fault ≢ NoMemory → Refuses old image fault new
     → IsNew old.programs image × (Denies old.programs image fault × (new.programs ≡ old.programs))
 denied old new image NoMemory told refuses = absurd (told refl)
@@ -51,7 +51,7 @@ denied old new image (Verify fault) told refuses =
     (refuses.0, (refuses.1.0, ⊎_elim (λ (h : RecallsIn old image fault new). h.programs) (λ (h : Keeps old image fault new). h.programs) refuses.1.1))
 denied old new image Full told refuses = (refuses.0.is_new, ((refuses.1.0, refuses.1.1.0), ap (λ (r : Registered). r.programs) refuses.1.1.1))
 
--- the text of an answer, after a text
+-- appends the text of an answer
 abbrev pub Answers : Registered → List ℕ → Registered → List ℕ → List ℕ → Type 0
 Answers old image new before after =
     script.Adds before after (λ added. (told : Verdict) × AnswersImage old.programs image told added new.programs)

@@ -1,4 +1,4 @@
--- Lines that run one after another, and texts that are written in parts.
+-- Running lines in sequence, and writing a text in parts.
 use Rattle.std.proofs.Common.{◌≡◌, List, [], ◌∷◌, ◌++◌, ℕ, Option, Some, None, IfSome, length, eqb, false, refl, ap, ◌∙◌, sym, subst, append_assoc, codes, decimal}
 use Rattle.std.specs.Prelude.{Ok, Err}
 use Rattle.std.proofs.lemmas.Bool.{false≢true}
@@ -24,12 +24,12 @@ use Rattle.dbm_script.specs.declared.lines.Ask.TheVariants.{Plain, Program, Run}
 use Rattle.dbm_script.specs.Script.{RunsLines, RunsScript, IsScriptRun, AnswersCommand, AnswersRun, AnswersLine, run_command, Adds, Stage, stage}
 use Rattle.dbm_script.proofs.Numbered.{Numbers-unique}
 
--- what holds of the bytes that were read holds of the known ones
+-- a property of the bytes that were read also holds for the known bytes
 pub known_read : (known : Option (List ℕ)) (read : List ℕ) (P : List ℕ → Type 0) → IfSome known (λ input. read ≡ input) → P read → IfSome known P
 known_read None read P h p = tt
 known_read (Some x) read P h p = subst P h p
 
--- more lines
+-- running more lines
 pub RunsLines-append : (A : Type 0) (n : Notation A) (s mid s' : Stage) (lines more : List (List ℕ)) (told later : List (Option Verdict)) (text added : List ℕ)
     → RunsLines A n s lines told text mid → RunsLines A n mid more later added s' → RunsLines A n s (lines ++ more) (told ++ later) (text ++ added) s'
 RunsLines-append A n s mid s' [] more [] later text added r q =
@@ -40,7 +40,7 @@ RunsLines-append A n s mid s' ((c ∷ cs) ∷ lines) more [] later text added r 
 RunsLines-append A n s mid s' ((c ∷ cs) ∷ lines) more (v ∷ told) later text added r q =
     (r.0, (r.1.0 ++ added, (r.1.1.0, (r.1.1.1.0, (RunsLines-append A n r.1.1.0 mid s' lines more told later r.1.0 added r.1.1.1.1.0 q, ap (λ xs. xs ++ added) r.1.1.1.1.1 ∙ append_assoc r.0 (10 ∷ r.1.0) added)))))
 
--- lines that are done, and one more
+-- running one more line
 pub one_more : (A : Type 0) (n : Notation A) (s mid s' : Stage) (done : List (List ℕ)) (line : List ℕ) (told : List (Option Verdict)) (text new : List ℕ)
     → RunsLines A n s done told text mid → (adds : Adds text new (λ added. (later : List (Option Verdict)) × RunsLines A n mid (line ∷ []) later added s'))
     → RunsLines A n s (done ++ line ∷ []) (told ++ adds.holds.0) new s'
@@ -48,11 +48,11 @@ one_more A n s mid s' done line told text new before adds =
     subst (λ (t : List ℕ). RunsLines A n s (done ++ line ∷ []) (told ++ adds.holds.0) t s') (sym adds.is)
     (RunsLines-append A n s mid s' done (line ∷ []) told adds.holds.0 text adds.added before adds.holds.1)
 
--- the line that was next is done, and those after it are left
+-- the next line is done, and the lines after it are left
 pub next_done : (done : List (List ℕ)) (line : List ℕ) (left after all : List (List ℕ)) → done ++ left ≡ all → left ≡ line ∷ after → (done ++ line ∷ []) ++ after ≡ all
 next_done done line left after all is first = append_assoc done (line ∷ []) after ∙ ap (λ (ls : List (List ℕ)). done ++ ls) (sym first) ∙ is
 
--- one line that is not empty
+-- running a line that is not empty
 pub line_runs : (A : Type 0) (n : Notation A) (s s' : Stage) (line : List ℕ) (old mid new : List ℕ) → eqb (length line) 0 ≡ false
     → Adds old mid (λ added. (told : Option Verdict) × AnswersLine A n s (ask_of n (pieces_of 32 line)) told added s') → new ≡ mid ++ 10 ∷ []
     → Adds old new (λ added. (told : List (Option Verdict)) × RunsLines A n s (line ∷ []) told added s')
@@ -63,12 +63,12 @@ line_runs A n s s' (c ∷ cs) old mid new some adds more = record {
   holds = (adds.holds.0 ∷ [], (adds.added, ([], (s', (adds.holds.1, ((refl, refl), refl))))));
 }
 
--- ---- one text and one state
+-- ---- the result is unique
 
 same_entry : {A : Type 0} (x y : Entry A) → x.session ≡ y.session → x.command ≡ y.command → x.reply ≡ y.reply → x ≡ y
 same_entry x y s c r = λ i. record { session = s i; command = c i; reply = r i }
 
--- a command that is small enough is refused for no size
+-- a command of valid size has no size fault
 small_or_not : {A : Type 0} (size : PageSize) (command : Command A) (fault : SizeFault) → IsSmall size command → IsSizeFault size command fault → ⊥
 small_or_not size (Fetch key) PairTooLarge small bad = bad tt
 small_or_not size (Fetch key) ArgTooLong small bad = bad.1 tt
@@ -81,14 +81,14 @@ small_or_not size (commands.Run key program argument blank now) ArgTooLong small
 small_or_not size Count PairTooLarge small bad = bad tt
 small_or_not size Count ArgTooLong small bad = bad.1 tt
 
--- a command has one fault of its size
+-- the size fault of a command is unique
 one_fault : {A : Type 0} (size : PageSize) (command : Command A) (x y : SizeFault) → IsSizeFault size command x → IsSizeFault size command y → x ≡ y
 one_fault size command PairTooLarge PairTooLarge p q = refl
 one_fault size command PairTooLarge ArgTooLong p q = absurd (p q.0)
 one_fault size command ArgTooLong PairTooLarge p q = absurd (q p.0)
 one_fault size command ArgTooLong ArgTooLong p q = refl
 
--- the answer to a command, and the database after it, are determined
+-- the answer to a command, and the database after it, are unique
 IsAnswerTo-unique : (A : Type 0) (s : Database) (command : Command A) (x y : Answer A) (a b : Database)
     → IsAnswerTo A s command x a → IsAnswerTo A s command y b → (x ≡ y) × (a ≡ b)
 IsAnswerTo-unique A s command (Replied x) (Replied y) a b p q =
@@ -110,7 +110,7 @@ AnswersRun-unique A n db (Some command) t u a b x y = AnswersCommand-unique A n 
 same_stage : (x y : Stage) → x.db ≡ y.db → x.programs ≡ y.programs → x ≡ y
 same_stage x y d p = λ i. record { db = d i; programs = p i }
 
--- what a line does, and the text of its answer, are determined by what is told of its program image
+-- given the verdict on its program image, the effect of a line and the text of its answer are unique
 AnswersLine-unique : (A : Type 0) (n : Notation A) (s : Stage) (ask : Option (Ask A)) (told : Option Verdict) (t u : List ℕ) (a b : Stage)
     → AnswersLine A n s ask told t a → AnswersLine A n s ask told u b → (t ≡ u) × (a ≡ b)
 AnswersLine-unique A n s None told t u a b x y = (x.1.0 ∙ sym y.1.0, x.1.1 ∙ sym y.1.1)

@@ -1,4 +1,4 @@
--- What some lines stand for.
+-- Examples of lines with expanded shorthand.
 use Rattle.std.proofs.Common.{◌≡◌, [], ◌∷◌, ◌++◌, Option, Some, None, codes, decimal, refl}
 use Rattle.dbm_script.specs.Lines.{ask_of}
 use Rattle.dbm_script.specs.Pieces.{pieces_of}
@@ -40,6 +40,6 @@ cr_lf : (lines : Lines) (time : Option TimeOfDay) → spelled_line lines time (c
 cr_lf OfScript time = refl
 cr_lf OfBatch time = refl
 
--- a CR alone asks nothing, whatever the notation
+-- a single CR is neither a request nor a task in any notation
 asks_nothing : {A : Type 0} (notation : Notation A) → (ask_of notation (pieces_of 32 (13 ∷ [])) ≡ None) × (task_of notation (pieces_of 32 (13 ∷ [])) ≡ None)
 asks_nothing notation = (refl, refl)

@@ -1,15 +1,15 @@
--- Lines that are spelled out one after another.
+-- Expanding shorthand line by line.
 use Rattle.std.proofs.Common.{◌≡◌, ℕ, ◌<◌, List, [], ◌∷◌, ◌++◌, length, map, Option, Some, None, Bor, true, is_some, eqb, sym, ap, ◌∙◌, append_assoc, arith, rules}
 use Rattle.std.proofs.lemmas.List.Splits.{length-slice_split}
 use Rattle.std.specs.List.{join_with_byte}
 use Rattle.dbm_script.specs.Pieces.{pieces_left}
 
--- a text that goes on has lines that are left
+-- a text that continues has lines left
 pub lines_left : (after : Option (Bor (List ℕ))) → is_some after ≡ true → 0 < length (pieces_left 10 after)
 lines_left None goes = let f : ⊥ = cc in absurd f
 lines_left (Some text) goes = let long = length-slice_split (λ b. eqb b 10) text.now in omega arith
 
--- a line goes after those before it, with its end, where others are left
+-- appending a line, and an LF if lines are left
 pub next_line : (f : List ℕ → List ℕ) (text mid new line whole : List ℕ) (left rest : List (List ℕ)) → left ≡ line ∷ rest → 0 < length rest → mid ≡ text ++ f line → new ≡ mid ++ 10 ∷ []
     → text ++ join_with_byte 10 (map f left) ≡ whole → new ++ join_with_byte 10 (map f rest) ≡ whole
 next_line f text mid new line whole left [] first more is end goes = absurd (search (rules, more))

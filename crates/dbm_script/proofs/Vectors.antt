@@ -1,4 +1,4 @@
--- Sixteen digits at once, lane by lane.
+-- Decoding sixteen digits at once, lane by lane.
 use Rattle.std.proofs.Common.{◌≡◌, ◌∙◌, ℕ, zero, suc, ◌+◌, ◌-◌, ◌*◌, ◌%◌, ◌^◌, ◌<◌, ◌≤◌, List, [], ◌∷◌, ◌++◌, Bool, true, false, cond, length, map, replicate, refl, sym, ap, subst, arith}
 use Rattle.std.specs.Prelude.{bit_or, nat_lt, ◌&&◌}
 use Rattle.std.specs.Simd.Lanes.{Each1, zip2, sel_l, mask_l, pick_l, top}
@@ -8,14 +8,14 @@ use Rattle.std.proofs.lemmas.Bool.{and_parts}
 use Rattle.std.proofs.lemmas.Simd.{mask_l-mod}
 use Rattle.dbm_script.proofs.DigitLemmas.{same_so}
 
--- lanes less a number, and the test whether they are below one
+-- subtraction and comparison of lanes
 abbrev pub less : ℕ → ℕ → ℕ
 less a b = (a + (256 - b)) % 256
 
 abbrev pub is_below : ℕ → ℕ → ℕ
 is_below a b = cond (nat_lt a b) 255 0
 
--- a vector of any length, computed so
+-- the vector operations compute lane_value in each lane, for any length
 pub lanes : (n : ℕ) (v : List ℕ) → length v ≡ n
     → sel_l (map (top 7) (zip2 is_below (zip2 less v (replicate n 48)) (replicate n 10))) (zip2 less v (replicate n 48))
     (sel_l (map (top 7) (zip2 is_below (zip2 less (zip2 bit_or v (replicate n 32)) (replicate n 97)) (replicate n 6)))
@@ -26,7 +26,7 @@ lanes zero (c ∷ cs) long = absurd (omega arith)
 lanes (suc n) [] long = absurd (omega arith)
 lanes (suc n) (c ∷ cs) long = ap (λ rest. lane_value c ∷ rest) (lanes n cs (omega arith))
 
--- all bytes from one on read so
+-- lane_value agrees with hex_digit_value on k bytes from c on
 abbrev pub agree : ℕ → ℕ → Bool
 agree zero c = true
 agree (suc k) c = is_same (value_read (lane_value c)) (hex_digit_value c) && agree k (c + 1)
@@ -47,7 +47,7 @@ lane_reads c small =
     let same : 0 + c ≡ c = omega arith in
     subst (λ (x : ℕ). value_read (lane_value x) ≡ hex_digit_value x) same (agree_in 256 0 c refl small)
 
--- what holds of a list with any such elements
+-- P holds for every list of n elements
 abbrev pub OfAny : ℕ → (List ℕ → Type 0) → Type 0
 OfAny zero P = P []
 OfAny (suc n) P = (x : ℕ) → OfAny n (λ xs. P (x ∷ xs))
@@ -58,7 +58,7 @@ of_all zero P holds (x ∷ xs) long = absurd (omega arith)
 of_all (suc n) P holds [] long = absurd (omega arith)
 of_all (suc n) P holds (x ∷ xs) long = of_all n (λ more. P (x ∷ more)) (holds x) xs (omega arith)
 
--- the even lanes by sixteen, and the odd ones
+-- the even lanes times 16, plus the odd lanes
 pub paired : (v : List ℕ) → length v ≡ 16
     → zip2 (λ a b. (a + b) % 256) (zip2 (λ a b. a * b % 256) (pick_l 0 (v ++ v) (0 ∷ 2 ∷ 4 ∷ 6 ∷ 8 ∷ 10 ∷ 12 ∷ 14 ∷ [])) (replicate 8 16)) (pick_l 0 (v ++ v) (1 ∷ 3 ∷ 5 ∷ 7 ∷ 9 ∷ 11 ∷ 13 ∷ 15 ∷ []))
     ≡ joined v
@@ -72,7 +72,7 @@ length-joined v long = of_all 16 (λ w. length (joined w) ≡ 8) (λ a b c d e f
 
 -- ---- which lanes are above 15
 
--- the test of each lane
+-- the test of all lanes
 abbrev pub above : ℕ → List ℕ → List Bool
 above n v = map (top 7) (zip2 is_below (replicate n 15) v)
 

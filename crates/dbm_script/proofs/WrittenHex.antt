@@ -1,20 +1,20 @@
--- Bytes that are written one after another in hex.
+-- Writing bytes in hex one after the other.
 use Rattle.std.proofs.Common.{◌≡◌, ◌∙◌, ℕ, ◌+◌, ◌/◌, ◌%◌, ◌<◌, List, [], ◌∷◌, ◌++◌, length, take, slice_index, sym, ap, refl}
 use Rattle.std.proofs.lemmas.List.{append_assoc, append-nil, take_more}
 use Rattle.hex.specs.Hex.{encode_with}
 
--- a byte after others
+-- appending a byte
 pub encode_behind : (t xs : List ℕ) (b : ℕ) → encode_with t (xs ++ b ∷ []) ≡ encode_with t xs ++ (slice_index t (b / 16) ∷ slice_index t (b % 16) ∷ [])
 unfolding encode_with
 encode_behind t [] b = refl
 encode_behind t (x ∷ xs) b = ap (λ (rest : List ℕ). slice_index t (x / 16) ∷ slice_index t (x % 16) ∷ rest) (encode_behind t xs b)
 
--- nothing is written yet
+-- writing no bytes
 pub written_none : (t before : List ℕ) → before ≡ before ++ encode_with t []
 unfolding encode_with
 written_none t before = sym (append-nil before)
 
--- one byte more is written after a text
+-- writing one more byte
 pub written_more : (t bytes before text : List ℕ) (i high low : ℕ) → i < length bytes → high ≡ slice_index bytes i / 16 → low ≡ slice_index bytes i % 16
     → text ≡ before ++ encode_with t (take i bytes) → (text ++ slice_index t high ∷ []) ++ slice_index t low ∷ [] ≡ before ++ encode_with t (take (i + 1) bytes)
 written_more t bytes before text i high low within eh el so =

@@ -12,7 +12,8 @@ use Rattle.dbm_script.specs.declared.notations.Notation.{Notation}
 use Rattle.dbm_script.specs.declared.answers.Answer.{Answer}
 use Rattle.dbm_script.specs.declared.answers.Answer.TheVariants.{Replied, Refused}
 
--- A command of session 0 that is small enough is done, and its answer is the reply; a larger one is refused, and changes nothing.
+-- The answer to a command of session 0. If its size is valid, the command runs and the answer is its reply; otherwise it is refused and
+-- changes nothing.
 abbrev pub IsAnswerTo : (A : Type 0) → Database → Command A → Answer A → Database → Type 0
 IsAnswerTo A db command (Replied entry) db' = IsSmall db.size command × ((entry.session ≡ 0) × ((entry.command ≡ command) × Acts db entry db'))
 IsAnswerTo A db command (Refused fault) db' = IsSizeFault db.size command fault × (db' ≡ db)

@@ -1,4 +1,4 @@
--- What words ask.
+-- The command that words describe.
 use Rattle.std.specs.Prelude.{ℕ, List, [], ◌∷◌, cond, codes, Option, Some, None}
 use Rattle.std.specs.Str.{bytes_eq}
 use Rattle.sdbm_addr.specs.declared.Mode.{Mode}
@@ -21,7 +21,7 @@ store_of None value mode = None
 store_of (Some key) None mode = None
 store_of (Some key) (Some value) mode = Some (Store key value mode)
 
--- what words ask: the name of a command, and the words that it takes
+-- the command that words describe: a name and its arguments
 abbrev pub command_of : {A : Type 0} → Notation A → List (List ℕ) → Option (Command A)
 command_of notation [] = None
 command_of notation (word ∷ []) = cond (bytes_eq word (codes "count")) (Some Count) None

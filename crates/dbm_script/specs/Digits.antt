@@ -1,8 +1,8 @@
--- Digits in hex by a table of bytes.
+-- Hex digits, by a table of bytes.
 use Rattle.std.specs.Prelude.{ℕ, ◌+◌, ◌*◌, ◌%◌, ◌==◌, ◌&&◌, nat_le, nat_lt, bit_or, cond, Bool, true, false, List, [], ◌∷◌, Option, Some, None}
 use Rattle.hex.specs.Hex.{hex_digit_value}
 
--- the value for which a byte of the table stands, and none above 15
+-- the digit value of a byte of the table; above 15 it has no value
 abbrev pub value_read : ℕ → Option ℕ
 value_read v = cond (nat_le v 15) (Some v) None
 
@@ -12,29 +12,29 @@ is_same None (Some w) = false
 is_same (Some v) None = false
 is_same (Some v) (Some w) = v == w
 
--- a table has the value of each digit from one on
+-- the table has the value of each digit from c on
 abbrev pub are_values : List ℕ → ℕ → Bool
 are_values [] c = true
 are_values (v ∷ vs) c = is_same (value_read v) (hex_digit_value c) && are_values vs (c + 1)
 
 -- ---- sixteen at once
 
--- whether a lane passes a test, as vectors tell it
+-- the result of a vector comparison in one lane
 abbrev pub lane_passes : Bool → Bool
 lane_passes test = nat_le 128 (cond test 255 0)
 
--- by how much a digit stands after 0, and a letter after a, among 256
+-- the distance of a byte from `0`, and of a letter from `a`, modulo 256
 abbrev pub behind_zero : ℕ → ℕ
 behind_zero c = (c + 208) % 256
 
 abbrev pub behind_a : ℕ → ℕ
 behind_a c = (bit_or c 32 + 159) % 256
 
--- the value of a digit, and 255 for what is none
+-- the value of a digit, and 255 for any other byte
 abbrev pub lane_value : ℕ → ℕ
 lane_value c = cond (lane_passes (nat_lt (behind_zero c) 10)) (behind_zero c) (cond (lane_passes (nat_lt (behind_a c) 6)) ((behind_a c + 10) % 256) 255)
 
--- the bytes of pairs of digits by their values
+-- joins the values of pairs of digits to bytes
 abbrev pub joined : List ℕ → List ℕ
 joined [] = []
 joined (v ∷ []) = []

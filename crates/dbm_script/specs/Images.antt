@@ -1,4 +1,4 @@
--- Images that lines submit: the number of a program, or why it gets none.
+-- Lines that submit a program image: the number of the program, or the reason for the refusal.
 use Rattle.std.specs.Prelude.{ℕ, ◌≡◌, ◌<◌, ◌++◌, ◌⊎◌, List, [], ◌∷◌, codes, decimal, length, slice_get, Some, Result, Ok, Err}
 use Rattle.bpf_verify.specs.Verified.{Accepted, image_in}
 use Rattle.prog_registry.specs.FaultText.{fault_text}
@@ -8,18 +8,18 @@ use Rattle.prog_registry.specs.Registry.{IsAccepted}
 use Rattle.prog_registry.specs.declared.fault.RegFault.{RegFault}
 use Rattle.prog_registry.specs.declared.fault.RegFault.TheVariants.{NoMemory, Decode, Verify, Full}
 
--- what is told of an image: its accepted program, or why it gets no number
+-- the verdict on an image: its accepted program, or the reason for the refusal
 abbrev pub Verdict : Type 0
 Verdict = Result Accepted RegFault
 
--- The program image is there, at one place, which is its number, and nothing changes.
+-- The program is already in the list, at exactly one place, and its number is that place. Nothing changes.
 pub record IsThere (programs : List Accepted) (image : List ℕ) (p : Accepted) (id : ℕ) (programs' : List Accepted) : Type 0 where
   pub stands : slice_get programs id ≡ Some p
   pub spelled : image_in p ≡ image
   pub only : (other : ℕ) → StandsAt programs image other → id ≡ other
   pub same : programs' ≡ programs
 
--- The program of a new image goes after the others, and its number is how many there were.
+-- A new program is appended to the list. Its number is the previous length of the list.
 pub record GoesBehind (programs : List Accepted) (image : List ℕ) (p : Accepted) (id : ℕ) (programs' : List Accepted) : Type 0 where
   pub is_new : IsNew programs image
   pub room : length programs < program_limit
@@ -30,14 +30,14 @@ pub record GoesBehind (programs : List Accepted) (image : List ℕ) (p : Accepte
 abbrev pub Numbers : List Accepted → List ℕ → Accepted → ℕ → List Accepted → Type 0
 Numbers programs image p id programs' = IsThere programs image p id programs' ⊎ GoesBehind programs image p id programs'
 
--- why a new program image gets no number
+-- the reason for refusing a new program image
 abbrev pub Denies : List Accepted → List ℕ → RegFault → Type 0
 Denies programs image NoMemory = ⊥
 Denies programs image (Decode fault) = IsUndecoded image fault
 Denies programs image (Verify fault) = IsJudged image fault
 Denies programs image Full = IsAccepted image × (length programs ≡ program_limit)
 
--- What a line answers that submits an image, by what is told of it, and the programs after it.
+-- The answer to a line that submits an image, by the verdict on the image, and the list of programs after it.
 abbrev pub AnswersImage : List Accepted → List ℕ → Verdict → List ℕ → List Accepted → Type 0
 AnswersImage programs image (Ok p) text programs' =
     (id : ℕ) × (Numbers programs image p id programs' × (text ≡ codes "program " ++ decimal id))

@@ -1,4 +1,4 @@
--- What lines ask: a command on the database, the number of a program, or a run.
+-- The request that a line describes: a command on the database, the submission of a program, or a run.
 use Rattle.std.specs.Prelude.{ℕ, List, [], ◌∷◌, cond, codes, Option, Some, None}
 use Rattle.std.specs.Str.{bytes_eq}
 use Rattle.store_cmd.specs.declared.Command.{Command}
@@ -17,7 +17,7 @@ abbrev pub program_of : {A : Type 0} → Option (List ℕ) → Option (Ask A)
 program_of None = None
 program_of (Some image) = Some (Program image)
 
--- a run of a program by its number
+-- a run of a program, given by its number
 abbrev pub run_of : {A : Type 0} → Option (List ℕ) → Option ℕ → Option (List ℕ) → Option (Option ℕ) → Option ℕ → Option (Ask A)
 run_of None prog arg blank now = None
 run_of (Some key) None arg blank now = None
@@ -27,7 +27,7 @@ run_of (Some key) (Some prog) (Some arg) (Some blank) None = None
 run_of (Some key) (Some prog) (Some arg) (Some blank) (Some now) =
     Some (Run (record { key = key; prog = prog; arg = arg; blank = blank; now = now }))
 
--- what the words of a line ask; a program image is in hex in each notation
+-- the request that the words of a line describe; a program image is in hex in each notation
 abbrev pub ask_of : {A : Type 0} → Notation A → List (List ℕ) → Option (Ask A)
 ask_of notation [] = None
 ask_of notation (word ∷ []) = plain (command_of notation (word ∷ []))

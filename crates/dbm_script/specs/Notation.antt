@@ -1,4 +1,4 @@
--- Notations: how bytes are written in words and in answers.
+-- Notations: how words and answers represent bytes.
 use Rattle.std.specs.Prelude.{ℕ, Bool, true, false, List, [], ◌∷◌, cond, codes, Option, Some, None}
 use Rattle.std.specs.Result.{result_ok}
 use Rattle.std.specs.Str.{bytes_eq}
@@ -15,7 +15,7 @@ reads_hex (Layout kinds) = false
 
 -- ---- words
 
--- bytes in hex of either case, or a dot for none; no text at all is no bytes
+-- bytes in hex of either case, or a dot for no bytes; an empty word is invalid
 abbrev pub hex_bytes : List ℕ → Option (List ℕ)
 hex_bytes [] = None
 hex_bytes (c ∷ cs) = cond (bytes_eq (c ∷ cs) (codes ".")) (Some []) (result_ok (decode_of (c ∷ cs)))
@@ -28,7 +28,7 @@ bytes_of (Layout kinds) text = bytes_of_text text
 
 -- ---- answers
 
--- bytes in lower-case hex, or a dot for none
+-- bytes in lower-case hex, or a dot for no bytes
 abbrev pub hex_shown : List ℕ → List ℕ
 hex_shown [] = codes "."
 hex_shown (b ∷ bs) = encode_lower (b ∷ bs)

@@ -3,6 +3,6 @@ use Rattle.std.specs.Prelude.{ℕ, List, cond, codes, Option, Some, None, option
 use Rattle.std.specs.Str.{bytes_eq}
 pub use Rattle.byte_text.specs.Numbers.{number_of}
 
--- how long a blank is, or that there is none
+-- the length of a blank, or a dot for no blank
 abbrev pub blank_of : List ℕ → Option (Option ℕ)
 blank_of text = cond (bytes_eq text (codes ".")) (Some None) (option_map Some (number_of 65535 text))

@@ -1,4 +1,4 @@
--- Scripts: what the lines of a text do, and the text of the answers.
+-- Scripts: the effect of the lines of a text, and the text of the answers.
 use Rattle.std.specs.Prelude.{◌≡◌, ℕ, ◌<◌, List, [], ◌∷◌, ◌++◌, codes, length, slice_get, option_map, Option, Some, None}
 use Rattle.bpf_verify.specs.Verified.{Accepted}
 use Rattle.sdbm_addr.specs.Database.{Database}
@@ -15,7 +15,7 @@ use Rattle.dbm_script.specs.declared.lines.Ask.TheVariants.{Plain, Program, Run}
 use Rattle.dbm_script.specs.declared.fault.ScriptFault.{ScriptFault}
 use Rattle.dbm_script.specs.declared.fault.ScriptFault.TheVariants.{Read, TooLong, Write, NoMemory}
 
--- What a script works on: a database, and the accepted programs by number.
+-- The state of a script: a database, and the accepted programs by number.
 pub record Stage : Type 0 where
   pub db : Database
   pub programs : List Accepted
@@ -23,21 +23,21 @@ pub record Stage : Type 0 where
 abbrev pub stage : Database → List Accepted → Stage
 stage db programs = record { db = db; programs = programs }
 
--- what a command does, and the text of its answer
+-- the effect of a command, and the text of its answer
 abbrev pub AnswersCommand : (A : Type 0) → Notation A → Database → Command A → List ℕ → Database → Type 0
 AnswersCommand A notation db command text db' = (answer : Answer A) × (IsAnswerTo A db command answer db' × (text ≡ answer_text notation answer))
 
--- a run of the program with a number, where there is one
+-- a run of the program with this number, if there is one
 abbrev pub run_command : {A : Type 0} → List Accepted → List ℕ → ℕ → List ℕ → Option ℕ → ℕ → Option (Command A)
 run_command programs key prog arg blank now = option_map (λ p. commands.Run key p.code arg blank now) (slice_get programs prog)
 
--- what a run does, and the text of its answer; without its program it does nothing
+-- the effect of a run, and the text of its answer; without its program it changes nothing
 abbrev pub AnswersRun : (A : Type 0) → Notation A → Database → Option (Command A) → List ℕ → Database → Type 0
 AnswersRun A notation db None text db' = (text ≡ codes "refused NoProgram") × (db' ≡ db)
 AnswersRun A notation db (Some command) text db' = AnswersCommand A notation db command text db'
 
--- What one line does, by what it asks and what is told of the program image that it submits, and the text of its answer. A line that asks
--- nothing does nothing.
+-- The effect of one line, and the text of its answer. They follow from the request in the line and from the verdict on the program image,
+-- if the line submits one. A bad line changes nothing.
 abbrev pub AnswersLine : (A : Type 0) → Notation A → Stage → Option (Ask A) → Option Verdict → List ℕ → Stage → Type 0
 AnswersLine A notation s None told text s' = (told ≡ None) × ((text ≡ codes "bad line") × (s' ≡ s))
 AnswersLine A notation s (Some (Plain command)) told text s' =
@@ -48,8 +48,8 @@ AnswersLine A notation s (Some (Program image)) None text s' = ⊥
 AnswersLine A notation s (Some (Program image)) (Some verdict) text s' =
     (s'.db ≡ s.db) × AnswersImage s.programs image verdict text s'.programs
 
--- What lines do in order, and the text of their answers, by what is told at each line that is not empty: an empty line has no answer,
--- and each other line has one, with its end.
+-- The effect of lines in order, and the text of their answers, with a verdict for each line that is not empty. An empty line has no answer;
+-- the answer to any other line ends with LF.
 abbrev pub RunsLines : (A : Type 0) → Notation A → Stage → List (List ℕ) → List (Option Verdict) → List ℕ → Stage → Type 0
 RunsLines A notation s [] [] text s' = (text ≡ []) × (s' ≡ s)
 RunsLines A notation s [] (verdict ∷ told) text s' = ⊥
@@ -58,19 +58,19 @@ RunsLines A notation s ((c ∷ cs) ∷ lines) [] text s' = ⊥
 RunsLines A notation s ((c ∷ cs) ∷ lines) (verdict ∷ told) text s' =
     (first : List ℕ) × ((rest : List ℕ) × ((mid : Stage) × (AnswersLine A notation s (ask_of notation (pieces_of 32 (c ∷ cs))) verdict first mid × (RunsLines A notation mid lines told rest s' × (text ≡ first ++ 10 ∷ rest)))))
 
--- a script on a database and no programs: its lines end with LF, the last one may lack it
+-- a script on a database, starting without programs; its lines end with LF, which the last line may lack
 abbrev pub RunsScript : (A : Type 0) → Notation A → Database → List ℕ → List (Option Verdict) → List ℕ → Database → Type 0
 RunsScript A notation db input told text db' =
     (programs : List Accepted) × RunsLines A notation (stage db []) (pieces_of 10 input) told text (stage db' programs)
 
--- A script writes this text and leads to this database, page by page. By what is told of the program images that its lines submit, it writes
--- no other text and leads to no other database.
+-- A script writes this text and leads to this database, page by page. Given the verdicts on the program images in its lines, the text and
+-- the database are unique.
 pub record IsScriptRun (A : Type 0) (notation : Notation A) (db : Database) (input text : List ℕ) (db' : Database) : Type 0 where
   pub told : List (Option Verdict)
   pub runs : RunsScript A notation db input told text db'
   pub only : (other : List ℕ) (d : Database) → RunsScript A notation db input told other d → (other ≡ text) × (d ≡ db')
 
--- The answers to the first lines of a script alone have more bytes than so many.
+-- The answers to the first lines of a script have more than `most` bytes in total.
 pub record AnswersExceed (A : Type 0) (notation : Notation A) (db : Database) (input : List ℕ) (most : ℕ) : Type 0 where
   pub first : List (List ℕ)
   pub others : List (List ℕ)
@@ -81,7 +81,7 @@ pub record AnswersExceed (A : Type 0) (notation : Notation A) (db : Database) (i
   pub ran : RunsLines A notation (stage db []) first told text after
   pub long : most < length text
 
--- new is old and then some bytes, of which P holds
+-- new is old followed by bytes that satisfy P
 pub record Adds (old new : List ℕ) (P : List ℕ → Type 0) : Type 0 where
   pub added : List ℕ
   pub is : new ≡ old ++ added

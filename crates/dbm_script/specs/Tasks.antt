@@ -1,4 +1,4 @@
--- Tasks: lines that ask runs of a program that is known.
+-- Tasks: lines that describe runs of one given program.
 use Rattle.std.specs.Prelude.{◌≡◌, ◌⊎◌, ◌+◌, ◌++◌, ℕ, Bool, true, false, cond, List, [], ◌∷◌, length, Option, Some, None, IsSome, ⊤}
 use Rattle.dbm_script.specs.Pieces.{pieces_of}
 use Rattle.dbm_script.specs.Notation.{bytes_of, reads_hex}
@@ -17,31 +17,31 @@ all_words (Some key) (Some arg) None now = None
 all_words (Some key) (Some arg) (Some blank) None = None
 all_words (Some key) (Some arg) (Some blank) (Some now) = Some (record { key = key; arg = arg; blank = blank; now = now })
 
--- what the words of a run mean: bytes of a key and an argument, a blank and a time
+-- the meaning of the words of a run: bytes of a key and an argument, a blank and a time
 abbrev pub run_words_of : {A : Type 0} → Notation A → List ℕ → List ℕ → List ℕ → List ℕ → Option (RunWords A)
 run_words_of notation key arg blank now = all_words (bytes_of notation key) (bytes_of notation arg) (blank_of blank) (number_of 18446744073709551615 now)
 
--- one of these words is no bytes
+-- the key or the argument is invalid
 abbrev pub HasBadBytes : {A : Type 0} → Notation A → List ℕ → List ℕ → Type 0
 HasBadBytes notation key arg = (bytes_of notation key ≡ None) ⊎ (bytes_of notation arg ≡ None)
 
--- those are bytes, and one of the others is no number
+-- the key and the argument are valid, and the blank or the time is invalid
 abbrev pub HasBadNumber : {A : Type 0} → Notation A → List ℕ → List ℕ → List ℕ → List ℕ → Type 0
 HasBadNumber notation key arg blank now =
     IsSome (bytes_of notation key) × (IsSome (bytes_of notation arg) × ((blank_of blank ≡ None) ⊎ (number_of 18446744073709551615 now ≡ None)))
 
--- the fault of a word that is no bytes
+-- the fault for invalid bytes
 abbrev pub bad_bytes : {A : Type 0} → Notation A → WordFault
 bad_bytes notation = cond (reads_hex notation) words.BadHex words.BadText
 
--- why words mean no run
+-- why the words are not those of a run
 abbrev pub IsWordFault : {A : Type 0} → Notation A → List ℕ → List ℕ → List ℕ → List ℕ → WordFault → Type 0
 IsWordFault notation key arg blank now words.BadHex = (reads_hex notation ≡ true) × HasBadBytes notation key arg
 IsWordFault notation key arg blank now words.BadText = (reads_hex notation ≡ false) × HasBadBytes notation key arg
 IsWordFault notation key arg blank now words.BadNumber = HasBadNumber notation key arg blank now
 IsWordFault notation key arg blank now words.NoMemory = ⊤
 
--- the task that the words of a line ask
+-- the task that the words of a line describe
 abbrev pub task_of : {A : Type 0} → Notation A → List (List ℕ) → Option (RunWords A)
 task_of notation [] = None
 task_of notation (key ∷ []) = None
@@ -50,7 +50,7 @@ task_of notation (key ∷ arg ∷ blank ∷ []) = None
 task_of notation (key ∷ arg ∷ blank ∷ now ∷ []) = run_words_of notation key arg blank now
 task_of notation (key ∷ arg ∷ blank ∷ now ∷ other ∷ others) = None
 
--- the tasks of lines, in their order: an empty line has none, and each other line has one
+-- the tasks of lines, in order; an empty line has no task, and any other line has one
 abbrev pub AskTasks : (A : Type 0) → Notation A → List (List ℕ) → List (RunWords A) → Type 0
 AskTasks A notation [] [] = ⊤
 AskTasks A notation [] (task ∷ tasks) = ⊥
@@ -58,21 +58,21 @@ AskTasks A notation ([] ∷ lines) tasks = AskTasks A notation lines tasks
 AskTasks A notation ((c ∷ cs) ∷ lines) [] = ⊥
 AskTasks A notation ((c ∷ cs) ∷ lines) (task ∷ tasks) = (task_of notation (pieces_of 32 (c ∷ cs)) ≡ Some task) × AskTasks A notation lines tasks
 
--- the tasks of a text, whose lines end with LF; the last one may lack it
+-- the tasks of a text; its lines end with LF, which the last line may lack
 abbrev pub AreTasksOf : (A : Type 0) → Notation A → List ℕ → List (RunWords A) → Type 0
 AreTasksOf A notation input tasks = AskTasks A notation (pieces_of 10 input) tasks
 
--- a line that is not empty and asks no task
+-- a line that is not empty and not a task
 abbrev pub IsBadLine : (A : Type 0) → Notation A → List ℕ → Type 0
 IsBadLine A notation [] = ⊥
 IsBadLine A notation (c ∷ cs) = task_of notation (pieces_of 32 (c ∷ cs)) ≡ None
 
--- A line's task goes after others, where the line is good: an empty one has none.
+-- Appends the task of a line, if it is valid. An empty line has no task.
 abbrev pub AddsTask : (A : Type 0) → Notation A → List ℕ → Bool → List (RunWords A) → List (RunWords A) → Type 0
 AddsTask A notation line true old new = (added : List (RunWords A)) × (AskTasks A notation (line ∷ []) added × (new ≡ old ++ added))
 AddsTask A notation line false old new = IsBadLine A notation line
 
--- the first such line of a text, by its number from 1 on; empty lines count too
+-- the first bad line of a text, by its number from 1 on; empty lines count too
 pub record IsFirstBad (A : Type 0) (notation : Notation A) (input : List ℕ) (number : ℕ) : Type 0 where
   pub before : List (List ℕ)
   pub line : List ℕ

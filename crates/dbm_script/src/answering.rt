@@ -1,4 +1,4 @@
-//! What a command of a line is answered.
+//! Answers one command.
 ghost use Rattle.std.specs.Prelude.{◌≡◌, ◌<◌, IfOk, OnOk, OnErr};
 ghost use Rattle.dbm_script.specs.Answers.{IsAnswerTo};
 ghost use Rattle.dbm_script.specs.Script.{AnswersCommand, Adds};
@@ -10,10 +10,10 @@ use std::alloc::{AllocError, Allocator};
 use store_cmd::{Command, check_sizes};
 use store_moves::act;
 
-/// The session of all commands of a script.
+/// The session of all commands in a script.
 const SCRIPT_SESSION: u64 = 0;
 
-// Answers a command, and writes the answer after a text.
+// Runs a command and appends the answer to `text`.
 pub(crate) fn answer_one<A: Allocator + Copy>(
     alloc: A,
     notation: &Notation<A>,
@@ -28,10 +28,10 @@ pub(crate) fn answer_one<A: Allocator + Copy>(
     show_answer(alloc, notation, &answer, text)
 }
 
-/// Answers a command on a database as session 0. No trail is kept.
+/// Runs a command on a database as session 0. Keeps no trail.
 ///
 /// # Errors
-/// `AllocError` where there is no memory left for it. The database is as it was then.
+/// `AllocError` if allocation fails. The database is then unchanged.
 pub fn answer_command<A: Allocator + Copy>(
     alloc: A,
     image: &mut Image<A>,

@@ -11,16 +11,16 @@ use store_cmd::{Entry, Reply, SizeFault};
 /// The answer to a command.
 #[derive(Drop)]
 pub enum Answer<A: Allocator> {
-    /// Its session, the command and the reply.
+    /// The session, the command and the reply.
     Replied(Entry<A>),
-    /// It is refused for its size.
+    /// The command was refused because of its size.
     Refused(SizeFault),
 }
 
-/// Writes the text of an answer in a notation after a text.
+/// Appends an answer to `text`.
 ///
 /// # Errors
-/// `AllocError` where there is no memory for it. The text is of no use then.
+/// `AllocError` if allocation fails. On error, discard `text`: it may be partial.
 pub fn show_answer<A: Allocator + Copy>(
     alloc: A,
     notation: &Notation<A>,
@@ -36,10 +36,10 @@ pub fn show_answer<A: Allocator + Copy>(
     }
 }
 
-/// Writes the text of a reply in a notation after a text.
+/// Appends a reply to `text`.
 ///
 /// # Errors
-/// `AllocError` where there is no memory for it. The text is of no use then.
+/// `AllocError` if allocation fails. On error, discard `text`: it may be partial.
 pub fn show_reply<A: Allocator + Copy>(
     alloc: A,
     notation: &Notation<A>,
@@ -69,10 +69,10 @@ pub fn show_reply<A: Allocator + Copy>(
     }
 }
 
-/// Writes the text of a fetch that found a value.
+/// Appends the answer to a fetch that found a value.
 ///
 /// # Errors
-/// `AllocError` where there is no memory for it. The text is of no use then.
+/// `AllocError` if allocation fails. On error, discard `text`: it may be partial.
 pub(crate) fn show_found<A: Allocator + Copy>(
     alloc: A,
     notation: &Notation<A>,
@@ -85,7 +85,7 @@ pub(crate) fn show_found<A: Allocator + Copy>(
     show_value(alloc, notation, value, text)
 }
 
-// Writes a number in decimal after a text.
+// Appends a number in decimal to `text`.
 fn show_number<A: Allocator>(number: u64, text: &mut Vec<u8, A>) -> Result<(), AllocError>
     ensures { OnOk result (text.new.items ≡ text.old.items ++ decimal number) }
 {

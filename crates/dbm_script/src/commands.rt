@@ -1,4 +1,4 @@
-//! The commands that words ask: the words of a line, or those of a command line.
+//! Reads commands from the words of a line or of a command line.
 ghost use Rattle.std.specs.Prelude.{◌≡◌, ◌∷◌, map, IfOk};
 ghost use Rattle.dbm_script.specs.Commands.{fetch_of, delete_of, store_of, command_of};
 ghost use Rattle.dbm_script.specs.Notation.{bytes_of};
@@ -8,11 +8,10 @@ use sdbm_addr::Mode;
 use std::alloc::{AllocError, Allocator};
 use store_cmd::Command;
 
-/// The command that words ask, where they ask one: by its name and the words that it takes, bytes in a
-/// notation.
+/// Reads a command from its name and its arguments. Returns `None` if the words are not a command.
 ///
 /// # Errors
-/// `AllocError` where there is no memory for the command.
+/// `AllocError` if allocation fails.
 pub fn read_command<A: Allocator + Copy>(
     alloc: A,
     notation: &Notation<A>,

@@ -1,4 +1,4 @@
-//! Hex, read sixteen digits at once and by a table, and written by tables.
+//! Decodes hex sixteen digits at once or by a table, and encodes it by tables.
 ghost use Rattle.std.specs.Prelude.{◌≡◌, ◌+◌, ◌*◌, ◌≤◌, ◌++◌, IfOk, OnOk, true, false, Ok, None, length, map, ℕ, Vec, vec_len, vec_capacity};
 ghost use Rattle.std.specs.Option.{option_map};
 ghost use Rattle.dbm_script.specs.Digits.{are_values, joined, lane_value, value_read};
@@ -9,7 +9,7 @@ use byte_text::DIGITS;
 use std::alloc::{AllocError, Allocator};
 use std::simd::prelude::*;
 
-// The value of each digit, and more than 15 for what is none.
+// The value of each digit; more than 15 for any other byte.
 const VALUES: [u8; 256] =
     *b"\xff\xff\xff\xff\xff\xff\xff\xff\xff\xff\xff\xff\xff\xff\xff\xff\xff\xff\xff\xff\xff\xff\xff\xff\xff\xff\xff\xff\xff\xff\xff\xff\
     \xff\xff\xff\xff\xff\xff\xff\xff\xff\xff\xff\xff\xff\xff\xff\xff\x00\x01\x02\x03\x04\x05\x06\x07\x08\x09\xff\xff\xff\xff\xff\xff\
@@ -20,11 +20,11 @@ const VALUES: [u8; 256] =
     \xff\xff\xff\xff\xff\xff\xff\xff\xff\xff\xff\xff\xff\xff\xff\xff\xff\xff\xff\xff\xff\xff\xff\xff\xff\xff\xff\xff\xff\xff\xff\xff\
     \xff\xff\xff\xff\xff\xff\xff\xff\xff\xff\xff\xff\xff\xff\xff\xff\xff\xff\xff\xff\xff\xff\xff\xff\xff\xff\xff\xff\xff\xff\xff\xff";
 
-/// The bytes of a text in hex of either case, or none where it is no such text: what `hex::decode` answers, without a branch for each kind
-/// of digit, which in a key comes at random.
+/// Decodes hex of either case, with the result of `hex::decode`. Returns `None` if the text is not hex. The code has no branch per kind of
+/// digit: the digits of a key are random, so such branches are mispredicted.
 ///
 /// # Errors
-/// `AllocError` where there is no memory for the bytes.
+/// `AllocError` if allocation fails.
 pub(crate) fn decode<A: Allocator>(alloc: A, text: &[u8]) -> Result<Option<Vec<u8, A>>, AllocError>
     ensures { IfOk result (λ bytes. option_map (λ (v : Vec ℕ A). v.items) bytes ≡ result_ok (decode_of text.now)) }
 {
@@ -38,7 +38,7 @@ pub(crate) fn decode<A: Allocator>(alloc: A, text: &[u8]) -> Result<Option<Vec<u
     Ok(Some(bytes))
 }
 
-// Whether a text is the hex of as many bytes as there is room for. Then they are written, eight at once as long as there are as many.
+// Decodes hex into `out`, eight bytes at a time while at least eight are left. Returns `false` if the text is not hex.
 pub(crate) fn decode_into(text: &[u8], out: &mut [u8]) -> bool
     requires { length text.now ≡ 2 * length out.old }
     ensures bytes { result ≡ true → decode_pairs 0 text.now ≡ Ok out.new }
@@ -52,7 +52,7 @@ pub(crate) fn decode_into(text: &[u8], out: &mut [u8]) -> bool
     decode_eight(first, bytes) && decode_into(others, rest)
 }
 
-// The same for eight bytes.
+// Like `decode_into`, for eight bytes.
 #[inline(always)]
 fn decode_eight(text: &[u8], out: &mut [u8]) -> bool
     requires text { length text.now ≡ 16 }
@@ -68,7 +68,7 @@ fn decode_eight(text: &[u8], out: &mut [u8]) -> bool
     true
 }
 
-// The values of sixteen digits, and more than 15 for each that is none.
+// The values of sixteen digits; more than 15 for any other byte.
 #[inline(always)]
 fn values(text: u8x16) -> u8x16
     ensures { result ≡ map lane_value text }
@@ -81,7 +81,7 @@ fn values(text: u8x16) -> u8x16
     decimal.simd_lt(u8x16::splat(10)).select(decimal, behind)
 }
 
-// The bytes of sixteen digits.
+// Joins the values of sixteen digits to eight bytes.
 #[inline(always)]
 fn pairs(digits: u8x16) -> u8x8
     ensures { result ≡ joined digits }
@@ -91,7 +91,7 @@ fn pairs(digits: u8x16) -> u8x8
     high * u8x8::splat(16) + low
 }
 
-// `decode_into`, byte by byte.
+// Like `decode_into`, byte by byte.
 fn decode_each(text: &[u8], out: &mut [u8]) -> bool
     requires { length text.now ≡ 2 * length out.old }
     ensures bytes { result ≡ true → decode_pairs 0 text.now ≡ Ok out.new }
@@ -108,14 +108,14 @@ fn decode_each(text: &[u8], out: &mut [u8]) -> bool
     true
 }
 
-// The value of a digit, or more than 15.
+// The value of a digit; more than 15 for any other byte.
 fn value(digit: u8) -> u8
     ensures { value_read result ≡ hex_digit_value digit }
 {
     look_up(&VALUES, digit)
 }
 
-// What a table of values has for a digit.
+// The entry of a table for a digit.
 fn look_up(table: &[u8; 256], digit: u8) -> u8
     requires { are_values table.now 0 ≡ true }
     ensures { value_read result ≡ hex_digit_value digit }
@@ -123,10 +123,10 @@ fn look_up(table: &[u8; 256], digit: u8) -> u8
     table[usize::from(digit)]
 }
 
-/// Writes bytes after a text, in lower-case hex.
+/// Appends bytes in lower-case hex to `text`.
 ///
 /// # Errors
-/// `AllocError` where there is no memory for them. The text is of no use then.
+/// `AllocError` if allocation fails. On error, discard `text`: it may be partial.
 pub(crate) fn encode<A: Allocator>(bytes: &[u8], text: &mut Vec<u8, A>) -> Result<(), AllocError>
     ensures ok { OnOk result (text.new.items ≡ text.old.items ++ encode_lower bytes.now) }
 {
@@ -138,7 +138,7 @@ pub(crate) fn encode<A: Allocator>(bytes: &[u8], text: &mut Vec<u8, A>) -> Resul
     Ok(())
 }
 
-// Writes each byte as two digits of a table after a text that has room for them.
+// Appends each byte as two digits of a table to `text`, which must have room for them.
 fn write_with<A: Allocator>(table: &[u8; 16], bytes: &[u8], text: &mut Vec<u8, A>)
     requires room { vec_len text.old + 2 * length bytes.now ≤ vec_capacity text.old }
     ensures { text.new.items ≡ text.old.items ++ encode_with table.now bytes.now }

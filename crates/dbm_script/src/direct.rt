@@ -1,4 +1,4 @@
-//! Lines in hex that are answered from their words as they stand: no command is made of them, and no memory is taken but for the text.
+//! Fast path: answers short lines in hex without building a command. It allocates memory only for the answers.
 ghost use Rattle.std.specs.Prelude.{◌≡◌, ◌≤◌, ◌∷◌, [], List, Some, IfOk, IfSome, OnOk, codes, take, true};
 ghost use Rattle.bpf_verify.specs.Verified.{Accepted};
 ghost use Rattle.dbm_script.specs.Direct.{IfAnswered, IfDone, store_name};
@@ -22,14 +22,14 @@ use std::alloc::{AllocError, Allocator};
 use store_cmd::{check_pair, check_run};
 use store_moves::{RunInput, act_run, act_store, ran};
 
-/// The most bytes of a word that is read without memory.
+/// The longest word, in bytes after decoding, that is read without allocation.
 const SHORT: usize = 64;
 
-/// Answers a line in hex as session 0 and writes the answer after a text, where that takes no memory but for the text, and says whether
-/// it did: a fetch, a store on a page that has room, and a run on a record that is there, each with short words. Else nothing has changed.
+/// Answers a line in hex as session 0 and appends the answer to `text`, if that needs no memory except for `text`. This is so for a fetch,
+/// a store on a page that has room, and a run on an existing record, each with short words. Otherwise returns `false` and changes nothing.
 ///
 /// # Errors
-/// `AllocError` where there is no memory for the text. It is of no use then, and a store or a run may have been done.
+/// `AllocError` if allocation fails. On error, discard `text`: it may be partial. A store or a run may have taken effect.
 pub(crate) fn answer_directly<A: Allocator + Copy>(
     alloc: A,
     notation: &Notation<A>,
@@ -63,7 +63,7 @@ pub(crate) fn answer_directly<A: Allocator + Copy>(
     Ok(false)
 }
 
-// How many bytes a word in hex stands for, where these have room. They are written into the first of it.
+// Decodes a word in hex to the beginning of `room`, and returns the number of bytes. Returns `None` if it is too long or not hex.
 fn read_short(word: &[u8], room: &mut [u8; SHORT]) -> Option<usize>
     ensures within { IfSome result (λ count. count ≤ 64) }
     ensures bytes { IfSome result (λ count. hex_bytes word.now ≡ Some (take count room.new)) }
@@ -81,7 +81,7 @@ fn read_short(word: &[u8], room: &mut [u8; SHORT]) -> Option<usize>
     Some(count)
 }
 
-// Answers the words of a fetch after its name.
+// Answers a fetch from the words after its name.
 fn fetch_directly<A: Allocator + Copy>(
     alloc: A,
     notation: &Notation<A>,
@@ -100,7 +100,7 @@ fn fetch_directly<A: Allocator + Copy>(
     Ok(true)
 }
 
-// Answers the fetch of a key.
+// Answers a fetch of a key.
 fn answer_fetch<A: Allocator + Copy>(
     alloc: A,
     notation: &Notation<A>,
@@ -121,7 +121,7 @@ fn answer_fetch<A: Allocator + Copy>(
     }
 }
 
-// Answers the words of a store after its name.
+// Answers a store from the words after its name.
 fn store_directly<A: Allocator + Copy>(
     notation: &Notation<A>,
     image: &mut Image<A>,
@@ -154,7 +154,7 @@ fn store_directly<A: Allocator + Copy>(
     )
 }
 
-// Answers a store, where its page has room.
+// Answers a store, if its page has room.
 fn answer_store<A: Allocator + Copy>(
     image: &mut Image<A>,
     key: &[u8],
@@ -175,7 +175,7 @@ fn answer_store<A: Allocator + Copy>(
     Ok(true)
 }
 
-// Answers the words of a run after its name.
+// Answers a run from the words after its name.
 fn run_directly<A: Allocator + Copy>(
     alloc: A,
     notation: &Notation<A>,
@@ -213,7 +213,7 @@ fn run_directly<A: Allocator + Copy>(
     }
 }
 
-// Answers a run by its five words.
+// Answers a run from its five words.
 fn run_words<A: Allocator + Copy>(
     alloc: A,
     notation: &Notation<A>,
@@ -261,7 +261,7 @@ fn run_words<A: Allocator + Copy>(
     answer_run_input(alloc, notation, image, &input, text)
 }
 
-// Answers a run, where its record is there.
+// Answers a run, if its record exists.
 fn answer_run_input<A: Allocator + Copy>(
     alloc: A,
     notation: &Notation<A>,

@@ -1,4 +1,4 @@
-//! Why a script gave no database.
+//! Errors of scripts.
 ghost use Rattle.std.specs.Prelude.{◌≡◌};
 ghost use Rattle.dbm_script.specs.declared.fault.LinesFault.TheVariants.{NoMemory};
 
@@ -7,16 +7,16 @@ use std::alloc::AllocError;
 use std::error::Error;
 use std::fmt;
 
-/// Why a script gave no database. It prints as its name.
+/// Why a script did not complete. It prints as its name.
 #[derive(Clone, Copy, Debug, PartialEq, Eq)]
 pub enum ScriptFault {
     /// The reader failed.
     Read,
-    /// There are more than 16,777,216 bytes.
+    /// The script has more than 16,777,216 bytes.
     TooLong,
-    /// The writer failed, or took no byte. The first bytes of the answers were written.
+    /// The writer failed, or accepted no byte. The output is truncated.
     Write,
-    /// No memory was left. Nothing was written.
+    /// Allocation failed. Nothing was written.
     NoMemory,
 }
 
@@ -48,12 +48,12 @@ impl From<CutShort> for ScriptFault {
     }
 }
 
-/// Why the lines of a script were not all run.
+/// Why the lines of a script did not all run.
 #[derive(Clone, Copy, Debug, PartialEq, Eq)]
 pub enum LinesFault {
-    /// The answers would have more bytes than they may.
+    /// The answers are longer than the limit.
     OutputTooLong,
-    /// No memory was left.
+    /// Allocation failed.
     NoMemory,
 }
 

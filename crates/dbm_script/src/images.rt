@@ -1,4 +1,4 @@
-//! Lines that submit images of programs.
+//! Lines that submit program images.
 ghost use Rattle.std.specs.Prelude.{◌≡◌, ◌≢◌, ◌++◌, ℕ, OnOk, Option, Some, codes, decimal};
 ghost use Rattle.prog_registry.specs.FaultText.{fault_text};
 ghost use Rattle.prog_registry.specs.declared.fault.RegFault.TheVariants.{NoMemory};
@@ -9,10 +9,10 @@ use itoa::Buffer;
 use prog_registry::{RegFault, Registry};
 use std::alloc::{AllocError, Allocator};
 
-/// Submits an image to a registry, and writes the answer after a text: the number of its program, or why it gets none.
+/// Submits an image to a registry. Appends the answer to `text`: the number of its program, or the reason for the refusal.
 ///
 /// # Errors
-/// `AllocError` where there is no memory for the program or the text. The text is of no use then.
+/// `AllocError` if allocation fails. On error, discard `text`: it may be partial.
 pub fn answer_image<A: Allocator + Copy>(
     alloc: A,
     registry: &mut Registry<A>,
@@ -28,7 +28,7 @@ pub fn answer_image<A: Allocator + Copy>(
     }
 }
 
-// Writes the number of a program after a text.
+// Appends the number of a program to `text`.
 fn show_number<A: Allocator>(id: u32, text: &mut Vec<u8, A>) -> Result<(), AllocError>
     ensures { OnOk result (text.new.items ≡ text.old.items ++ (codes "program " ++ decimal id)) }
 {
@@ -37,10 +37,10 @@ fn show_number<A: Allocator>(id: u32, text: &mut Vec<u8, A>) -> Result<(), Alloc
     text.extend_from_slice(digits.format(id).as_bytes())
 }
 
-/// Writes after a text why a program image gets no number.
+/// Appends the reason for refusing a program image to `text`.
 ///
 /// # Errors
-/// `AllocError` where there is no memory for it, or where the refusal is that memory ran out. The text is of no use then.
+/// `AllocError` if allocation fails, or if `fault` is `NoMemory`. On error, discard `text`: it may be partial.
 pub fn show_refusal<A: Allocator + Copy>(
     alloc: A,
     fault: RegFault,

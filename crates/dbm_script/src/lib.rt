@@ -1,4 +1,4 @@
-//! Scripts: texts whose lines are commands on a store, and the text of their answers.
+//! Scripts: each line of the text is a command on a store. Runs them and writes the answers.
 #![tactic(auto)]
 
 mod answering;

@@ -1,4 +1,4 @@
-//! What the lines of a script ask.
+//! Reads requests from the lines of a script.
 ghost use Rattle.std.specs.Prelude.{◌≡◌, ◌∷◌, [], map, IfOk};
 ghost use Rattle.dbm_script.specs.Pieces.{pieces_of};
 ghost use Rattle.dbm_script.specs.Commands.{command_of};
@@ -16,22 +16,22 @@ use sdbm_addr::Bytes;
 use std::alloc::{AllocError, Allocator};
 use store_cmd::Command;
 
-/// What a line asks.
+/// The request in a line.
 #[derive(Drop)]
 pub enum Ask<A: Allocator> {
     /// A command on the database.
     Plain(Command<A>),
-    /// The number of an image's program.
+    /// Submit the program with this image, and return its number.
     Program(Bytes<A>),
-    /// That the program with a number be run on a key's record, or on a blank where the key is not there.
+    /// Run the program with this number on the record of a key, or on a blank if the key is missing.
     Run(RunAsk<A>),
 }
 
-/// What a line asks in a notation, where it asks anything. A space parts two words, and no more words are looked at than decide what is
-/// asked. A program image is in hex in each notation.
+/// Reads the request in a line. Returns `None` if the line is not a request. One space separates two words. Reads no more words than it
+/// needs to decide. A program image is in hex in each notation.
 ///
 /// # Errors
-/// `AllocError` where there is no memory for what is asked.
+/// `AllocError` if allocation fails.
 pub fn read_line<A: Allocator + Copy>(
     alloc: A,
     notation: &Notation<A>,
@@ -54,7 +54,7 @@ pub fn read_line<A: Allocator + Copy>(
     read_long(alloc, notation, name, first, second, rest)
 }
 
-// What a name and two words ask with those after them.
+// The request of a name and two words, and the words after them.
 fn read_long<A: Allocator + Copy>(
     alloc: A,
     notation: &Notation<A>,
@@ -80,7 +80,7 @@ fn read_long<A: Allocator + Copy>(
     }
 }
 
-// What a name and five words ask.
+// The request of a name and five words.
 fn read_six<A: Allocator + Copy>(
     alloc: A,
     notation: &Notation<A>,
@@ -135,7 +135,7 @@ fn read_prog(text: &[u8]) -> Option<u32>
     }
 }
 
-// What a name and one word ask.
+// The request of a name and one word.
 fn read_two<A: Allocator + Copy>(
     alloc: A,
     notation: &Notation<A>,
@@ -159,7 +159,7 @@ fn read_program<A: Allocator + Copy>(alloc: A, image: &[u8]) -> Result<Option<As
     }
 }
 
-// A command on the database, where words ask one.
+// A command on the database, if the words are a command.
 fn read_plain<A: Allocator + Copy>(
     alloc: A,
     notation: &Notation<A>,

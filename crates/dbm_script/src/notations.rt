@@ -1,4 +1,4 @@
-//! The notation of bytes in words and answers.
+//! Notations: how words and answers represent bytes.
 ghost use Rattle.std.specs.Prelude.{◌≡◌, ◌++◌, IfOk, OnOk};
 ghost use Rattle.dbm_script.specs.Notation.{bytes_of, hex_bytes, hex_shown, reads_hex, shown, value_shown};
 
@@ -7,19 +7,19 @@ use byte_text::{Layout, read_text, show_by, show_text};
 use sdbm_addr::Bytes;
 use std::alloc::{AllocError, Allocator};
 
-/// How bytes are written in words and in answers.
+/// The notation of bytes in words and in answers.
 #[derive(Drop)]
 pub enum Notation<A: Allocator> {
     /// In hex.
     Hex,
     /// As text.
     Text,
-    /// As text, and in answers the values by a layout, where they fit it.
+    /// As text, except that answers show values by a layout if they fit it.
     Layout(Layout<A>),
 }
 
 impl<A: Allocator> Notation<A> {
-    /// Whether words are read as hex.
+    /// Returns `true` if words are in hex.
     pub fn is_hex(&self) -> bool
         ensures { result ≡ reads_hex self.now }
     {
@@ -30,10 +30,10 @@ impl<A: Allocator> Notation<A> {
     }
 }
 
-/// The bytes of a word: in hex of either case, or as text. A dot is none, and no text at all is no bytes.
+/// The bytes of a word, in hex of either case or as text. A dot means no bytes. Returns `None` if the word is empty or invalid.
 ///
 /// # Errors
-/// `AllocError` where there is no memory for the bytes.
+/// `AllocError` if allocation fails.
 pub fn read_bytes<A: Allocator + Copy>(
     alloc: A,
     notation: &Notation<A>,
@@ -50,10 +50,10 @@ pub fn read_bytes<A: Allocator + Copy>(
     }
 }
 
-/// Bytes in hex of either case, or a dot for none. No text at all is no bytes.
+/// Decodes hex of either case. A dot means no bytes. Returns `None` if the text is empty or not hex.
 ///
 /// # Errors
-/// `AllocError` where there is no memory for the bytes.
+/// `AllocError` if allocation fails.
 pub(crate) fn read_hex<A: Allocator + Copy>(
     alloc: A,
     text: &[u8],
@@ -72,10 +72,10 @@ pub(crate) fn read_hex<A: Allocator + Copy>(
     }
 }
 
-/// Writes bytes after a text, in lower-case hex or as text, or a dot for none.
+/// Appends bytes to `text`, in lower-case hex or as text, or a dot for no bytes.
 ///
 /// # Errors
-/// `AllocError` where there is no memory for them. The text is of no use then.
+/// `AllocError` if allocation fails. On error, discard `text`: it may be partial.
 pub fn show_bytes<A: Allocator>(
     notation: &Notation<A>,
     bytes: &[u8],
@@ -89,10 +89,10 @@ pub fn show_bytes<A: Allocator>(
     }
 }
 
-/// Writes the bytes of a value after a text, by the layout where there is one, and else as other bytes.
+/// Appends the bytes of a value to `text`: by the layout if the notation has one, and otherwise like `show_bytes`.
 ///
 /// # Errors
-/// `AllocError` where there is no memory for them. The text is of no use then.
+/// `AllocError` if allocation fails. On error, discard `text`: it may be partial.
 pub fn show_value<A: Allocator + Copy>(
     alloc: A,
     notation: &Notation<A>,

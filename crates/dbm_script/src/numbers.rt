@@ -4,10 +4,11 @@ ghost use Rattle.dbm_script.specs.Numbers.{blank_of};
 
 use byte_text::read_number;
 
-/// A blank has at most this many bytes.
+/// The longest blank, in bytes.
 const BLANK_MOST: u64 = 65_535;
 
-/// How many zeros a run begins with on a key that is not there, or a dot for no run then. No memory is taken.
+/// Reads the blank of a run: the number of zeros that a missing record begins with, or a dot for no run on a missing key. Allocates
+/// nothing.
 pub fn read_blank(text: &[u8]) -> Option<Option<usize>>
     ensures { result ≡ blank_of text.now }
 {

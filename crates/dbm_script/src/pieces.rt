@@ -1,10 +1,10 @@
-//! Texts cut into pieces, without a copy.
+//! Splits texts without copying.
 ghost use Rattle.std.specs.Prelude.{◌≡◌, ◌==◌, ◌<◌, ◌∷◌, IfSome, length, position};
 ghost use Rattle.dbm_script.specs.Pieces.{pieces_of, pieces_left};
 
 use memchr::memchr;
 
-/// A text as far as the first byte of a kind, and what is left after that byte, where there is one.
+/// Splits a text at the first byte equal to `end`. Returns the text before it, and the text after it if there is such a byte.
 pub fn first_piece(end: u8, text: &[u8]) -> (&[u8], Option<&[u8]>)
     ensures { pieces_of end text.now ≡ result.0.now ∷ pieces_left end result.1 }
 {
@@ -14,7 +14,7 @@ pub fn first_piece(end: u8, text: &[u8]) -> (&[u8], Option<&[u8]>)
     }
 }
 
-/// The same byte by byte, which is faster where the piece is short.
+/// Like `first_piece`, byte by byte: faster if the piece is short.
 #[inline(always)]
 pub(crate) fn first_short_piece(end: u8, text: &[u8]) -> (&[u8], Option<&[u8]>)
     ensures { pieces_of end text.now ≡ result.0.now ∷ pieces_left end result.1 }
@@ -25,7 +25,7 @@ pub(crate) fn first_short_piece(end: u8, text: &[u8]) -> (&[u8], Option<&[u8]>)
     }
 }
 
-// The first place of a byte in a text.
+// The index of the first such byte in a text.
 #[inline(always)]
 fn place_of(byte: u8, text: &[u8]) -> Option<usize>
     ensures place { result ≡ position (λ b. b == byte) text.now }

@@ -1,4 +1,4 @@
-//! The words of a run that do not name its program.
+//! The words of a run, except its program.
 ghost use Rattle.std.specs.Prelude.{◌≡◌, IfErr, IfOk, Some};
 ghost use Rattle.dbm_script.specs.Tasks.{IsWordFault, bad_bytes, run_words_of};
 ghost use Rattle.dbm_script.specs.declared.run_words.WordFault.TheVariants.{NoMemory};
@@ -9,26 +9,26 @@ use byte_text::read_number;
 use sdbm_addr::Bytes;
 use std::alloc::{AllocError, Allocator};
 
-/// What the words of a run mean but for its program: on a key's record, or on a blank where the key is not there.
+/// The meaning of the words of a run, except its program. The run is on the record of the key, or on a blank if the key is missing.
 #[derive(Drop)]
 pub struct RunWords<A: Allocator> {
     pub key: Bytes<A>,
     pub arg: Bytes<A>,
     pub blank: Option<usize>,
-    /// The time that the program is told.
+    /// The time that is passed to the program.
     pub now: u64,
 }
 
 /// Why four words are not those of a run.
 #[derive(Clone, Copy, Debug, PartialEq, Eq)]
 pub enum WordFault {
-    /// The key or the argument is no bytes in hex.
+    /// The key or the argument is not valid hex.
     BadHex,
-    /// The key or the argument is no bytes as text.
+    /// The key or the argument is not valid text.
     BadText,
-    /// Those are bytes, and the blank or the time is no number.
+    /// The key and the argument are valid, but the blank or the time is not a number.
     BadNumber,
-    /// No memory was left.
+    /// Allocation failed.
     NoMemory,
 }
 
@@ -40,11 +40,11 @@ impl From<AllocError> for WordFault {
     }
 }
 
-/// What four words mean: a key, an argument, a blank and a time.
+/// Reads four words: a key, an argument, a blank and a time.
 ///
 /// # Errors
-/// The first of: `BadHex`, or as text `BadText`, where the key or the argument is no bytes, `BadNumber` where the blank or the time is no
-/// number; and `NoMemory`.
+/// The first of: `BadHex` (or in a text notation `BadText`) if the key or the argument is invalid, `BadNumber` if the blank or the time is
+/// not a number; and `NoMemory`.
 pub fn read_run_words<A: Allocator + Copy>(
     alloc: A,
     notation: &Notation<A>,
@@ -76,7 +76,7 @@ pub fn read_run_words<A: Allocator + Copy>(
     })
 }
 
-// The fault of a word that is no bytes.
+// The fault for invalid bytes.
 fn bad_bytes<A: Allocator>(notation: &Notation<A>) -> WordFault
     ensures { result ≡ bad_bytes notation.now }
 {
@@ -86,10 +86,10 @@ fn bad_bytes<A: Allocator>(notation: &Notation<A>) -> WordFault
     WordFault::BadText
 }
 
-/// What four words mean, where they are those of a run. Here it is no fault where they are not.
+/// Like `read_run_words`, but returns `None` if the words are not those of a run.
 ///
 /// # Errors
-/// `AllocError` where there is no memory for the bytes.
+/// `AllocError` if allocation fails.
 pub(crate) fn words_asked<A: Allocator + Copy>(
     alloc: A,
     notation: &Notation<A>,

@@ -11,21 +11,21 @@ use std::alloc::{AllocError, Allocator};
 use std::sync::Arc;
 use store_cmd::{Command, Program};
 
-/// A run as a line asks it: of the program with a number, on a key's record or on a blank where the key is not there.
+/// The run that a line requests: of a program given by its number, on the record of a key, or on a blank if the key is missing.
 #[derive(Drop)]
 pub struct RunAsk<A: Allocator> {
     pub key: Bytes<A>,
     pub prog: u32,
     pub arg: Bytes<A>,
     pub blank: Option<usize>,
-    /// The time that the program is told.
+    /// The time that is passed to the program.
     pub now: u64,
 }
 
-/// Runs a program of a registry on a database as session 0, and writes the answer after a text.
+/// Runs a program of a registry on a database as session 0, and appends the answer to `text`.
 ///
 /// # Errors
-/// `AllocError` where there is no memory for it. The text is of no use then.
+/// `AllocError` if allocation fails. On error, discard `text`: it may be partial.
 pub fn answer_run<A: Allocator + Copy>(
     alloc: A,
     notation: &Notation<A>,
@@ -44,10 +44,10 @@ pub fn answer_run<A: Allocator + Copy>(
     }
 }
 
-/// The command of a run, where its program is there.
+/// The command of a run. Returns `None` if no program has its number.
 ///
 /// # Errors
-/// `AllocError` where the program has as many owners as can be counted.
+/// `AllocError` if the reference count of the program is at its maximum.
 pub fn command_of_run<A: Allocator>(
     registry: &Registry<A>,
     run: RunAsk<A>,
@@ -66,7 +66,7 @@ pub fn command_of_run<A: Allocator>(
     }))
 }
 
-// The program with a number, shared with its registry.
+// The program with this number, shared with the registry.
 fn shared_program<A: Allocator>(
     registry: &Registry<A>,
     prog: u32,

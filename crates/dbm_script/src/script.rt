@@ -1,4 +1,4 @@
-//! Scripts: all that is read, run as one session, and the text of the answers.
+//! Runs a whole script as one session.
 ghost use Rattle.std.specs.Prelude.{◌≡◌, ◌<◌, ◌≤◌, List, ℕ, Option, Some, IfOk, OnOk, IfErr, IfSome, IsErrOf, ◌∷◌, [], length};
 ghost use Rattle.std.specs.Io.KnownBytes.{Appends, Keeps};
 ghost use Rattle.byte_text.specs.Writing.{WritesPart};
@@ -25,11 +25,11 @@ use sdbm_files::Image;
 use std::alloc::{AllocError, Allocator};
 use std::io::{Read, Write};
 
-/// Reads a script in a notation, runs all its lines on a database as session 0, writes the answers, and gives the database after it.
+/// Reads a script, runs all its lines on a database as session 0, writes the answers, and returns the database after them.
 ///
 /// # Errors
-/// `Read` where the reader fails, `TooLong` above 16,777,216 bytes, `Write` where the writer fails or takes no byte, and `NoMemory`.
-/// The database is gone then. Unless the fault is `Write`, nothing was written.
+/// `Read` if the reader fails, `TooLong` if the script has more than 16,777,216 bytes, `Write` if the writer fails or accepts no byte, and
+/// `NoMemory`. On error, the database is dropped. Except for `Write`, nothing was written.
 pub fn run_script<A: Allocator + Copy, R: Read, W: Write>(
     alloc: A,
     notation: &Notation<A>,
@@ -54,11 +54,11 @@ pub fn run_script<A: Allocator + Copy, R: Read, W: Write>(
     Ok(after)
 }
 
-/// Runs the lines of a script in a notation on a database as session 0: the database after them, and the text of their answers, which is to have at most
-/// so many bytes. Programs that lines submit are kept from line to line, and no longer.
+/// Runs the lines of a script on a database as session 0. Returns the database after them, and the text of the answers. The programs that
+/// lines submit are dropped at the end.
 ///
 /// # Errors
-/// `OutputTooLong` at the first line with whose answer there are more bytes, and `NoMemory`. The database is gone then.
+/// `OutputTooLong` at the first line whose answer makes the text longer than the limit, and `NoMemory`. On error, the database is dropped.
 pub fn run_lines<A: Allocator + Copy>(
     alloc: A,
     notation: &Notation<A>,
@@ -86,11 +86,10 @@ pub fn run_lines<A: Allocator + Copy>(
     Ok((image, text))
 }
 
-/// The same for a script whose shorthand is spelled out line by line, as `spell_out` does it at once. No more of what it makes of them
-/// is kept than a line.
+/// Like `run_lines` after `spell_out`, but expands the shorthand one line at a time, so the expanded script is never in memory as a whole.
 ///
 /// # Errors
-/// `OutputTooLong` at the first line with whose answer there are more bytes, and `NoMemory`. The database is gone then.
+/// `OutputTooLong` at the first line whose answer makes the text longer than the limit, and `NoMemory`. On error, the database is dropped.
 pub fn run_spelled<A: Allocator + Copy>(
     alloc: A,
     notation: &Notation<A>,
@@ -129,11 +128,11 @@ pub fn run_spelled<A: Allocator + Copy>(
     Ok((image, text))
 }
 
-/// Answers one line on a database as session 0, unless it is empty, and writes the answer, with its end, after a text. Programs that it
-/// submits go into the registry.
+/// Answers one line on a database as session 0, and appends the answer with its LF to `text`. An empty line has no answer. Programs that
+/// the line submits go into the registry.
 ///
 /// # Errors
-/// `AllocError` where there is no memory left for it.
+/// `AllocError` if allocation fails.
 pub fn answer_line<A: Allocator + Copy>(
     alloc: A,
     notation: &Notation<A>,
@@ -153,7 +152,7 @@ pub fn answer_line<A: Allocator + Copy>(
     Ok(text.push(b'\n')?)
 }
 
-// Answers the words of a line: what they ask by its answer, and anything else by the words for a bad line.
+// Answers the words of a line: a request by its answer, anything else by `bad line`.
 fn answer_words<A: Allocator + Copy>(
     alloc: A,
     notation: &Notation<A>,
@@ -175,7 +174,7 @@ fn answer_words<A: Allocator + Copy>(
     }
 }
 
-// Answers what a line asks.
+// Answers a request.
 fn answer_ask<A: Allocator + Copy>(
     alloc: A,
     notation: &Notation<A>,

@@ -1,4 +1,4 @@
-//! Shorthand in the lines of scripts and batches, spelled out before they are read.
+//! Expands the shorthand in the lines of scripts and batches before they are read.
 ghost use Rattle.std.specs.Prelude.{◌≡◌, ◌++◌, IfOk, OnOk, decimal, map};
 ghost use Rattle.dbm_script.specs.Pieces.{pieces_of};
 ghost use Rattle.dbm_script.specs.Shorthand.{fully_named, in_full, is_comment, spelled, spelled_line, timed};
@@ -7,12 +7,12 @@ use crate::pieces::first_piece;
 use itoa::Buffer;
 use std::alloc::{AllocError, Allocator};
 
-/// Whose lines a text has.
+/// The kind of lines in a text.
 #[derive(Clone, Copy, Debug, PartialEq, Eq)]
 pub enum Lines {
-    /// Those of a script, which ask commands.
+    /// Lines of a script, which are commands.
     OfScript,
-    /// Those of a batch, which ask runs of one program.
+    /// Lines of a batch, which are runs of one program.
     OfBatch,
 }
 
@@ -23,12 +23,12 @@ pub struct TimeOfDay {
     pub millis: u64,
 }
 
-/// A text with its shorthand spelled out, line by line. A line of a script that begins with `#` becomes empty, and one that ends in CR
-/// becomes a CR, which asks nothing. In a script `get`, `put` and `del` become `fetch`, `replace` and `delete`. With a time, the last words `now` and
-/// `now-ms` of a line that asks a run become its seconds and its milliseconds. Each line keeps its number.
+/// Expands the shorthand of a text line by line. In a script, a line that begins with `#` becomes empty, and `get`, `put` and `del` become
+/// `fetch`, `replace` and `delete`. A line that ends in CR becomes a single CR, which is a bad line. If there is a time, a last word `now`
+/// or `now-ms` of a line that runs a program becomes the seconds or the milliseconds of it. Each line keeps its number.
 ///
 /// # Errors
-/// `AllocError` where there is no memory for the text.
+/// `AllocError` if allocation fails.
 pub fn spell_out<A: Allocator + Copy>(
     alloc: A,
     lines: Lines,
@@ -51,10 +51,10 @@ pub fn spell_out<A: Allocator + Copy>(
     Ok(text)
 }
 
-/// Writes what a line stands for after a text, as `spell_out` does for each line.
+/// Appends a line with its shorthand expanded to `text`, as `spell_out` does for each line.
 ///
 /// # Errors
-/// `AllocError` where there is no memory for it.
+/// `AllocError` if allocation fails.
 pub fn spell_line<A: Allocator>(
     lines: Lines,
     time: Option<TimeOfDay>,
@@ -72,7 +72,7 @@ pub fn spell_line<A: Allocator>(
     spell_words(lines, time, line, text)
 }
 
-// Whether a line is a comment.
+// Returns `true` if a line is a comment.
 fn is_comment(lines: Lines, line: &[u8]) -> bool
     ensures { result ≡ is_comment lines line.now }
 {
@@ -82,7 +82,7 @@ fn is_comment(lines: Lines, line: &[u8]) -> bool
     }
 }
 
-// Writes a line in full after a text.
+// Appends a line with its command and its time expanded to `text`.
 fn spell_words<A: Allocator>(
     lines: Lines,
     time: Option<TimeOfDay>,
@@ -102,7 +102,7 @@ fn spell_words<A: Allocator>(
     }
 }
 
-// Writes a line with the full name of its command after a text.
+// Appends a line with the full name of its command to `text`.
 fn spell_name<A: Allocator>(line: &[u8], text: &mut Vec<u8, A>) -> Result<(), AllocError>
     ensures { OnOk result (text.new.items ≡ text.old.items ++ fully_named line.now) }
 {
@@ -118,7 +118,7 @@ fn spell_name<A: Allocator>(line: &[u8], text: &mut Vec<u8, A>) -> Result<(), Al
     text.extend_from_slice(line)
 }
 
-// Writes a line with its time in decimal after a text.
+// Appends a line with its time in decimal to `text`.
 fn spell_time<A: Allocator>(
     time: Option<TimeOfDay>,
     line: &[u8],
@@ -141,7 +141,7 @@ fn spell_time<A: Allocator>(
     text.extend_from_slice(line)
 }
 
-// Writes two texts, the one after the other, after a third.
+// Appends `first` and then `second` to `text`.
 fn put_both<A: Allocator>(
     first: &[u8],
     second: &[u8],

@@ -1,14 +1,14 @@
-//! All of a reader, by a loop over `read`.
+//! Reads a reader to its end.
 ghost use Rattle.std.specs.Prelude.{◌≡◌, ◌<◌, ◌≤◌, length, IfOk, IfErr, IfSome, IsErrOf};
 
 use crate::fault::ScriptFault;
 use std::alloc::Allocator;
 use std::io::Read;
 
-/// A script has at most this many bytes.
+/// The largest script, in bytes.
 pub const SCRIPT_LIMIT: usize = 16_777_216;
 
-/// All that a reader has left, at most `SCRIPT_LIMIT` bytes. A read that is interrupted is a fault like any other.
+/// Reads all bytes that a reader has left, at most `SCRIPT_LIMIT`. An interrupted read is an error like any other.
 pub fn read_all<A: Allocator + Copy, R: Read>(
     alloc: A,
     reader: &mut R,

@@ -1,4 +1,4 @@
-//! Tasks: lines that ask runs of a program that is known.
+//! Tasks: lines that describe runs of one given program.
 ghost use Rattle.std.specs.Prelude.{◌≡◌, ◌++◌, ◌∷◌, [], List, IfOk, IfErr, true, false};
 ghost use Rattle.dbm_script.specs.Pieces.{pieces_of};
 ghost use Rattle.dbm_script.specs.Tasks.{AreTasksOf, AddsTask, IsBadLine, IsTasksFault, task_of};
@@ -9,12 +9,12 @@ use crate::pieces::first_piece;
 use crate::run_words::{RunWords, words_asked};
 use std::alloc::{AllocError, Allocator};
 
-/// Why a text has no tasks.
+/// Why a text is not a list of tasks.
 #[derive(Clone, Copy, Debug, PartialEq, Eq)]
 pub enum TasksFault {
-    /// The line with this number, from 1 on, is not empty and asks no task. It is the first such.
+    /// The first line that is not empty and not a task, by its number from 1 on.
     BadLine(usize),
-    /// No memory was left.
+    /// Allocation failed.
     NoMemory,
 }
 
@@ -26,7 +26,7 @@ impl From<AllocError> for TasksFault {
     }
 }
 
-/// The tasks of a text in a notation, one in each line: KEY ARG BLANK NOW, as in a line that runs a program. An empty line is skipped.
+/// Reads the tasks of a text, one in each line: KEY ARG BLANK NOW, as in a line that runs a program. Empty lines are skipped.
 ///
 /// # Errors
 /// `BadLine` with the first line that is neither empty nor a task, and `NoMemory`.
@@ -52,7 +52,7 @@ pub fn read_tasks<A: Allocator + Copy>(
     Ok(tasks)
 }
 
-// Puts the task of a line after others, and tells whether the line is good: one that is empty has none.
+// Appends the task of a line to `tasks`; an empty line has none. Returns `false` if the line is bad.
 fn add_task<A: Allocator + Copy>(
     alloc: A,
     notation: &Notation<A>,
@@ -71,7 +71,7 @@ fn add_task<A: Allocator + Copy>(
     Ok(true)
 }
 
-// The task of a line, where it asks one.
+// The task of a line. Returns `None` if the line is not a task.
 fn read_task<A: Allocator + Copy>(
     alloc: A,
     notation: &Notation<A>,

@@ -1,4 +1,4 @@
--- The fault of a step of a script, as a fault of the whole.
+-- Lifting the fault of a step to a fault of the script.
 use Rattle.std.proofs.Common.{◌≡◌, ℕ, List, Option, Some, None, Bor, refl, sym, subst}
 use Rattle.std.specs.declared.alloc.Global.{Global}
 use Rattle.std.proofs.lemmas.Option.{none-some}
@@ -18,7 +18,7 @@ use Rattle.dbm_scripts.specs.Playing.{output_limit, IsOverlong, alone_causes, nu
 use Rattle.dbm_reports.specs.Causes.{Causes, IsCaused, input_causes, lines_fault}
 use Rattle.dbm_scripts.specs.Script.{script_in}
 
--- standard input is read after the opening
+-- standard input is read after the files are opened
 pub input_fault : (n : Notation Global) (form : Form) (given : Given) (time : Option TimeOfDay) (input : Option (List ℕ)) (most : ℕ) (fault : ReportFault) → Opens form given → IsCaused (input_causes input) fault → IsCaused (script_causes n form given time input most) fault
 input_fault n form given time input most BadHex opens h = h
 input_fault n form given time input most BadText opens h = h
@@ -33,7 +33,7 @@ input_fault n form given time input most TooLong opens h = (opens, h)
 input_fault n form given time input most OutputTooLong opens h = absurd h
 input_fault n form given time input most NoMemory opens h = tt
 
--- standard input is read for a script on an empty database
+-- reading standard input for a script on an empty database
 pub alone_fault : (n : Notation Global) (form : Form) (time : Option TimeOfDay) (input : Option (List ℕ)) (most : ℕ) (fault : ReportFault) → IsCaused (input_causes input) fault → IsCaused (alone_causes n form time input most) fault
 alone_fault n form time input most BadHex h = h
 alone_fault n form time input most BadText h = h
@@ -48,7 +48,7 @@ alone_fault n form time input most TooLong h = h
 alone_fault n form time input most OutputTooLong h = absurd h
 alone_fault n form time input most NoMemory h = h
 
--- a script that was read is played after other steps
+-- running a script after other steps
 pub played_fault : (causes : Causes) (n : Notation Global) (db : Database) (input : Option (List ℕ)) (most : ℕ) (fault : ReportFault) → (IsOverlong n db input most → causes.overlong) → IsCaused (play_causes n db input most) fault → IsCaused causes fault
 played_fault causes n db input most BadHex f h = absurd h
 played_fault causes n db input most BadText f h = absurd h
@@ -63,27 +63,27 @@ played_fault causes n db input most TooLong f h = absurd h
 played_fault causes n db input most OutputTooLong f h = f h
 played_fault causes n db input most NoMemory f h = tt
 
--- the fault of lines that were not all run
+-- the fault of lines that did not all run
 pub lines_caused : (n : Notation Global) (db : Database) (input : List ℕ) (most : ℕ) (fault : LinesFault) → (fault ≡ lines.OutputTooLong → AnswersExceed Global n db input most) → IsCaused (play_causes n db (Some input) most) (lines_fault fault)
 lines_caused n db input most lines.OutputTooLong long = long refl
 lines_caused n db input most lines.NoMemory long = tt
 
--- a number that is none comes before all else
+-- an invalid number is the first fault
 pub unnumbered : (n : Option ℕ) (causes : ℕ → Causes) → n ≡ None → IsCaused (numbered_causes n causes) BadNumber
 unnumbered None causes is = tt
 unnumbered (Some n) causes is = absurd (none-some n (sym is))
 
--- what comes after a number
+-- the faults after a valid number
 pub numbered : (n : Option ℕ) (m : ℕ) (causes : ℕ → Causes) (fault : ReportFault) → n ≡ Some m → IsCaused (causes m) fault → IsCaused (numbered_causes n causes) fault
 numbered n m causes fault is h = subst (λ (o : Option ℕ). IsCaused (numbered_causes o causes) fault) (sym is) h
 
--- a script whose limit is no number
+-- a script whose limit is not a number
 pub unlimited : (n : Notation Global) (base : Option (Bor (List ℕ))) (script : Script) (given : Given) (input : Option (List ℕ)) → output_limit script.max_output ≡ None
     → IsCaused (script_in n base script given input).causes BadNumber
 unlimited n None script given input is = unnumbered (output_limit script.max_output) (alone_causes n script.form script.time input) is
 unlimited n (Some base) script given input is = unnumbered (output_limit script.max_output) (script_causes n script.form given script.time input) is
 
--- what comes after the limit of a script on an empty database, and on one of files
+-- the faults after the limit of a script, on an empty database and on the database of the files
 pub caused_alone : (n : Notation Global) (script : Script) (given : Given) (input : Option (List ℕ)) (most : ℕ) (fault : ReportFault) → script.base ≡ None → output_limit script.max_output ≡ Some most
     → IsCaused (alone_causes n script.form script.time input most) fault → IsCaused (script_in n script.base script given input).causes fault
 caused_alone n script given input most fault none is h =

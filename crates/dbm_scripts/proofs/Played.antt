@@ -1,4 +1,4 @@
--- Scripts whose bytes were read.
+-- Running a script after its bytes were read.
 use Rattle.std.proofs.Common.{◌≡◌, ◌≤◌, ℕ, List, Option, Some, None, Bor, IfSome, length, subst, sym, Bool, true, false, inl, inr, ap, ◌∙◌}
 use Rattle.std.specs.declared.alloc.Global.{Global}
 use Rattle.sdbm_addr.specs.Database.{Database}
@@ -16,7 +16,7 @@ use Rattle.dbm_reports.specs.Reports.{OnDatabase}
 use Rattle.dbm_scripts.specs.Script.{script_in}
 use Rattle.dbm_reports.proofs.Asked.{within}
 
--- what was read is what is known
+-- from the bytes that were read to the known bytes
 pub plays_known : (n : Notation Global) (before : Database) (known : Option (List ℕ)) (read : List ℕ) (most : ℕ) (after : Database) (report : Report)
     → IfSome known (λ input. read ≡ input) → Plays n before (Some read) most after report → Plays n before known most after report
 plays_known n before known read most after report is plays = record {
@@ -27,13 +27,13 @@ plays_known n before known read most after report is plays = record {
   status_is = plays.status_is;
 }
 
--- so is what it stands for
+-- the same for the expanded script
 pub spelled_read : (time : Option TimeOfDay) (known : Option (List ℕ)) (read script : List ℕ) → IfSome known (λ input. read ≡ input) → script ≡ spelled OfScript time read
     → IfSome (spelled_input time known) (λ input. script ≡ input)
 spelled_read time None read script is spells = tt
 spelled_read time (Some input) read script is spells = spells ∙ ap (spelled OfScript time) is
 
--- the text alone
+-- another report with the same text and status
 pub plays_text : (n : Notation Global) (before : Database) (known : Option (List ℕ)) (most : ℕ) (after : Database) (report other : Report)
     → other.text.items ≡ report.text.items → other.status ≡ report.status → Plays n before known most after report → Plays n before known most after other
 plays_text n before known most after report other text status plays = record {
@@ -44,7 +44,7 @@ plays_text n before known most after report other text status plays = record {
   status_is = status ∙ plays.status_is;
 }
 
--- the same of a script as it is asked
+-- the same for a script that may be strict
 pub asked_known : (strict : Bool) (n : Notation Global) (before : Database) (known : Option (List ℕ)) (read : List ℕ) (most : ℕ) (after : Database) (report : Report)
     → IfSome known (λ input. read ≡ input) → PlaysAs strict n before (Some read) most after report → PlaysAs strict n before known most after report
 asked_known false n before known read most after report is plays = plays_known n before known read most after report is plays
@@ -65,11 +65,11 @@ asked_text true n before known most after report other text status (inr barred) 
   },
 )
 
--- so are its answers, where they are too long
+-- the same if the answers are too long
 pub overlong_known : (n : Notation Global) (before : Database) (known : Option (List ℕ)) (read : List ℕ) (most : ℕ) → IfSome known (λ input. read ≡ input) → IsOverlong n before (Some read) most → IsOverlong n before known most
 overlong_known n before known read most is long = known_read known read (λ bytes. AnswersExceed Global n before bytes most) is long
 
--- a limit of a script on an empty database, and on one of files
+-- the reports after the limit of a script, on an empty database and on the database of the files
 pub limited_alone : (n : Notation Global) (script : Script) (given : Given) (input : Option (List ℕ)) (most : ℕ) (report : Report) → script.base ≡ None → output_limit script.max_output ≡ Some most
     → PlaysAlone script.strict n script.form (spelled_input script.time input) most report → (script_in n script.base script given input).reports report
 limited_alone n script given input most report none is plays =

@@ -1,4 +1,4 @@
--- What `script` takes and asks, what comes of it, and why nothing does.
+-- The arguments of `script`, its possible reports, and the conditions of its faults.
 use Rattle.std.specs.Prelude.{◌≡◌, List, ◌∷◌, Some, codes, Option, ℕ, None, IsSomeAnd}
 use Rattle.clap.specs.Words.{Shape, Row}
 use Rattle.std.specs.Borrow.{Bor}
@@ -19,7 +19,7 @@ abbrev pub ScriptAsks : List Row → Script → Type 0
 ScriptAsks rows script =
     IsGiven (codes "base") rows script.base × (IsGiven (codes "max-output") rows script.max_output × (IsForm rows script.form × (IsNotation rows script.notation × ((script.strict ≡ is_given (codes "strict") rows) × ((script.clock ≡ is_given (codes "clock") rows) × (script.time ≡ None))))))
 
--- what is known of a script, by whether it has a base
+-- the possible reports of a script, and its faults; it may have a base or not
 abbrev pub script_in : Notation Global → Option (Bor (List ℕ)) → Script → Given → Option (List ℕ) → Known
 script_in n None script given input = record {
   reports = λ report. IsSomeAnd (output_limit script.max_output) (λ most. PlaysAlone script.strict n script.form (spelled_input script.time input) most report);

@@ -1,4 +1,4 @@
--- What `widen` takes and asks, what comes of it, and why nothing does.
+-- The arguments of `widen`, its possible reports, and the conditions of its faults.
 use Rattle.std.specs.Prelude.{◌≡◌, false, List, ◌∷◌, Some, codes, Bool}
 use Rattle.clap.specs.Words.{Shape, Row}
 use Rattle.dbm_words.specs.declared.options.Form.{Form}
@@ -21,13 +21,13 @@ abbrev pub WidenAsks : List Row → Widen → Type 0
 WidenAsks rows widen =
     IsWord (codes "BASE") rows widen.base × (widen.unsigned ≡ is_given (codes "unsigned") rows)
 
--- how many pairs there are, and the files are written with wide pages
+-- prints the number of pairs, and the files are written with wide pages
 pub record Widens (report : Report) (db : Database) : Type 0 where
   pub text_is : report.text.items ≡ ok_line (map.len (map_of db))
   pub status_is : report.status ≡ 0
   pub written : report.database ≡ Some (widened db)
 
--- the form of a database of small pages
+-- the format of a database with small pages
 abbrev pub small_form : Bool → Form
 small_form unsigned = record { unsigned = unsigned; wide = false }
 

@@ -1,4 +1,4 @@
-//! The subcommands that are about all of a database: `script` and `widen`.
+//! The subcommands for a whole database: `script` and `widen`.
 #![tactic(auto)]
 
 mod playing;

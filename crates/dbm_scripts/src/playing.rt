@@ -1,4 +1,4 @@
-//! A script on a database.
+//! Runs a script on a database.
 ghost use Rattle.std.specs.Prelude.{◌≡◌, Some, IfOk, IfErr, true};
 ghost use Rattle.sdbm_addr.specs.Database.{Database};
 ghost use Rattle.dbm_script.specs.Shorthand.{spelled};
@@ -14,11 +14,10 @@ use sdbm_files::Image;
 use std::alloc::Global;
 use std::io::Read;
 
-/// The status of a strict script that is not run.
+/// The status of a strict script that did not run.
 const BARRED: u8 = 1;
 
-/// How many bytes the answers to a script have at most, by the option: as many as can be counted where it is not given, and none where
-/// it is no number.
+/// The limit of the answers in bytes. Without the option it is the largest number. Returns `None` if it is not a number.
 pub fn output_limit(max_output: Option<&str>) -> Option<u64>
     ensures { result ≡ output_limit max_output.entry }
 {
@@ -28,7 +27,7 @@ pub fn output_limit(max_output: Option<&str>) -> Option<u64>
     }
 }
 
-/// A script on an empty database, which is not kept.
+/// Runs a script on an empty database, which is then dropped.
 ///
 /// # Errors
 /// Those of `read_input` and of `play_as`.
@@ -62,7 +61,7 @@ pub fn report_alone<R: Read>(
     })
 }
 
-/// A script on the database of the files.
+/// Runs a script on the database of the files.
 ///
 /// # Errors
 /// Those of `open`, of `read_input` and of `play_as`.
@@ -92,7 +91,7 @@ pub fn report_played<R: Read>(
     )
 }
 
-// What comes of a script: a strict one is not run where a line of it asks nothing.
+// Runs a script. A strict script with a bad line does not run.
 fn play_as(
     alloc: Global,
     notation: &Notation<Global>,
@@ -111,7 +110,7 @@ fn play_as(
     play(alloc, notation, image, time, script, most)
 }
 
-// What comes of a strict script.
+// Runs a strict script.
 fn play_strictly(
     alloc: Global,
     notation: &Notation<Global>,
@@ -135,7 +134,7 @@ fn play_strictly(
     play(alloc, notation, image, time, script, most)
 }
 
-// The answers to a script, which are to have at most so many bytes, and the database after it, which is to be written.
+// Runs a script. The report has its answers, at most `most` bytes, and the database to write.
 fn play(
     alloc: Global,
     notation: &Notation<Global>,

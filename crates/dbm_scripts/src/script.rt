@@ -1,4 +1,4 @@
-//! `script`: the commands of standard input, a line each.
+//! `script`: runs the commands on standard input, one in each line.
 ghost use Rattle.std.specs.Prelude.{◌≡◌, IfOk, IfSome, IsNone, false};
 ghost use Rattle.clap.specs.Words.{found_of, rows_of};
 ghost use Rattle.dbm_words.specs.CommandLine.{IsSubcommand};
@@ -19,24 +19,24 @@ use dbm_words::{
 use std::alloc::{AllocError, Global};
 use std::io::Read;
 
-/// The script on standard input is to be run, without a base on an empty database that is not kept. Its answers are to have at
-/// most `max_output` bytes.
+/// The subcommand `script`. Runs the script on standard input; without a base, on an empty database that is then dropped. `max_output`
+/// limits the answers, in bytes.
 #[derive(Clone, Copy, Debug)]
 pub struct Script<'a> {
     pub base: Option<&'a str>,
     pub form: Form,
     pub notation: NotationOptions<'a>,
     pub max_output: Option<&'a str>,
-    /// It is not run where a line of it asks nothing.
+    /// A script with a bad line does not run.
     pub strict: bool,
-    /// Its lines may ask the time of day.
+    /// Its lines may use the time of day.
     pub clock: bool,
-    /// The time that its lines are told, once the clock was read.
+    /// The time for its lines, after reading the clock.
     pub time: Option<TimeOfDay>,
 }
 
 impl<'a> Script<'a> {
-    /// What the matches of `script` ask. There is none where they lack a word that it has to have.
+    /// Reads the matches of `script`. Returns `None` if a required argument is missing.
     pub fn matched(matches: &ArgMatches<'a>) -> Option<Script<'a>>
         ensures some { IfSome result (ScriptAsks (rows_of (found_of matches.now))) }
         ensures none { IsNone result → has_words spec.script.rules (rows_of (found_of matches.now)) ≡ false }
@@ -52,7 +52,7 @@ impl<'a> Script<'a> {
         })
     }
 
-    /// Its words, as sentences show them.
+    /// The arguments that messages may show.
     pub fn words(&self) -> Words<'a> {
         Words {
             layout: self.notation.layout,
@@ -65,10 +65,10 @@ impl<'a> Script<'a> {
     }
 }
 
-/// The subcommand `script`, as `clap` is told it.
+/// Declares the subcommand `script` for `clap`.
 ///
 /// # Errors
-/// `AllocError` where no memory is left.
+/// `AllocError` if allocation fails.
 pub fn script_command<'a>(alloc: Global) -> Result<Command<'a>, AllocError>
     ensures { IfOk result (IsSubcommand spec.script) }
 {

@@ -1,14 +1,14 @@
-//! Scripts each of whose lines has to ask something.
+//! Checks the lines of a strict script.
 ghost use Rattle.std.specs.Prelude.{◌≡◌, IfOk};
 ghost use Rattle.dbm_scripts.specs.Playing.{has_bad_line, is_bad_line};
 
 use dbm_script::{Notation, first_piece, read_line};
 use std::alloc::{AllocError, Global};
 
-/// Whether a line of a script is neither empty nor asks anything.
+/// Returns `true` if a line of a script is neither empty nor a request.
 ///
 /// # Errors
-/// `AllocError` where no memory is left.
+/// `AllocError` if allocation fails.
 pub fn has_bad_line(
     alloc: Global,
     notation: &Notation<Global>,
@@ -28,7 +28,7 @@ pub fn has_bad_line(
     Ok(false)
 }
 
-// Whether a line is neither empty nor asks anything.
+// Returns `true` if a line is neither empty nor a request.
 fn is_bad_line(alloc: Global, notation: &Notation<Global>, line: &[u8]) -> Result<bool, AllocError>
     ensures { IfOk result (λ bad. bad ≡ is_bad_line notation.now line.now) }
 {

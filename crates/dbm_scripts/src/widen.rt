@@ -1,4 +1,4 @@
-//! `widen`: a database of small pages is written with wide ones.
+//! `widen`: rewrites a database of small pages with wide pages.
 ghost use Rattle.std.specs.Prelude.{◌≡◌, IfOk, IfSome, IsNone, false};
 ghost use Rattle.clap.specs.Words.{found_of, rows_of};
 ghost use Rattle.dbm_words.specs.CommandLine.{IsSubcommand};
@@ -16,7 +16,7 @@ use sdbm_files::{Image, widen};
 use std::alloc::{AllocError, Global};
 use std::io::Read;
 
-/// A database of small pages is to be written with wide ones.
+/// The subcommand `widen`.
 #[derive(Clone, Copy, Debug)]
 pub struct Widen<'a> {
     pub base: &'a str,
@@ -24,7 +24,7 @@ pub struct Widen<'a> {
 }
 
 impl<'a> Widen<'a> {
-    /// What the matches of `widen` ask. There is none where they lack a word that it has to have.
+    /// Reads the matches of `widen`. Returns `None` if a required argument is missing.
     pub fn matched(matches: &ArgMatches<'a>) -> Option<Widen<'a>>
         ensures some { IfSome result (WidenAsks (rows_of (found_of matches.now))) }
         ensures none { IsNone result → has_words spec.widen.rules (rows_of (found_of matches.now)) ≡ false }
@@ -35,7 +35,7 @@ impl<'a> Widen<'a> {
         })
     }
 
-    /// Its words, as sentences show them.
+    /// The arguments that messages may show.
     pub fn words(&self) -> Words<'a> {
         Words {
             base: Some(self.base),
@@ -45,10 +45,10 @@ impl<'a> Widen<'a> {
     }
 }
 
-/// The subcommand `widen`, as `clap` is told it.
+/// Declares the subcommand `widen` for `clap`.
 ///
 /// # Errors
-/// `AllocError` where no memory is left.
+/// `AllocError` if allocation fails.
 pub fn widen_command<'a>(alloc: Global) -> Result<Command<'a>, AllocError>
     ensures { IfOk result (IsSubcommand spec.widen) }
 {
@@ -98,7 +98,7 @@ impl Subcommand for Widen<'_> {
     }
 }
 
-// How many pairs there are, and the database with wide pages, which is to be written.
+// Reports the number of pairs. The database to write has wide pages.
 fn widen_pages(alloc: Global, image: Image<Global>) -> Result<Report, AllocError>
     ensures { IfOk result (λ report. Widens report image) }
 {

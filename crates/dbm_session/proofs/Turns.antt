@@ -1,4 +1,4 @@
--- How far the lines of a session were answered.
+-- Progress through the lines of a session.
 use Rattle.std.proofs.Common.{◌≡◌, ◌≤◌, ℕ, ◌+◌, List, [], ◌∷◌, ◌++◌, length, length-append, Bool, true, false, Option, Some, None, IfSome, codes, refl, sym, ap, ◌∙◌, subst, append_assoc, append-nil, Result, Ok, Err, IfErr, arith}
 use Rattle.std.specs.Io.KnownBytes.{Appends, Keeps}
 use Rattle.std.proofs.KnownBytes.{Appends-kept, Appends-nil, Appends-trans}
@@ -37,7 +37,7 @@ Logs-trans (Some a) (Some b) (Some c) x y p q = q ∙ ap (λ (l : List HostCall)
 pub Logs-same : (a b : Option (List HostCall)) → b ≡ a → Logs a b []
 Logs-same a b is = subst (λ (x : Option (List HostCall)). Logs a x []) (sym is) (Logs-nil a)
 
--- nothing is between two logs that are the same
+-- prepending an unchanged log
 pub Logs-from : (a b c : Option (List HostCall)) (x : List HostCall) → b ≡ a → Logs b c x → Logs a c x
 Logs-from a b c x same p = subst (λ (l : Option (List HostCall)). Logs l c x) same p
 
@@ -47,11 +47,11 @@ Logs-to a b c x same p = subst (λ (l : Option (List HostCall)). Logs a l x) (sy
 pub saves_none : (a b : Option (List HostCall)) (db : Database) → b ≡ a → SavesMaybe a b db
 saves_none a b db same = record { calls = []; may = tt; kept = Logs-same a b same }
 
--- nothing more was saved
+-- no call was logged
 pub saves_no_more : (a b : Option (List HostCall)) → b ≡ a → SavesAtMostOne a b
 saves_no_more a b same = record { calls = []; few = omega arith; kept = Logs-same a b same }
 
--- a time alone was given
+-- only a time was logged
 pub saves_no_time : (a b : Option (List HostCall)) (time : Option TimeOfDay) → Logs a b (GaveTime time ∷ []) → SavesAtMostOne a b
 saves_no_time a b time kept = record { calls = GaveTime time ∷ []; few = omega arith; kept = kept }
 
@@ -60,11 +60,11 @@ may_be_few [] db may = omega arith
 may_be_few (call ∷ []) db may = subst (λ (x : HostCall). length (saves_in (x ∷ [])) ≤ 1) (sym may) (omega arith)
 may_be_few (call ∷ other ∷ others) db may = absurd may
 
--- a save may have failed
+-- a save that may have failed
 pub saves_at_most_one : (a b : Option (List HostCall)) (db : Database) → SavesMaybe a b db → SavesAtMostOne a b
 saves_at_most_one a b db maybe = record { calls = maybe.calls; few = may_be_few maybe.calls db maybe.may; kept = maybe.kept }
 
--- a time was given before
+-- a time was logged before
 pub saves_after_time : (n : Notation Global) (s s' : Stage) (line text : List ℕ) (a b c : Option (List HostCall)) → AnsweredTimed n s line text a b s' → SavesAtMostOne b c → SavesAtMostOne a c
 saves_after_time n s s' line text a b c one maybe = record {
   calls = one.calls ++ maybe.calls;
@@ -72,7 +72,7 @@ saves_after_time n s s' line text a b c one maybe = record {
   kept = Logs-trans a b c one.calls maybe.calls one.kept maybe.kept;
 }
 
--- the host was asked for the end of the input before
+-- the prompt before it logged nothing
 pub saves_from : (a b c : Option (List HostCall)) → b ≡ a → SavesAtMostOne b c → SavesAtMostOne a c
 saves_from a b c same maybe = subst (λ (l : Option (List HostCall)). SavesAtMostOne l c) same maybe
 
@@ -98,12 +98,12 @@ before_more : (line : List ℕ) (lines : List (List ℕ)) (other : List ℕ) (ot
 before_more line [] other others = refl
 before_more line (l ∷ ls) other others = ap (λ (xs : List (List ℕ)). line ∷ xs) (before_more l ls other others)
 
--- lines of a text that are done, and the others
+-- the lines of a text are those done and the remaining ones
 ended_more : (done : List (List ℕ)) (other : List ℕ) (others : List (List ℕ)) → ended_lines (done ++ other ∷ others) ≡ done ++ before_last other others
 ended_more [] other others = refl
 ended_more (line ∷ lines) other others = before_more line lines other others
 
--- one more line
+-- running one more line
 RunsSession-append : (n : Notation Global) (s mid s' : Stage) (done : List (List ℕ)) (line text added : List ℕ) (calls more : List HostCall) → RunsSession n s done text calls mid
     → AnswersLine n mid line added more s' → RunsSession n s (done ++ line ∷ []) (text ++ added) (calls ++ more) s'
 RunsSession-append n s mid s' [] line text added calls more r a =
@@ -133,7 +133,7 @@ RunsSession-append n s mid s' (l ∷ ls) line text added calls more r a = record
   calls_are = ap (λ (xs : List HostCall). xs ++ more) r.calls_are ∙ append_assoc r.now r.later more;
 }
 
--- some lines are answered, and others are left
+-- some lines are answered, and the rest are left
 pub record Progress (n : Notation Global) (db : Database) (input : List ℕ) (count : ℕ) (left : Option (List (List ℕ))) (old now : Option (List ℕ)) (log log' : Option (List HostCall)) (s : Stage) : Type 0 where
   pub done : List (List ℕ)
   pub first : List ℕ
@@ -147,12 +147,12 @@ pub record Progress (n : Notation Global) (db : Database) (input : List ℕ) (co
   pub written : Appends old now text
   pub kept : Logs log log' calls
 
--- the lines that are done, and those behind them
+-- the lines that are done, and the lines after them
 done_of : (n : Notation Global) (db : Database) (input : List ℕ) (count : ℕ) (left : Option (List (List ℕ))) (old now : Option (List ℕ)) (a b : Option (List HostCall)) (s : Stage)
     → (p : Progress n db input count left old now a b s) → ended_lines (pieces_of 10 input) ≡ p.done ++ before_last p.first p.others
 done_of n db input count left old now a b s p = ap ended_lines p.lines ∙ ended_more p.done p.first p.others
 
--- the next line, which an LF ends, and what is left then
+-- the next line, ended by LF, and the remaining pieces
 pub record NextLine (first : List ℕ) (others : List (List ℕ)) (line : List ℕ) (left' : Option (List (List ℕ))) : Type 0 where
   pub next : List ℕ
   pub behind : List (List ℕ)
@@ -189,7 +189,7 @@ answered n db input count left old now now' a b c s s' line added left' p gives 
       kept = Logs-trans a b c p.calls one.calls p.kept one.kept;
     }
 
--- all lines are done, and this is left
+-- all lines are done; the last piece is left
 all_done : (n : Notation Global) (db : Database) (input : List ℕ) (count : ℕ) (left : Option (List (List ℕ))) (old now : Option (List ℕ)) (a b : Option (List HostCall)) (s : Stage) (line : List ℕ)
     (left' : Option (List (List ℕ))) → (p : Progress n db input count left old now a b s) → GivesEnded left false line left' → pieces_of 10 input ≡ p.done ++ line ∷ []
 all_done n db input count left old now a b s line left' p gives = p.lines ∙ ap (λ (ls : List (List ℕ)). p.done ++ ls) (only p.first p.others (given left p.first p.others false line left' p.left_is gives))
@@ -265,12 +265,12 @@ stopped_within n db input count left old now now' a b c s s' line added left' p 
       maybe = saves_no_more c c refl;
     }
 
--- ---- where the bytes are known
+-- ---- if the bytes are known
 
 abbrev pub AllProgress : Notation Global → Database → Option (List ℕ) → ℕ → Option (List (List ℕ)) → Option (List ℕ) → Option (List ℕ) → Option (List HostCall) → Option (List HostCall) → Stage → Type 0
 AllProgress n db bytes count left old now a b s = IfSome bytes (λ input. Progress n db input count left old now a b s)
 
--- the host was asked for a line
+-- the host prompted for a line
 pub all_same : (n : Notation Global) (db : Database) (bytes : Option (List ℕ)) (count : ℕ) (left : Option (List (List ℕ))) (old now : Option (List ℕ)) (a b c : Option (List HostCall)) (s : Stage) → c ≡ b
     → AllProgress n db bytes count left old now a b s → AllProgress n db bytes count left old now a c s
 all_same n db bytes count left old now a b c s same all = subst (λ (x : Option (List HostCall)). AllProgress n db bytes count left old now a x s) (sym same) all
@@ -309,7 +309,7 @@ all_stopped_within n db bytes count left old now now' a b c s s' line added left
     known bytes (λ input. Progress n db input count left old now a b s) (λ input. Stops n db (ended_lines (pieces_of 10 input)) old now' a c)
     (λ input p. stopped_within n db input count left old now now' a b c s s' line added left' p gives one writes) all
 
--- nothing was answered
+-- no line was answered, and nothing was logged
 pub all_unread : (n : Notation Global) (db : Database) (bytes old : Option (List ℕ)) (a : Option (List HostCall)) → IfSome bytes (λ input. Stops n db (ended_lines (pieces_of 10 input)) old old a a)
 all_unread n db None old a = tt
 all_unread n db (Some input) old a = record {
@@ -327,7 +327,7 @@ all_unread n db (Some input) old a = record {
   maybe = saves_no_more a a refl;
 }
 
--- no line was answered yet
+-- no line is answered yet
 begun : (n : Notation Global) (db : Database) (input : List ℕ) (u : Unread) (old : Option (List ℕ)) (a : Option (List HostCall)) (s : Stage) → u.rest ≡ [] → u.ended ≡ false → s ≡ stage db []
     → Progress n db input 0 (lines_left u (Some input)) old old a a s
 begun n db input u old a s rest opened is = from (pieces_of 10 input) refl
@@ -358,7 +358,7 @@ all_begun n db (Some input) u old a s rest opened is = begun n db input u old a 
 
 -- ---- one line
 
--- what a line does, by what it is
+-- the effect of a line, by its kind
 pub answers_save : (n : Notation Global) (s : Stage) (line text : List ℕ) (s' : Stage) (a b : Option (List HostCall)) → is_save line ≡ true → text ≡ codes "saved" ++ 10 ∷ [] → s' ≡ s
     → Logs a b (DidSave s.db ∷ []) → Answered n s line text a b s'
 answers_save n s line text s' a b save is same kept = record {
@@ -386,16 +386,16 @@ answers_scripted n s line text s' a b c save own h maybe =
       kept = Logs-trans a b c h.calls maybe.calls h.kept maybe.kept;
     }
 
--- all of a text was written, and then a flush failed
+-- the whole text was written, but flushing failed
 pub writes_all : (a b c : Option (List ℕ)) (text : List ℕ) → Appends a b text → Keeps b c → WritesSome a c text
 writes_all a b c text writes keeps = record { count = length text; written = subst (λ (t : List ℕ). Appends a c t) (sym (take-length text)) (Appends-kept a b c text writes keeps) }
 
--- what holds at any fault
+-- a property that holds for every fault
 pub any_err : {T F : Type 0} (r : Result T F) (P : Type 0) → P → IfErr r (λ fault. P)
 any_err (Ok x) P h = tt
 any_err (Err f) P h = h
 
--- ---- lines of scripts alone
+-- ---- sessions with only script lines
 
 times_appended : (a b : List HostCall) → times_in (a ++ b) ≡ times_in a ++ times_in b
 times_appended [] b = refl
@@ -407,7 +407,7 @@ no_times [] db may = refl
 no_times (call ∷ []) db may = ap (λ (c : HostCall). times_in (c ∷ [])) may
 no_times (call ∷ other ∷ others) db may = absurd may
 
--- what some lines do as a script
+-- the effect of lines as a script
 pub record AsScript (n : Notation Global) (s : Stage) (lines : List (List ℕ)) (text : List ℕ) (times : List (Option TimeOfDay)) (s' : Stage) : Type 0 where
   pub fulls : List (List ℕ)
   pub spelled : AreSpelled lines fulls times
@@ -418,7 +418,7 @@ one_scripted : (n : Notation Global) (s : Stage) (line text : List ℕ) (calls :
 one_scripted n s line text calls s' is h =
     subst (λ (x : Bool). AnswersAs false x n s line text calls s') is.1 (subst (λ (x : Bool). AnswersAs x (is_own line) n s line text calls s') is.0 h)
 
--- a line gave one time
+-- a line logs one time
 time_of : (n : Notation Global) (s : Stage) (line text : List ℕ) (calls : List HostCall) (s' : Stage) → (one : AnswersThenSaves n s line text calls s') → times_in calls ≡ one.answers.time ∷ []
 time_of n s line text calls s' one =
     ap times_in one.calls_are ∙ times_appended one.first one.later

@@ -31,7 +31,7 @@ abbrev pub last_after : List ℕ → List (List ℕ) → List ℕ
 last_after piece [] = piece
 last_after piece (other ∷ others) = last_after other others
 
--- what follows the last LF of a text, from its pieces
+-- the bytes after the last LF of a text, from its pieces
 abbrev pub last_piece : List (List ℕ) → List ℕ
 last_piece [] = []
 last_piece (piece ∷ pieces) = last_after piece pieces
@@ -40,17 +40,17 @@ abbrev pub half_after : ℕ → List ℕ → Option ℕ
 half_after count [] = None
 half_after count (c ∷ cs) = Some (count + 1)
 
--- The number of the line, from 1 on, in which a text was cut off: no LF ends it. None if the text ends with LF or has no bytes.
+-- The number, from 1 on, of an incomplete last line, which has no LF. None if the text is empty or ends with LF.
 abbrev pub half_line : List (List ℕ) → Option ℕ
 half_line pieces = half_after (length (ended_lines pieces)) (last_piece pieces)
 
 -- ---- one line
 
--- the line that asks for a save
+-- the line that requests a save
 abbrev pub is_save : List ℕ → Bool
 is_save line = bytes_eq line (codes "save")
 
--- a line that scripts do not have
+-- a line that is not part of the script language
 abbrev pub is_own : List ℕ → Bool
 is_own line = bytes_eq line (codes "help") || starts_with nat_eq line (codes ".")
 
@@ -58,59 +58,59 @@ abbrev pub begins_change : List ℕ → Bool
 begins_change line = starts_with nat_eq line (codes "replace ") || starts_with nat_eq line (codes "put ") || starts_with nat_eq line (codes "insert ")
     || starts_with nat_eq line (codes "delete ") || starts_with nat_eq line (codes "del ") || starts_with nat_eq line (codes "run ")
 
--- the answer to a line that asks nothing
+-- the answer to a line that is not a request
 abbrev pub bad_line : List ℕ
 bad_line = codes "bad line" ++ 10 ∷ []
 
--- A line asks for a change: a store, a delete or a run, whatever the answer is. A bad line asks nothing.
+-- The line requests a change: a store, a delete or a run, even if the answer is a refusal. A bad line requests nothing.
 abbrev pub asks_change : List ℕ → List ℕ → Bool
 asks_change line answer = begins_change line && not (bytes_eq answer bad_line)
 
--- What a line does as the line of a script that runs at this time, and the text of its answer.
+-- The effect of a line as a script line at this time, and the text of its answer.
 pub record AnswersScripted (n : Notation Global) (s : Stage) (time : Option TimeOfDay) (line text : List ℕ) (s' : Stage) : Type 0 where
   pub told : List (Option Verdict)
   pub runs : RunsLines Global n s (spelled_line OfScript time line ∷ []) told text s'
 
--- The same at the time that the host gave for it, which is all that the host was asked.
+-- The same at the time that the host returned. That is the only call to the host.
 pub record AnswersTimed (n : Notation Global) (s : Stage) (line text : List ℕ) (calls : List HostCall) (s' : Stage) : Type 0 where
   pub time : Option TimeOfDay
   pub calls_are : calls ≡ GaveTime time ∷ []
   pub answers : AnswersScripted n s time line text s'
 
--- the line of a script that submits a program
+-- a script line that submits a program
 pub record SubmitsProgram (n : Notation Global) (s : Stage) (text : List ℕ) (calls : List HostCall) (s' : Stage) : Type 0 where
   pub line : List ℕ
   pub is_program : starts_with nat_eq line (codes "program ") ≡ true
   pub answers : AnswersTimed n s line text calls s'
 
--- A line that scripts do not have shows something and changes nothing, or stands for a line of a script that submits a program.
+-- A line of the host prints something and changes nothing, or is replaced by a script line that submits a program.
 abbrev pub AnswersOwn : Notation Global → Stage → List ℕ → List HostCall → Stage → Type 0
 AnswersOwn n s text calls s' = ((calls ≡ []) × (s' ≡ s)) ⊎ SubmitsProgram n s text calls s'
 
--- what stands for such a line, if it is a line of a script
+-- if the host returns a script line, it submits a program
 abbrev pub IsProgram : Own → Type 0
 IsProgram Shown = ⊤
 IsProgram (Line line) = starts_with nat_eq line.items (codes "program ") ≡ true
 
--- nothing is saved, or this database once
+-- no save, or one save of this database
 abbrev pub MaySave : List HostCall → Database → Type 0
 MaySave [] db = ⊤
 MaySave (call ∷ []) db = call ≡ DidSave db
 MaySave (call ∷ other ∷ others) db = ⊥
 
--- the log goes on with a save of a database, or with nothing
+-- the log gains a save of this database, or nothing
 pub record SavesMaybe (log log' : Option (List HostCall)) (db : Database) : Type 0 where
   pub calls : List HostCall
   pub may : MaySave calls db
   pub kept : Logs log log' calls
 
--- the log goes on with at most one save
+-- the log gains at most one save
 pub record SavesAtMostOne (log log' : Option (List HostCall)) : Type 0 where
   pub calls : List HostCall
   pub few : length (saves_in calls) ≤ 1
   pub kept : Logs log log' calls
 
--- A line of a script is answered, and the database may be saved after it.
+-- A script line is answered, and the database may be saved after it.
 pub record AnswersThenSaves (n : Notation Global) (s : Stage) (line text : List ℕ) (calls : List HostCall) (s' : Stage) : Type 0 where
   pub first : List HostCall
   pub later : List HostCall
@@ -123,23 +123,23 @@ AnswersAs true own n s line text calls s' = (text ≡ codes "saved" ++ 10 ∷ []
 AnswersAs false true n s line text calls s' = AnswersOwn n s text calls s'
 AnswersAs false false n s line text calls s' = AnswersThenSaves n s line text calls s'
 
--- What one line of a session does, the text of its answer, and what the host is asked before it is answered.
+-- The effect of one line of a session, the text of its answer, and the calls to the host before the answer is written.
 abbrev pub AnswersLine : Notation Global → Stage → List ℕ → List ℕ → List HostCall → Stage → Type 0
 AnswersLine n s line text calls s' = AnswersAs (is_save line) (is_own line) n s line text calls s'
 
--- a line was answered, and the log goes on with what the host was asked for it
+-- a line was answered, and the log gained its calls to the host
 pub record Answered (n : Notation Global) (s : Stage) (line text : List ℕ) (log log' : Option (List HostCall)) (s' : Stage) : Type 0 where
   pub calls : List HostCall
   pub answers : AnswersLine n s line text calls s'
   pub kept : Logs log log' calls
 
--- a line of a script was answered so, and the log goes on with the time that the host gave for it
+-- a script line was answered, and the log gained the time that the host returned for it
 pub record AnsweredTimed (n : Notation Global) (s : Stage) (line text : List ℕ) (log log' : Option (List HostCall)) (s' : Stage) : Type 0 where
   pub calls : List HostCall
   pub answers : AnswersTimed n s line text calls s'
   pub kept : Logs log log' calls
 
--- a line that scripts do not have was answered so
+-- a line of the host was answered, and the log gained its calls
 pub record AnsweredOwn (n : Notation Global) (s : Stage) (text : List ℕ) (log log' : Option (List HostCall)) (s' : Stage) : Type 0 where
   pub calls : List HostCall
   pub answers : AnswersOwn n s text calls s'
@@ -147,7 +147,7 @@ pub record AnsweredOwn (n : Notation Global) (s : Stage) (text : List ℕ) (log 
 
 -- ---- many lines
 
--- the first of some lines, and those after it, for which Rest stands
+-- the first of some lines, and Rest for the lines after it
 pub record OneThen (n : Notation Global) (s : Stage) (line text : List ℕ) (calls : List HostCall) (Rest : Stage → List ℕ → List HostCall → Type 0) : Type 0 where
   pub first : List ℕ
   pub rest : List ℕ
@@ -159,13 +159,13 @@ pub record OneThen (n : Notation Global) (s : Stage) (line text : List ℕ) (cal
   pub text_is : text ≡ first ++ rest
   pub calls_are : calls ≡ now ++ later
 
--- What lines do in order, the text of their answers, and what the host is asked.
+-- The effect of lines in order, the text of their answers, and the calls to the host.
 abbrev pub RunsSession : Notation Global → Stage → List (List ℕ) → List ℕ → List HostCall → Stage → Type 0
 RunsSession n s [] text calls s' = (text ≡ []) × ((calls ≡ []) × (s' ≡ s))
 RunsSession n s (line ∷ lines) text calls s' = OneThen n s line text calls (λ mid rest later. RunsSession n mid lines rest later s')
 
--- All lines were answered on a database: their answers follow what a writer had, and what the host was asked follows what it was asked before.
--- The last call saves the database to which the lines lead.
+-- All lines were answered. The writer gained their answers, and the log gained their calls to the host. The last call saves the final
+-- database.
 pub record Ends (n : Notation Global) (db : Database) (lines : List (List ℕ)) (old new : Option (List ℕ)) (log log' : Option (List HostCall)) (after : Database) : Type 0 where
   pub text : List ℕ
   pub calls : List HostCall
@@ -174,8 +174,8 @@ pub record Ends (n : Notation Global) (db : Database) (lines : List (List ℕ)) 
   pub written : Appends old new text
   pub kept : Logs log log' (calls ++ DidSave after ∷ [])
 
--- The first lines were answered and no other was: of their answers the first bytes were written, or all, and what they save was saved. If a
--- save failed after them, that may be saved too.
+-- Only the first lines were answered. The writer has a prefix of their answers, or all of them. The log has their calls, followed by
+-- further calls with at most one save. That save may have failed.
 pub record Stops (n : Notation Global) (db : Database) (lines : List (List ℕ)) (old new : Option (List ℕ)) (log log' : Option (List HostCall)) : Type 0 where
   pub done : List (List ℕ)
   pub behind : List (List ℕ)
@@ -190,13 +190,13 @@ pub record Stops (n : Notation Global) (db : Database) (lines : List (List ℕ))
   pub kept : Logs log sure calls
   pub maybe : SavesAtMostOne sure log'
 
--- ---- lines of scripts alone
+-- ---- sessions with only script lines
 
--- a line that scripts have
+-- a script line
 abbrev pub IsOfScript : List ℕ → Type 0
 IsOfScript line = (is_save line ≡ false) × (is_own line ≡ false)
 
--- lines as they are spelled out, each at its time
+-- the expanded lines, each with its own time
 abbrev pub AreSpelled : List (List ℕ) → List (List ℕ) → List (Option TimeOfDay) → Type 0
 AreSpelled [] [] times = times ≡ []
 AreSpelled [] (full ∷ fulls) times = ⊥
@@ -204,7 +204,8 @@ AreSpelled (line ∷ lines) [] times = ⊥
 AreSpelled (line ∷ lines) (full ∷ fulls) [] = ⊥
 AreSpelled (line ∷ lines) (full ∷ fulls) (time ∷ times) = (full ≡ spelled_line OfScript time line) × AreSpelled lines fulls times
 
--- Lines did on a database what they do as one script, each at the time that the host gave for it, and its answers follow what a writer had.
+-- The lines had the effect of one script. Each line uses the time that the host returned for it. The writer gained the answers of that
+-- script.
 pub record RunsAsScript (n : Notation Global) (db : Database) (lines : List (List ℕ)) (old new : Option (List ℕ)) (log log' : Option (List HostCall)) (after : Database) : Type 0 where
   pub calls : List HostCall
   pub kept : Logs log log' calls
@@ -216,7 +217,7 @@ pub record RunsAsScript (n : Notation Global) (db : Database) (lines : List (Lis
   pub runs : RunsLines Global n (stage db []) fulls told text (stage after programs)
   pub written : Appends old new text
 
--- the first bytes of a text were written, or all
+-- a prefix of the text was written, or all of it
 pub record WritesSome (old new : Option (List ℕ)) (text : List ℕ) : Type 0 where
   pub count : ℕ
   pub written : Appends old new (take count text)

@@ -1,20 +1,20 @@
-//! Why a session has ended before its lines.
+//! Errors of sessions.
 
 use dbm_lines::LineFault;
 use std::alloc::AllocError;
 
-/// Why a session has ended before its lines.
+/// Why a session stopped before the end of its input.
 #[derive(Drop)]
 pub enum SessionFault<F: Drop> {
     /// The reader failed.
     Read,
     /// A line has more than 16,777,216 bytes.
     TooLong,
-    /// An answer was not written.
+    /// Writing an answer failed.
     Write,
-    /// No memory was left.
+    /// Allocation failed.
     NoMemory,
-    /// The database was not saved.
+    /// Saving the database failed.
     Save(F),
 }
 

@@ -1,4 +1,4 @@
-//! What a session is built on.
+//! The environment of a session.
 ghost use Rattle.std.specs.Prelude.{◌≡◌, ◌∷◌, [], IfOk, List, None, OnErr, OnOk, Option};
 ghost use Rattle.dbm_session.specs.HostCalls.{DidSave, GaveTime, HostCall, Logs};
 ghost use Rattle.dbm_session.specs.Sessions.{IsProgram, SavesMaybe};
@@ -7,36 +7,37 @@ use dbm_script::TimeOfDay;
 use sdbm_files::Image;
 use std::alloc::{AllocError, Global};
 
-/// The result of a line that scripts do not have.
+/// The host's result for a line that is not part of the script language.
 #[derive(Drop)]
 pub enum Own {
-    /// A text, which was put after another.
+    /// The host has appended its answer to the text.
     Shown,
-    /// A line of a script to run in its place.
+    /// A script line to run instead.
     Line(Vec<u8>),
 }
 
-/// What a session is built on: the terminal at which its lines are typed, its clock, and the files in which its database is saved.
+/// The environment of a session: the terminal where its lines are typed, its clock, and the files of its database.
 pub trait Host {
-    /// Why a database was not saved.
+    /// The error of a save.
     type Fault: Drop;
 
-    // A log of the saves and of the times that the clock gave, in order. None if nothing is known of them.
+    // A log of the saves and of the times that the clock returned, in order. None if the host does not record them.
     ghost log: { Self → Option (List HostCall) } = { λ _. None };
 
-    /// Asks for a line before it is read, or with `is_over` tells that the input has ended.
+    /// Prompts for a line before it is read. If `is_over` is true, the input has ended.
     fn ask(&mut self, is_over: bool)
         ensures { log self.new ≡ log self.old };
 
-    /// The time of day for a line. `None` if lines may not ask for it, or the system does not tell it.
+    /// The time of day for a line. `None` if lines may not use it, or the system does not report it.
     fn time(&mut self) -> Option<TimeOfDay>
         ensures { Logs (log self.old) (log self.new) (GaveTime result ∷ []) };
 
-    /// Whether to save the database after a line, and whether that line asked for a change.
+    /// Returns `true` to save the database after a line. `asks_change` says whether that line requested a change.
     fn is_due(&mut self, asks_change: bool) -> bool
         ensures { log self.new ≡ log self.old };
 
-    /// Answers a line that scripts do not have: puts a text after another, or returns a line of a script that submits a program.
+    /// Answers a line that is not part of the script language: appends an answer to `text`, or returns a script line that submits a
+    /// program.
     ///
     /// # Errors
     /// `AllocError` if allocation fails.
@@ -52,7 +53,7 @@ pub trait Host {
     /// Saves a database. Returns `Ok` once the save is committed.
     ///
     /// # Errors
-    /// The host's own. The database may be saved then, or not.
+    /// The host's own. The save may or may not have taken effect.
     fn save(&mut self, image: &Image<Global>) -> Result<(), Self::Fault>
         ensures kept { OnOk result (Logs (log self.old) (log self.new) (DidSave image.now ∷ [])) }
         ensures lost { OnErr result (SavesMaybe (log self.old) (log self.new) image.now) };

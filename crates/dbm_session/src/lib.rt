@@ -1,4 +1,4 @@
-//! Sessions: scripts that last. Each line is answered before the next is read, and the database is saved between lines.
+//! Sessions: scripts that stay open. Each line is answered before the next is read, and the database is saved between lines.
 #![tactic(auto)]
 
 mod fault;

@@ -1,26 +1,26 @@
-//! The kinds of lines that a session has.
+//! The kinds of lines in a session.
 ghost use Rattle.std.specs.Prelude.{◌≡◌};
 ghost use Rattle.dbm_session.specs.Sessions.{asks_change, begins_change, is_own, is_save};
 
-/// The answer to a line that asks nothing.
+/// The answer to a line that is not a request.
 const BAD_LINE: &[u8] = b"bad line\n";
 
-/// Whether a line asks for a save.
+/// Returns `true` if a line requests a save.
 pub fn is_save(line: &[u8]) -> bool
     ensures { result ≡ is_save line.now }
 {
     line == b"save".as_slice()
 }
 
-/// Whether a line is one that scripts do not have.
+/// Returns `true` if a line is for the host: it is not part of the script language.
 pub fn is_own(line: &[u8]) -> bool
     ensures { result ≡ is_own line.now }
 {
     line == b"help".as_slice() || line.starts_with(b".")
 }
 
-/// Whether a line of a script with this answer asks for a change: a store, a delete or a run, whatever the answer is. A bad line asks
-/// nothing.
+/// Returns `true` if a script line with this answer requests a change: a store, a delete or a run, even if the answer is a refusal. A bad
+/// line requests nothing.
 pub fn asks_change(line: &[u8], answer: &[u8]) -> bool
     ensures { result ≡ asks_change line.now answer.now }
 {

@@ -1,4 +1,4 @@
-//! The lines of a session, answered one by one.
+//! Answers the lines of a session one by one.
 ghost use Rattle.std.specs.Prelude.{◌≡◌, ◌<◌, ◌∷◌, [], IfErr, IfOk, IfSome, OnErr, OnOk};
 ghost use Rattle.std.specs.List.{All};
 ghost use Rattle.std.specs.Io.KnownBytes.{Appends};
@@ -18,31 +18,34 @@ use sdbm_files::Image;
 use std::alloc::{AllocError, Global};
 use std::io::{Read, Write};
 
-/// How the lines of a session ended: the database after them, which is saved.
+/// The result of a session: the saved database after its lines.
 #[derive(Drop)]
 pub struct Ended {
     pub image: Image<Global>,
-    /// The number of the line, from 1 on, in which the input was cut off. It has no LF, and was not run.
+    /// The number, from 1 on, of an incomplete last line. It has no LF, and was not run.
     pub half_line: Option<u64>,
 }
 
-// What a session works on: the database, and the programs that its lines have submitted.
+// The state of a session: the database, and the programs that its lines have submitted.
 #[derive(Drop)]
 struct Session {
     image: Image<Global>,
     registry: Registry<Global>,
 }
 
-/// Answers the lines of a reader in a notation on a database until there are no more, and saves the database after them. The answer to
-/// each line is written and flushed before the next line is read. A line `save` saves the database, and is answered `saved` once the save
-/// is committed; `help` and lines that begin with `.` are the host's; every other line is answered as in a script, at the time that the
-/// host gives for it. Submitted programs stay to the end. A save that the host finds due comes after a line and before its answer.
+/// Answers the lines of a reader until it ends, and saves the database after them. The answer to each line is written and flushed before
+/// the next line is read.
+///
+/// The line `save` saves the database; its answer `saved` is written once the save is committed. The host answers `help` and lines that
+/// begin with `.`. Any other line is answered as in a script, at the time that the host returns for it. Submitted programs stay until the
+/// end. If `Host::is_due` returns `true`, the database is saved after the line and before its answer is written.
 ///
 /// Each line ends with LF. If the input ends within a line, that line is not run, and its number is returned.
 ///
 /// # Errors
-/// `Read` if the reader fails, `TooLong` if a line has more than 16,777,216 bytes, `Write` if the writer fails, `Save` if a save failed,
-/// and `NoMemory`. Nothing more is done then: the last save stands, or if a save failed maybe that one.
+/// `Read` if the reader fails, `TooLong` if a line has more than 16,777,216 bytes, `Write` if the writer fails, `Save` if a save fails, and
+/// `NoMemory`. The session then ends without another save. The files hold the last save that succeeded; after `Save`, they may hold the
+/// failed one.
 pub fn run_session<R: Read, W: Write, H: Host>(
     alloc: Global,
     notation: &Notation<Global>,
@@ -72,7 +75,7 @@ pub fn run_session<R: Read, W: Write, H: Host>(
     Err(SessionFault::TooLong)
 }
 
-// The number of a line that no LF ends, after so many lines, if anything of it was read.
+// The number of an incomplete last line after `count` lines. `None` if nothing of it was read.
 fn half_after(count: u64, line: &Vec<u8>) -> Option<u64>
     requires { count < 18446744073709551615 }
     ensures { result ≡ half_after count line.now.items }
@@ -83,7 +86,7 @@ fn half_after(count: u64, line: &Vec<u8>) -> Option<u64>
     Some(count + 1)
 }
 
-// Saves what a session has come to at its end.
+// Saves the final database.
 fn end<H: Host>(
     session: Session,
     host: &mut H,
@@ -123,7 +126,7 @@ fn say<W: Write, F: Drop>(writer: &mut W, text: &[u8]) -> Result<(), SessionFaul
     }
 }
 
-// Answers a line. The text is its answer then, and nothing else.
+// Answers a line. Replaces `text` by the answer.
 fn answer_next<H: Host>(
     alloc: Global,
     notation: &Notation<Global>,
@@ -150,7 +153,7 @@ fn answer_next<H: Host>(
     Ok(session)
 }
 
-// Saves the database after a line if the host finds that due.
+// Saves the database after a line if the host requests it.
 fn save_if_due<H: Host>(
     image: &Image<Global>,
     host: &mut H,
@@ -165,7 +168,7 @@ fn save_if_due<H: Host>(
     Ok(())
 }
 
-// Answers a line that scripts do not have.
+// Answers a line of the host.
 fn answer_own<H: Host>(
     alloc: Global,
     notation: &Notation<Global>,
@@ -187,7 +190,7 @@ fn answer_own<H: Host>(
     }
 }
 
-// Answers a line as the line of a script, at the time that the host gives.
+// Answers a script line at the time that the host returns.
 fn answer_scripted<H: Host>(
     alloc: Global,
     notation: &Notation<Global>,

@@ -1,4 +1,4 @@
--- The numbers of a database as text, a line each, and as a JSON object.
+-- The statistics of a database as text, one per line, and as a JSON object.
 use Rattle.std.specs.Prelude.{ℕ, ◌+◌, ◌-◌, ◌*◌, ◌/◌, ◌%◌, ◌==◌, ◌++◌, max, min, cond, codes, decimal, drop, length, replicate, slice_index_or, List, [], ◌∷◌}
 use Rattle.std.specs.List.{flat_map, range_with_len}
 use Rattle.sdbm_stats.specs.declared.Stats.{Stats}
@@ -10,7 +10,7 @@ use Rattle.dbm_stats.specs.Json.{field, next_field}
 
 -- ---- text
 
--- a number after what it counts, in a line
+-- a line with a label and a number
 abbrev pub row : List ℕ → ℕ → List ℕ
 row label n = label ++ (decimal n ++ 10 ∷ [])
 
@@ -24,7 +24,7 @@ file_rows s =
     row (codes "pages with pairs         ") s.used ++ row (codes "pages without (holes)    ") s.holes ++ row (codes "bytes of .dir            ") s.dir_bytes
     ++ row (codes "bytes of .pag            ") s.pag_bytes ++ row (codes "bytes of .pag, widened   ") s.wide_bytes
 
--- a quotient to one place after the point, cut off; a number of none is 0
+-- a quotient with one decimal, rounded down; a divisor of 0 counts as 1
 abbrev pub quotient : ℕ → ℕ → List ℕ
 quotient sum n = decimal (sum / max n 1) ++ (46 ∷ decimal (sum % max n 1 * 10 / max n 1))
 
@@ -33,14 +33,14 @@ depth_rows splits d used =
     row (codes "splits                   ") splits ++ row (codes "least depth of a page    ") d.least
     ++ (codes "average depth            " ++ (quotient d.sum used ++ 10 ∷ [])) ++ row (codes "greatest depth           ") d.greatest
 
--- how many signs stand for n where forty stand for the most; for any but none there is one
+-- the length of the bar for n, if 40 signs represent `most`; a nonzero n has at least one sign
 abbrev pub bar_length : ℕ → ℕ → ℕ
 bar_length most n = min ((40 * n + (most - 1)) / max most 1) 40
 
 abbrev pub percent : ℕ → List ℕ
 percent i = cond (i == 0) (32 ∷ 48 ∷ []) (decimal (10 * i))
 
--- the pages that are filled to the tenth i: a bar, and their number
+-- the line of the pages that are between i and i + 1 tenths full: a bar, and their number
 abbrev pub bar_row : ℕ → ℕ → ℕ → List ℕ
 bar_row most i n = codes "from " ++ (percent i ++ (codes "%  " ++ (replicate (bar_length most n) 35 ++ (32 ∷ (decimal n ++ 10 ∷ [])))))
 
@@ -57,7 +57,7 @@ figures_text s =
 
 -- ---- JSON
 
--- what f makes of some, with commas between them
+-- the texts f x of a list, separated by commas
 abbrev pub between_commas : {X : Type 0} → (X → List ℕ) → List X → List ℕ
 between_commas f xs = drop 1 (flat_map (λ x. 44 ∷ f x) xs)
 

@@ -1,4 +1,4 @@
-//! How full pages are, in bars of signs.
+//! Bars of `#` that show how full pages are.
 ghost use Rattle.std.specs.Prelude.{◌≡◌, ◌≤◌, ◌++◌, length, replicate, OnOk};
 ghost use Rattle.sdbm_stats.specs.Totals.{greatest};
 ghost use Rattle.dbm_stats.specs.Figures.{bar_length, bar_row, bar_rows, percent};
@@ -6,13 +6,13 @@ ghost use Rattle.dbm_stats.specs.Figures.{bar_length, bar_row, bar_rows, percent
 use crate::rows::show_number;
 use std::alloc::{AllocError, Allocator};
 
-// As many signs as a bar has at most.
+// The longest bar.
 static SIGNS: [u8; 40] = [b'#'; 40];
 
-/// A line for each tenth, ten at most.
+/// Adds a line for each tenth, at most ten.
 ///
 /// # Errors
-/// `AllocError` where no memory is left for them. First bytes of them may have been added.
+/// `AllocError` if allocation fails. A part of the output may then be in `text`.
 pub fn show_bars<A: Allocator>(bars: &[u32], text: &mut Vec<u8, A>) -> Result<(), AllocError>
     requires { length bars.now ≤ 10 }
     ensures { OnOk result (text.new.items ≡ text.old.items ++ bar_rows bars.now) }
@@ -24,7 +24,7 @@ pub fn show_bars<A: Allocator>(bars: &[u32], text: &mut Vec<u8, A>) -> Result<()
     Ok(())
 }
 
-// The greatest number.
+// The greatest number, or 0.
 fn most_of(bars: &[u32]) -> u32
     ensures { result ≡ greatest (λ n. n) bars.now }
 {
@@ -35,7 +35,7 @@ fn most_of(bars: &[u32]) -> u32
     most
 }
 
-// The line of a tenth.
+// Adds the line of one tenth.
 fn show_bar<A: Allocator>(
     most: u32,
     i: u64,
@@ -54,7 +54,7 @@ fn show_bar<A: Allocator>(
     Ok(text.push(b'\n')?)
 }
 
-// Where a tenth begins, in two places.
+// Adds the lower bound of a tenth in percent, two characters wide.
 fn show_percent<A: Allocator>(i: u64, text: &mut Vec<u8, A>) -> Result<(), AllocError>
     requires { i ≤ 10 }
     ensures { OnOk result (text.new.items ≡ text.old.items ++ percent i) }
@@ -65,7 +65,7 @@ fn show_percent<A: Allocator>(i: u64, text: &mut Vec<u8, A>) -> Result<(), Alloc
     show_number(10 * i, text)
 }
 
-// So many signs.
+// A bar of this length.
 fn signs(count: usize) -> &'static [u8]
     requires { count ≤ 40 }
     ensures { result.now ≡ replicate count 35 }
@@ -73,7 +73,7 @@ fn signs(count: usize) -> &'static [u8]
     &SIGNS[..count]
 }
 
-// How many signs stand for a number where forty stand for the most.
+// The length of the bar for `number`, if 40 signs represent `most`.
 fn bar_length(most: u32, number: u32) -> usize
     ensures value { result ≡ bar_length most number }
     ensures short { result ≤ 40 }

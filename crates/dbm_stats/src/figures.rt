@@ -1,4 +1,4 @@
-//! The numbers of a database as text.
+//! The statistics of a database as text.
 ghost use Rattle.std.specs.Prelude.{◌≡◌, ◌≤◌, ◌++◌, length, IfOk, OnOk};
 ghost use Rattle.std.specs.List.{flat_map};
 ghost use Rattle.dbm_stats.specs.Figures.{figures_text, full_row};
@@ -8,10 +8,10 @@ use crate::rows::{show_depths, show_files, show_full, show_pairs};
 use sdbm_stats::{PageRoom, Stats};
 use std::alloc::{AllocError, Allocator};
 
-/// The numbers of a database, a line each, and how full its pages are as bars of signs.
+/// The statistics of a database, one per line, and bars that show how full its pages are.
 ///
 /// # Errors
-/// `AllocError` where no memory is left for the text.
+/// `AllocError` if allocation fails.
 pub fn figures_text<A: Allocator, B: Allocator>(
     alloc: A,
     stats: &Stats<B>,
@@ -30,7 +30,7 @@ pub fn figures_text<A: Allocator, B: Allocator>(
     Ok(text)
 }
 
-// A line for each page.
+// Adds a line for each page.
 fn show_fullest<A: Allocator>(fullest: &[PageRoom], text: &mut Vec<u8, A>) -> Result<(), AllocError>
     ensures { OnOk result (text.new.items ≡ text.old.items ++ flat_map full_row fullest.now) }
 {

@@ -1,4 +1,4 @@
-//! JSON: strings, and fields of objects.
+//! JSON strings and fields.
 ghost use Rattle.std.specs.Prelude.{◌≡◌, ◌++◌, ◌==◌, ◌||◌, IfOk, OnOk};
 ghost use Rattle.std.specs.List.{flat_map};
 ghost use Rattle.dbm_stats.specs.Json.{count_object, escaped, field, next_field, quoted};
@@ -9,7 +9,7 @@ use std::alloc::{AllocError, Allocator};
 /// Adds a string of printable ASCII.
 ///
 /// # Errors
-/// `AllocError` where no memory is left for it. First bytes of it may have been added.
+/// `AllocError` if allocation fails. A part of the output may then be in `text`.
 pub fn show_string<A: Allocator>(string: &[u8], text: &mut Vec<u8, A>) -> Result<(), AllocError>
     ensures { OnOk result (text.new.items ≡ text.old.items ++ quoted string.now) }
 {
@@ -39,17 +39,17 @@ fn show_character<A: Allocator>(byte: u8, text: &mut Vec<u8, A>) -> Result<(), A
     Ok(text.push(byte)?)
 }
 
-// Whether a character stands after a backslash: a quote or a backslash.
+// Returns `true` if a character needs an escape: a quote or a backslash.
 fn is_special(byte: u8) -> bool
     ensures { result ≡ (byte == 34 || byte == 92) }
 {
     byte == b'"' || byte == b'\\'
 }
 
-/// Adds a field that is a number, by a name in which nothing is to be escaped.
+/// Adds a field with a number. The name must need no escapes.
 ///
 /// # Errors
-/// `AllocError` where no memory is left for it. First bytes of it may have been added.
+/// `AllocError` if allocation fails. A part of the output may then be in `text`.
 pub fn show_field<A: Allocator>(
     name: &[u8],
     number: u64,
@@ -64,10 +64,10 @@ pub fn show_field<A: Allocator>(
     text.extend_from_slice(digits.format(number).as_bytes())
 }
 
-/// Adds such a field after others.
+/// Like `show_field`, for a field that is not the first.
 ///
 /// # Errors
-/// `AllocError` where no memory is left for it. First bytes of it may have been added.
+/// `AllocError` if allocation fails. A part of the output may then be in `text`.
 pub fn show_next_field<A: Allocator>(
     name: &[u8],
     number: u64,
@@ -79,10 +79,10 @@ pub fn show_next_field<A: Allocator>(
     show_field(name, number, text)
 }
 
-/// An object of one field that is a number, in a line.
+/// A line with an object of one numeric field.
 ///
 /// # Errors
-/// `AllocError` where no memory is left for the text.
+/// `AllocError` if allocation fails.
 pub fn show_count_object<A: Allocator>(
     alloc: A,
     name: &[u8],

@@ -1,4 +1,4 @@
-//! The numbers of a database as text and as a JSON object, and JSON for other lines.
+//! Prints the statistics of a database as text and as a JSON object. Also JSON strings and fields for other lines.
 #![tactic(auto)]
 
 mod bars;

@@ -1,4 +1,4 @@
-//! The numbers of a database as a JSON object.
+//! The statistics of a database as a JSON object.
 ghost use Rattle.std.specs.Prelude.{◌≡◌, ◌++◌, ◌∷◌, decimal, drop, IfOk, OnOk};
 ghost use Rattle.std.specs.List.{flat_map};
 ghost use Rattle.dbm_stats.specs.Figures.{between_commas, depth_fields, figures_object, file_fields, pair_fields, room_object};
@@ -8,10 +8,10 @@ use crate::rows::show_number;
 use sdbm_stats::{Depths, PageRoom, PairTotals, Stats};
 use std::alloc::{AllocError, Allocator};
 
-/// The numbers of a database as a JSON object, in a line.
+/// A line with the statistics of a database as a JSON object.
 ///
 /// # Errors
-/// `AllocError` where no memory is left for the text.
+/// `AllocError` if allocation fails.
 pub fn figures_object<A: Allocator + Copy, B: Allocator>(
     alloc: A,
     stats: &Stats<B>,
@@ -31,7 +31,7 @@ pub fn figures_object<A: Allocator + Copy, B: Allocator>(
     Ok(text)
 }
 
-// The fields on pairs.
+// Adds the fields about pairs.
 fn show_pairs<A: Allocator>(totals: &PairTotals, text: &mut Vec<u8, A>) -> Result<(), AllocError>
     ensures { OnOk result (text.new.items ≡ text.old.items ++ pair_fields totals.now) }
 {
@@ -42,7 +42,7 @@ fn show_pairs<A: Allocator>(totals: &PairTotals, text: &mut Vec<u8, A>) -> Resul
     show_next_field(b"longest_pair", totals.longest_pair, text)
 }
 
-// The fields on pages and files.
+// Adds the fields about pages and files.
 fn show_files<A: Allocator, B: Allocator>(
     stats: &Stats<B>,
     text: &mut Vec<u8, A>,
@@ -56,7 +56,7 @@ fn show_files<A: Allocator, B: Allocator>(
     show_next_field(b"wide_bytes", stats.wide_bytes, text)
 }
 
-// The fields on the directory.
+// Adds the fields about the directory.
 fn show_depths<A: Allocator>(
     splits: u64,
     depths: Depths,
@@ -70,7 +70,7 @@ fn show_depths<A: Allocator>(
     show_next_field(b"depth_sum", depths.sum, text)
 }
 
-// Numbers, with commas between them.
+// Adds numbers, separated by commas.
 fn show_numbers<A: Allocator>(
     alloc: A,
     numbers: &[u32],
@@ -86,7 +86,7 @@ fn show_numbers<A: Allocator>(
     text.extend_from_slice(past_first(items.as_slice()))
 }
 
-// Pages as objects, with commas between them.
+// Adds pages as objects, separated by commas.
 fn show_rooms<A: Allocator>(
     alloc: A,
     rooms: &[PageRoom],
@@ -102,7 +102,7 @@ fn show_rooms<A: Allocator>(
     text.extend_from_slice(past_first(items.as_slice()))
 }
 
-// A page as an object.
+// Adds a page as an object.
 fn show_room<A: Allocator>(room: &PageRoom, text: &mut Vec<u8, A>) -> Result<(), AllocError>
     ensures { OnOk result (text.new.items ≡ text.old.items ++ room_object room.now) }
 {
@@ -112,7 +112,7 @@ fn show_room<A: Allocator>(room: &PageRoom, text: &mut Vec<u8, A>) -> Result<(),
     Ok(text.push(b'}')?)
 }
 
-// All but the first byte, where there is one.
+// The bytes after the first; empty if there are none.
 fn past_first(bytes: &[u8]) -> &[u8]
     ensures { result.now ≡ drop 1 bytes.now }
 {

@@ -1,4 +1,4 @@
-//! Lines that are a label and a number.
+//! Lines with a label and a number.
 ghost use Rattle.std.specs.Prelude.{◌≡◌, ◌++◌, decimal, OnOk};
 ghost use Rattle.dbm_stats.specs.Figures.{depth_rows, file_rows, full_row, pair_rows, quotient, row};
 
@@ -6,7 +6,7 @@ use itoa::Buffer;
 use sdbm_stats::{Depths, PageRoom, PairTotals, Stats};
 use std::alloc::{AllocError, Allocator};
 
-// A number after its label.
+// Adds a line with a label and a number.
 fn show_row<A: Allocator>(
     label: &[u8],
     number: u64,
@@ -22,7 +22,7 @@ fn show_row<A: Allocator>(
 /// Adds the digits of a number.
 ///
 /// # Errors
-/// `AllocError` where no memory is left for them.
+/// `AllocError` if allocation fails.
 pub fn show_number<A: Allocator>(number: u64, text: &mut Vec<u8, A>) -> Result<(), AllocError>
     ensures { OnOk result (text.new.items ≡ text.old.items ++ decimal number) }
 {
@@ -30,10 +30,10 @@ pub fn show_number<A: Allocator>(number: u64, text: &mut Vec<u8, A>) -> Result<(
     text.extend_from_slice(digits.format(number).as_bytes())
 }
 
-/// The lines on pairs.
+/// Adds the lines about pairs.
 ///
 /// # Errors
-/// `AllocError` where no memory is left for them. First bytes of them may have been added.
+/// `AllocError` if allocation fails. A part of the output may then be in `text`.
 pub fn show_pairs<A: Allocator>(
     totals: &PairTotals,
     text: &mut Vec<u8, A>,
@@ -47,10 +47,10 @@ pub fn show_pairs<A: Allocator>(
     show_row(b"bytes of longest pair    ", totals.longest_pair, text)
 }
 
-/// The lines on pages and files.
+/// Adds the lines about pages and files.
 ///
 /// # Errors
-/// `AllocError` where no memory is left for them. First bytes of them may have been added.
+/// `AllocError` if allocation fails. A part of the output may then be in `text`.
 pub fn show_files<A: Allocator, B: Allocator>(
     stats: &Stats<B>,
     text: &mut Vec<u8, A>,
@@ -64,10 +64,10 @@ pub fn show_files<A: Allocator, B: Allocator>(
     show_row(b"bytes of .pag, widened   ", stats.wide_bytes, text)
 }
 
-/// The lines on the directory.
+/// Adds the lines about the directory.
 ///
 /// # Errors
-/// `AllocError` where no memory is left for them. First bytes of them may have been added.
+/// `AllocError` if allocation fails. A part of the output may then be in `text`.
 pub fn show_depths<A: Allocator>(
     splits: u64,
     depths: Depths,
@@ -84,7 +84,7 @@ pub fn show_depths<A: Allocator>(
     show_row(b"greatest depth           ", depths.greatest as u64, text)
 }
 
-// A quotient to one place after the point, cut off.
+// Adds a quotient with one decimal, rounded down.
 fn show_quotient<A: Allocator>(
     sum: u64,
     count: u32,
@@ -98,10 +98,10 @@ fn show_quotient<A: Allocator>(
     show_number(sum % count * 10 / count, text)
 }
 
-/// The line on a page that is near to full.
+/// Adds the line of one of the fullest pages.
 ///
 /// # Errors
-/// `AllocError` where no memory is left for it. First bytes of it may have been added.
+/// `AllocError` if allocation fails. A part of the output may then be in `text`.
 pub fn show_full<A: Allocator>(room: &PageRoom, text: &mut Vec<u8, A>) -> Result<(), AllocError>
     ensures { OnOk result (text.new.items ≡ text.old.items ++ full_row room.now) }
 {

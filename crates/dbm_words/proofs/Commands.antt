@@ -1,4 +1,4 @@
--- What a chain of builder calls makes of a command.
+-- Effects of chains of builder calls on a command.
 use Rattle.std.proofs.Common.{◌≡◌, ◌++◌, ◌∷◌, ◌&&◌, not, is_some, [], List, Bool, Bor, true, false, map, refl, ap, ◌∙◌, arith, append_assoc, append-nil}
 use Rattle.std.proofs.lemmas.List.{map-append}
 use Rattle.std.specs.List.{list_all}
@@ -22,14 +22,14 @@ is_local a h = is_off a.global (right (not a.last) _ (right (not a.require_equal
 both : (a b : Bool) → (a && b) ≡ true → (a ≡ true) × (b ≡ true)
 both a b h = grind arith
 
--- one more argument
+-- adding one argument
 pub gains : (old new : Command) (x : Arg) (a : App) → AddsArg old x new → (rule_of x).is_simple ≡ true → IsCommand a old → IsCommand (with_rule a (rule_of x)) new
 gains old new x a step simple h = (
   step.shape (is_local x simple) ∙ ap (λ (b : App). with_rule b (rule_of x)) h.0,
   (let local : x.global ≡ false = is_local x simple in rw (step.globals, h.1, local) refl),
 )
 
--- arguments in turn
+-- adding a list of arguments
 pub grown : (xs : List Arg) (old new : Command) (s : Shape) → AddsInTurn AddsArg old xs new → list_all (λ r. r.is_simple) (map rule_of xs) ≡ true → IsSubcommand s old
     → IsSubcommand (record s { rules = s.rules ++ map rule_of xs }) new
 grown [] old new s e simple h = rw (← e, append-nil s.rules) h
@@ -39,7 +39,7 @@ grown (x ∷ xs) old new s steps simple h =
     let rest = grown xs steps.0 new (record s { rules = s.rules ++ rule_of x ∷ [] }) steps.2 parts.1 first in
     rw append_assoc at rest
 
--- one more name
+-- adding an alias
 pub named : (old new : Command) (alias : Bor Text) (s : Shape) → AddsCommandAliases old new ((alias, true) ∷ []) → IsSubcommand s old → IsSubcommand (with_alias alias.now s) new
 named old new alias s step h =
     let text : Bor Text × Bool → Text = λ a. a.0.now in

@@ -1,4 +1,4 @@
--- The command line: the words and options that the subcommands share, and what a command of `clap` is to be.
+-- The command line: the arguments that subcommands share, and the `clap` commands that declare them.
 use Rattle.std.specs.Prelude.{◌≡◌, true, false, List, [], ◌∷◌, ◌++◌, Some, codes}
 use Rattle.clap.specs.Words.{App, Rule, Shape, Text, app_of, new_rule}
 use Rattle.clap.specs.Simple.{new_shape}
@@ -6,7 +6,7 @@ use Rattle.clap.specs.declared.builder.ArgAction.TheVariants.{SetTrue}
 use Rattle.clap.specs.declared.Command.{Command}
 use Rattle.clap.specs.declared.builder.command.Command.TheViews.{out-Command}
 
--- a word that has to be there, at its place
+-- a required positional argument
 abbrev pub required_word : Text → Rule
 required_word id = record (new_rule id) { required = true }
 
@@ -25,32 +25,32 @@ valued_option id = record (new_rule id) { long = Some id; value_names = 1 }
 abbrev pub subcommand : Text → List Rule → Shape
 subcommand name rules = record (new_shape name) { rules = rules }
 
--- a subcommand that has another name too
+-- a subcommand with an alias
 abbrev pub with_alias : Text → Shape → Shape
 with_alias alias shape = record shape { aliases = shape.aliases ++ (alias ∷ []) }
 
--- how long a run waits for the lock and whether it says so, and for one that writes, whether the files have to be there
+-- the options for the lock: how long to wait, and whether to report the wait; a command that writes also has `--must-exist`
 abbrev pub reading_access : List Rule
 reading_access = valued_option (codes "timeout") ∷ flag (codes "verbose") ∷ []
 
 abbrev pub writing_access : List Rule
 writing_access = flag (codes "must-exist") ∷ reading_access
 
--- how the files of a database are read, and how it is come by
+-- the options for the format of the files, and for access to them
 abbrev pub reading_options : List Rule
 reading_options = flag (codes "unsigned") ∷ flag (codes "wide") ∷ flag (codes "insist") ∷ reading_access
 
 abbrev pub writing_options : List Rule
 writing_options = flag (codes "unsigned") ∷ flag (codes "wide") ∷ flag (codes "insist") ∷ writing_access
 
--- how bytes are written in words and lines, and then the same
+-- the options for the notation of bytes in arguments and lines, and all of the above
 abbrev pub reading_in : List Rule
 reading_in = flag (codes "text") ∷ valued_option (codes "as") ∷ reading_options
 
 abbrev pub writing_in : List Rule
 writing_in = flag (codes "text") ∷ valued_option (codes "as") ∷ writing_options
 
--- a command with these rules, none of whose arguments holds for its subcommands too
+-- a command with these rules, without global arguments
 abbrev pub IsCommand : App → Command → Type 0
 IsCommand app command = (app_of command ≡ app) × ((out-Command command).has_globals ≡ false)
 

@@ -1,4 +1,4 @@
-//! The words and options that the subcommands share.
+//! The arguments and options that subcommands share.
 ghost use Rattle.std.specs.Prelude.{◌≡◌, false, codes};
 ghost use Rattle.clap.specs.Words.{rule_of};
 ghost use Rattle.dbm_words.specs.CommandLine as spec;
@@ -6,7 +6,7 @@ ghost use Rattle.dbm_words.specs.CommandLine as spec;
 use clap::{Arg, ArgAction};
 use std::alloc::Global;
 
-/// A word that has to be there, at its place.
+/// A required positional argument.
 pub fn required_word<'a>(alloc: Global, id: &'a str, help: &'a str) -> Arg<'a>
     ensures rule { rule_of result ≡ spec.required_word id.entry.now }
     ensures local { result.global ≡ false }
@@ -14,7 +14,7 @@ pub fn required_word<'a>(alloc: Global, id: &'a str, help: &'a str) -> Arg<'a>
     Arg::new(alloc, id).required(true).help(help)
 }
 
-/// The option `--id`, which is there or not.
+/// The flag `--id`.
 pub fn flag<'a>(alloc: Global, id: &'a str, help: &'a str) -> Arg<'a>
     ensures rule { rule_of result ≡ spec.flag id.entry.now }
     ensures local { result.global ≡ false }
@@ -23,7 +23,7 @@ pub fn flag<'a>(alloc: Global, id: &'a str, help: &'a str) -> Arg<'a>
     option.action(ArgAction::SetTrue)
 }
 
-/// The option `--null`, also as `-0`.
+/// The flag `--null`, also `-0`.
 pub fn null<'a>(alloc: Global) -> Arg<'a>
     ensures rule { rule_of result ≡ spec.null_flag }
     ensures local { result.global ≡ false }
@@ -40,7 +40,7 @@ pub fn valued_option<'a>(alloc: Global, id: &'a str, value: &'a str, help: &'a s
     Arg::new(alloc, id).long(id).value_name(value).help(help)
 }
 
-/// The word that names a database.
+/// The argument `BASE`, the name of a database.
 pub fn base<'a>(alloc: Global) -> Arg<'a>
     ensures rule { rule_of result ≡ spec.required_word (codes "BASE") }
     ensures local { result.global ≡ false }
@@ -49,7 +49,7 @@ pub fn base<'a>(alloc: Global) -> Arg<'a>
     required_word(alloc, "BASE", help)
 }
 
-/// The word for a key.
+/// The argument `KEY`.
 pub fn key<'a>(alloc: Global) -> Arg<'a>
     ensures rule { rule_of result ≡ spec.required_word (codes "KEY") }
     ensures local { result.global ≡ false }
@@ -61,7 +61,7 @@ pub fn key<'a>(alloc: Global) -> Arg<'a>
     )
 }
 
-/// The option for a key that is taken as it is.
+/// The flag `--raw-key`: `KEY` is not decoded.
 pub fn raw_key<'a>(alloc: Global) -> Arg<'a>
     ensures rule { rule_of result ≡ spec.flag (codes "raw-key") }
     ensures local { result.global ≡ false }
@@ -73,7 +73,7 @@ pub fn raw_key<'a>(alloc: Global) -> Arg<'a>
     )
 }
 
-/// The word that names a program's file.
+/// The argument `FILE`, the file of a program.
 pub fn file<'a>(alloc: Global, help: &'a str) -> Arg<'a>
     ensures rule { rule_of result ≡ spec.required_word (codes "FILE") }
     ensures local { result.global ≡ false }
@@ -81,7 +81,7 @@ pub fn file<'a>(alloc: Global, help: &'a str) -> Arg<'a>
     required_word(alloc, "FILE", help)
 }
 
-/// The option for hashing the bytes of keys as unsigned ones.
+/// The flag `--unsigned`: the hash treats the bytes of keys as unsigned.
 pub fn unsigned<'a>(alloc: Global) -> Arg<'a>
     ensures rule { rule_of result ≡ spec.flag (codes "unsigned") }
     ensures local { result.global ≡ false }
@@ -93,7 +93,7 @@ pub fn unsigned<'a>(alloc: Global) -> Arg<'a>
     )
 }
 
-/// The option for pages of 8,192 bytes.
+/// The flag `--wide`: pages have 8,192 bytes.
 pub fn wide<'a>(alloc: Global) -> Arg<'a>
     ensures rule { rule_of result ≡ spec.flag (codes "wide") }
     ensures local { result.global ≡ false }
@@ -101,7 +101,7 @@ pub fn wide<'a>(alloc: Global) -> Arg<'a>
     flag(alloc, "wide", "The pages have 8,192 bytes, not 1,024")
 }
 
-/// The option for files that are opened as wide ones though they look small.
+/// The flag `--insist`: opens files as wide even if their pages look small.
 pub fn insist<'a>(alloc: Global) -> Arg<'a>
     ensures rule { rule_of result ≡ spec.flag (codes "insist") }
     ensures local { result.global ≡ false }
@@ -113,7 +113,7 @@ pub fn insist<'a>(alloc: Global) -> Arg<'a>
     )
 }
 
-/// The option for bytes that are written as text.
+/// The flag `--text`: bytes are text, not hex.
 pub fn text<'a>(alloc: Global) -> Arg<'a>
     ensures rule { rule_of result ≡ spec.flag (codes "text") }
     ensures local { result.global ≡ false }
@@ -125,7 +125,7 @@ pub fn text<'a>(alloc: Global) -> Arg<'a>
     )
 }
 
-/// The option for the layout by which values are printed.
+/// The option `--as LAYOUT`: the layout of printed values.
 pub fn layout<'a>(alloc: Global) -> Arg<'a>
     ensures rule { rule_of result ≡ spec.valued_option (codes "as") }
     ensures local { result.global ≡ false }
@@ -138,7 +138,7 @@ pub fn layout<'a>(alloc: Global) -> Arg<'a>
     )
 }
 
-/// The option for keys that begin so.
+/// The option `--prefix BYTES`: only keys that begin with these bytes.
 pub fn prefix<'a>(alloc: Global) -> Arg<'a>
     ensures rule { rule_of result ≡ spec.valued_option (codes "prefix") }
     ensures local { result.global ≡ false }
@@ -151,7 +151,7 @@ pub fn prefix<'a>(alloc: Global) -> Arg<'a>
     )
 }
 
-/// The option for an answer in JSON.
+/// The flag `--json`.
 pub fn json<'a>(alloc: Global) -> Arg<'a>
     ensures rule { rule_of result ≡ spec.flag (codes "json") }
     ensures local { result.global ≡ false }
@@ -159,7 +159,7 @@ pub fn json<'a>(alloc: Global) -> Arg<'a>
     flag(alloc, "json", "Print JSON")
 }
 
-/// The option for the longest wait for the lock.
+/// The option `--timeout SECONDS`: the longest wait for the lock.
 pub fn timeout<'a>(alloc: Global) -> Arg<'a>
     ensures rule { rule_of result ≡ spec.valued_option (codes "timeout") }
     ensures local { result.global ≡ false }
@@ -172,7 +172,7 @@ pub fn timeout<'a>(alloc: Global) -> Arg<'a>
     )
 }
 
-/// The option for a run that says who has the lock.
+/// The flag `--verbose`: reports who holds the lock.
 pub fn verbose<'a>(alloc: Global) -> Arg<'a>
     ensures rule { rule_of result ≡ spec.flag (codes "verbose") }
     ensures local { result.global ≡ false }
@@ -184,7 +184,7 @@ pub fn verbose<'a>(alloc: Global) -> Arg<'a>
     )
 }
 
-/// The option for a database that has to be there.
+/// The flag `--must-exist`: makes no new database.
 pub fn must_exist<'a>(alloc: Global) -> Arg<'a>
     ensures rule { rule_of result ≡ spec.flag (codes "must-exist") }
     ensures local { result.global ≡ false }
@@ -196,7 +196,7 @@ pub fn must_exist<'a>(alloc: Global) -> Arg<'a>
     )
 }
 
-/// The option for a command that reads one page.
+/// The flag `--quick`: reads one page.
 pub fn quick<'a>(alloc: Global) -> Arg<'a>
     ensures rule { rule_of result ≡ spec.flag (codes "quick") }
     ensures local { result.global ≡ false }
@@ -208,7 +208,7 @@ pub fn quick<'a>(alloc: Global) -> Arg<'a>
     )
 }
 
-/// The option for a program's file that is an image.
+/// The flag `--image`: the program's file is an image.
 pub fn image<'a>(alloc: Global) -> Arg<'a>
     ensures rule { rule_of result ≡ spec.flag (codes "image") }
     ensures local { result.global ≡ false }

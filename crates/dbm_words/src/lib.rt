@@ -1,5 +1,5 @@
-//! What the subcommands have in common on the command line: the words and options that they share, as `clap` is told them, what was
-//! matched of them, the words that a sentence may show, and how they are printed.
+//! The command line that subcommands share: their arguments for `clap`, the values that `clap` matched, the arguments that messages may
+//! show, and how those are printed.
 #![tactic(auto)]
 
 pub mod arguments;

@@ -1,4 +1,4 @@
-//! What `clap` matched of the words and options that subcommands share.
+//! Reads the values of shared arguments and options from what `clap` matched.
 ghost use Rattle.std.specs.Prelude.{◌≡◌, option_map};
 ghost use Rattle.clap.specs.Words.{first_of, found_of, rows_of};
 ghost use Rattle.dbm_words.specs.Given.{IsAccess, IsForm, IsNotation, is_given};
@@ -6,14 +6,14 @@ ghost use Rattle.dbm_words.specs.Given.{IsAccess, IsForm, IsNotation, is_given};
 use crate::options::{Access, Form, NotationOptions};
 use clap::ArgMatches;
 
-/// The word or value that was given for a name.
+/// The value of an argument or option, if it was given.
 pub fn word<'a>(matches: &ArgMatches<'a>, id: &str) -> Option<&'a str>
     ensures { option_map (λ text. text.now) result ≡ first_of id.now (rows_of (found_of matches.now)) }
 {
     matches.get_str(id)
 }
 
-/// Whether an option was given.
+/// Returns `true` if the flag was given.
 pub fn has_flag(matches: &ArgMatches<'_>, id: &str) -> bool
     ensures { result ≡ is_given id.now (rows_of (found_of matches.now)) }
 {
@@ -23,7 +23,7 @@ pub fn has_flag(matches: &ArgMatches<'_>, id: &str) -> bool
     }
 }
 
-/// How the files of a database are read.
+/// The format of the database's files.
 pub fn form(matches: &ArgMatches<'_>) -> Form
     ensures { IsForm (rows_of (found_of matches.now)) result }
 {
@@ -33,7 +33,7 @@ pub fn form(matches: &ArgMatches<'_>) -> Form
     }
 }
 
-/// How bytes are written in words and in lines.
+/// The notation of bytes in arguments and lines.
 pub fn notation<'a>(matches: &ArgMatches<'a>) -> NotationOptions<'a>
     ensures { IsNotation (rows_of (found_of matches.now)) result }
 {
@@ -43,7 +43,7 @@ pub fn notation<'a>(matches: &ArgMatches<'a>) -> NotationOptions<'a>
     }
 }
 
-/// How the database of a subcommand is come by.
+/// How to open the database's files.
 pub fn access<'a>(matches: &ArgMatches<'a>) -> Access<'a>
     ensures { IsAccess (rows_of (found_of matches.now)) result }
 {

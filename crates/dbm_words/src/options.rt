@@ -1,39 +1,39 @@
-//! What options mean that several subcommands take.
+//! The values of options that several subcommands take.
 
-/// How the files of a database are read, as the options `--unsigned` and `--wide` say.
+/// The format of a database's files, from `--unsigned` and `--wide`.
 #[derive(Clone, Copy, Debug)]
 pub struct Form {
-    /// The bytes of keys are hashed as unsigned ones.
+    /// The hash treats the bytes of keys as unsigned.
     pub unsigned: bool,
     /// Pages have 8,192 bytes.
     pub wide: bool,
 }
 
-/// How bytes are written in words and in lines, as the options `--text` and `--as` say.
+/// The notation of bytes in arguments and lines, from `--text` and `--as`.
 #[derive(Clone, Copy, Debug)]
 pub struct NotationOptions<'a> {
-    /// Bytes are written as text.
+    /// Bytes are text, not hex.
     pub text: bool,
-    /// Values are printed by this layout; all else is text.
+    /// The layout of printed values; all other bytes are text.
     pub layout: Option<&'a str>,
 }
 
-/// How the files of a database are opened, as the options `--timeout`, `--must-exist`, `--quick`, `--verbose` and `--insist` say.
+/// How to open a database's files, from `--timeout`, `--must-exist`, `--quick`, `--verbose` and `--insist`.
 #[derive(Clone, Copy)]
 pub struct Access<'a> {
-    /// For how many seconds the run waits for the lock; without it, for as long as others hold it.
+    /// The longest wait for the lock, in seconds. Without it the wait has no limit.
     pub timeout: Option<&'a str>,
-    /// The run makes no database where none is.
+    /// A missing database is an error; it is not created.
     pub must_exist: bool,
-    /// The run reads of the pages the one of its key alone.
+    /// Reads only the page of the key.
     pub quick: bool,
-    /// The run says who has the lock, where it waits for that.
+    /// Reports who holds the lock if the command has to wait for it.
     pub verbose: bool,
-    /// Pages that look small are taken as wide ones.
+    /// Opens files as wide even if their pages look small.
     pub insist: bool,
 }
 
-/// In which unit the time of day is asked, which is counted from the beginning of 1970 in UTC.
+/// The unit of a time of day, which counts from the beginning of 1970 in UTC.
 #[derive(Clone, Copy)]
 pub enum TimeUnit {
     Seconds,

@@ -1,8 +1,9 @@
-//! Words and names as they are printed: nothing in them moves the cursor of a terminal, hides a letter or turns the line round.
+//! Prints arguments and names safely: no character moves the cursor of a terminal, hides a letter or reverses the direction of text.
 
 use std::fmt;
 
-/// Whether a character prints as itself: it is no control character, none that sets the direction of the text, and none without a shape.
+/// Returns `true` if a character prints as itself: it is not a control character, has a visible shape, and does not set the direction of
+/// text.
 pub fn is_plain(c: char) -> bool {
     if c.is_ascii() {
         return !c.is_control();
@@ -10,7 +11,7 @@ pub fn is_plain(c: char) -> bool {
     c.escape_debug().next() == Some(c)
 }
 
-/// A text of lines. It prints as itself, but what is not plain by its escape, such as `\u{1b}`.
+/// A text of lines. LF and plain characters print as themselves, any other as an escape such as `\u{1b}`.
 #[derive(Clone, Copy)]
 pub struct Printed<'a>(pub &'a str);
 

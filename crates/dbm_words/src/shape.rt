@@ -1,4 +1,4 @@
-//! A subcommand as `clap` is told it.
+//! Declares a subcommand for `clap`.
 ghost use Rattle.std.specs.Prelude.{◌≡◌, IfOk, true, map};
 ghost use Rattle.std.specs.List.{list_all};
 ghost use Rattle.clap.specs.Words.{rule_of};
@@ -8,10 +8,10 @@ ghost use Rattle.dbm_words.specs.CommandLine as spec;
 use clap::{Arg, Command};
 use std::alloc::{AllocError, Global};
 
-/// A subcommand: what it does, what it prints with an example, and its arguments.
+/// A subcommand with its description, its output with an example, and its arguments.
 ///
 /// # Errors
-/// `AllocError` where no memory is left.
+/// `AllocError` if allocation fails.
 pub fn subcommand<'a>(
     alloc: Global,
     name: &'a str,
@@ -28,10 +28,10 @@ pub fn subcommand<'a>(
         .args(args)
 }
 
-/// A subcommand that has another name too.
+/// A subcommand with an alias.
 ///
 /// # Errors
-/// `AllocError` where no memory is left.
+/// `AllocError` if allocation fails.
 pub fn aliased_subcommand<'a>(
     alloc: Global,
     name: &'a str,

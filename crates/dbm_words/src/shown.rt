@@ -1,15 +1,15 @@
-//! The words of a command line that a sentence may show.
+//! The arguments of a command line that a message may show.
 
 use crate::options::Form;
 
-/// A word of the command line, with the name that the help gives it.
+/// An argument with its name in the help.
 #[derive(Clone, Copy)]
 pub struct Named<'a> {
     pub name: &'static str,
     pub word: &'a str,
 }
 
-/// The words that are to be numbers, each where it is given.
+/// The numeric arguments that were given.
 #[derive(Clone, Copy)]
 pub struct Numbers<'a> {
     pub timeout: Option<&'a str>,
@@ -22,7 +22,7 @@ pub struct Numbers<'a> {
 }
 
 impl<'a> Numbers<'a> {
-    /// Of a command line that has none.
+    /// No numeric arguments.
     pub fn none() -> Numbers<'static> {
         Numbers {
             timeout: None,
@@ -36,36 +36,36 @@ impl<'a> Numbers<'a> {
     }
 }
 
-/// What is asked, where sentences tell that apart.
+/// The kind of subcommand, if messages depend on it.
 #[derive(Clone, Copy)]
 pub enum Subject {
-    /// The image of a program is asked.
+    /// Prints the image of a program.
     Asm,
-    /// The text of a program is asked.
+    /// Prints the text of a program.
     Disasm,
-    /// Lines are answered one by one.
+    /// Answers lines one by one.
     Session,
     /// Anything else.
     Other,
 }
 
-/// The words of a command line that a sentence may show.
+/// The arguments of a command line that a message may show.
 #[derive(Clone, Copy)]
 pub struct Words<'a> {
     pub subject: Subject,
-    /// The database, where there is one.
+    /// The database, if the subcommand has one.
     pub base: Option<&'a str>,
-    /// The program's file, where there is one.
+    /// The program's file, if the subcommand has one.
     pub file: Option<&'a str>,
-    /// The program of the file is to be run or judged, and given as its image.
+    /// The file holds the image of a program to run or verify.
     pub image: bool,
-    /// The bytes of keys are hashed as unsigned ones.
+    /// The hash treats the bytes of keys as unsigned.
     pub unsigned: bool,
     /// Pages have 8,192 bytes.
     pub wide: bool,
-    /// The first of the words that are to be bytes, in the order in which they are read.
+    /// The first argument that holds bytes, in reading order.
     pub first: Option<Named<'a>>,
-    /// The second of them.
+    /// The second argument that holds bytes.
     pub second: Option<Named<'a>>,
     /// The layout of values.
     pub layout: Option<&'a str>,
@@ -73,7 +73,7 @@ pub struct Words<'a> {
 }
 
 impl<'a> Words<'a> {
-    /// Those of a command line that could not be read, or that has none of them.
+    /// No arguments: the command line has none of them, or could not be read.
     pub fn none() -> Words<'static> {
         Words {
             subject: Subject::Other,
@@ -89,7 +89,7 @@ impl<'a> Words<'a> {
         }
     }
 
-    /// Those of a command line about a database that is read so.
+    /// The arguments of a command line on a database with files in this format.
     pub fn on(base: Option<&'a str>, form: Form) -> Words<'a> {
         Words {
             base,

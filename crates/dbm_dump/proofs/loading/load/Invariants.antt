@@ -3,7 +3,7 @@ use Rattle.dbm_lines.specs.Lines.{lines_left}
 use Rattle.dbm_dump.proofs.Progress.{AllProgress}
 use Rattle.dbm_dump.proofs.loading.load.Given as goal
 
--- some lines are done, where the bytes are known
+-- some lines are done, if the bytes are known
 abbrev pub invariant-loop-number : goal.invariant-loop-number
 invariant-loop-number g l = record {
   known : AllProgress l.fn.start l.fn.mode l.fn.image (g.R.Read.remaining l.fn.reader) l.number (lines_left l.lines (g.R.Read.remaining l.reader)) l.loading;

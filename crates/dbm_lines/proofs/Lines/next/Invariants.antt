@@ -3,7 +3,7 @@ use Rattle.dbm_lines.specs.Lines.{IsPiece}
 use Rattle.dbm_lines.proofs.CutTexts.{SameText}
 use Rattle.dbm_lines.proofs.Lines.next.Given as goal
 
--- a piece of the line was read
+-- a part of the line was read
 abbrev pub invariant-loop-found : goal.invariant-loop-found
 invariant-loop-found g l = record {
   is_open : l.self.ended ≡ false;

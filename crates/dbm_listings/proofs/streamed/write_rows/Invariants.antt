@@ -5,7 +5,7 @@ use Rattle.dbm_listings.specs.Rows.{rows}
 use Rattle.dbm_listings.specs.Streams.{IsSplit}
 use Rattle.dbm_listings.proofs.streamed.write_rows.Given as goal
 
--- the first rows were written, or stand in the room
+-- the first rows are written or in the buffer
 abbrev pub invariant-loop-pair : goal.invariant-loop-pair
 invariant-loop-pair g l = record {
   split : IsSplit (g.W.Write.contents l.fn.writer) (g.W.Write.contents l.writer) l.room.items (rows l.notation l.listing l.prefix (pairs_lent (take l.pair-index l.pairs)));

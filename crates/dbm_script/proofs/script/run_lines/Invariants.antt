@@ -4,7 +4,7 @@ use Rattle.dbm_script.specs.Images.{Verdict}
 use Rattle.dbm_script.specs.Script.{RunsLines, stage}
 use Rattle.dbm_script.proofs.script.run_lines.Given as goal
 
--- some lines are done, and the others are left
+-- some lines are done, and the rest are left
 abbrev pub invariant-loop-rest : goal.invariant-loop-rest
 invariant-loop-rest g l = record {
   done : List (List ℕ);

@@ -6,7 +6,7 @@ use Rattle.dbm_script.specs.Shorthand.{spelled, spelled_line}
 use Rattle.dbm_script.specs.declared.shorthand.Lines.TheVariants.{OfScript}
 use Rattle.dbm_script.proofs.script.run_spelled.Given as goal
 
--- some lines are done, and the others are left
+-- some lines are done, and the rest are left
 abbrev pub invariant-loop-rest : goal.invariant-loop-rest
 invariant-loop-rest g l = record {
   done : List (List ℕ);

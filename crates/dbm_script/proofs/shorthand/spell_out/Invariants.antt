@@ -4,7 +4,7 @@ use Rattle.dbm_script.specs.Pieces.{pieces_left}
 use Rattle.dbm_script.specs.Shorthand.{spelled, spelled_line}
 use Rattle.dbm_script.proofs.shorthand.spell_out.Given as goal
 
--- the first lines are spelled out, and the others are left
+-- the first lines are expanded, and the rest are left
 abbrev pub invariant-loop-rest : goal.invariant-loop-rest
 invariant-loop-rest g l = l.text.items ++ join_with_byte 10 (map (spelled_line l.lines l.time) (pieces_left 10 l.rest)) ≡ spelled l.lines l.time l.input
 

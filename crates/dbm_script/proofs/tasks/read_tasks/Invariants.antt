@@ -3,7 +3,7 @@ use Rattle.dbm_script.specs.Pieces.{pieces_of, pieces_left}
 use Rattle.dbm_script.specs.Tasks.{AskTasks}
 use Rattle.dbm_script.proofs.tasks.read_tasks.Given as goal
 
--- some lines are good, and the others are left
+-- some lines are valid tasks or empty, and the rest are left
 abbrev pub invariant-loop-rest : goal.invariant-loop-rest
 invariant-loop-rest g l = record {
   done : List (List ℕ);

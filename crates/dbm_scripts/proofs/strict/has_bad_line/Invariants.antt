@@ -4,7 +4,7 @@ use Rattle.dbm_script.specs.Pieces.{pieces_left, pieces_of}
 use Rattle.dbm_scripts.specs.Playing.{is_bad_line}
 use Rattle.dbm_scripts.proofs.strict.has_bad_line.Given as goal
 
--- what is left decides
+-- the remaining lines decide
 abbrev pub invariant-loop-rest : goal.invariant-loop-rest
 invariant-loop-rest l = record {
   left : list_any (is_bad_line l.notation) (pieces_left 10 l.rest) ≡ list_any (is_bad_line l.notation) (pieces_of 10 l.script);

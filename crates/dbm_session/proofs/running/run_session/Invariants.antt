@@ -4,7 +4,7 @@ use Rattle.dbm_lines.specs.Lines.{lines_left}
 use Rattle.dbm_session.proofs.Turns.{AllProgress}
 use Rattle.dbm_session.proofs.running.run_session.Given as goal
 
--- some lines are answered, where the bytes are known
+-- some lines are answered, if the bytes are known
 abbrev pub invariant-loop-count : goal.invariant-loop-count
 invariant-loop-count g l = record {
   known : AllProgress l.fn.notation l.fn.image (g.R.Read.remaining l.fn.reader) l.count (lines_left l.lines (g.R.Read.remaining l.reader)) (g.W.Write.contents l.fn.writer) (g.W.Write.contents l.writer)

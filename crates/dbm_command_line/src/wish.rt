@@ -107,8 +107,7 @@ impl<'a> Wish<'a> {
     }
 
     /// Returns `true` if the files of its database are written after it: by `store`, `delete`, `rename`, `run`, `batch`, `widen`, `load`,
-    /// and `script`
-    /// with a base. A `store`, `delete`, `rename` or `run` that changed nothing writes them too.
+    /// and `script` with a base. A `store`, `delete`, `rename` or `run` that changed nothing writes them too.
     pub fn writes(&self) -> bool
         ensures { result ≡ writes_files self.now }
     {

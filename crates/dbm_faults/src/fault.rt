@@ -25,7 +25,7 @@ pub enum ServeFault {
     FileTooLong,
     /// A file could not be written.
     WriteFile,
-    /// The redo file has its commit byte set, but is not of these files or not written by a save.
+    /// The commit byte of the redo file is 1, but the file does not fit these files or was not written by a save.
     BadRedo,
     /// Another user could have planted the redo file or the lock.
     Unsafe,

@@ -1,6 +1,5 @@
 //! Commands that need only the page of their key, so that the rest of the files stays unread: the requests, their results, and the plan
-//! that
-//! saves them.
+//! that saves them.
 #![tactic(auto)]
 
 mod asked;

@@ -83,8 +83,7 @@ pub fn show_own(
 }
 
 /// The line of a script that submits the program in `file`. Returns `None` if the text is not a program; a line appended to `text` then
-/// names
-/// the fault. A text without instructions is an empty program, which the verifier refuses.
+/// names the fault. A text without instructions is an empty program, which the verifier refuses.
 ///
 /// # Errors
 /// `AllocError` if allocation fails.

@@ -21,10 +21,8 @@ use std::time::Clock;
 /// # Errors
 /// `Report` with `BadLayout` if the layout of values is invalid, with `BadNumber` if `--save-every` is, and with `Open` if the files do not
 /// open, before a line is read; then `Report` with `Read`, and with `TooLong` if a line has more than 16,777,216 bytes, `Write` if an
-/// answer
-/// was not written, those of a save, and `NoMemory`. The changes since the last save are lost then, and a note says how many lines
-/// requested
-/// them. `CutLine` if the input ends within a line: that line is not run, and the changes before it are saved.
+/// answer was not written, those of a save, and `NoMemory`. The changes since the last save are lost then, and a note says how many lines
+/// requested them. `CutLine` if the input ends within a line: that line is not run, and the changes before it are saved.
 pub fn serve_session<R: Runtime<File = File> + Clock + AllocGlobal, I: Read>(
     rt: &R,
     session: Session<'_>,

@@ -29,8 +29,7 @@ pub struct Options<'a> {
 
 /// The files of a session's database, the clock, and the terminal for typing its lines, if there is one. Its saves share a log, which is
 /// open from the first one on. It remembers the identity of its files, since a save may only go into these. Clauses see its saves and the
-/// times
-/// that it returned through a separate log.
+/// times that it returned through a separate log.
 #[derive(Drop)]
 pub struct Shell<'a, R: Runtime<File = File>> {
     rt: &'a R,

@@ -7,8 +7,7 @@ use std::io::{self, ErrorKind, Read};
 use std::rt::Files;
 
 /// Returns the first file of a run that cannot be read, if any. The order is: the lock of the files, the redo file, the directory and the
-/// pages
-/// of its database, if it has one, and the program's file. The files of a database may be missing.
+/// pages of its database, if it has one, and the program's file. The files of a database may be missing.
 pub fn find_unread<'a, R: Files<File = File>>(
     rt: &R,
     names: Option<&'a Names>,
@@ -76,8 +75,7 @@ fn is_link<R: Files<File = File>>(rt: &R, name: &str) -> bool {
 }
 
 /// Why the files of a database cannot be written, if this can be seen: their folder is invalid, or an existing file is refused. The order
-/// is:
-/// the locks, the redo file, the directory and the pages. A read-only lock is enough.
+/// is: the locks, the redo file, the directory and the pages. A read-only lock is enough.
 pub fn find_unwritten<'a, R: Files<File = File>>(rt: &R, names: &'a Names) -> Option<Finding<'a>> {
     let name = folder_of(names.lock.as_str());
     if let Some(matter) = lost(rt, name) {

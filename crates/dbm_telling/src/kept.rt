@@ -73,7 +73,7 @@ impl<R: Read> Kept<R> {
         more
     }
 
-    // Returns bytes that were read ahead, and their number.
+    // Copies bytes that were read ahead to `buf`, and returns their number.
     fn give(&mut self, buf: &mut [u8]) -> usize
         requires some { self.old.given < length self.old.ahead.items }
         ensures count { result ≤ length buf.old }

@@ -13,10 +13,8 @@ use std::time::{Clock, Duration};
 const SILENT_WAIT: u64 = 500;
 
 /// Does the same as `take_files`. If the run is verbose, or standard error is a terminal, it reports who holds the lock after a wait of
-/// half
-/// a second; otherwise it reports that at the end of a longer wait that failed. At a terminal it also reports that a command is slow on
-/// large
-/// files.
+/// half a second; otherwise it reports that at the end of a longer wait that failed. At a terminal it also reports that a command is slow
+/// on large files.
 ///
 /// # Errors
 /// Those of `take_files`.

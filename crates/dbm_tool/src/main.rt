@@ -204,9 +204,8 @@ fn note_line_end<R: Runtime, I: Read>(rt: &R, lines: Lines, input: &Kept<I>) {
     }
 }
 
-// Serves a request after these checks: its base is a name, the timeout is valid, and required files exist.
-// A run that writes holds its lock until its change is saved. It is refused first if standard output cannot be written, since its answer
-// would be lost after the change.
+// Serves a request after these checks: its base is a name, the timeout is valid, and required files exist. A run that writes holds its lock
+// until its change is saved. It is refused first if standard output cannot be written, since its answer would be lost after the change.
 fn serve_request<R: Runtime<File = File> + AllocGlobal + Threads + Wait + Sync, I: Read>(
     rt: &R,
     request: Request<'_>,

@@ -13,21 +13,19 @@ use std::io::{Read, Write};
 use std::sync::Wait;
 use std::thread::Threads;
 
-/// Serves a request: reads its words, opens the database, reads standard input for a script, a batch or a load, executes the request,
-/// and writes the lines that it prints. The status is 1 if nothing was found or changed, and `FAULT` if there
-/// is a fault. The outcome has a database exactly for a request that writes (`Wish::writes`), and never with a fault.
+/// Serves a request: reads its words, opens the database, reads standard input for a script, a batch or a load, executes the request, and
+/// writes the lines that it prints. The status is 1 if nothing was found or changed, and `FAULT` if there is a fault. The outcome has a
+/// database exactly for a request that writes (`Wish::writes`), and never with a fault.
 ///
 /// # Errors
-/// The first that is met, in this order; those that a `ReportFault` names are within `Report`. `BadLayout` if the
-/// layout is unknown; `BadHex`, or as text `BadText`, if a word is not valid bytes;
-/// `BadNumber` if one is not a number; `Open` if the files do not open; `NotText` and `Assemble` if a program's file is not the text
-/// of one, `Decode` if it is not an image, and for a batch `Submit` if its program is refused; for a script or a batch, `Read`
-/// if it could not be read and `TooLong` above 16,777,216 bytes; for a dump, `BadFormat` before the files and the other faults of `Dump`
-/// with
-/// the first invalid line; for a batch, `Pool` if not all tasks were done, and `Close` if the store does not close; `Write` if lines could
-/// not be written; `FileTooLong` if `.pag` would exceed `PAG_LIMIT`, after the lines were written. `NoMemory` may occur at any step before
-/// the lines, and is within no other fault except that of a task. Nothing is written if a fault occurs before the lines, and their first
-/// bytes if it is `Write`.
+/// The first that is met, in this order; those that a `ReportFault` names are within `Report`. `BadLayout` if the layout is unknown;
+/// `BadHex`, or as text `BadText`, if a word is not valid bytes; `BadNumber` if one is not a number; `Open` if the files do not open;
+/// `NotText` and `Assemble` if a program's file is not the text of one, `Decode` if it is not an image, and for a batch `Submit` if its
+/// program is refused; for a script or a batch, `Read` if it could not be read and `TooLong` above 16,777,216 bytes; for a dump,
+/// `BadFormat` before the files and the other faults of `Dump` with the first invalid line; for a batch, `Pool` if not all tasks were done,
+/// and `Close` if the store does not close; `Write` if lines could not be written; `FileTooLong` if `.pag` would exceed `PAG_LIMIT`, after
+/// the lines were written. `NoMemory` may occur at any step before the lines, and is within no other fault except that of a task. Nothing
+/// is written if a fault occurs before the lines, and their first bytes if it is `Write`.
 pub fn serve<T: Threads + Wait + Sync, R: Read, W: Write>(
     rt: &T,
     alloc: Global,

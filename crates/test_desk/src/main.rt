@@ -23,10 +23,9 @@
 //! | `write` | the bytes of both files |
 //! | `# TEXT` | the line itself |
 //!
-//! An event is a line from `ask` to `abandon` except `done`; instead of a hand it has a ticket, and `ask` has
-//! none. A line after the word `lean` is for a desk in a heap, and its call is made with 16 bytes more
-//! each time until there is enough. `with more memory` says that there was not enough
-//! at first, and that each refused call was returned and left the desk unchanged.
+//! An event is a line from `ask` to `abandon` except `done`; instead of a hand it has a ticket, and `ask` has none. A line after the word
+//! `lean` is for a desk in a heap, and its call is made with 16 bytes more each time until there is enough. `with more memory` says that
+//! there was not enough at first, and that each refused call was returned and left the desk unchanged.
 #![tactic(auto)]
 
 mod bench;

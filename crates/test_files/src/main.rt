@@ -17,10 +17,9 @@
 //! | `full`, `free` | takes all memory, or gives it back |
 //! | `# TEXT` | the line itself |
 //!
-//! Bytes and files are as in `test_lines`. A line after the word `lean` is for a bench in a heap. There `widen` is called with
-//! 16 bytes more each time until there is enough. A `whole` database is written, read again and written
-//! a second time: `again` says that it stayed the same. Except for that word, the answers there are those of an independent
-//! implementation.
+//! Bytes and files are as in `test_lines`. A line after the word `lean` is for a bench in a heap. There `widen` is called with 16 bytes
+//! more each time until there is enough. A `whole` database is written, read again and written a second time: `again` says that it stayed
+//! the same. Except for that word, the answers there are those of an independent implementation.
 #![tactic(auto)]
 
 mod bench;

@@ -32,8 +32,7 @@ fn fill<'a>(
     Ok(blocks)
 }
 
-// A failed allocation changes nothing, and the same image gets its number from the same registry
-// once there is memory.
+// A failed allocation changes nothing, and the same image gets its number from the same registry once there is memory.
 #[test]
 fn each_growth_refused(rt: HostRuntime) -> Result<(), Fail> {
     let image = image_of(rt.alloc(), "mov r0, 0\nexit")?;

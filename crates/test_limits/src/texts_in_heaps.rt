@@ -29,8 +29,7 @@ fn same_image<A: Allocator, B: Allocator>(
     Ok(encode(alloc, one)?.as_slice() == encode(alloc, other)?.as_slice())
 }
 
-// The least number of blocks of 16 bytes for assembling a text. Smaller heaps have to refuse
-// it, and to be empty again afterwards.
+// The least number of blocks of 16 bytes for assembling a text. Smaller heaps have to refuse it, and to be empty again afterwards.
 fn blocks_for_text(rt: &(impl Abort + AllocGlobal), text: &str) -> Result<usize, Fail> {
     let want = assemble(rt.alloc(), text)?;
     for blocks in 8..2000 {

@@ -6,8 +6,7 @@ use std::alloc::{AllocError, Global};
 const HEAD: usize = 8;
 
 /// A value: its first eight bytes as a number, lowest byte first, and the byte that all further ones are equal to. If it has fewer bytes,
-/// the
-/// number's other bytes are zeros; if it has no further bytes, `byte` is zero.
+/// the number's other bytes are zeros; if it has no further bytes, `byte` is zero.
 #[derive(Clone, Copy, Debug, PartialEq, Eq)]
 pub struct Value {
     pub head: u64,

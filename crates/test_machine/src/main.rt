@@ -24,22 +24,18 @@
 //! | `helper NUMBER` | the knowledge of the number that a helper returns, or `never` if there is no such helper |
 //! | `# WORDS` | the line itself |
 //!
-//! Bytes are in hex, `.` is the empty string, and `+N` after bytes means N more zeros. The printed
-//! record is the one that the run left, with its last zeros written so. `KEY` is `there`, or `absent`, in which case
-//! the record of an example is zeros. `VALUE` is the value of the key once the code has been obeyed: bytes,
-//! or `none`; such a program is verified before it runs. A range is `LO..HI`, knowledge is
-//! `LO..HI,VALUE,UNKNOWN`, and an edge is `taken` or `untaken`. Operations and tests have the names of the
-//! assembler.
+//! Bytes are in hex, `.` is the empty string, and `+N` after bytes means N more zeros. The printed record is the one that the run left,
+//! with its last zeros written so. `KEY` is `there`, or `absent`, in which case the record of an example is zeros. `VALUE` is the value of
+//! the key once the code has been obeyed: bytes, or `none`; such a program is verified before it runs. A range is `LO..HI`, knowledge is
+//! `LO..HI,VALUE,UNKNOWN`, and an edge is `taken` or `untaken`. Operations and tests have the names of the assembler.
 //!
-//! The first 112 images were answered by an independent machine that tests everything, and the 402 after
-//! them by an independent implementation of the meaning of a run of an accepted program. The last 51 texts
-//! were answered by a model in Python. The other texts were worked out by hand from the rules of a step, and so were the examples, whose
-//! steps
-//! a separate interpreter counted. The first 48 lines of `transfer`, 56 of `refine`, 18 of `known` and 4 of `join` have the
-//! answers of an independent implementation of the rules. The rest have those of a second one, which
-//! agrees with it on these; 15 lines, up to the helpers, were worked out by hand. The last 83 lines
-//! of ranges have the answers of a third one, which agrees on all the rest: each is a case that a correct
-//! but less precise answer would miss.
+//! The first 112 images were answered by an independent machine that tests everything, and the 402 after them by an independent
+//! implementation of the meaning of a run of an accepted program. The last 51 texts were answered by a model in Python. The other texts
+//! were worked out by hand from the rules of a step, and so were the examples, whose steps a separate interpreter counted. The first 48
+//! lines of `transfer`, 56 of `refine`, 18 of `known` and 4 of `join` have the answers of an independent implementation of the rules. The
+//! rest have those of a second one, which agrees with it on these; 15 lines, up to the helpers, were worked out by hand. The last 83 lines
+//! of ranges have the answers of a third one, which agrees on all the rest: each is a case that a correct but less precise answer would
+//! miss.
 #![tactic(auto)]
 
 mod both;

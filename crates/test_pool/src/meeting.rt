@@ -10,8 +10,7 @@ use store_shared::Gate;
 const TURNS: u64 = 1_000_000_000;
 
 /// A meeting of sessions at work: the number of sessions that have to meet, whether they pass by instead, the number of jobs that came, how
-/// often
-/// session 1 was done, and the number of waits that timed out.
+/// often session 1 was done, and the number of waits that timed out.
 #[derive(Drop)]
 pub struct Meeting {
     wanted: AtomicU64,

@@ -170,8 +170,7 @@ fn read_long(alloc: Global, words: &str) -> Option<Vec<Command<Global>>> {
 
 impl<'h, R: Threads + Wait + Sync> Bench<'h, R, Global> {
     /// Runs the programs of a case's first line in a group and makes the call of its second line meanwhile. It repeats this until enough
-    /// calls
-    /// were answered well before their group had ended.
+    /// calls were answered well before their group had ended.
     pub fn work_beside<G: Gate>(&mut self, store: &Store<Global, G>, case: Case<'_>) -> Option<()> {
         let (long, short) = case.calls.split_once('\n')?;
         let mut commands = Vec::new(self.global);

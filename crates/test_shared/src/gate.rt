@@ -29,8 +29,7 @@ pub enum Manner {
 }
 
 /// The number of questions whether a gate wants jobs; whether session 0 or the first job began; the numbers of jobs that arrived, of jobs
-/// that
-/// were finished, and of waits that timed out.
+/// that were finished, and of waits that timed out.
 #[derive(Drop)]
 pub struct Watch {
     manner: Manner,
@@ -87,8 +86,7 @@ impl Watch {
     }
 
     // Holds the first job of session 0 until `wanted` jobs arrived, and then for a while. The other sessions wait until it has arrived.
-    // Returns
-    // whether the job was held.
+    // Returns whether the job was held.
     fn keeps(&self, session: u64, wanted: u64) -> bool {
         if session != 0 {
             self.wait_for(&self.began, 1);

@@ -118,8 +118,7 @@ impl<'s, A: Allocator + Copy, G: Gate> Table<'s, A, G> {
     }
 
     // Makes the calls of a group in a heap with more memory each time, until they are made. Until then the reply to the session that
-    // watches
-    // must not change.
+    // watches must not change.
     fn answer_group<R: Wait>(
         &mut self,
         bench: &Bench<'_, R, A>,

@@ -6,8 +6,7 @@ use linked_list_allocator::LocalHeap;
 use std::alloc::Global;
 
 // Runs a script in a heap of `size` bytes, and returns whether it comes to its end. Returns `None` if it has other answers than `told`, if
-// a
-// refused script has another fault or wrote something, or if something stays in the heap.
+// a refused script has another fault or wrote something, or if something stays in the heap.
 fn is_answered(global: Global, size: usize, script: &[u8], told: &[u8]) -> Option<bool> {
     let heap = LocalHeap::new(global, size).ok()?;
     let mut writer = Collected::new(global, 4096, None);

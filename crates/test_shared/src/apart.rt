@@ -98,7 +98,6 @@ fn note(
     }
 }
 
-// Makes all calls of a session.
 fn make_all<R: Wait, G: Gate>(rt: &R, caller: &mut Caller<'_, G>) {
     for command in caller.commands.iter() {
         match make(rt, &mut caller.session, command) {

@@ -30,7 +30,7 @@ impl<'h, R: Threads + Wait + Sync> Bench<'h, R, Global> {
     }
 }
 
-/// The benches: one for sessions in turn, one for sessions in turn in a heap, and one for parallel sessions.
+/// Two benches: one with its stores in a heap, for sessions that make their calls in turn, and one for parallel sessions.
 #[derive(Drop)]
 pub struct Benches<'h, R> {
     heap: &'h LocalHeap,

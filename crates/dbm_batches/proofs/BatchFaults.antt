@@ -130,7 +130,7 @@ submitted_fault form given workers is_image image Write number opens is h = h
 submitted_fault form given workers is_image image Saved number opens is h = h
 submitted_fault form given workers is_image image NoMemory number opens is h = h
 
--- a batch that may not begin
+-- a batch that is not ready
 pub unready_fault : (n : Notation Global) (form : Form) (given : Given) (workers : Bor (List ℕ)) (is_image : Bool) (time : Option TimeOfDay) (input : Option (List ℕ)) (fault : ServeFault)
     → HasCause (ready_causes form given workers is_image) fault → HasCause (batch_causes n form given workers is_image time input) fault
 unready_fault n form given workers is_image time input NotText h = h
@@ -202,7 +202,7 @@ doing_fault n time batch input words tasks fault are is h = go fault (subst (λ 
     go Saved h = absurd h
     go NoMemory h = tt
 
--- standard input is read once a batch may begin
+-- standard input is read once a batch is ready
 pub unread_fault : (n : Notation Global) (form : Form) (given : Given) (workers : Bor (List ℕ)) (is_image : Bool) (time : Option TimeOfDay) (input : Option (List ℕ)) (batch : Batch) (fault : ReportFault)
     → IsReady form given workers is_image batch → IsCaused (input_causes input) fault → HasCause (batch_causes n form given workers is_image time input) (report_fault fault)
 unread_fault n form given workers is_image time input batch reports.BadHex ready h = absurd h
@@ -223,7 +223,7 @@ pub known_tasks : (n : Notation Global) (time : Option TimeOfDay) (batch : Batch
     → IfSome known (λ input. read ≡ input) → OnTasks n time batch (Some read) P → OnTasks n time batch known P
 known_tasks n time batch known read P is on = (on.0, (known_read known read (λ bytes. AreShortTasks n time bytes on.0) is on.1.0, on.1.1))
 
--- the lines and the tasks, once a batch may begin
+-- the lines and the tasks, once a batch is ready
 pub ran_fault : (n : Notation Global) (form : Form) (given : Given) (workers : Bor (List ℕ)) (is_image : Bool) (time : Option TimeOfDay) (known : Option (List ℕ)) (read : List ℕ) (batch : Batch) (fault : ServeFault)
     → IfSome known (λ input. read ≡ input) → IsReady form given workers is_image batch → HasCause (task_causes n time batch (Some read)) fault
     → HasCause (batch_causes n form given workers is_image time known) fault

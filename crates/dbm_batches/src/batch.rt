@@ -263,7 +263,6 @@ fn show_replies(
     Ok(text)
 }
 
-// The line of a reply.
 fn show_line(
     alloc: Global,
     notation: &Notation<Global>,

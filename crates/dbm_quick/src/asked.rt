@@ -33,7 +33,7 @@ pub enum Asked {
 }
 
 impl Asked {
-    /// The key.
+    /// The key of the request.
     pub fn key(&self) -> &[u8]
         ensures { result.now ≡ key_in self.now }
     {

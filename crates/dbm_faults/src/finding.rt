@@ -37,7 +37,7 @@ fn reason_text(kind: ErrorKind) -> Option<&'static str> {
 pub enum Matter {
     /// It is missing.
     Absent,
-    /// It is a link that leads nowhere.
+    /// It is a dangling link.
     DeadLink,
     /// It cannot be read.
     Unread(Reason),

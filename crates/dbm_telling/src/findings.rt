@@ -58,7 +58,7 @@ fn unread<R: Files<File = File>>(rt: &R, name: &str, may_be_absent: bool) -> Opt
     Some(Matter::Absent)
 }
 
-// Why a file cannot be opened, or its first byte not be read.
+// Why a file cannot be opened, or its first byte cannot be read. Returns `None` if both work.
 fn read_error<R: Files<File = File>>(rt: &R, name: &str) -> Option<io::Error> {
     let mut first = [0; 1];
     match fs::open(rt, name) {

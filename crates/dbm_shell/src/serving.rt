@@ -49,7 +49,7 @@ pub fn serve_session<R: Runtime<File = File> + Clock + AllocGlobal, I: Read>(
     answer_lines(rt, &notation, image, reader, &mut shell)
 }
 
-// The database of the files. Their bytes are dropped.
+// Opens the database of the files, and drops their bytes.
 fn opened(
     alloc: Global,
     session: Session<'_>,
@@ -63,7 +63,7 @@ fn opened(
     Ok(open(alloc, &given, session.form)?)
 }
 
-// Answers the lines. After a fault it reports how many of them are lost.
+// Answers the lines. After a fault it reports the number of lines whose changes are lost.
 fn answer_lines<R: Runtime<File = File> + Clock + AllocGlobal, I: Read>(
     rt: &R,
     notation: &Notation<Global>,
@@ -89,7 +89,7 @@ fn answer_lines<R: Runtime<File = File> + Clock + AllocGlobal, I: Read>(
     }
 }
 
-// The fault of the program.
+// The fault of a session as a fault of the program.
 fn serve_fault(fault: SessionFault<FilesFault>) -> ServeFault {
     match fault {
         SessionFault::Read => ServeFault::Report(ReportFault::Read),

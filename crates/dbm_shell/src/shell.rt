@@ -107,8 +107,8 @@ impl<'a, R: Runtime<File = File> + Clock + AllocGlobal> Shell<'a, R> {
         Ok(self.log.with_save(image))
     }
 
-    /// Ends the saves of the session: both data files are whole then. If a file cannot be written, it reports that the next run that writes does
-    /// the rest.
+    /// Ends the saves of the session: both data files are whole then. If a file cannot be written, it reports that the next run that writes
+    /// finishes the save.
     pub fn end_saves(&mut self) {
         if close_session(self.rt, self.held, &mut self.saves).is_err() {
             note_waiting_save(self.rt, self.place.base);

@@ -35,7 +35,7 @@ pub fn read_time<C: Clock>(clock: &C) -> Result<TimeOfDay, ServeFault> {
     }
 }
 
-// The time since the beginning of 1970 in UTC.
+// The time since the beginning of 1970 in UTC. `ReadClock` if the system does not report it.
 fn since_beginning<C: Clock>(clock: &C) -> Result<Duration, ServeFault> {
     let Ok(now) = SystemTime::now(clock) else {
         return Err(ServeFault::ReadClock);

@@ -71,7 +71,6 @@ pub fn read_command<A: Allocator + Copy>(alloc: A, words: &str) -> Option<Comman
     }
 }
 
-// Writes the image of a program.
 fn show_program<A: Allocator>(
     global: Global,
     out: &mut String,

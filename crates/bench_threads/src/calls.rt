@@ -115,7 +115,6 @@ fn make_groups<R: Wait>(rt: &R, alloc: Global, caller: &mut Caller<'_>, count: u
     }
 }
 
-// Makes the calls of a group.
 fn make_group<R: Wait>(rt: &R, alloc: Global, caller: &mut Caller<'_>) -> Option<()> {
     let mut calls = Vec::with_capacity(alloc, GROUP).ok()?;
     for _ in 0..GROUP {

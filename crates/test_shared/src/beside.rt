@@ -149,7 +149,7 @@ fn run_parties<R: Threads + Wait + Sync, G: Gate>(
     thread::for_each_mut(rt, parties, 2, &share);
 }
 
-// Reads the commands of a line `CALLS COUNT UNIT COMMAND`: `CALLS` times the command, with each `~` replaced by `COUNT` times the unit.
+// Reads the commands of a line `CALLS COUNT UNIT COMMAND`: `CALLS` times the command, with its `~` replaced by `COUNT` times the unit.
 fn read_long(alloc: Global, words: &str) -> Option<Vec<Command<Global>>> {
     let (calls, rest) = words.split_once(' ')?;
     let (count, rest) = rest.split_once(' ')?;

@@ -24,7 +24,7 @@
 //! | `COUNT grouped ..` | the same for each of these, 16 calls at once |
 //!
 //! In `beside` there are two lines, and no gate. The first line is `CALLS COUNT UNIT COMMAND`: a group of CALLS calls of one command, a
-//! run of a program with each `~` in its image replaced by COUNT times this unit. The second line is a short command. The answer is whether
+//! run of a program with the `~` in its image replaced by COUNT times this unit. The second line is a short command. The answer is whether
 //! that is answered while the programs run.
 //!
 //! `end` ends the sessions in order, and reports the number of each that made calls, and the number of its calls. Their calls are appended

@@ -119,7 +119,7 @@ fn steps_both(
     Ok(None)
 }
 
-// Plays a list and its steps, and returns the first difference, or both databases.
+// Plays a list and its steps, and compares the pairs and entries after them. Returns the first difference, if there is one.
 fn difference(
     alloc: Global,
     programs: &[Program<Global>],

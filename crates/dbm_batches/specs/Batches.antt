@@ -144,7 +144,7 @@ AreLeft batch tasks calls =
     ((replies : List (Reply Global)) × AreDone batch.database.size batch.registry.programs tasks batch.workers replies calls)
     ⊎ ((fault : PoolFault) × IsPoolFault batch.database.size batch.registry.programs tasks batch.workers fault calls)
 
--- the calls of the workers, and whether they match the store's trail
+-- not all tasks are done, or the workers' calls do not match the store's trail
 abbrev pub doing_causes : Batch → List (Task Global) → WishCauses
 doing_causes batch tasks = record no_wish_causes {
   pool = IsUndone batch tasks;

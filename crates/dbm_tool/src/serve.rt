@@ -22,10 +22,11 @@ use std::thread::Threads;
 /// `BadHex`, or as text `BadText`, if a word is not valid bytes; `BadNumber` if one is not a number; `Open` if the files do not open;
 /// `NotText` and `Assemble` if a program's file is not the text of one, `Decode` if it is not an image, and for a batch `Submit` if its
 /// program is refused; for a script or a batch, `Read` if it could not be read and `TooLong` above 16,777,216 bytes; for a dump,
-/// `BadFormat` before the files and the other faults of `Dump` with the first invalid line; for a batch, `Pool` if not all tasks were done,
-/// and `Close` if the store does not close; `Write` if lines could not be written; `FileTooLong` if `.pag` would exceed `PAG_LIMIT`, after
-/// the lines were written. `NoMemory` may occur at any step before the lines, and is within no other fault except that of a task. Nothing
-/// is written if a fault occurs before the lines, and their first bytes if it is `Write`.
+/// `BadFormat` before the files and the other faults of `Dump` with the first invalid line; for a batch, `BadLine` with the first line that
+/// is not a task, `Pool` if not all tasks were done, and `Close` if the store does not close; `Write` if lines could not be written;
+/// `FileTooLong` if `.pag` would exceed `PAG_LIMIT`, after the lines were written. `NoMemory` may occur at any step before the lines, and
+/// is within no other fault except that of a task. Nothing is written if a fault occurs before the lines, and their first bytes if it is
+/// `Write`.
 pub fn serve<T: Threads + Wait + Sync, R: Read, W: Write>(
     rt: &T,
     alloc: Global,

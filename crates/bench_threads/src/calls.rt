@@ -11,7 +11,7 @@ use std::thread::Threads;
 use store_cmd::{Command, Program, SharedCommand};
 use store_shared::{Calls, NoGate, Session, Store};
 
-/// How a session makes its calls.
+/// The way a session makes its calls.
 #[derive(Clone, Copy)]
 pub enum Manner {
     OneByOne,
@@ -26,10 +26,10 @@ pub enum Call {
     Run(Program<Global>),
 }
 
-// How many calls a group has.
+// The number of calls in a group.
 const GROUP: usize = 32;
 
-// The most threads at once.
+// The largest number of threads at once.
 const THREADS: usize = 4;
 
 const VALUE: [u8; 8] = [7, 0, 0, 0, 0, 0, 0, 0];
@@ -60,7 +60,7 @@ fn command_on(alloc: Global, call: &Call, key: &[u8]) -> Result<Command<Global>,
     }
 }
 
-/// The entries after so many steps of a desk.
+/// Makes `count` steps of a desk. Returns the number of entries.
 pub fn by_desk(alloc: Global, image: Image<Global>, call: &Call, count: usize) -> Option<usize> {
     let Ok(mut desk) = Desk::open(alloc, image, count) else {
         return None;
@@ -74,7 +74,7 @@ pub fn by_desk(alloc: Global, image: Image<Global>, call: &Call, count: usize) -
     Some(desk.trail().entries.len())
 }
 
-// Who calls: a session, its key, and its call.
+// A caller: a session, its key, and its call.
 #[derive(Drop)]
 struct Caller<'a> {
     session: Session<'a, Global, NoGate>,
@@ -82,7 +82,7 @@ struct Caller<'a> {
     call: Call,
 }
 
-// A call once more.
+// A copy of a call.
 fn another(call: &Call) -> Option<Call> {
     match call {
         Call::Fetch => Some(Call::Fetch),
@@ -91,7 +91,7 @@ fn another(call: &Call) -> Option<Call> {
     }
 }
 
-// Makes so many calls.
+// Makes `count` calls.
 fn make<R: Wait>(rt: &R, caller: &mut Caller<'_>, count: usize) {
     let key = caller.key;
     for _ in 0..count {
@@ -106,7 +106,7 @@ fn make<R: Wait>(rt: &R, caller: &mut Caller<'_>, count: usize) {
     }
 }
 
-// Makes so many calls in groups, but for those that fill none.
+// Makes `count` calls in groups, rounded down to whole groups.
 fn make_groups<R: Wait>(rt: &R, alloc: Global, caller: &mut Caller<'_>, count: usize) {
     for _ in 0..count / GROUP {
         if make_group(rt, alloc, caller).is_none() {
@@ -115,7 +115,6 @@ fn make_groups<R: Wait>(rt: &R, alloc: Global, caller: &mut Caller<'_>, count: u
     }
 }
 
-// Makes the calls of a group.
 fn make_group<R: Wait>(rt: &R, alloc: Global, caller: &mut Caller<'_>) -> Option<()> {
     let mut calls = Vec::with_capacity(alloc, GROUP).ok()?;
     for _ in 0..GROUP {
@@ -127,7 +126,7 @@ fn make_group<R: Wait>(rt: &R, alloc: Global, caller: &mut Caller<'_>) -> Option
     caller.session.call_all(rt, calls, &mut outcomes).ok()
 }
 
-// The calls that sessions have made, each in a thread of its own and on its key.
+// The calls of sessions. Each session has a separate thread and its key.
 fn all_calls<R: Threads + Wait + Sync>(
     rt: &R,
     alloc: Global,
@@ -159,7 +158,7 @@ fn all_calls<R: Threads + Wait + Sync>(
     Some(handed)
 }
 
-/// The entries after so many calls in all of sessions, one for each of these keys.
+/// Makes `count` calls in total with a session for each of these keys. Returns the number of entries.
 pub fn by_sessions<R: Threads + Wait + Sync>(
     rt: &R,
     alloc: Global,

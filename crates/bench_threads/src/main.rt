@@ -1,22 +1,22 @@
-//! How many calls a second a desk and the sessions of a store answer.
+//! Measures how many calls a second a desk and the sessions of a store answer.
 //!
-//! Each line of standard input is a measurement: who calls, what, and how often in all.
+//! Each line of standard input is a measurement: the caller, the call, and the total number of calls.
 //!
-//! | Line | Who calls |
+//! | Line | Caller |
 //! |---|---|
-//! | `desk CALL COUNT` | nobody else: each call is a `step` of a desk |
+//! | `desk CALL COUNT` | no session: each call is a `step` of a desk |
 //! | `one CALL COUNT` | one session |
-//! | `apart CALL COUNT` | four sessions in four threads, each on a page of its own |
+//! | `apart CALL COUNT` | four sessions in four threads, each on a separate page |
 //! | `together CALL COUNT` | four sessions in four threads on one key |
 //! | `grouped CALL COUNT` | one session, 32 calls at once |
-//! | `crowd CALL COUNT` | four sessions in four threads, each on a page of its own, 32 calls at once |
+//! | `crowd CALL COUNT` | four sessions in four threads, each on a separate page, 32 calls at once |
 //!
 //! A call is `fetch`, `store`, `run`, which adds 1 to a record of 8 bytes, or `long`, which runs a program of 4,000 instructions. The
-//! answer has the number of entries that the trail has in the end. With `time` before it, a line's answer also has the calls a
-//! second and the nanoseconds of a call; so standard input without that word gives the same answers each time.
+//! answer is the number of entries of the trail in the end. With `time` before it, a line's answer also has the calls a second and the
+//! nanoseconds of a call. Standard input without that word gives the same answers each time.
 //!
-//! `turn PAIRS CALLS` opens a store over so many pairs, lets 16 sessions make so many fetches, and closes it. It tells how many pairs and
-//! entries there were, and with `time` before it the microseconds to open and to close.
+//! `turn PAIRS CALLS` opens a store over PAIRS pairs, makes CALLS fetches by 16 sessions, and closes it. It reports the numbers of pairs
+//! and entries, and with `time` before it the microseconds to open and to close.
 #![tactic(auto)]
 
 mod calls;

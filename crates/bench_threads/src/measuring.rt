@@ -1,4 +1,4 @@
-//! Measurements, and what is said of them.
+//! Measurements and their reports.
 
 use crate::calls::{Call, Manner, by_desk, by_sessions};
 use crate::programs::{KEYS, counter, four_pages, long};
@@ -10,7 +10,7 @@ use std::sync::Wait;
 use std::thread::Threads;
 use std::time::Instant;
 
-/// Who calls.
+/// The caller.
 #[derive(Clone, Copy)]
 enum Callers {
     Desk,
@@ -21,7 +21,7 @@ enum Callers {
     Crowd,
 }
 
-/// What is asked to be measured.
+/// A requested measurement.
 #[derive(Drop)]
 struct Measurement {
     callers: Callers,
@@ -51,7 +51,7 @@ fn read_call(alloc: Global, word: &str) -> Option<Call> {
     }
 }
 
-// The measurement that a line asks for.
+// Reads the measurement of a line.
 fn read_measurement(alloc: Global, line: &str) -> Option<Measurement> {
     let (callers, rest) = line.split_once(' ')?;
     let (call, count) = rest.split_once(' ')?;
@@ -65,7 +65,7 @@ fn read_measurement(alloc: Global, line: &str) -> Option<Measurement> {
     })
 }
 
-// The entries that the calls leave.
+// Makes the calls. Returns the number of entries.
 fn measure<R: Threads + Wait + Sync>(rt: &R, alloc: Global, asked: &Measurement) -> Option<usize> {
     let image = four_pages(alloc)?;
     let call = &asked.call;
@@ -81,7 +81,7 @@ fn measure<R: Threads + Wait + Sync>(rt: &R, alloc: Global, asked: &Measurement)
     by_sessions(rt, alloc, image, keys, call, manner, asked.count)
 }
 
-// The answer to a line that asks for a turn.
+// The answer to a `turn` line.
 fn show_turn<R: Clock + Wait>(
     rt: &R,
     alloc: Global,
@@ -108,7 +108,7 @@ fn show_turn<R: Clock + Wait>(
     )?)
 }
 
-// How many pairs and calls a turn has.
+// Reads the numbers of pairs and calls of a turn.
 fn read_turn(words: &str) -> Option<(usize, usize)> {
     let (count, calls) = words.split_once(' ')?;
     Some((count.parse::<usize>().ok()?, calls.parse::<usize>().ok()?))

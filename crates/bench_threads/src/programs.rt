@@ -1,4 +1,4 @@
-//! The programs that are run, and the database.
+//! The programs and the databases of the measurements.
 
 use bpf_asm::assemble;
 use bpf_verify::verify;
@@ -9,10 +9,10 @@ use std::alloc::{AllocError, Global};
 use std::sync::Arc;
 use store_cmd::{Command, Program, SharedCommand};
 
-/// The keys that are called, each on a page of its own.
+/// The keys of the calls, each on a separate page.
 pub const KEYS: [&[u8]; 4] = [b"a", b"b", b"c", b"d"];
 
-// Keys that lead to the same pages, in the same order. Their values leave no room for one another.
+// Further keys, which lead to the same pages, in the same order. Two of their values do not fit on one page.
 const OTHERS: [&[u8]; 4] = [b"e", b"f", b"g", b"h"];
 
 const COUNTER: &str = "jlt r2, 8, +5
@@ -25,7 +25,7 @@ mov r0, 0
 exit
 ";
 
-// How many instructions the long program has.
+// The number of instructions of the long program.
 const LONG: u32 = 4000;
 
 fn accepted(alloc: Global, text: &str) -> Option<Program<Global>> {
@@ -49,13 +49,13 @@ fn long_text(alloc: Global) -> Result<String, AllocError> {
     Ok(text)
 }
 
-/// Arithmetic in a straight line, after which the record is saved as it was.
+/// Arithmetic in a straight line, after which the record is saved unchanged.
 pub fn long(alloc: Global) -> Option<Program<Global>> {
     let text = long_text(alloc).ok()?;
     accepted(alloc, text.as_str())
 }
 
-// Stores so many zeros for a key.
+// Stores `len` zeros under a key.
 fn insert(alloc: Global, desk: &mut Desk<Global>, key: &[u8], len: usize) -> Option<()> {
     let key = Bytes::from_slice(alloc, key).ok()?;
     let value = Bytes::new(vec![in alloc; 0u8; len].ok()?);
@@ -79,7 +79,7 @@ fn fill(alloc: Global, desk: &mut Desk<Global>, keys: &[&[u8]], len: usize) -> O
     Some(())
 }
 
-/// A database of so many pairs, with keys and values of 8 bytes.
+/// A database of `count` pairs, with keys and values of 8 bytes.
 pub fn many_pairs(alloc: Global, count: usize) -> Option<Image<Global>> {
     let image = Image::empty(alloc, KeyBytes::Signed, PageSize::Small);
     let Ok(mut desk) = Desk::open(alloc, image, count) else {

@@ -8,10 +8,10 @@ use std::sync::Wait;
 use std::time::Instant;
 use store_shared::{Calls, NoGate, Store};
 
-// How many sessions call a store.
+// The number of sessions that call a store.
 const SESSIONS: usize = 16;
 
-/// How many pairs a store was opened with, how many entries it was closed with, and how many microseconds it took to open and to close it.
+/// The number of pairs at the opening of a store, the number of entries when it was closed, and the microseconds to open and to close it.
 #[derive(Clone, Copy)]
 pub struct Turn {
     pub pairs: usize,
@@ -20,7 +20,7 @@ pub struct Turn {
     pub close: u128,
 }
 
-// What sessions leave that fetch a key so many times each.
+// The calls of sessions that each fetch a key several times.
 fn fetches<R: Wait>(
     rt: &R,
     alloc: Global,
@@ -38,7 +38,7 @@ fn fetches<R: Wait>(
     Some(handed)
 }
 
-/// Opens a store over so many pairs, makes so many calls by 16 sessions, and closes it.
+/// Opens a store over `count` pairs, makes `calls` calls by 16 sessions, and closes it.
 pub fn make_turn<R: Clock + Wait>(
     rt: &R,
     alloc: Global,

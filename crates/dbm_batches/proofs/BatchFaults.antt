@@ -1,4 +1,4 @@
--- What a batch comes to, and its faults, from those of its steps.
+-- The result of a batch and its faults, from those of its steps.
 use Rattle.std.proofs.Common.{◌≡◌, inl, inr, ℕ, List, Bool, Option, Some, IfSome, IsSome, subst, sym}
 use Rattle.std.specs.FinMap as fin_map
 use Rattle.std.specs.Prelude.{◌⊎◌, map}
@@ -35,7 +35,7 @@ use Rattle.dbm_batches.specs.Causes.{HasCause, IsReported}
 use Rattle.dbm_reports.specs.Databases.{Opens}
 use Rattle.dbm_reports.specs.Reports.{IsFileImage}
 
--- a history from the pairs with which a store was opened is one from its database
+-- a history from the pairs at the opening of a store is a history from its database
 pub legal_from : (store : Opened) (before after : Database) (entries : List (Entry Global)) → store ≡ opened_by before
     → History store.size store.kind (fin_map.from_entries {R = key_cmp} store.opening) entries (map_of after) → History before.size before.kind (map_of before) entries (map_of after)
 legal_from store before after entries is legal =
@@ -60,7 +60,7 @@ jobs_fault batch tasks calls (jobs.NoThread worker) h = (calls, h)
 jobs_fault batch tasks calls (jobs.Refused task refusal) h = (calls, h)
 jobs_fault batch tasks calls jobs.NoMemory h = tt
 
--- tasks that are not all done, whose store closes or not
+-- tasks that are not all done, whether the store closes or not
 pub undone_fault : (batch : Batch) (tasks : List (Task Global)) (store : Opened) (calls : List (CallsState Global)) (fault : PoolFault) (result : ServeFault)
     → store ≡ opened_by batch.database → IsPoolFault batch.database.size batch.registry.programs tasks batch.workers fault calls
     → (result ≡ pool_fault fault) ⊎ ((reason : CloseFault) × ((result ≡ Close reason) × IsRefusedClose store calls reason)) → HasCause (doing_causes batch tasks) result
@@ -85,7 +85,7 @@ no_report causes reports.TooLong h = absurd h
 no_report causes reports.OutputTooLong h = absurd h
 no_report causes reports.NoMemory h = absurd h
 
--- the files and the program's file, after the number of workers
+-- the database's files and the program's file are read after the number of workers
 pub files_before : (form : Form) (given : Given) (workers : Bor (List ℕ)) (is_image : Bool) (fault : ReportFault)
     → IsSome (workers_of workers.now) → IsCaused (program_causes form given is_image) fault → HasCause (ready_causes form given workers is_image) (report_fault fault)
 files_before form given workers is_image reports.BadHex number h = absurd h
@@ -101,7 +101,7 @@ files_before form given workers is_image reports.TooLong number h = absurd h
 files_before form given workers is_image reports.OutputTooLong number h = absurd h
 files_before form given workers is_image reports.NoMemory number h = tt
 
--- an image whose program gets no number, after the words and the files
+-- an image whose program is refused, after the words and the files
 pub submitted_fault : (form : Form) (given : Given) (workers : Bor (List ℕ)) (is_image : Bool) (image : List ℕ) (fault : ServeFault)
     → IsSome (workers_of workers.now) → Opens form given → IsFileImage is_image given.file.items image → HasCause (submit_causes image) fault → HasCause (ready_causes form given workers is_image) fault
 submitted_fault form given workers is_image image NotText number opens is h = h
@@ -130,7 +130,7 @@ submitted_fault form given workers is_image image Write number opens is h = h
 submitted_fault form given workers is_image image Saved number opens is h = h
 submitted_fault form given workers is_image image NoMemory number opens is h = h
 
--- a batch that may not begin
+-- a batch that is not ready
 pub unready_fault : (n : Notation Global) (form : Form) (given : Given) (workers : Bor (List ℕ)) (is_image : Bool) (time : Option TimeOfDay) (input : Option (List ℕ)) (fault : ServeFault)
     → HasCause (ready_causes form given workers is_image) fault → HasCause (batch_causes n form given workers is_image time input) fault
 unready_fault n form given workers is_image time input NotText h = h
@@ -170,7 +170,7 @@ unready_fault n form given workers is_image time input Write h = h
 unready_fault n form given workers is_image time input Saved h = h
 unready_fault n form given workers is_image time input NoMemory h = h
 
--- tasks that are not all done, after the lines
+-- tasks that are not all done, after the lines were read
 pub doing_fault : (n : Notation Global) (time : Option TimeOfDay) (batch : Batch) (input : List ℕ) (words : List (RunWords Global)) (tasks : List (Task Global)) (fault : ServeFault)
     → AreShortTasks n time input words → tasks ≡ map (task_for batch.program) words → HasCause (doing_causes batch tasks) fault → HasCause (task_causes n time batch (Some input)) fault
 doing_fault n time batch input words tasks fault are is h = go fault (subst (λ (ts : List (Task Global)). HasCause (doing_causes batch ts) fault) is h)
@@ -202,7 +202,7 @@ doing_fault n time batch input words tasks fault are is h = go fault (subst (λ 
     go Saved h = absurd h
     go NoMemory h = tt
 
--- standard input is read once a batch may begin
+-- standard input is read once a batch is ready
 pub unread_fault : (n : Notation Global) (form : Form) (given : Given) (workers : Bor (List ℕ)) (is_image : Bool) (time : Option TimeOfDay) (input : Option (List ℕ)) (batch : Batch) (fault : ReportFault)
     → IsReady form given workers is_image batch → IsCaused (input_causes input) fault → HasCause (batch_causes n form given workers is_image time input) (report_fault fault)
 unread_fault n form given workers is_image time input batch reports.BadHex ready h = absurd h
@@ -218,12 +218,12 @@ unread_fault n form given workers is_image time input batch reports.TooLong read
 unread_fault n form given workers is_image time input batch reports.OutputTooLong ready h = absurd h
 unread_fault n form given workers is_image time input batch reports.NoMemory ready h = tt
 
--- what was read is what is known
+-- if the input is known, it is what was read
 pub known_tasks : (n : Notation Global) (time : Option TimeOfDay) (batch : Batch) (known : Option (List ℕ)) (read : List ℕ) (P : List (Task Global) → Type 0)
     → IfSome known (λ input. read ≡ input) → OnTasks n time batch (Some read) P → OnTasks n time batch known P
 known_tasks n time batch known read P is on = (on.0, (known_read known read (λ bytes. AreShortTasks n time bytes on.0) is on.1.0, on.1.1))
 
--- the lines and the tasks, once a batch may begin
+-- the lines and the tasks, once a batch is ready
 pub ran_fault : (n : Notation Global) (form : Form) (given : Given) (workers : Bor (List ℕ)) (is_image : Bool) (time : Option TimeOfDay) (known : Option (List ℕ)) (read : List ℕ) (batch : Batch) (fault : ServeFault)
     → IfSome known (λ input. read ≡ input) → IsReady form given workers is_image batch → HasCause (task_causes n time batch (Some read)) fault
     → HasCause (batch_causes n form given workers is_image time known) fault

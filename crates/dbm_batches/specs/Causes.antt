@@ -1,4 +1,4 @@
--- Why nothing comes of a wish: the causes of each fault before a line is written.
+-- Why a request fails: the causes of each fault before a line is written.
 use Rattle.std.specs.Prelude.{ℕ, ⊤}
 use Rattle.prog_registry.specs.declared.fault.RegFault.{RegFault}
 use Rattle.store_shared.specs.declared.close.CloseFault.{CloseFault}
@@ -10,20 +10,20 @@ use Rattle.dbm_reports.specs.declared.fault.ReportFault.TheVariants as reports
 use Rattle.dbm_faults.specs.declared.fault.ServeFault.{ServeFault}
 use Rattle.dbm_faults.specs.declared.fault.ServeFault.TheVariants.{NotText, ReadFile, FileTooLong, WriteFile, BadRedo, Unsafe, OtherSize, ReadClock, BadBase, Absent, Exists, NoStock, Locked, Moved, Changed, Report, Dump, Submit, BadLine, CutLine, Pool, Close, Write, Saved, NoMemory}
 
--- the causes for which nothing comes of a wish: those of its words, its files and standard input, those of a dump, and those of a batch
+-- the causes of the faults of a request: those of its words, its files and standard input, those of a dump, and those of a batch
 pub record WishCauses : Type 1 where
   pub report : Causes
   -- a dump is not written or not loaded
   pub dump : DumpFault → Type 0
-  -- the image's program gets no number
+  -- the image's program is refused
   pub submitting : RegFault → Type 0
-  -- a line asks no task
+  -- a line is not a task
   pub bad_line : ℕ → Type 0
   -- not all tasks are done, or the store does not close
   pub pool : PoolFault → Type 0
   pub closing : CloseFault → Type 0
 
--- those of a wish that asks no batch
+-- the causes for a request that is not a batch
 abbrev pub only_report : Causes → WishCauses
 only_report causes = record {
   report = causes;
@@ -37,12 +37,12 @@ only_report causes = record {
 abbrev pub no_wish_causes : WishCauses
 no_wish_causes = only_report no_causes
 
--- A fault of what comes of a wish has its cause. Where no memory is left, the fault has a name of its own.
+-- The fault of a report has its cause. A failed allocation is a separate fault.
 abbrev pub IsReported : Causes → ReportFault → Type 0
 IsReported causes reports.NoMemory = ⊥
 IsReported causes fault = IsCaused causes fault
 
--- A fault comes only for its cause. Memory may be wanted at any time; the other faults are not of these steps.
+-- A fault occurs only for its cause. An allocation may fail at any time; these steps have no other faults.
 abbrev pub HasCause : WishCauses → ServeFault → Type 0
 HasCause causes NotText = ⊥
 HasCause causes ReadFile = ⊥

@@ -1,4 +1,4 @@
-//! The subcommand that runs a program on the records of many keys, by workers side by side.
+//! The subcommand that runs a program on the records of many keys with parallel workers.
 ghost use Rattle.std.specs.Prelude.{◌≡◌, ◌⊎◌, ◌≤◌, ◌++◌, true, length, is_some, IfOk, IfErr, OnOk, Some, map};
 ghost use Rattle.std.specs.List.{flat_map};
 ghost use Rattle.sdbm_addr.specs.Database.{Database};
@@ -32,10 +32,10 @@ use store_cmd::Reply;
 use store_shared::{Calls, CloseFault, NoGate, Store};
 use worker_pool::{Answers, PoolFault, Task, run_jobs};
 
-/// A batch has at most this many workers.
+/// The largest number of workers of a batch.
 const WORKERS_MOST: u64 = 4_294_967_295;
 
-/// What a batch begins with: how many workers it has, the database, and the program, the only one of a registry.
+/// A batch before its tasks: the number of its workers, the database, and the program, the only one of a registry.
 #[derive(Drop)]
 pub struct Batch {
     pub workers: usize,
@@ -44,17 +44,17 @@ pub struct Batch {
     pub program: ProgId,
 }
 
-// What came of tasks that all were done: a reply for each, and the database after them.
+// The result of a batch whose tasks were all done: a reply for each, and the database after them.
 #[derive(Drop)]
 struct Done {
     replies: Vec<Reply<Global>>,
     database: Image<Global>,
 }
 
-/// Serves a batch whose bytes are in a notation: what comes of it is found, and then its lines are written.
+/// Serves a batch whose bytes are in a notation: does its tasks, and then writes its lines.
 ///
 /// # Errors
-/// As `serve` of `dbm_reports` has them, with the faults of `report_batch`.
+/// Those of `serve` of `dbm_reports`, with the faults of `report_batch`.
 pub fn serve_batch<T: Threads + Wait + Sync, R: Read, W: Write>(
     rt: &T,
     alloc: Global,
@@ -74,13 +74,13 @@ pub fn serve_batch<T: Threads + Wait + Sync, R: Read, W: Write>(
     }
 }
 
-/// The replies to the tasks of standard input, each a run of the program of a file on the database of the files, done by so many
-/// workers; the database is to be written after them.
+/// Does the tasks of standard input and returns their replies. Each task is a run of the program of a file on the database of the files.
+/// The database has to be written after them.
 ///
 /// # Errors
-/// The first of: `BadNumber` of the workers, those of the files, those of the program's file, `Submit` where the program gets no
-/// number; `Read` and `TooLong` of standard input, `BadLine` with the first line that asks no task; `Pool` where not all tasks were
-/// done, and `Close` where the workers' calls are not those that the store has; and `NoMemory`.
+/// The first of: `BadNumber` of the workers, those of the files, those of the program's file, `Submit` if the program is refused;
+/// `Read` and `TooLong` of standard input, `BadLine` with the first line that is not a task; `Pool` if not all tasks were
+/// done, and `Close` if the workers' calls differ from those of the store; and `NoMemory`.
 pub fn report_batch<T: Threads + Wait + Sync, R: Read>(
     rt: &T,
     alloc: Global,
@@ -97,7 +97,7 @@ pub fn report_batch<T: Threads + Wait + Sync, R: Read>(
     run_batch(rt, alloc, notation, batch, asked.time, input.as_slice())
 }
 
-// What the batch begins with, before standard input is read.
+// Prepares a batch before standard input is read.
 fn ready_batch(
     alloc: Global,
     given: &Given,
@@ -121,7 +121,7 @@ fn ready_batch(
     })
 }
 
-// A registry with the program of an image alone, and its number.
+// A registry with only the program of an image, and its number.
 fn register(alloc: Global, image: &[u8]) -> Result<(Registry<Global>, ProgId), ServeFault>
     ensures ok { IfOk result (λ r. IsSubmitted image.now r.0.programs r.1) }
     ensures fault { IfErr result (HasCause (submit_causes image.now)) }
@@ -154,7 +154,7 @@ fn run_batch<T: Threads + Wait + Sync>(
     })
 }
 
-// The words of the tasks of a text, whose shorthand is spelled out first.
+// The words of the tasks of a text. Spells out its shorthand first.
 fn words_of_lines(
     alloc: Global,
     notation: &Notation<Global>,
@@ -168,7 +168,7 @@ fn words_of_lines(
     read_tasks(alloc, notation, lines.as_slice())
 }
 
-// The runs of a program that words ask.
+// The runs of a program with these words.
 fn tasks_for(
     alloc: Global,
     program: ProgId,
@@ -183,7 +183,7 @@ fn tasks_for(
     Ok(tasks)
 }
 
-// The run of a program that words ask.
+// The run of a program with these words.
 fn task_for(program: ProgId, words: RunWords<Global>) -> Task<Global>
     ensures { result ≡ task_for program words }
 {
@@ -196,7 +196,7 @@ fn task_for(program: ProgId, words: RunWords<Global>) -> Task<Global>
     }
 }
 
-// Lets the workers of a batch do tasks on a store over its database, which is then closed.
+// Lets the workers of a batch do tasks on a store over its database, then closes the store.
 fn do_tasks<T: Threads + Wait + Sync>(
     rt: &T,
     alloc: Global,
@@ -221,7 +221,8 @@ fn do_tasks<T: Threads + Wait + Sync>(
     }
 }
 
-// Why not all tasks were done; or why the store does not close with the calls of its workers, as it has to after each fault.
+// Why not all tasks were done. If the store does not close with the calls of its workers, which it must after each fault, that fault
+// instead.
 fn undone(store: Store<Global, NoGate>, fault: PoolFault, calls: Vec<Calls<Global>>) -> ServeFault
     ensures { (result ≡ pool_fault fault) ⊎ ((reason : CloseFault) × ((result ≡ Close reason) × IsRefusedClose store calls.items reason)) }
 {
@@ -262,7 +263,6 @@ fn show_replies(
     Ok(text)
 }
 
-// The line of a reply.
 fn show_line(
     alloc: Global,
     notation: &Notation<Global>,

@@ -1,4 +1,4 @@
-//! The subcommand that runs a program on the records of many keys, by workers side by side.
+//! The subcommand that runs a program on the records of many keys with parallel workers.
 #![tactic(auto)]
 
 mod batch;

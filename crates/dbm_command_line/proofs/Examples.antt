@@ -1,4 +1,4 @@
--- What the definitions of the command line make of words that are written out.
+-- Examples: the definitions of the command line on given words.
 use Rattle.std.proofs.Common.{◌≡◌, List, Option, Some, None, Bor, [], ◌∷◌, Bool, true, false, option_map, refl, codes}
 use Rattle.clap.specs.Words.{Row, Text, fault_of, subcommand_of}
 use Rattle.clap.specs.declared.error.kind.ErrorKind.TheVariants.{DisplayHelp, DisplayVersion, MissingRequiredArgument, UnknownArgument}

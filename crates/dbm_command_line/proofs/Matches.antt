@@ -1,4 +1,4 @@
--- What `clap`'s matches of the command line say.
+-- `clap`'s matches of the command line.
 use Rattle.std.proofs.Common.{◌≡◌, ℕ, List, Option, Some, None, Bool, true, false, option_map, refl, sym, subst, arith, Result, Ok, Err, IfErr, IsErrAnd, inl, inr}
 use Rattle.std.specs.Str.{bytes_eq}
 use Rattle.std.proofs.lemmas.Slice.Eq.{bytes_eq-Decides}
@@ -12,7 +12,7 @@ use Rattle.dbm_command_line.specs.Wishes.{IsFaultOf, IsRefusedFor}
 use Rattle.dbm_command_line.specs.declared.fault.ToolFault.{ToolFault}
 use Rattle.dbm_command_line.specs.declared.fault.ToolFault.TheVariants.{Refused, NoMemory, NoWord}
 
--- two texts that are not the same
+-- two different texts
 pub differs : (a b : List ℕ) → (b ≡ a → ⊥) → bytes_eq a b ≡ false
 differs a b h = go (bytes_eq a b) refl
   where
@@ -42,7 +42,7 @@ pub met : (m : ArgMatches) (name : Text) (rows : List Row) → Some name ≡ sub
     → subcommand_rows_of m ≡ Some (name, rows)
 met m name rows n r = joined _ _ (out-ArgMatches m).subcommand name rows n r
 
--- `clap` says of this command line exactly what it makes of the words
+-- the command line is simple, so `clap`'s result is known exactly
 pub tool_is_simple : is_simple tool ≡ true
 unfolding clap_on_literals
 tool_is_simple = refl
@@ -51,7 +51,7 @@ pub tool_is_free : is_simple_and_free tool ≡ true
 unfolding clap_on_literals
 tool_is_free = refl
 
--- an error of `clap` with one of these kinds, or where no memory is left, as the fault that it becomes
+-- an error of `clap` of one of these kinds, or a failed allocation, as the fault that it becomes
 pub refused_for : {T : Type 0} (r : Result T ToolFault) (e : Error) (kinds : Kinds) → HasKind kinds e → IsErrAnd r (IsFaultOf e) → IfErr r (IsRefusedFor kinds)
 refused_for (Ok x) e kinds has is = tt
 refused_for (Err (Refused kept)) e kinds (inl memory) is = absurd (is.1 memory)

@@ -27,7 +27,7 @@ use Rattle.dbm_programs.specs.Verify.{verify}
 abbrev pub titled : Shape
 titled = record (new_shape (codes "dbm")) { has_version = true }
 
--- the program without its subcommands: the words do not begin with its name, and no words at all are answered with help
+-- the program without its subcommands: the words do not begin with its name, and an empty command line prints the help
 abbrev pub bare : Shape
 bare = record titled {
   no_binary_name = true;

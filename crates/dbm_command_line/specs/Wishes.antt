@@ -1,4 +1,4 @@
--- What the words of the command line ask.
+-- The requests that the words of the command line make.
 use Rattle.std.specs.Prelude.{◌≡◌, ◌≢◌, ◌⊎◌, ⊤, Bool, true, false, not, List, Option, Some, None, codes, find, if◌then◌else◌, is_some, option_map}
 use Rattle.std.specs.Option.{option_map_or}
 use Rattle.std.specs.Str.{bytes_eq}
@@ -40,7 +40,7 @@ use Rattle.dbm_command_line.specs.declared.wish.Ask.TheVariants as ask
 use Rattle.dbm_command_line.specs.declared.wish.Wish.{Wish}
 use Rattle.dbm_command_line.specs.declared.wish.Wish.TheVariants as wish
 
--- the database that a wish is about
+-- the database that a request is about
 abbrev pub base_of : Wish → Option Text
 base_of (wish.Fetch fetch) = Some fetch.base.now
 base_of (wish.Store store) = Some store.base.now
@@ -60,7 +60,7 @@ base_of (wish.Asm asm) = None
 base_of (wish.Disasm disasm) = None
 base_of (wish.Verify verify) = None
 
--- the program's file that a wish is about
+-- the program file that a request is about
 abbrev pub file_of : Wish → Option Text
 file_of (wish.Run run) = Some run.file.now
 file_of (wish.Batch batch) = Some batch.file.now
@@ -69,7 +69,7 @@ file_of (wish.Disasm disasm) = Some disasm.file.now
 file_of (wish.Verify verify) = Some verify.file.now
 file_of _ = None
 
--- the program's file is to be an image
+-- the program's file has to be an image
 abbrev pub takes_image : Wish → Bool
 takes_image (wish.Run run) = run.image
 takes_image (wish.Batch batch) = batch.image
@@ -77,7 +77,7 @@ takes_image (wish.Verify verify) = verify.image
 takes_image (wish.Disasm disasm) = true
 takes_image _ = false
 
--- the files of its database are written once it was served, also where nothing has changed
+-- the files of its database are written after it, even if nothing has changed
 abbrev pub writes_files : Wish → Bool
 writes_files (wish.Fetch fetch) = false
 writes_files (wish.Store store) = true
@@ -100,7 +100,7 @@ writes_files (wish.Verify verify) = false
 abbrev no_notation : NotationOptions
 no_notation = record { text = false; layout = None }
 
--- the options by which the bytes of a wish are written; of one whose words and lines have no bytes, none
+-- the options for its notation of bytes; the default if its words and lines have no bytes
 abbrev pub notation_of : Wish → NotationOptions
 notation_of (wish.Fetch fetch) = fetch.notation
 notation_of (wish.Store store) = store.notation
@@ -120,43 +120,43 @@ notation_of (wish.Asm asm) = no_notation
 notation_of (wish.Disasm disasm) = no_notation
 notation_of (wish.Verify verify) = no_notation
 
--- the unit that a word for the time names, where it asks for the clock's
+-- the unit that a word for the time names, if it requests the time of day
 abbrev pub unit_named : Text → Option TimeUnit
 unit_named word = if bytes_eq word (codes "now") then Some Seconds else if bytes_eq word (codes "now-ms") then Some Milliseconds else None
 
--- the unit in which a wish asks for the time of day
+-- the unit of the time of day, if a request needs it
 abbrev pub time_asked : Wish → Option TimeUnit
 time_asked (wish.Run run) = unit_named run.now.now
 time_asked _ = None
 
--- the wish whose run is told the time by this word
+-- the same request, with this word as the time of its run
 abbrev pub with_time : Bor Text → Wish → Wish
 with_time time (wish.Run run) = wish.Run (record run { now = time })
 with_time time other = other
 
--- the lines of standard input may ask the time of day
+-- the lines of standard input may request the time of day
 abbrev pub asks_clock : Wish → Bool
 asks_clock (wish.Script script) = script.clock
 asks_clock (wish.Batch batch) = batch.clock
 asks_clock _ = false
 
--- it wants as many workers as there are cores
+-- it wants one worker per core
 abbrev pub asks_cores : Wish → Bool
 asks_cores (wish.Batch batch) = bytes_eq batch.workers.now each_core
 asks_cores _ = false
 
--- the wish that says how many
+-- the same request, with this number of workers
 abbrev pub with_workers : Bor Text → Wish → Wish
 with_workers workers (wish.Batch batch) = wish.Batch (record batch { workers = workers })
 with_workers workers other = other
 
--- the wish whose lines are told this time
+-- the same request, with this time for its lines
 abbrev pub with_clock : TimeOfDay → Wish → Wish
 with_clock time (wish.Script script) = wish.Script (record script { time = Some time })
 with_clock time (wish.Batch batch) = wish.Batch (record batch { time = Some time })
 with_clock time other = other
 
--- The wish is what the subcommand of this name asks, by the words and options that were given to it.
+-- The request is that of the subcommand of this name with these words and options.
 abbrev pub WishAsks : Text → List Row → Wish → Type 0
 WishAsks name rows (wish.Fetch fetch) = (name ≡ codes "fetch") × FetchAsks rows fetch
 WishAsks name rows (wish.Store store) = (name ≡ codes "store") × StoreAsks rows store
@@ -176,41 +176,41 @@ WishAsks name rows (wish.Asm asm) = (name ≡ codes "asm") × AsmAsks rows asm
 WishAsks name rows (wish.Disasm disasm) = (name ≡ codes "disasm") × DisasmAsks rows disasm
 WishAsks name rows (wish.Verify verify) = (name ≡ codes "verify") × VerifyAsks rows verify
 
--- what the subcommand of this name asks, by the words and options that were given to it
+-- the request of the subcommand of this name, with the words and options that were given to it
 abbrev pub SubcommandAsks : Text → List Row → Ask → Type 0
 SubcommandAsks name rows (ask.Wish wish) = WishAsks name rows wish
 SubcommandAsks name rows (ask.Session session) = (name ≡ codes "session") × SessionAsks rows session
 SubcommandAsks name rows (ask.Backup backup) = (name ≡ codes "backup") × BackupAsks rows backup
 SubcommandAsks name rows (ask.Programs programs) = (name ≡ codes "programs") × ProgramsAsks rows programs
 
--- the matches name a subcommand, and this is what it asks
+-- the matches name a subcommand, and this is its request
 abbrev pub IsAsked : Option (Text × List Row) → Ask → Type 0
 IsAsked None asked = ⊥
 IsAsked (Some matches) asked = SubcommandAsks matches.0 matches.1 asked
 
--- the matches name a subcommand, and these are its options by which a database is come by
+-- the matches name a subcommand, and these are its options for access to a database
 abbrev pub IsAccessGiven : Option (Text × List Row) → Access → Type 0
 IsAccessGiven None access = ⊥
 IsAccessGiven (Some matches) access = IsAccess matches.1 access
 
--- the matches name no subcommand of the program, or lack a word that it has to have
+-- the matches name no subcommand of the program, or a required word is missing
 abbrev pub lacks_word : Option (Text × List Row) → Bool
 lacks_word None = true
 lacks_word (Some matches) = not (option_map_or (λ shape. has_words shape.rules matches.1)
     (find (λ shape. bytes_eq shape.name matches.0) tool.subs) false)
 
--- what becomes of an error of `clap`
+-- the fault that an error of `clap` becomes
 abbrev pub IsFaultOf : Error → ToolFault → Type 0
 IsFaultOf error (Refused kept) = (kept ≡ error) × (kind_of error ≢ OutOfMemory)
 IsFaultOf error NoMemory = kind_of error ≡ OutOfMemory
 IsFaultOf error NoWord = ⊥
 
--- where `clap` refused the words, it did so for one of these reasons
+-- if `clap` refused the words, it did so for one of these reasons
 abbrev pub IsRefusedFor : Kinds → ToolFault → Type 0
 IsRefusedFor kinds (Refused error) = IsAmong (kind_of error) kinds
 IsRefusedFor kinds _ = ⊤
 
--- the fault is help or the version, which was asked for
+-- the fault is help or the version, which was requested
 abbrev pub IsAnswer : ToolFault → Type 0
 IsAnswer (Refused error) = (kind_of error ≡ DisplayHelp) ⊎ (kind_of error ≡ DisplayVersion)
 IsAnswer _ = ⊥

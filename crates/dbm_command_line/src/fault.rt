@@ -1,4 +1,4 @@
-//! Why the words of a command line ask nothing.
+//! Why a command line is refused.
 ghost use Rattle.std.specs.Prelude.{◌≡◌, ◌↔◌, IsTrue};
 ghost use Rattle.dbm_command_line.specs.Wishes.{IsAnswer, IsFaultOf};
 ghost use Rattle.dbm_command_line.specs.declared.fault.ToolFault.TheVariants.{NoMemory};
@@ -10,22 +10,22 @@ use std::io;
 use std::rt::Runtime;
 use thiserror::Error;
 
-/// Why the words of a command line ask nothing. It prints as the text for the user.
+/// Why a command line is refused. It prints as the text for the user.
 #[derive(Debug, Drop, Error)]
 pub enum ToolFault {
-    /// The words are refused, or ask for help or the version, which is then the text of the error.
+    /// The words are refused, or they request help or the version, which is then the text of the error.
     #[error("{0}")]
     Refused(clap::Error),
-    /// No memory was left.
+    /// Out of memory.
     #[error("NoMemory")]
     NoMemory,
-    /// A word that the subcommand has to have is not there.
+    /// A required word of the subcommand is missing.
     #[error("NoWord")]
     NoWord,
 }
 
 impl ToolFault {
-    /// Whether the words asked for help or the version. That text goes to standard output, with status 0; every other fault
+    /// Returns `true` if the words request help or the version. That text goes to standard output, with status 0; every other fault
     /// goes to standard error, with status 2.
     pub fn is_answer(&self) -> bool
         ensures { IsTrue result ↔ IsAnswer self.now }
@@ -36,8 +36,8 @@ impl ToolFault {
         }
     }
 
-    /// Prints the text for the user: help and the version to standard output, every other to standard error. `clap`'s own text begins
-    /// with `error: `, the name of a fault of this program with `dbm: `. The words that it shows are printed without control characters.
+    /// Prints the text for the user: help and the version to standard output, all else to standard error. `clap`'s own text begins
+    /// with `error: `, the name of a fault of this program with `dbm: `. Control characters of the user's words are not printed.
     ///
     /// # Errors
     /// That of the stream, and `OutOfMemory`.

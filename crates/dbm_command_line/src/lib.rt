@@ -1,4 +1,4 @@
-//! The command line as a whole: which subcommands there are, and what its words ask.
+//! The command line as a whole: the list of subcommands, and the requests that words make.
 #![tactic(auto)]
 
 ghost use Rattle.std.specs.Prelude.{◌≡◌, IfOk, IfErr, IsErrOf, true, false, [], map};
@@ -18,11 +18,11 @@ pub use crate::wish::{Ask, Request, Wish};
 use dbm_words::access;
 use std::alloc::Global;
 
-/// What the words after the program's name ask, and how its database is come by.
+/// Reads the words after the program's name: the request, and how its database is accessed.
 ///
 /// # Errors
-/// `Refused` where they are no words of the command line, or ask for help or the version; the error in it has the text for the
-/// user. `NoWord` only where a word is missing that the subcommand has to have. `NoMemory` where no memory was left.
+/// `Refused` if the words do not fit the command line, or if they request help or the version; its error has the text for the
+/// user. `NoWord` only if a required word of the subcommand is missing. `NoMemory` if allocation fails.
 pub fn read_words<'a>(alloc: Global, words: &'a [&'a str]) -> Result<Request<'a>, ToolFault>
     ensures wish { IfOk result (λ request. IsAsked (subcommand_of tool (map (λ word. word.now) words.now)) request.ask) }
     ensures access { IfOk result (λ request. IsAccessGiven (subcommand_of tool (map (λ word. word.now) words.now)) request.access) }

@@ -1,4 +1,4 @@
-//! From what `clap` matched to what was asked. Each subcommand has its own words beside its struct.
+//! From the matches of `clap` to a request. The words of each subcommand are defined next to its struct.
 ghost use Rattle.std.specs.Prelude.{◌≡◌, ◌≢◌, IfSome, IsNone, Some, codes, true};
 ghost use Rattle.clap.specs.Words.{found_of, rows_of};
 ghost use Rattle.dbm_command_line.specs.Wishes.{SubcommandAsks, WishAsks, lacks_word};
@@ -13,8 +13,8 @@ use dbm_runs::{Batch, Run};
 use dbm_scripts::{Script, Widen};
 use dbm_sessions::Session;
 
-/// What the subcommand of this name asks by its matches. There is none where they lack a word that it has to have, or where no
-/// subcommand has this name.
+/// Reads the matches of the subcommand `name`. Returns `None` if a required word is missing, or if there is no subcommand of this
+/// name.
 pub fn asked<'a>(name: &str, matches: &ArgMatches<'a>) -> Option<Ask<'a>>
     ensures some { IfSome result (SubcommandAsks name.now (rows_of (found_of matches.now))) }
     ensures none { IsNone result → lacks_word (Some (name.now, rows_of (found_of matches.now))) ≡ true }
@@ -27,7 +27,7 @@ pub fn asked<'a>(name: &str, matches: &ArgMatches<'a>) -> Option<Ask<'a>>
     }
 }
 
-// What any other subcommand asks.
+// Reads the matches of any other subcommand.
 fn wished<'a>(name: &str, matches: &ArgMatches<'a>) -> Option<Wish<'a>>
     requires session { name.now ≢ codes "session" }
     requires backup { name.now ≢ codes "backup" }

@@ -1,4 +1,4 @@
-//! The program as `clap` is told it, with all its subcommands.
+//! The program's definition for `clap`, with all its subcommands.
 ghost use Rattle.std.specs.Prelude.{IfOk};
 ghost use Rattle.clap.specs.Words.{App, Shape};
 ghost use Rattle.clap.specs.Words as rules;
@@ -16,7 +16,7 @@ use dbm_scripts::{script_command, widen_command};
 use dbm_sessions::session_command;
 use std::alloc::{AllocError, Global};
 
-/// The program with all its subcommands. The error comes where no memory was left.
+/// The program with all its subcommands. Fails only if allocation fails.
 pub fn tool_command<'a>(alloc: Global) -> Result<Command<'a>, AllocError>
     ensures { IfOk result (IsCommand tool) }
 {
@@ -43,7 +43,7 @@ pub fn tool_command<'a>(alloc: Global) -> Result<Command<'a>, AllocError>
     with_subcommand(command, batch_command(alloc))
 }
 
-// A command with one more subcommand, where memory was left for both.
+// Adds a subcommand to a command. Fails if either one failed.
 fn with_subcommand<'a>(
     command: Result<Command<'a>, AllocError>,
     more: Result<Command<'a>, AllocError>,

@@ -1,4 +1,4 @@
-//! What a command line can ask.
+//! The requests of a command line.
 ghost use Rattle.std.specs.Prelude.{◌≡◌, option_map};
 ghost use Rattle.dbm_command_line.specs.Wishes.{asks_clock, asks_cores, base_of, file_of, notation_of, takes_image, time_asked, with_clock, with_time, with_workers, writes_files};
 
@@ -12,7 +12,7 @@ use dbm_scripts::{Script, Widen};
 use dbm_sessions::Session;
 use dbm_words::{Access, NotationOptions, TimeUnit, Words};
 
-/// What a command line asks: one subcommand with its words and options, as they were given. No word is read as bytes or as a
+/// A request: one subcommand with its words and options, as they were given. No word is read as bytes or as a
 /// number yet. A `base` names the files of a database, `BASE.dir` and `BASE.pag`.
 #[derive(Clone, Copy)]
 pub enum Wish<'a> {
@@ -35,7 +35,7 @@ pub enum Wish<'a> {
     Verify(Verify<'a>),
 }
 
-/// What a command line asks.
+/// The request of a command line.
 #[derive(Clone, Copy)]
 pub enum Ask<'a> {
     /// One subcommand, which is served once.
@@ -48,7 +48,7 @@ pub enum Ask<'a> {
     Programs(Programs<'a>),
 }
 
-/// What a command line asks, and how its database is come by.
+/// The request of a command line, and how its database is accessed.
 #[derive(Clone, Copy)]
 pub struct Request<'a> {
     pub ask: Ask<'a>,
@@ -56,7 +56,7 @@ pub struct Request<'a> {
 }
 
 impl<'a> Wish<'a> {
-    /// The database whose files are to be read, where there is one.
+    /// The database whose files have to be read, if any.
     pub fn base(&self) -> Option<&'a str>
         ensures { option_map (λ text. text.now) result ≡ base_of self.now }
     {
@@ -79,7 +79,7 @@ impl<'a> Wish<'a> {
         }
     }
 
-    /// The program's file that is to be read, where there is one.
+    /// The program file that has to be read, if any.
     pub fn file(&self) -> Option<&'a str>
         ensures { option_map (λ text. text.now) result ≡ file_of self.now }
     {
@@ -93,7 +93,7 @@ impl<'a> Wish<'a> {
         }
     }
 
-    /// Whether the program's file has an image and not a text: for `disasm`, and with `--image`.
+    /// Returns `true` if the program's file is an image and not a text: for `disasm`, and with `--image`.
     pub fn takes_image(&self) -> bool
         ensures { result ≡ takes_image self.now }
     {
@@ -106,8 +106,8 @@ impl<'a> Wish<'a> {
         }
     }
 
-    /// Whether the files of its database are written once it was served: by `store`, `delete`, `rename`, `run`, `batch`, `widen`, `load`, and `script`
-    /// with a base. A `store`, `delete`, `rename` or `run` that changed nothing writes them too.
+    /// Returns `true` if the files of its database are written after it: by `store`, `delete`, `rename`, `run`, `batch`, `widen`, `load`,
+    /// and `script` with a base. A `store`, `delete`, `rename` or `run` that changed nothing writes them too.
     pub fn writes(&self) -> bool
         ensures { result ≡ writes_files self.now }
     {
@@ -132,7 +132,7 @@ impl<'a> Wish<'a> {
         }
     }
 
-    /// The unit in which the time of day is asked: by `run` with `now` or `now-ms` for its time.
+    /// The unit of the time of day, if it is requested: by `run` with `now` or `now-ms` as its time.
     pub fn time_asked(&self) -> Option<TimeUnit>
         ensures { result ≡ time_asked self.now }
     {
@@ -146,7 +146,7 @@ impl<'a> Wish<'a> {
         }
     }
 
-    /// The same wish, but a run is told the time by this word.
+    /// The same request, with this word as the time of a run.
     pub fn with_time(self, time: &'a str) -> Wish<'a>
         ensures { result ≡ with_time time.entry self.entry }
     {
@@ -156,7 +156,7 @@ impl<'a> Wish<'a> {
         }
     }
 
-    /// Whether its lines may ask the time of day: those of a `script` or a `batch` with `--clock`.
+    /// Returns `true` if its lines may request the time of day: those of a `script` or a `batch` with `--clock`.
     pub fn asks_clock(&self) -> bool
         ensures { result ≡ asks_clock self.now }
     {
@@ -167,7 +167,7 @@ impl<'a> Wish<'a> {
         }
     }
 
-    /// The same wish, but the lines of a script or a batch are told this time.
+    /// The same request, with this time for the lines of a script or a batch.
     pub fn with_clock(self, time: TimeOfDay) -> Wish<'a>
         ensures { result ≡ with_clock time self.entry }
     {
@@ -184,7 +184,7 @@ impl<'a> Wish<'a> {
         }
     }
 
-    /// Whether it wants as many workers as there are cores.
+    /// Returns `true` if it wants one worker per core.
     pub fn asks_cores(&self) -> bool
         ensures { result ≡ asks_cores self.now }
     {
@@ -194,7 +194,7 @@ impl<'a> Wish<'a> {
         }
     }
 
-    /// The same wish, but a batch has so many workers as this word says.
+    /// The same request, with this number of workers for a batch.
     pub fn with_workers(self, workers: &'a str) -> Wish<'a>
         ensures { result ≡ with_workers workers.entry self.entry }
     {
@@ -204,7 +204,7 @@ impl<'a> Wish<'a> {
         }
     }
 
-    /// The options by which its bytes are written; of one whose words and lines have no bytes, none.
+    /// The options for its notation of bytes; the default if its words and lines have no bytes.
     pub fn notation(&self) -> NotationOptions<'a>
         ensures { result ≡ notation_of self.now }
     {
@@ -232,7 +232,7 @@ impl<'a> Wish<'a> {
         }
     }
 
-    /// Its words, as sentences show them.
+    /// Its words as messages show them.
     pub fn words(&self) -> Words<'a> {
         match self {
             Wish::Fetch(fetch) => fetch.words(),

@@ -1,4 +1,4 @@
--- Dumps that are written, and dumps that are loaded.
+-- Proofs about writing and loading dumps.
 use Rattle.std.proofs.Common.{◌≡◌, ℕ, List, Option, Some, None, IfSome, subst, sym}
 use Rattle.std.proofs.lemmas.Option.{none-some}
 use Rattle.sdbm_addr.specs.Database.{Database}
@@ -19,7 +19,7 @@ use Rattle.dbm_dumps.specs.Dump.{dump_causes}
 use Rattle.dbm_dumps.specs.Load.{load_causes}
 use Rattle.dbm_dumps.specs.declared.fault.DumpsFault.TheVariants.{Report, Dump}
 
--- a name of no format
+-- an unknown format name gives `BadFormat`
 pub unwritable : (o : Option Format) (form : Form) (given : Given) → o ≡ None → HasDumpCause (dump_causes o form given) (Dump dump.BadFormat)
 unwritable None form given is = tt
 unwritable (Some format) form given is = absurd (none-some format (sym is))
@@ -28,7 +28,7 @@ pub unreadable : (o : Option Stage) (mode : Mode) (form : Form) (given : Given) 
 unreadable None mode form given input is = tt
 unreadable (Some start) mode form given input is = absurd (none-some start (sym is))
 
--- after the format: files that do not open, and no memory left
+-- with a known format, the faults are those of opening the files
 pub shut_dump : (o : Option Format) (format : Format) (form : Form) (given : Given) (fault : ReportFault) → o ≡ Some format → IsCaused (opening_causes form given) fault
     → HasDumpCause (dump_causes o form given) (Report fault)
 shut_dump o format form given fault is h = subst (λ (option : Option Format). HasDumpCause (dump_causes option form given) (Report fault)) (sym is) h
@@ -53,7 +53,7 @@ pub shut_load : (o : Option Stage) (start : Stage) (mode : Mode) (form : Form) (
 shut_load o start mode form given input fault is h =
     subst (λ (option : Option Stage). HasDumpCause (load_causes option mode form given input) (Report fault)) (sym is) (shut_start start mode form given input fault h)
 
--- a dump that is not loaded into the database of the files
+-- a dump that fails to load into the database of the files
 unloaded_start : (start : Stage) (mode : Mode) (form : Form) (given : Given) (input : Option (List ℕ)) (db : Database) (reason : DumpFault) → IsOpened form given db
     → IfSome input (λ bytes. IsLoadFault start mode db bytes reason) → HasDumpCause (load_causes (Some start) mode form given input) (dump_fault reason)
 unloaded_start start mode form given input db dump.BadFormat opened h = (db, (opened, h))

@@ -1,4 +1,4 @@
--- What `backup` takes and asks.
+-- The arguments of `backup` and the request that they make.
 use Rattle.std.specs.Prelude.{List, ◌∷◌, codes}
 use Rattle.clap.specs.Words.{Shape, Row}
 use Rattle.dbm_words.specs.CommandLine.{required_word, subcommand, reading_options}

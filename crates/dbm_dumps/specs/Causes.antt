@@ -1,4 +1,4 @@
--- Why nothing comes of `dump` and `load`.
+-- The errors of `dump` and `load`.
 use Rattle.std.specs.Prelude.{⊤, Option, Some, None}
 use Rattle.dbm_dump.specs.declared.fault.DumpFault.{DumpFault}
 use Rattle.dbm_dump.specs.declared.fault.DumpFault.TheVariants as dump
@@ -8,26 +8,26 @@ use Rattle.dbm_reports.specs.declared.report.Report.{Report as Told}
 use Rattle.dbm_dumps.specs.declared.fault.DumpsFault.{DumpsFault}
 use Rattle.dbm_dumps.specs.declared.fault.DumpsFault.TheVariants.{Report, Dump}
 
--- the causes of the faults that others have too, and of those of a dump
+-- the causes of the shared faults, and of the faults of a dump
 pub record DumpCauses : Type 1 where
   pub report : Causes
   pub dump : DumpFault → Type 0
 
--- a fault comes only for its cause
+-- a fault is returned only for its cause
 abbrev pub HasDumpCause : DumpCauses → DumpsFault → Type 0
 HasDumpCause causes (Report fault) = IsCaused causes.report fault
 HasDumpCause causes (Dump fault) = causes.dump fault
 
--- what is known of `dump` or `load`: what comes of it, and why nothing does
+-- what is known about `dump` or `load`: its results and the causes of its errors
 pub record DumpKnown : Type 1 where
   pub reports : Told → Type 0
   pub causes : DumpCauses
 
--- those that others have too, alone
+-- only the shared causes; no fault of a dump
 abbrev pub no_dump : Causes → DumpCauses
 no_dump causes = record { report = causes; dump = λ fault. ⊥ }
 
--- a format that is none
+-- the format name is unknown
 abbrev pub IsBadFormat : DumpFault → Type 0
 IsBadFormat dump.BadFormat = ⊤
 IsBadFormat _ = ⊥
@@ -35,7 +35,7 @@ IsBadFormat _ = ⊥
 abbrev pub bad_format : DumpCauses
 bad_format = record { report = no_causes; dump = IsBadFormat }
 
--- the fault of a dump
+-- the error that a fault of a dump becomes; `Read` and `NoMemory` are shared errors
 abbrev pub dump_fault : DumpFault → DumpsFault
 dump_fault dump.Read = Report reports.Read
 dump_fault dump.NoMemory = Report reports.NoMemory

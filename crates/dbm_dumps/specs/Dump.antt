@@ -1,4 +1,4 @@
--- What `dump` takes and asks, what comes of it, and why nothing does.
+-- The arguments of `dump`, its results and its errors.
 use Rattle.std.specs.Prelude.{◌≡◌, List, ◌∷◌, Option, Some, None, codes, IsSomeAnd}
 use Rattle.std.specs.FinMap as map
 use Rattle.clap.specs.Words.{Shape, Row}
@@ -26,7 +26,7 @@ DumpAsks rows dump = IsWord (codes "BASE") rows dump.base × (IsForm rows dump.f
 abbrev pub Dumps : Format → Report → Database → Type 0
 Dumps format report db = Prints (dump_text format db.kind db.size (map.entries (map_of db))) report
 
--- the format comes before the files
+-- the format name is checked before the files are opened
 abbrev pub dump_causes : Option Format → Form → Given → DumpCauses
 dump_causes None form given = bad_format
 dump_causes (Some format) form given = no_dump (opening_causes form given)

@@ -1,4 +1,4 @@
--- What `load` takes and asks, what comes of it, and why nothing does.
+-- The arguments of `load`, its results and its errors.
 use Rattle.std.specs.Prelude.{◌≡◌, ℕ, ◌++◌, Bool, cond, List, [], ◌∷◌, Option, Some, None, codes, decimal, IfSome, IsSomeAnd}
 use Rattle.clap.specs.Words.{Shape, Row}
 use Rattle.sdbm_addr.specs.Database.{Database}
@@ -27,15 +27,15 @@ abbrev pub LoadAsks : List Row → Load → Type 0
 LoadAsks rows load =
     IsWord (codes "BASE") rows load.base × (IsForm rows load.form × (IsGiven (codes "format") rows load.format × (load.keep ≡ is_given (codes "keep") rows)))
 
--- pairs that are there stay, or are replaced
+-- existing pairs stay, or are replaced
 abbrev pub mode_of : Bool → Mode
 mode_of keep = cond keep Insert Replace
 
--- how many pairs the dump had, in a line
+-- the line with the number of pairs in the dump
 abbrev pub loaded_line : ℕ → List ℕ
 loaded_line n = codes "loaded " ++ (decimal n ++ 10 ∷ [])
 
--- the pairs of a dump, whose bytes may not be known, are stored one after another, and the files are written
+-- the pairs of a dump (its bytes may be unknown) are stored in order, and the files are written
 pub record Loads (start : Stage) (mode : Mode) (input : Option (List ℕ)) (report : Report) (before : Database) : Type 0 where
   pub count : ℕ
   pub after : Database
@@ -46,13 +46,13 @@ pub record Loads (start : Stage) (mode : Mode) (input : Option (List ℕ)) (repo
   pub status_is : report.status ≡ 0
   pub written : report.database ≡ Some after
 
--- a dump is not loaded into a database; a reader that fails, and no memory left, have names of their own
+-- a dump fails to load into a database; a failed read and a failed allocation are shared errors instead
 abbrev pub IsUnloaded : Stage → Mode → Database → List ℕ → DumpFault → Type 0
 IsUnloaded start mode db bytes dump.Read = ⊥
 IsUnloaded start mode db bytes dump.NoMemory = ⊥
 IsUnloaded start mode db bytes reason = IsLoadFault start mode db bytes reason
 
--- the format comes before the files, and these before the dump
+-- the format name is checked first, then the files are opened, then the dump is read
 abbrev pub load_causes : Option Stage → Mode → Form → Given → Option (List ℕ) → DumpCauses
 load_causes None mode form given input = bad_format
 load_causes (Some start) mode form given input = record {

@@ -11,7 +11,7 @@ use dbm_words::arguments::{base, insist, required_word, timeout, unsigned, verbo
 use dbm_words::{Form, Words, form, subcommand, word};
 use std::alloc::{AllocError, Global};
 
-/// A copy of the database `base` in new files, those of `to`.
+/// Copies the database `base` to new files, those of `to`.
 #[derive(Clone, Copy, Debug)]
 pub struct Backup<'a> {
     pub base: &'a str,
@@ -20,7 +20,7 @@ pub struct Backup<'a> {
 }
 
 impl<'a> Backup<'a> {
-    /// What the matches of `backup` ask. There is none where they lack a word that it has to have.
+    /// Reads the matches of `backup`. Returns `None` if a required argument is missing.
     pub fn matched(matches: &ArgMatches<'a>) -> Option<Backup<'a>>
         ensures some { IfSome result (BackupAsks (rows_of (found_of matches.now))) }
         ensures none { IsNone result → has_words spec.backup.rules (rows_of (found_of matches.now)) ≡ false }
@@ -32,21 +32,21 @@ impl<'a> Backup<'a> {
         })
     }
 
-    /// Its words, as sentences about the database show them.
+    /// Its words as messages about the database show them.
     pub fn words(&self) -> Words<'a> {
         Words::on(Some(self.base), self.form)
     }
 
-    /// Its words, as sentences about the copy show them.
+    /// Its words as messages about the copy show them.
     pub fn words_of_copy(&self) -> Words<'a> {
         Words::on(Some(self.to), self.form)
     }
 }
 
-/// The subcommand `backup`, as `clap` is told it.
+/// Defines the subcommand `backup` for `clap`.
 ///
 /// # Errors
-/// `AllocError` where no memory is left.
+/// `AllocError` if allocation fails.
 pub fn backup_command<'a>(alloc: Global) -> Result<Command<'a>, AllocError>
     ensures { IfOk result (IsSubcommand spec.backup) }
 {

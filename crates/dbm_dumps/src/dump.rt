@@ -17,7 +17,7 @@ use sdbm_files::Image;
 use std::alloc::{AllocError, Global};
 use std::io::Read;
 
-/// All pairs are to be written as one text, in our own format where none is named.
+/// Writes all pairs as one text, in our own format if none is named.
 #[derive(Clone, Copy, Debug)]
 pub struct Dump<'a> {
     pub base: &'a str,
@@ -26,7 +26,7 @@ pub struct Dump<'a> {
 }
 
 impl<'a> Dump<'a> {
-    /// What the matches of `dump` ask. There is none where they lack a word that it has to have.
+    /// Reads the matches of `dump`. Returns `None` if a required argument is missing.
     pub fn matched(matches: &ArgMatches<'a>) -> Option<Dump<'a>>
         ensures some { IfSome result (DumpAsks (rows_of (found_of matches.now))) }
         ensures none { IsNone result → has_words spec.dump.rules (rows_of (found_of matches.now)) ≡ false }
@@ -38,7 +38,7 @@ impl<'a> Dump<'a> {
         })
     }
 
-    /// Its words, as sentences show them.
+    /// Its words as messages show them.
     pub fn words(&self) -> Words<'a> {
         Words {
             first: named_format(self.format),
@@ -47,7 +47,7 @@ impl<'a> Dump<'a> {
     }
 }
 
-/// The word for a format, as sentences show it.
+/// The word for a format as messages show it.
 pub(crate) fn named_format<'a>(format: Option<&'a str>) -> Option<Named<'a>> {
     match format {
         Some(word) => Some(Named {
@@ -58,10 +58,10 @@ pub(crate) fn named_format<'a>(format: Option<&'a str>) -> Option<Named<'a>> {
     }
 }
 
-/// The subcommand `dump`, as `clap` is told it.
+/// Defines the subcommand `dump` for `clap`.
 ///
 /// # Errors
-/// `AllocError` where no memory is left.
+/// `AllocError` if allocation fails.
 pub fn dump_command<'a>(alloc: Global) -> Result<Command<'a>, AllocError>
     ensures { IfOk result (IsSubcommand spec.dump) }
 {

@@ -1,4 +1,4 @@
-//! Why nothing comes of `dump` and `load`.
+//! The errors of `dump` and `load`.
 ghost use Rattle.std.specs.Prelude.{◌≡◌};
 ghost use Rattle.dbm_dumps.specs.declared.fault.DumpsFault.TheVariants.{Report};
 ghost use Rattle.dbm_reports.specs.declared.fault.ReportFault.TheVariants.{NoMemory};
@@ -7,12 +7,12 @@ use dbm_dump::DumpFault;
 use dbm_reports::ReportFault;
 use std::alloc::AllocError;
 
-/// Why nothing comes of `dump` and `load`.
+/// Why `dump` or `load` failed.
 #[derive(Clone, Copy)]
 pub enum DumpsFault {
-    /// For a fault that other subcommands have too.
+    /// A fault that other subcommands have too.
     Report(ReportFault),
-    /// For one of the dump. It is neither `Read` nor `NoMemory`, which are told as the others'.
+    /// A fault of the dump. Never `Read` or `NoMemory`, which are reported as `Report`.
     Dump(DumpFault),
 }
 

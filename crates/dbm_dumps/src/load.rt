@@ -21,7 +21,7 @@ use sdbm_addr::Mode;
 use std::alloc::{AllocError, Global};
 use std::io::Read;
 
-/// The pairs of a dump on standard input are to be stored, with `keep` only those whose keys are not there.
+/// Stores the pairs of a dump on standard input. If `keep` is set, existing keys keep their values.
 #[derive(Clone, Copy, Debug)]
 pub struct Load<'a> {
     pub base: &'a str,
@@ -31,7 +31,7 @@ pub struct Load<'a> {
 }
 
 impl<'a> Load<'a> {
-    /// What the matches of `load` ask. There is none where they lack a word that it has to have.
+    /// Reads the matches of `load`. Returns `None` if a required argument is missing.
     pub fn matched(matches: &ArgMatches<'a>) -> Option<Load<'a>>
         ensures some { IfSome result (LoadAsks (rows_of (found_of matches.now))) }
         ensures none { IsNone result → has_words spec.load.rules (rows_of (found_of matches.now)) ≡ false }
@@ -44,7 +44,7 @@ impl<'a> Load<'a> {
         })
     }
 
-    /// Its words, as sentences show them.
+    /// Its words as messages show them.
     pub fn words(&self) -> Words<'a> {
         Words {
             first: named_format(self.format),
@@ -53,10 +53,10 @@ impl<'a> Load<'a> {
     }
 }
 
-/// The subcommand `load`, as `clap` is told it.
+/// Defines the subcommand `load` for `clap`.
 ///
 /// # Errors
-/// `AllocError` where no memory is left.
+/// `AllocError` if allocation fails.
 pub fn load_command<'a>(alloc: Global) -> Result<Command<'a>, AllocError>
     ensures { IfOk result (IsSubcommand spec.load) }
 {
@@ -114,7 +114,7 @@ impl Subcommand for Load<'_> {
     }
 }
 
-// How pairs are stored.
+// The mode in which pairs are stored.
 fn mode_of(keep: bool) -> Mode
     ensures { result ≡ mode_of keep }
 {
@@ -124,7 +124,7 @@ fn mode_of(keep: bool) -> Mode
     Mode::Replace
 }
 
-// How many pairs a dump had that was loaded, and the database, which is to be written.
+// Reports the number of pairs in a loaded dump, and the changed database, which has to be written.
 fn loaded_report(alloc: Global, loaded: Loaded) -> Result<Report, AllocError>
     ensures { IfOk result (λ report. (report.text.items ≡ loaded_line loaded.count) × ((report.status ≡ 0) × (report.database ≡ Some loaded.image))) }
 {

@@ -1,4 +1,4 @@
--- The text of a fault, which stands after `dbm: ` on standard error.
+-- The text of a fault, printed after `dbm: ` on standard error.
 use Rattle.std.specs.Prelude.{ℕ, List, ◌++◌, codes, decimal}
 use Rattle.prog_registry.specs.FaultText as registry
 use Rattle.store_shared.specs.FaultText as closing

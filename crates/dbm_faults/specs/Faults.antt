@@ -1,4 +1,4 @@
--- The faults of what a run calls, as faults of the run.
+-- The faults of the functions that a run calls, as faults of the run.
 use Rattle.dbm_places.specs.declared.fault.FilesFault.{FilesFault}
 use Rattle.dbm_places.specs.declared.fault.FilesFault.TheVariants as files
 use Rattle.dbm_script.specs.declared.tasks.TasksFault.{TasksFault}
@@ -14,7 +14,7 @@ use Rattle.dbm_reports.specs.declared.fault.ReportFault.TheVariants as reports
 use Rattle.dbm_faults.specs.declared.fault.ServeFault.{ServeFault}
 use Rattle.dbm_faults.specs.declared.fault.ServeFault.TheVariants.{ReadFile, FileTooLong, WriteFile, BadRedo, Unsafe, Locked, Moved, Changed, Report, Dump, Submit, BadLine, Pool, Saved, NoMemory}
 
--- the fault of what comes of a wish
+-- the fault of a report
 abbrev pub report_fault : ReportFault → ServeFault
 report_fault reports.NoMemory = NoMemory
 report_fault fault = Report fault
@@ -24,7 +24,7 @@ abbrev pub dumps_fault : DumpsFault → ServeFault
 dumps_fault (dumps.Report fault) = report_fault fault
 dumps_fault (dumps.Dump fault) = Dump fault
 
--- the fault of lines that ask tasks
+-- the fault of the lines of a batch
 abbrev pub tasks_fault : TasksFault → ServeFault
 tasks_fault (tasks.BadLine number) = BadLine number
 tasks_fault tasks.NoMemory = NoMemory
@@ -36,7 +36,7 @@ submit_fault (reg.Decode fault) = Submit (reg.Decode fault)
 submit_fault (reg.Verify fault) = Submit (reg.Verify fault)
 submit_fault reg.Full = Submit reg.Full
 
--- the fault of tasks
+-- the fault of the workers
 abbrev pub pool_fault : PoolFault → ServeFault
 pool_fault jobs.NoWorkers = Pool jobs.NoWorkers
 pool_fault (jobs.NoProgram task) = Pool (jobs.NoProgram task)

@@ -1,4 +1,4 @@
-//! What a fault is about, in plain words, and what to do.
+//! The sentence for each fault: what it is about, and what to do.
 
 use crate::dumps::dump_sentence;
 use crate::fault::ServeFault;
@@ -19,10 +19,10 @@ use dbm_words::{Subject, Words};
 use prog_registry::RegFault;
 use std::alloc::Global;
 
-/// What a second look is to find before a fault is told: which file it was about.
+/// What to look for, before a fault is reported, to find the file that it is about.
 #[derive(Clone, Copy)]
 pub enum Look {
-    /// None is needed.
+    /// Nothing.
     Nothing,
     /// The file that cannot be read.
     Unread,
@@ -30,13 +30,13 @@ pub enum Look {
     TooLong,
     /// The file that cannot be written.
     Unwritten,
-    /// The file beside the database that is not taken.
+    /// The unsafe file next to the database.
     Unsafe,
-    /// Whether the program's file is an object.
+    /// An object file instead of a program.
     Object,
 }
 
-/// What is to be looked for before a fault is told.
+/// What to look for before a fault is reported.
 pub fn look_for(fault: ServeFault) -> Look {
     match fault {
         ServeFault::ReadFile => Look::Unread,
@@ -49,8 +49,8 @@ pub fn look_for(fault: ServeFault) -> Look {
     }
 }
 
-/// The sentence after a fault: what it is about, and what to do. Where a second look by `look_for` has found something, that is told
-/// instead (`finding_sentence`). `None` where nothing can be said of the words.
+/// The sentence after a fault: what it is about, and what to do. If the second look by `look_for` has found something, report that
+/// instead (`finding_sentence`). Returns `None` if the words do not say enough.
 pub fn sentence_of<'a>(
     alloc: Global,
     words: &Words<'a>,
@@ -72,7 +72,7 @@ pub fn sentence_of<'a>(
     }
 }
 
-/// Memory ran out.
+/// Out of memory.
 pub fn memory_sentence() -> Sentence<'static> {
     plain(
         "Memory ran out: dbm holds both files of a database and all that it prints. ulimit -v shows a limit.",
@@ -83,7 +83,7 @@ fn or_memory<'a>(sentence: Option<Sentence<'a>>) -> Sentence<'a> {
     sentence.unwrap_or(memory_sentence())
 }
 
-// Of the files, the clock, the streams and the lines of a batch.
+// For faults of the files, the clock, the streams and the lines of a batch.
 fn rest_sentence<'a>(words: &Words<'a>, fault: ServeFault) -> Sentence<'a> {
     match fault {
         ServeFault::ReadFile => unread_sentence(words.base),
@@ -118,7 +118,7 @@ fn rest_sentence<'a>(words: &Words<'a>, fault: ServeFault) -> Sentence<'a> {
     }
 }
 
-// Of what stands in the words, the files and on standard input.
+// For faults of the words, the contents of the files and standard input.
 fn report_sentence<'a>(
     alloc: Global,
     words: &Words<'a>,

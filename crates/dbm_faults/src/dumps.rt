@@ -4,7 +4,7 @@ use crate::sentence::{Part, Sentence, plain, with_one, with_three, with_two};
 use dbm_dump::{DumpFault, KeyHead};
 use dbm_words::{Named, Words};
 
-/// Of a dump. `None` where memory ran out.
+/// For a dump. Returns `None` if memory ran out.
 pub fn dump_sentence<'a>(words: &Words<'a>, fault: DumpFault) -> Option<Sentence<'a>> {
     match fault {
         DumpFault::BadFormat => Some(format_sentence(words.first)),
@@ -24,7 +24,7 @@ pub fn dump_sentence<'a>(words: &Words<'a>, fault: DumpFault) -> Option<Sentence
     }
 }
 
-// Of a format that is none.
+// For an unknown format.
 fn format_sentence<'a>(format: Option<Named<'a>>) -> Sentence<'a> {
     let word = match format {
         Some(format) => format.word,
@@ -36,7 +36,7 @@ fn format_sentence<'a>(format: Option<Named<'a>>) -> Sentence<'a> {
     )
 }
 
-// Of a line whose pair finds no room.
+// For a line whose pair does not fit.
 fn crowded_sentence(wide: bool, line: u64, key: KeyHead) -> Sentence<'static> {
     let (line, key) = (Part::Number(line), Part::Key(key));
     if wide {
@@ -53,7 +53,7 @@ fn crowded_sentence(wide: bool, line: u64, key: KeyHead) -> Sentence<'static> {
     )
 }
 
-// Of a line that brings too much.
+// For a line with too many bytes.
 fn large_sentence(wide: bool, line: u64, key: Option<KeyHead>) -> Sentence<'static> {
     let most = if wide { 8008 } else { 1008 };
     let (line, most) = (Part::Number(line), Part::Number(most));

@@ -1,4 +1,4 @@
-//! Why a wish was not served.
+//! Why a request failed.
 ghost use Rattle.std.specs.Prelude.{◌≡◌};
 ghost use Rattle.dbm_faults.specs.declared.fault.ServeFault.TheVariants.{NoMemory};
 
@@ -14,58 +14,58 @@ use std::fmt;
 use store_shared::CloseFault;
 use worker_pool::PoolFault;
 
-/// Why a wish was not served. It prints as the text that stands after `dbm: ` on standard error.
+/// Why a request failed. It prints as the text after `dbm: ` on standard error.
 #[derive(Clone, Copy, Debug)]
 pub enum ServeFault {
     /// A word of the command line is not UTF-8.
     NotText,
     /// A file could not be read.
     ReadFile,
-    /// A file is longer than the program takes, or would be after the command.
+    /// A file is longer than the program's limit, or would be after the command.
     FileTooLong,
     /// A file could not be written.
     WriteFile,
-    /// The redo file is marked, and is not of these files, or none that a save has left.
+    /// The commit byte of the redo file is 1, but the file does not fit these files or was not written by a save.
     BadRedo,
-    /// The redo file or the lock is one that others could have planted.
+    /// Another user could have planted the redo file or the lock.
     Unsafe,
-    /// The pages are to be read as wide ones and look like small ones.
+    /// The files are to be opened with wide pages, but look like those of small pages.
     OtherSize,
-    /// The system does not tell the time of day.
+    /// The system does not report the time of day.
     ReadClock,
     /// The base is empty, `.` or `..`, or ends in `/`, so it names no file.
     BadBase,
-    /// Neither file of the database is there, which has to be.
+    /// Neither file of the database exists, although the words require it.
     Absent,
-    /// A file of the copy that is to be made is there already.
+    /// A file of the copy exists already.
     Exists,
-    /// No stock program has the name that is given.
+    /// There is no stock program of this name.
     NoStock,
-    /// Another run has had the lock for as long as this one was to wait.
+    /// Another run held the lock for the whole timeout.
     Locked,
-    /// A lock that the run holds, or a data file that it has read, has lost its name to another file. Nothing was saved.
+    /// The name of a lock that the run holds, or of a data file that it has read, now belongs to another file. Nothing was saved.
     Moved(MovedFile),
     /// Another program has written a data file since this run read or saved it. Nothing was saved.
     Changed,
-    /// Nothing comes of the words, the files and standard input. The fault within is never `NoMemory`.
+    /// The words, the files or standard input are invalid. The fault within is never `NoMemory`.
     Report(ReportFault),
     /// A dump was not written or not loaded. The fault within is never `Read` or `NoMemory`.
     Dump(DumpFault),
-    /// The program of a batch gets no number. The fault within is never `NoMemory`.
+    /// The program of a batch is refused. The fault within is never `NoMemory`.
     Submit(RegFault),
-    /// The line of a batch with this number, from 1 on, asks no task.
+    /// The line of a batch with this number, counted from 1, is not a task.
     BadLine(usize),
-    /// The input of a session ends within the line with this number, from 1 on, which was not run. The changes before it are saved.
+    /// The input of a session ends within the line with this number, counted from 1, which was not run. The changes before it are saved.
     CutLine(u64),
-    /// Not all tasks of a batch were done. The fault within is never `NoMemory`, but a task may be refused for it.
+    /// Not all tasks of a batch were done. The fault within is never `NoMemory`, but a single task may have failed for it.
     Pool(PoolFault),
-    /// The calls of a batch's workers are not those that its store has.
+    /// The calls of a batch's workers differ from those of its store.
     Close(CloseFault),
     /// Standard output could not be written, and nothing was changed.
     Write,
-    /// Standard output could not be written after a change, which stands. It prints as `Write` does.
+    /// Standard output could not be written after a change, which is saved. It prints as `Write` does.
     Saved,
-    /// No memory is left.
+    /// Out of memory.
     NoMemory,
 }
 

@@ -1,4 +1,4 @@
-//! Sentences about files of a database: which of them the system refuses, and which are no database.
+//! Sentences about the files of a database: those that the system refuses, and those that are not a database.
 
 use crate::finding::{Finding, Matter};
 use crate::sentence::{Part, Sentence, plain, with_four, with_one, with_three, with_two};
@@ -6,12 +6,12 @@ use dbm_places::{MovedFile, folder_of};
 use dbm_words::Words;
 use sdbm_files::OpenFault;
 
-/// Of the base, as sentences show it.
+/// The base as sentences show it.
 pub fn base_part<'a>(base: Option<&'a str>) -> Part<'a> {
     Part::Name(base.unwrap_or("BASE"))
 }
 
-/// Of a file, or a folder, and what is the matter with it.
+/// For a file or a folder, and its problem.
 pub fn finding_sentence<'a>(found: Finding<'a>) -> Sentence<'a> {
     let name = Part::Name(found.name);
     match found.matter {
@@ -48,7 +48,7 @@ pub fn finding_sentence<'a>(found: Finding<'a>) -> Sentence<'a> {
     }
 }
 
-/// Of files that could not be read, where none is found that the system refuses.
+/// For files that could not be read, if the second look finds no refused file.
 pub fn unread_sentence<'a>(base: Option<&'a str>) -> Sentence<'a> {
     let Some(base) = base else {
         return plain("The file could not be read, and can be read now: try again.");
@@ -61,7 +61,7 @@ pub fn unread_sentence<'a>(base: Option<&'a str>) -> Sentence<'a> {
     )
 }
 
-/// Of files that could not be written, where none is found that the system refuses.
+/// For files that could not be written, if the second look finds no refused file.
 pub fn unwritten_sentence<'a>(base: &'a str) -> Sentence<'a> {
     with_two(
         "{}.lock, .writer, .redo, .dir or .pag could not be made or written: see that you may write into the folder {}, that its disk has room, and that ulimit -f allows files so long.",
@@ -70,7 +70,7 @@ pub fn unwritten_sentence<'a>(base: &'a str) -> Sentence<'a> {
     )
 }
 
-/// Of a database that would be too long.
+/// For a database that would be too long.
 pub fn too_long_sentence<'a>(base: &'a str, wide: bool) -> Sentence<'a> {
     let text = if wide {
         "{}.pag would have more than 1 GiB after the command: nothing was changed."
@@ -80,7 +80,7 @@ pub fn too_long_sentence<'a>(base: &'a str, wide: bool) -> Sentence<'a> {
     with_one(text, Part::Name(base))
 }
 
-/// Of a redo file that is not of these files, or that no save has left.
+/// For a redo file that is not of these files, or that was not written by a save.
 pub fn redo_sentence<'a>(base: Option<&'a str>) -> Sentence<'a> {
     with_one(
         "{}.redo says that a save was cut off, but it is not of these files: an older copy was put back, another program wrote them, or no save has left it. Put the files back that it belongs to, or take it away to have the files as they are.",
@@ -88,7 +88,7 @@ pub fn redo_sentence<'a>(base: Option<&'a str>) -> Sentence<'a> {
     )
 }
 
-/// Of a file beside a database that is not taken, where a second look finds none.
+/// For an unsafe file next to a database, if the second look finds no such file.
 pub fn untaken_sentence<'a>(base: Option<&'a str>) -> Sentence<'a> {
     let base = base_part(base);
     with_three(
@@ -99,13 +99,13 @@ pub fn untaken_sentence<'a>(base: Option<&'a str>) -> Sentence<'a> {
     )
 }
 
-// The bits of permissions as the digits of their octal number.
+// The permission bits as the digits of their octal number.
 fn octal(mode: u32) -> Part<'static> {
     let digits = mode / 64 % 8 * 100 + mode / 8 % 8 * 10 + mode % 8;
     Part::Number(u64::from(digits))
 }
 
-/// Of a base that names no file.
+/// For a base that names no file.
 pub fn base_sentence<'a>(base: Option<&'a str>) -> Sentence<'a> {
     match base {
         Some("") => plain("The name of the database is empty: give it without .dir or .pag."),
@@ -116,7 +116,7 @@ pub fn base_sentence<'a>(base: Option<&'a str>) -> Sentence<'a> {
     }
 }
 
-/// Of files that have to be there, and are not.
+/// For required files that are missing.
 pub fn absent_sentence<'a>(base: Option<&'a str>) -> Sentence<'a> {
     let base = base_part(base);
     with_two(
@@ -126,7 +126,7 @@ pub fn absent_sentence<'a>(base: Option<&'a str>) -> Sentence<'a> {
     )
 }
 
-/// Of a copy whose files are there already.
+/// For a copy whose files exist already.
 pub fn exists_sentence<'a>(base: Option<&'a str>) -> Sentence<'a> {
     let base = base_part(base);
     with_two(
@@ -136,7 +136,7 @@ pub fn exists_sentence<'a>(base: Option<&'a str>) -> Sentence<'a> {
     )
 }
 
-/// Of a lock that another run has.
+/// For a lock held by another run.
 pub fn lock_sentence<'a>(base: Option<&'a str>, timeout: Option<&str>) -> Sentence<'a> {
     let base = base_part(base);
     match timeout {
@@ -151,7 +151,7 @@ pub fn lock_sentence<'a>(base: Option<&'a str>, timeout: Option<&str>) -> Senten
     }
 }
 
-/// Of files that look like those of small pages.
+/// For files that look like those of small pages.
 pub fn small_sentence(base: Option<&str>) -> Sentence<'_> {
     let base = base_part(base);
     with_two(
@@ -161,7 +161,7 @@ pub fn small_sentence(base: Option<&str>) -> Sentence<'_> {
     )
 }
 
-/// Of a file that has lost its name to another while a run was under way.
+/// For a file that lost its name to another file during the run.
 pub fn moved_sentence<'a>(base: Option<&'a str>, file: MovedFile) -> Sentence<'a> {
     let base = base_part(base);
     match file {
@@ -184,7 +184,7 @@ pub fn moved_sentence<'a>(base: Option<&'a str>, file: MovedFile) -> Sentence<'a
     }
 }
 
-/// Of files that another program has written.
+/// For files that another program has written.
 pub fn changed_sentence(base: Option<&str>) -> Sentence<'_> {
     let base = base_part(base);
     with_two(
@@ -194,7 +194,7 @@ pub fn changed_sentence(base: Option<&str>) -> Sentence<'_> {
     )
 }
 
-/// Of files that are no database. `None` where memory ran out.
+/// For files that are not a database. Returns `None` if memory ran out.
 pub fn open_sentence<'a>(words: &Words<'a>, fault: OpenFault) -> Option<Sentence<'a>> {
     let base = base_part(words.base);
     match fault {
@@ -224,12 +224,12 @@ pub fn open_sentence<'a>(words: &Words<'a>, fault: OpenFault) -> Option<Sentence
     }
 }
 
-// How many bytes a page has.
+// The number of bytes of a page.
 fn page_bytes(wide: bool) -> &'static str {
     if wide { "8,192" } else { "1,024" }
 }
 
-// The other width of pages.
+// The other page width.
 fn other_width(wide: bool) -> &'static str {
     if wide {
         "without --wide"
@@ -238,7 +238,7 @@ fn other_width(wide: bool) -> &'static str {
     }
 }
 
-// The other way in which keys are hashed.
+// The other way to hash keys.
 fn other_hash(unsigned: bool) -> &'static str {
     if unsigned {
         "without --unsigned"

@@ -1,9 +1,9 @@
-//! What a second look at the files of a run finds.
+//! The result of a second look at the files of a run.
 
 use std::fmt;
 use std::io::{self, ErrorKind};
 
-/// Why the system refuses a file. It prints as a half sentence.
+/// Why the system refuses a file. It prints as a clause of a sentence.
 #[derive(Clone, Copy)]
 pub struct Reason(pub io::Error);
 
@@ -16,7 +16,7 @@ impl fmt::Display for Reason {
     }
 }
 
-// The reasons that have plain words.
+// The plain words for a reason, if there are any.
 fn reason_text(kind: ErrorKind) -> Option<&'static str> {
     match kind {
         ErrorKind::NotFound => Some("it is not there"),
@@ -32,32 +32,32 @@ fn reason_text(kind: ErrorKind) -> Option<&'static str> {
     }
 }
 
-/// What is the matter with a file.
+/// The problem of a file.
 #[derive(Clone, Copy)]
 pub enum Matter {
-    /// It is not there.
+    /// It is missing.
     Absent,
-    /// It is a link that leads nowhere.
+    /// It is a dangling link.
     DeadLink,
     /// It cannot be read.
     Unread(Reason),
     /// It cannot be written.
     Unwritten(Reason),
-    /// It is to be a folder, and is a file.
+    /// It should be a folder, but is a file.
     NoFolder,
-    /// It is to be a folder, and cannot be looked at.
+    /// It should be a folder, but cannot be examined.
     LostFolder(Reason),
-    /// It has more bytes than this, the most that are read of it.
+    /// It has more bytes than this limit.
     TooLong(u64),
-    /// It is an object as compilers write it.
+    /// It is an object file, the output of a compiler.
     Object,
-    /// It lies beside a database, and is a link, a folder or the like, or has several names.
+    /// It is next to a database, and is a link, a folder or the like, or has several names.
     NoOwnFile,
-    /// It lies beside a database, and others could have planted it.
+    /// It is next to a database, and another user could have planted it.
     Unsafe { owner: u32, mode: u32 },
 }
 
-/// A file, or a folder, and what is the matter with it.
+/// A file or a folder, and its problem.
 #[derive(Clone, Copy)]
 pub struct Finding<'a> {
     pub name: &'a str,

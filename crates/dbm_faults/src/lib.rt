@@ -1,5 +1,5 @@
-//! Why a run of the program fails, and the sentences that stand on standard error after a fault and beside an answer: values, which the
-//! program prints.
+//! Why a run of the program fails, and the sentences on standard error: the one after a fault, and the notes next to an answer. They are
+//! values, which the program prints.
 #![tactic(auto)]
 
 mod advice;

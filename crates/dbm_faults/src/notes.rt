@@ -1,8 +1,8 @@
-//! Notes beside an answer that may not be what was meant.
+//! Notes for an answer that may not be what the user meant.
 
 use crate::sentence::{Part, Sentence, plain, with_one, with_three, with_two};
 
-/// Neither file of the database was there that was read.
+/// Neither file of the database exists.
 pub fn absent_note<'a>(base: &'a str) -> Sentence<'a> {
     let base = Part::Name(base);
     with_two(
@@ -12,7 +12,7 @@ pub fn absent_note<'a>(base: &'a str) -> Sentence<'a> {
     )
 }
 
-/// A save is kept in the redo file of a base, and not done in its files.
+/// A save is durable in the redo file of a base, but not yet done in its files.
 pub fn pending_note<'a>(base: &'a str) -> Sentence<'a> {
     let base = Part::Name(base);
     with_three(
@@ -23,7 +23,7 @@ pub fn pending_note<'a>(base: &'a str) -> Sentence<'a> {
     )
 }
 
-/// What so many lines of a session have asked is not saved.
+/// The changes of `lines` lines of a session are not saved.
 pub fn unsaved_note(lines: u64) -> Sentence<'static> {
     if lines == 1 {
         return plain("not saved: the change that 1 line asked");
@@ -34,7 +34,7 @@ pub fn unsaved_note(lines: u64) -> Sentence<'static> {
     )
 }
 
-/// A program's image that was refused is an object.
+/// A refused program image is an object file.
 pub fn object_note<'a>(file: &'a str) -> Sentence<'a> {
     with_one(
         "{} is an ELF object, and no image: take its section .text, or let tools/bpfcc make the image",
@@ -42,7 +42,7 @@ pub fn object_note<'a>(file: &'a str) -> Sentence<'a> {
     )
 }
 
-/// Why a program is refused that was to be run, and how to see more.
+/// Why a program is refused, and how to see more.
 pub fn refusal_note<'a>(refusal: &'a str, file: &'a str, image: bool) -> Sentence<'a> {
     let option = if image { " --image" } else { "" };
     with_three(
@@ -53,7 +53,7 @@ pub fn refusal_note<'a>(refusal: &'a str, file: &'a str, image: bool) -> Sentenc
     )
 }
 
-/// The run waits for the lock of a base: which process has it, and what that is called, where the system tells it.
+/// The run waits for the lock of a base: the process that holds it and its name, if the system reports them.
 pub fn wait_note<'a>(base: &'a str, holder: Option<u64>, name: Option<&'a String>) -> Sentence<'a> {
     let base = Part::Name(base);
     let Some(process) = holder else {
@@ -74,7 +74,7 @@ pub fn wait_note<'a>(base: &'a str, holder: Option<u64>, name: Option<&'a String
     )
 }
 
-/// A process with this name had the lock of a base to the end of a wait.
+/// A process with this name held the lock of a base for the whole wait.
 pub fn holder_note<'a>(base: &'a str, process: u64, name: Option<&'a String>) -> Sentence<'a> {
     let name = match name {
         Some(name) => Part::Name(name.as_str()),
@@ -88,7 +88,7 @@ pub fn holder_note<'a>(base: &'a str, process: u64, name: Option<&'a String>) ->
     )
 }
 
-/// The line of a script that is the first that asks nothing, counted from 1, and how many more there are.
+/// The number of the first invalid line of a script, counted from 1, and the number of further ones.
 pub fn bad_lines_note(first: u64, more: u64) -> Sentence<'static> {
     let first = Part::Number(first);
     if more == 0 {
@@ -101,7 +101,7 @@ pub fn bad_lines_note(first: u64, more: u64) -> Sentence<'static> {
     )
 }
 
-/// The line of a script or a batch that is the first that ends in CR, counted from 1.
+/// The number of the first line of a script or a batch that ends in CR, counted from 1.
 pub fn line_end_note(line: u64) -> Sentence<'static> {
     with_one(
         "line {} ends in CR: lines end in LF alone. A CR that belongs to a value is written \\x0d or hex:0d, with --text",
@@ -109,7 +109,7 @@ pub fn line_end_note(line: u64) -> Sentence<'static> {
     )
 }
 
-/// The last line of a script or a batch, counted from 1, which has no LF after it and was run.
+/// The number of the last line of a script or a batch, counted from 1, which has no LF after it and was run.
 pub fn half_line_note(line: u64) -> Sentence<'static> {
     with_one(
         "line {}, the last, has no LF after it, and was run as it is: if its sender was cut off, it may be a part of a line",

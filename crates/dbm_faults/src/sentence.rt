@@ -1,4 +1,4 @@
-//! A sentence as a value: a pattern, and what stands in its places.
+//! A sentence as a value: a pattern, and the parts for its places.
 
 use crate::finding::Reason;
 use bpf_verify::VerifyFault;
@@ -6,16 +6,17 @@ use dbm_dump::KeyHead;
 use dbm_words::is_plain;
 use std::fmt;
 
-/// What stands in a place of a sentence.
+/// The text for a place of a sentence.
 #[derive(Clone, Copy)]
 pub enum Part<'a> {
     /// Nothing: the pattern has fewer places.
     Nothing,
-    /// A name as it is, or where it is empty or has characters that do not print as themselves (`is_plain`), in quotes with these escaped.
+    /// A name, unchanged if it is plain. It is quoted and escaped if it is empty or has characters that do not print as themselves
+    /// (`is_plain`).
     Name(&'a str),
     /// A word in quotes.
     Quoted(&'a str),
-    /// A text as it is.
+    /// A text, unchanged.
     Text(&'a str),
     Number(u64),
     /// The first bytes of a key.
@@ -49,7 +50,7 @@ fn show_name<W: fmt::Write>(name: &str, f: &mut fmt::Formatter<W>) -> fmt::Resul
     f.write_str(name)
 }
 
-/// A sentence. It prints as its pattern, where each `{}` is a place, and the parts stand in the places in turn.
+/// A sentence. It prints as its pattern, in which the parts replace the places `{}` in turn.
 #[derive(Clone, Copy)]
 pub struct Sentence<'a> {
     pub pattern: &'static str,

@@ -1,4 +1,4 @@
-//! Words of a command line that are not what they are to be.
+//! Invalid words of a command line.
 
 use crate::sentence::{Part, Sentence, with_three, with_two};
 use dbm_script::{Notation, read_blank, read_bytes, read_number};
@@ -25,25 +25,25 @@ const NO_EVERY: &str =
 
 const NO_COUNT: &str = "is no number below 4294967296";
 
-/// Of a layout that is none.
+/// For an unknown layout.
 pub fn layout_sentence(layout: Option<&str>) -> Sentence<'_> {
     let word = layout.unwrap_or("");
     word_sentence(Named { name: "--as", word }, NO_LAYOUT)
 }
 
-/// Of the words that are to be bytes in hex, the first that is none.
+/// For the first word that should be bytes in hex and is not.
 pub fn hex_sentence<'a>(alloc: Global, words: &Words<'a>) -> Option<Sentence<'a>> {
     let wrong = first_wrong(alloc, &Notation::Hex, words)?;
     Some(word_sentence(wrong, NO_HEX))
 }
 
-/// Of the words that are to be bytes as text, the first that is none.
+/// For the first word that should be bytes as text and is not.
 pub fn text_sentence<'a>(alloc: Global, words: &Words<'a>) -> Option<Sentence<'a>> {
     let wrong = first_wrong(alloc, &Notation::Text, words)?;
     Some(word_sentence(wrong, NO_TEXT))
 }
 
-// The first of the words that is no bytes, where one is none: the last, if the others are bytes.
+// Finds the first word that is not valid bytes. If all except the last are valid, it is the last.
 fn first_wrong<'a>(
     alloc: Global,
     notation: &Notation<Global>,
@@ -62,12 +62,12 @@ fn is_bytes(alloc: Global, notation: &Notation<Global>, word: &str) -> bool {
     matches!(read_bytes(alloc, notation, word.as_bytes()), Ok(Some(_)))
 }
 
-/// Of the words that are to be numbers, the first that is none.
+/// For the first word that should be a number and is not.
 pub fn number_sentence<'a>(numbers: Numbers<'a>) -> Option<Sentence<'a>> {
     if let Some(wrong) = wrong_number("--timeout", numbers.timeout) {
         return Some(word_sentence(wrong, NO_NUMBER));
     }
-    // Of a session this is the last word that is to be a number.
+    // In a session this is the last word that has to be a number.
     if let Some(word) = numbers.save_every {
         let name = "--save-every";
         return Some(word_sentence(Named { name, word }, NO_EVERY));
@@ -81,7 +81,7 @@ pub fn number_sentence<'a>(numbers: Numbers<'a>) -> Option<Sentence<'a>> {
     if let Some(wrong) = wrong_number("NOW", numbers.now) {
         return Some(word_sentence(wrong, NO_TIME));
     }
-    // Of a batch this is the last word that is to be a number.
+    // In a batch this is the last word that has to be a number.
     if let Some(word) = numbers.workers {
         let name = "WORKERS";
         return Some(word_sentence(Named { name, word }, NO_COUNT));
@@ -93,7 +93,7 @@ pub fn number_sentence<'a>(numbers: Numbers<'a>) -> Option<Sentence<'a>> {
     Some(word_sentence(wrong, NO_NUMBER))
 }
 
-// A word that is no number.
+// Returns the word if it is not a number.
 fn wrong_number<'a>(name: &'static str, word: Option<&'a str>) -> Option<Named<'a>> {
     let word = word?;
     if read_number(word.as_bytes(), u64::MAX).is_some() {
@@ -102,7 +102,7 @@ fn wrong_number<'a>(name: &'static str, word: Option<&'a str>) -> Option<Named<'
     Some(Named { name, word })
 }
 
-// What is wrong with a word, which is shown where it is short.
+// The error of a word. A short word is shown.
 fn word_sentence<'a>(named: Named<'a>, wrong: &'static str) -> Sentence<'a> {
     let (name, wrong) = (Part::Text(named.name), Part::Text(wrong));
     if named.word.is_empty() {

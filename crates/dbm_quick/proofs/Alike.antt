@@ -1,4 +1,4 @@
--- What comes of a command on a part of a database, and on the whole of it.
+-- The result of a command on a part of a database, and on the whole database.
 use Rattle.std.proofs.Common.{◌≡◌, ℕ, List, [], ◌∷◌, ◌++◌, ◌⊎◌, inl, inr, Option, Some, None, Bool, true, false, refl, sym, ap, ◌∙◌, subst}
 use Rattle.std.specs.declared.alloc.Global.{Global}
 use Rattle.sdbm_addr.specs.declared.KeyBytes.{KeyBytes}
@@ -24,7 +24,7 @@ use Rattle.dbm_quick.specs.declared.asked.Asked.TheVariants as asked
 use Rattle.dbm_quick.specs.Asked.{Answers, IsKeyed, key_in}
 use Rattle.dbm_quick.proofs.PartOf.{changed_kind, changed_size}
 
--- what is printed, with another database
+-- the same report, with another database
 abbrev pub report_on : Report → Option Database → Report
 report_on report after = record { text = report.text; status = report.status; database = after }
 
@@ -34,7 +34,7 @@ pub record IsAnsweredAlike (number : ℕ) (part db : Database) (command : Comman
   pub answers : IsAnswerTo Global db command answer after
   pub changed : IsChangedAlike number part db part' after
 
--- the same of a report after which the files are written
+-- the same for a report after which the files are written
 pub record IsReportedAlike (number : ℕ) (part db : Database) (answers : Report → Type 0) (report : Report) : Type 0 where
   pub part' : Database
   pub is : report.database ≡ Some part'
@@ -118,7 +118,7 @@ module _ (n : Notation Global) (part db : Database) (ok : IsDatabase db) (number
         },
       )
 
-  -- what comes of it on the part comes of it on the whole
+  -- a result on the part is also the result on the whole
   pub alike_answers : (asked : Asked) → IsKeyed asked → (place : Place) → IsPlaceOf part (key_in asked) place → place.page ≡ number → (report : Report) → Answers n asked part report
       → ((report.database ≡ None) × Answers n asked db report) ⊎ IsReportedAlike number part db (Answers n asked db) report
   alike_answers (asked.Fetch command raw) keyed place leads page report told = inl (shows raw command keyed place leads page report told)

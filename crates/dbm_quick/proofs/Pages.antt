@@ -1,4 +1,4 @@
--- Pages that are there, and the numbers of pages.
+-- Existing pages, and page numbers.
 use Rattle.std.proofs.Common.{◌≡◌, ◌≢◌, ℕ, List, [], Bor, Bool, true, false, Option, Some, None, IfSome, is_some, unwrap_or, sym, ap, ◌∙◌, ◌∷◌, refl, suc, zero, length, ◌+◌, ◌<◌, arith, Contains}
 use Rattle.std.specs.Option.{option_map}
 use Rattle.std.specs.FinMap as map
@@ -11,20 +11,20 @@ use Rattle.sdbm_addr.specs.Database.{Database, IsDatabase, pairs_at}
 use Rattle.sdbm_saves.specs.declared.part.Part.{Part}
 use Rattle.dbm_quick.specs.Parts.{IsOpenedPage}
 
--- a page that is there has pairs
+-- an existing page has pairs
 pub pairs_there : (db : Database) → IsDatabase db → (n : ℕ) (page : Option (Bor Content)) → option_map (λ (p : Bor Content). p.now.pairs) page ≡ map.get db.pages n → is_some page ≡ true → pairs_at db n ≢ []
 pairs_there db ok n None is there none = let clash : false ≡ true = there in cc
 pairs_there db ok n (Some page) is there none =
     let same : pairs_at db n ≡ page.now.pairs = ap (λ (o : Option (List Pair)). unwrap_or o []) (sym is) in
     (ok.pages n page.now.pairs (sym is)).0 (sym same ∙ none)
 
--- the clauses of a page that was opened, as one
+-- the postconditions of opening a page, as one record
 pub opened_as : (part : Part) (kind : KeyBytes) (size : PageSize) (opened : Option Database) → IfSome opened (λ db. SpellsDirectory part.directory.now db.splits) → IfSome opened (λ db. db.kind ≡ kind) → IfSome opened (λ db. db.size ≡ size)
     → IfSome opened (λ db. Spells size part.page.now (pairs_at db part.number)) → IfSome opened (λ db. (n : ℕ) → n ≢ part.number → pairs_at db n ≡ []) → IfSome opened (IsOpenedPage part kind size)
 opened_as part kind size None directory kinds sizes page others = tt
 opened_as part kind size (Some db) directory kinds sizes page others = record { kind_is = kinds; size_is = sizes; directory = directory; page = page; others = others }
 
--- a number stands first, and the others after it
+-- a number in front, followed by the rest
 pub at_first : (x : ℕ) (xs : List ℕ) → Contains (x ∷ xs) x
 at_first x xs = (0, omega arith, refl)
 

@@ -1,4 +1,4 @@
--- The whole of a database of whose pages one was read, after a change of that page.
+-- The whole of a database after a change of the one page that was read.
 use Rattle.std.proofs.Common.{◌≡◌, ◌≢◌, ℕ, ◌+◌, ◌*◌, ◌-◌, ◌/◌, ◌%◌, ◌<◌, ◌≤◌, List, [], ◌∷◌, length, get_or, replicate, Bool, true, false, Option, Some, None, refl, sym, ap, ◌∙◌, subst, arith, eqb, Contains, nat_lt}
 use Rattle.std.proofs.lemmas.List.{ext_get_or, get_or_past, get_or-replicate, length-replicate}
 use Rattle.std.proofs.lemmas.Bool.{eqb-true, eq-eqb, ltb-true, ltb-false}
@@ -43,12 +43,12 @@ some_page : (size : PageSize) (long count : ℕ) → long ≡ count * page_bytes
 some_page Small long count is lt = omega (arith, is, lt)
 some_page Wide long count is lt = omega (arith, is, lt)
 
--- pairs are none where it cannot be that there are some
+-- pairs that cannot be non-empty are empty
 bare : (pairs : List Pair) → (pairs ≢ [] → ⊥) → pairs ≡ []
 bare [] not = refl
 bare (e ∷ es) not = absurd (not (λ (is : e ∷ es ≡ []). cc))
 
--- one number is another, or not
+-- two numbers are equal or different
 data Same (n m : ℕ) : Type 0 where
   is_same : n ≡ m → Same n m
   is_other : n ≢ m → Same n m
@@ -76,7 +76,7 @@ zeros_spell size = record {
   page = bare_page size;
 }
 
--- a page that reads as pairs are spelled has them
+-- if a page reads as the bytes that spell some pairs, it has those pairs
 pub read_is : (db : Database) (dir pag : List ℕ) → SpellsDatabase db dir pag → (n : ℕ) (page : List ℕ) (pairs : List Pair) → Spells db.size page pairs → ReadsPage db.size pag n page → pairs_at db n ≡ pairs
 read_is db dir pag s n page pairs spells reads = at (nat_lt n s.count) refl
   where
@@ -109,7 +109,7 @@ module _ (db : Database) (ok : IsDatabase db) (pag : List ℕ) (written : ArePag
   behind : (n : ℕ) → length pag ≤ n * page_bytes db.size → pairs_at db n ≡ []
   behind n le = written.counted.past n (whole_pages db.size (length pag) written.count n long_pag le)
 
-  -- each page reads as its own bytes, those past the end too
+  -- each page reads as its own bytes, including those past the end
   own_reads : (n : ℕ) → ReadsPage db.size pag n (bytes_of_page db.size (pairs_at db n))
   own_reads n i below = at (nat_lt n written.count) refl
     where
@@ -141,7 +141,7 @@ changed_database : (number : ℕ) (db : Database) → IsDatabase db → (change 
 changed_database number db ok None may = ok
 changed_database number db ok (Some change) may = may.database
 
--- the part that was opened, and the whole of which it is one
+-- the part that was opened, and its whole database
 pub alike_of : (key : List ℕ) (part : Part) (numbers : List ℕ) (image db : Database) (pag : List ℕ) → IsOpenedPart key part db.kind db.size image → AreWhole part numbers db pag → IsAlikeAt part.number image db
 alike_of key part numbers image db pag opened whole = record {
   kind = opened.known.kind_is;
@@ -177,7 +177,7 @@ module _ (key : List ℕ) (part : Part) (numbers : List ℕ) (image db after db'
       at (is_same is) = sym (after_is n (ap (pairs_at image) is ∙ alike.here ∙ sym (ap (pairs_at db) is)))
       at (is_other apart) = sym (after_is n (opened.known.others n apart ∙ sym (zeros_bare db part.directory.now pag whole.spells n (whole.read.reads.others n there apart))))
 
-  -- a page without pairs that was not read is the same as before
+  -- an empty page that was not read is unchanged
   kept : (n : ℕ) → (Contains numbers n → ⊥) → pairs_at db' n ≡ pairs_at db n
   kept n not = at (pairs_at db n) refl
     where

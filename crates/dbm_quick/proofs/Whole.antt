@@ -1,4 +1,4 @@
--- What a command on the page of its key comes to on the whole files.
+-- The result, on the whole files, of a command on the page of its key.
 use Rattle.std.proofs.Common.{◌≡◌, ◌≢◌, ◌⊎◌, inl, inr, ℕ, List, [], Option, Some, None, Bool, true, false, IfSome, IsNone, refl, sym, ap, ◌∙◌, subst, Contains}
 use Rattle.std.specs.Global.{Vec}
 use Rattle.std.specs.declared.alloc.Global.{Global}
@@ -26,7 +26,7 @@ shows_none : (raw : Bool) (n : Notation Global) (db : Database) (command : Comma
 shows_none false n db command report (mid, (told, none)) = none
 shows_none true n db command report told = told.written
 
--- a database that is to be saved has pages as large
+-- a database that has to be saved keeps its page size
 pub size_after : (n : Notation Global) (asked : Asked) (db : Database) (report : Report) → Answers n asked db report → (after : Database) → report.database ≡ Some after → after.size ≡ db.size
 size_after n (asked.Fetch command raw) db report told after is = absurd (let clash : None ≡ Some after = sym (shows_none raw n db command report told) ∙ is in cc)
 size_after n (asked.Change command) db report (mid, (told, some)) after is = let both : Some mid ≡ Some after = sym some ∙ is in let same : mid ≡ after = cc in ap (λ (d : Database). d.size) (sym same) ∙ told.size

@@ -1,4 +1,4 @@
--- What a subcommand asks that may be done on the page of its key, and what comes of that on a database.
+-- A request that may need only the page of its key, and its result on a database.
 use Rattle.std.specs.Prelude.{◌≡◌, ℕ, List, Option, None}
 use Rattle.std.specs.declared.alloc.Global.{Global}
 use Rattle.sdbm_addr.specs.Database.{Database}
@@ -33,18 +33,19 @@ key_in (asked.Fetch command raw) = key_of command
 key_in (asked.Change command) = key_of command
 key_in (asked.Run words program expect) = words.key
 
--- what comes of it on a database
+-- its result on a database
 abbrev pub Answers : Notation Global → Asked → Database → Report → Type 0
 Answers n (asked.Fetch command raw) db report = FetchShows raw n db command report
 Answers n (asked.Change command) db report = Changes n db command None report
 Answers n (asked.Run words program expect) db report = RunsImage n db words expect program.items report
 
--- It is what words ask: it is about a key, and what comes of it on the database of the files comes of the words with these files.
+-- The request matches the words: it is about a key, and its result on the database of the files is also the result of the words on these
+-- files.
 pub record IsMeant (form : Form) (file : List ℕ) (n : Notation Global) (comes : Given → Report → Type 0) (asked : Asked) : Type 0 where
   pub keyed : IsKeyed asked
   pub same : (given : Given) (db : Database) (report : Report) → given.file.items ≡ file → IsOpened form given db → Answers n asked db report → comes given report
 
--- what comes of each subcommand, with files and without standard input
+-- the result of each subcommand, with files and without standard input
 abbrev pub FetchComes : Notation Global → Fetch → Given → Report → Type 0
 FetchComes n fetch given report = (fetch_in n fetch given).reports report
 

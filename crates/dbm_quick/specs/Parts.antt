@@ -1,4 +1,4 @@
--- A database of whose pages one was read, before a command and after it.
+-- A database with only one page read, before a command and after it.
 use Rattle.std.specs.Prelude.{◌≡◌, ◌≢◌, ◌<◌, ◌+◌, ◌-◌, ◌/◌, ℕ, List, [], Option, Contains, IfSome, IsNone}
 use Rattle.std.specs.Global.{Vec}
 use Rattle.sdbm_addr.specs.declared.KeyBytes.{KeyBytes}
@@ -22,7 +22,7 @@ pub record IsOpenedPage (part : Part) (kind : KeyBytes) (size : PageSize) (db : 
   pub page : Spells size part.page.now (pairs_at db part.number)
   pub others : (n : ℕ) → n ≢ part.number → pairs_at db n ≡ []
 
--- the same, where a key leads to that page
+-- the same, if a key leads to that page
 pub record IsOpenedPart (key : List ℕ) (part : Part) (kind : KeyBytes) (size : PageSize) (db : Database) : Type 0 where
   pub database : IsDatabase db
   pub known : IsOpenedPage part kind size db
@@ -30,11 +30,11 @@ pub record IsOpenedPart (key : List ℕ) (part : Part) (kind : KeyBytes) (size :
   pub leads : IsPlaceOf db key place
   pub here : place.page ≡ part.number
 
--- where the page that was read is the last of the file, it has pairs
+-- if the page that was read is the last of the file, it has pairs
 abbrev pub EndsWithPairs : Part → Database → Type 0
 EndsWithPairs part db = part.len / page_bytes db.size ≡ part.number + 1 → pairs_at db part.number ≢ []
 
--- the plan that saves a database of which that page was read, where there is something to save, and the numbers of the pages that it may write
+-- the plan that saves a database with only that page read, if there are changes, and the numbers of the pages that it may write
 pub record IsPlannedPart (part : Part) (db : Database) (numbers : List ℕ) (plan : Option (Vec ℕ)) : Type 0 where
   pub named : Contains numbers part.number
   pub covers : (n : ℕ) → pairs_at db n ≢ [] → Contains numbers n

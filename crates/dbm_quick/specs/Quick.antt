@@ -1,4 +1,4 @@
--- A command that is done on the page of its key alone, and what it comes to on the whole database.
+-- A command that needs only the page of its key, and its result on the whole database.
 use Rattle.std.specs.Prelude.{◌≡◌, ℕ, List, Option, Some, None}
 use Rattle.std.specs.Global.{Vec}
 use Rattle.std.specs.declared.alloc.Global.{Global}
@@ -15,30 +15,30 @@ use Rattle.dbm_quick.specs.declared.asked.Asked.{Asked}
 use Rattle.dbm_quick.specs.declared.quick.Quick.{Quick}
 use Rattle.dbm_quick.specs.Asked.{Answers}
 
--- the whole files of a database, of which a part was read
+-- the whole files of a database, with a part that was read
 pub record AreWhole (part : Part) (numbers : List ℕ) (db : Database) (pag : List ℕ) : Type 0 where
   pub spells : SpellsDatabase db part.directory.now pag
   pub read : IsReadSo part numbers db.size pag
 
--- A plan makes the files those of a database that is to be saved; where there is no plan they are so already. Where none is to be saved
+-- A plan turns the files into those of the database that has to be saved; without a plan they already are. If no database has to be saved
 -- there is no plan.
 abbrev pub SavesAs : Option Database → Option (Vec ℕ) → List ℕ → List ℕ → Type 0
 SavesAs None plan pag dir = plan ≡ None
 SavesAs (Some after) None pag dir = AreFilesFor after pag dir
 SavesAs (Some after) (Some plan) pag dir = IsSaving after plan.items pag dir
 
--- what is printed, the status, and the database that is to be saved
+-- the report: its text, its status, and the database that has to be saved
 abbrev pub report_with : Quick → Option Database → Report
 report_with quick after = record { text = quick.text; status = quick.status; database = after }
 
--- On the whole files it comes to the same text and the same status. Where a save has left them, its plan makes them those of the database
--- that is to be saved then.
+-- On the whole files the text and the status are the same. On files that a save has left, the plan turns them into those of the database
+-- that has to be saved then.
 pub record ComesTo (n : Notation Global) (asked : Asked) (quick : Quick) (db : Database) (pag dir : List ℕ) : Type 0 where
   pub after : Option Database
   pub answers : Answers n asked db (report_with quick after)
   pub saves : AreFilesFor db pag dir → SavesAs after quick.plan pag dir
 
--- the same on all whole files of which this part was read
+-- the same for all whole files that contain this part
 abbrev pub IsQuick : Notation Global → Asked → Part → KeyBytes → PageSize → Quick → Type 0
 IsQuick n asked part kind size quick =
     (db : Database) (pag : List ℕ) → db.kind ≡ kind → db.size ≡ size → AreWhole part quick.numbers.items db pag → ComesTo n asked quick db pag part.directory.now

@@ -1,4 +1,4 @@
-//! What a subcommand asks that may be done on the page of its key.
+//! A request that may need only the page of its key.
 ghost use Rattle.std.specs.Prelude.{◌≡◌, ℕ, List, IfOk, IfSome, true};
 ghost use Rattle.store_moves.specs.Works.{HasKey};
 ghost use Rattle.dbm_quick.specs.Asked.{Answers, IsMeant, key_in, FetchComes, StoreComes, DeleteComes, RunComes};
@@ -11,20 +11,20 @@ use sdbm_files::Image;
 use std::alloc::{AllocError, Global};
 use store_cmd::Command;
 
-/// What words ask that may be done on the page of a key.
+/// A request that may need only the page of its key.
 #[derive(Drop)]
 pub enum Asked {
     /// A fetch.
     Fetch {
         command: Command<Global>,
-        /// The bytes of the value alone are printed.
+        /// Prints only the bytes of the value.
         raw: bool,
     },
     /// A store or a delete.
     Change {
         command: Command<Global>,
     },
-    /// A run of the program of an image, which may have to end with a code.
+    /// A run of the program of an image, with an optional expected code.
     Run {
         words: RunWords<Global>,
         program: Vec<u8>,
@@ -33,7 +33,7 @@ pub enum Asked {
 }
 
 impl Asked {
-    /// The key.
+    /// The key of the request.
     pub fn key(&self) -> &[u8]
         ensures { result.now ≡ key_in self.now }
     {
@@ -45,10 +45,10 @@ impl Asked {
         }
     }
 
-    /// What comes of it on a database.
+    /// Answers it on a database.
     ///
     /// # Errors
-    /// `AllocError` where no memory is left.
+    /// `AllocError` if allocation fails.
     pub fn answer(
         self,
         alloc: Global,
@@ -69,7 +69,7 @@ impl Asked {
     }
 }
 
-// Whether a command is about a key.
+// Returns `true` if a command is about a key.
 fn has_key(command: &Command<Global>) -> bool
     ensures { result ≡ true → HasKey command.now }
 {
@@ -82,10 +82,10 @@ fn has_key(command: &Command<Global>) -> bool
     }
 }
 
-/// What a fetch asks. It is never None: such words name a key, but no clause says so.
+/// Reads a fetch. Never returns `None`: its words name a key, but no clause says so.
 ///
 /// # Errors
-/// `BadHex`, or as text `BadText`, where the key is no bytes, and `NoMemory`.
+/// `BadHex`, or as text `BadText`, if the key is not valid bytes; `NoMemory` if allocation fails.
 pub fn asked_by_fetch(
     alloc: Global,
     notation: &Notation<Global>,
@@ -104,10 +104,10 @@ pub fn asked_by_fetch(
     }))
 }
 
-/// What a store asks. None where its value is all of standard input.
+/// Reads a store. Returns `None` if its value is all of standard input.
 ///
 /// # Errors
-/// `BadHex`, or as text `BadText`, where the key or the value is no bytes, and `NoMemory`.
+/// `BadHex`, or as text `BadText`, if the key or the value is not valid bytes; `NoMemory` if allocation fails.
 pub fn asked_by_store(
     alloc: Global,
     notation: &Notation<Global>,
@@ -128,10 +128,10 @@ pub fn asked_by_store(
     Ok(Some(Asked::Change { command }))
 }
 
-/// What a delete asks. It is never None: such words name a key, but no clause says so.
+/// Reads a delete. Never returns `None`: its words name a key, but no clause says so.
 ///
 /// # Errors
-/// `BadHex`, or as text `BadText`, where the key is no bytes, and `NoMemory`.
+/// `BadHex`, or as text `BadText`, if the key is not valid bytes; `NoMemory` if allocation fails.
 pub fn asked_by_delete(
     alloc: Global,
     notation: &Notation<Global>,
@@ -147,7 +147,7 @@ pub fn asked_by_delete(
     Ok(Some(Asked::Change { command }))
 }
 
-/// What a run asks, with the bytes of its program's file.
+/// Reads a run, with the bytes of its program's file.
 ///
 /// # Errors
 /// Those of `run_words`, and then those of `file_image`.

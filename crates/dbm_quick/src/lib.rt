@@ -1,5 +1,5 @@
-//! Commands that are done on the page of their key alone, where all else of the files stays unread: what they ask, what they come to, and
-//! the plan that saves it.
+//! Commands that need only the page of their key, so that the rest of the files stays unread: the requests, their results, and the plan
+//! that saves them.
 #![tactic(auto)]
 
 mod asked;

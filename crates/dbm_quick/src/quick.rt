@@ -1,4 +1,4 @@
-//! What a command comes to on the page of its key, and the plan that saves it.
+//! The result of a command on the page of its key, and the plan that saves it.
 ghost use Rattle.std.specs.Prelude.{◌≡◌, ◌≢◌, ◌%◌, ℕ, List, [], length, Contains, IfOk, IfSome, true, false};
 ghost use Rattle.sdbm_addr.specs.Pairs.{page_bytes};
 ghost use Rattle.sdbm_addr.specs.Database.{pairs_at};
@@ -17,21 +17,21 @@ use sdbm_page::Page;
 use sdbm_saves::{Part, plan_part};
 use std::alloc::{AllocError, Global};
 
-/// What a command comes to on the page of its key.
+/// The result of a command on the page of its key.
 #[derive(Drop)]
 pub struct Quick {
-    /// The text that is printed.
+    /// The text to print.
     pub text: Vec<u8>,
-    /// The status with which the run ends.
+    /// The exit status.
     pub status: u8,
-    /// The numbers of the pages that the plan may write. All but the page that was read have to be zeros in the file.
+    /// The numbers of the pages that the plan may write. In the file, all of them except the page that was read have to be zeros.
     pub numbers: Vec<u32>,
-    /// The plan that saves it, where files are to be changed.
+    /// The plan that saves it, if the files have to change.
     pub plan: Option<Vec<u8>>,
 }
 
-/// The number of the page to which a key leads by the bits of a directory, which may be any bytes. It takes time in the depth of the place,
-/// and not in the bytes; `work` looks whether they are a directory, and whether it leads there.
+/// The number of the page to which a key leads by the bits of a directory, which may be any bytes. Its time is linear in the depth of the
+/// place, not in the number of bytes. `work` checks that the bytes are a directory and that the key leads there.
 pub fn page_of(directory: &[u8], kind: KeyBytes, key: &[u8]) -> u32 {
     let hash = hash(key, kind);
     let mut bit = 0usize;
@@ -45,7 +45,7 @@ pub fn page_of(directory: &[u8], kind: KeyBytes, key: &[u8]) -> u32 {
     hash & mask(31)
 }
 
-// Whether a bit of some bytes is set. Past the end none is.
+// Returns `true` if a bit of some bytes is set. Bits past the end are not set.
 fn is_set(bytes: &[u8], bit: usize) -> bool {
     match bytes.get(bit / 8) {
         Some(byte) => (*byte >> (bit % 8)) & 1 == 1,
@@ -53,8 +53,8 @@ fn is_set(bytes: &[u8], bit: usize) -> bool {
     }
 }
 
-/// Whether a page has pairs, and all of its keys lead to it by the bits of a directory. So a directory is seen that is gone, or that of
-/// another database. Where no memory is left it is false.
+/// Returns `true` if a page has pairs, and all of its keys lead to it by the bits of a directory. This detects a directory that is lost, or
+/// that of another database. Returns `false` if allocation fails.
 pub fn has_own_pairs(
     alloc: Global,
     directory: &[u8],
@@ -76,10 +76,9 @@ pub fn has_own_pairs(
     !page.is_empty()
 }
 
-/// Does a command on the page of its key, of which a database's files are known, and plans its save. None where that page does not tell
-/// it: the files have to be read whole then. So it is where the directory or the page would not open or are not as a save leaves them,
-/// where another page is that of the key, where the last page of the file would be without pairs, where `.pag` would be above
-/// `PAG_LIMIT`, and where no memory is left.
+/// Serves a command from the page of its key and plans its save. Returns `None` if that page is not enough: the caller then has to read the
+/// whole files. This happens if the directory or the page is invalid or not as a save leaves it, if the key leads to another page, if the
+/// last page of the file would become empty, if `.pag` would exceed `PAG_LIMIT`, or if allocation fails.
 pub fn work(
     alloc: Global,
     notation: &Notation<Global>,
@@ -120,7 +119,8 @@ pub fn work(
     })
 }
 
-// The database of the page that was read, where that is the one of a key, and the files are as a save leaves them.
+// Opens the page that was read as a database. Returns `None` if it is not the page of the key, or if the files are not as a save leaves
+// them.
 fn open_part(
     alloc: Global,
     key: &[u8],
@@ -159,7 +159,7 @@ fn opened_page(
     opened
 }
 
-// The plan that saves a database of which only a page was read, and the numbers of the pages that it may write.
+// The plan that saves a database with only one page read, and the numbers of the pages that it may write.
 fn plan_after(
     alloc: Global,
     part: Part<'_>,
@@ -181,7 +181,7 @@ fn plan_after(
     Some((numbers, plan))
 }
 
-// Whether the page that was read is the last of the file, and is without pairs.
+// Returns `true` if the page that was read is the last of the file and has no pairs.
 fn ends_bare(part: Part<'_>, after: &Image<Global>) -> bool
     ensures { result ≡ false → EndsWithPairs part.entry after.now }
 {
@@ -189,7 +189,7 @@ fn ends_bare(part: Part<'_>, after: &Image<Global>) -> bool
     pages == part.number as usize + 1 && !has_pairs(after, part.number)
 }
 
-// Whether the page with a number has pairs.
+// Returns `true` if the page with this number has pairs.
 fn has_pairs(image: &Image<Global>, number: u32) -> bool
     ensures { result ≡ true → pairs_at image.now number ≢ [] }
 {

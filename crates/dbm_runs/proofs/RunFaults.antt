@@ -25,7 +25,7 @@ use Rattle.dbm_script.specs.declared.notations.Notation.{Notation}
 use Rattle.dbm_reports.specs.declared.report.Report.{Report}
 use Rattle.dbm_script.specs.declared.run_words.RunWords.{RunWords}
 
--- no cause but that no memory was left
+-- no cause except a failed allocation
 no_fault : (causes : Causes) (fault : ReportFault) → IsCaused no_causes fault → IsCaused causes fault
 no_fault causes BadHex h = absurd h
 no_fault causes BadText h = absurd h
@@ -56,7 +56,7 @@ opened_fault form given false TooLong opens h = h
 opened_fault form given false OutputTooLong opens h = h
 opened_fault form given false NoMemory opens h = h
 
--- the same database, whatever the program's file is
+-- the same database, with any program file
 pub same_opened : (form : Form) (given other : Given) (db : Database) → other.dir ≡ given.dir → other.pag ≡ given.pag → IsOpened form other db → IsOpened form given db
 same_opened form given other db dir pag o = record {
   spells = rw (← dir, ← pag) o.spells;
@@ -65,7 +65,7 @@ same_opened form given other db dir pag o = record {
   only = λ db' kind size spells. o.only db' kind size (rw (dir, pag) spells);
 }
 
--- the program that a registry without programs gives the first number
+-- the program that gets the first number in an empty registry
 pub given_program : (old new : Registered) (image : List ℕ) (id : ℕ) → old.programs ≡ [] → Gives old image id new → (p : Accepted) × (IsProgramOf image p × (slice_get new.programs id ≡ Some p))
 given_program old new image id empty (inl there) = absurd (nothing_there id (subst (λ (programs : List Accepted). StandsAt programs image id) empty there.0))
   where
@@ -90,14 +90,14 @@ ran_program programs key prog arg blank now command is = by_program (slice_get p
     by_program None at e = let f : ⊥ = cc in absurd f
     by_program (Some p) at e = (p, (at, same_Some command (Run key p.code arg blank now) e))
 
--- why an image gets no number where there are no programs
+-- why an empty registry refuses an image
 pub denied : (old new : Registered) (image : List ℕ) (fault : RegFault) → old.programs ≡ [] → fault ≢ reg.NoMemory → Refuses old image fault new → Denies [] image fault
 denied old new image reg.NoMemory empty told refuses = absurd (told refl)
 denied old new image (reg.Decode fault) empty told refuses = refuses.1.0
 denied old new image (reg.Verify fault) empty told refuses = refuses.1.0
 denied old new image reg.Full empty told refuses = (refuses.1.0, ap length (sym empty) ∙ refuses.1.1.0)
 
--- after a run there is a database to be written
+-- after a run a database has to be written
 pub ran_on : (n : Notation Global) (before : Database) (words : RunWords Global) (expect : Option ℕ) (image : List ℕ) (report : Report) → RunsImage n before words expect image report → is_some report.database ≡ true
 ran_on n before words expect image report (inl h) = ap (λ (db : Option Database). is_some db) h.1.1.1.1
 ran_on n before words expect image report (inr h) = ap (λ (db : Option Database). is_some db) h.1.1.written

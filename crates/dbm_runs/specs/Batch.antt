@@ -1,4 +1,4 @@
--- What `batch` takes and asks.
+-- The arguments of `batch` and the request that they make.
 use Rattle.std.specs.Prelude.{◌≡◌, List, ◌∷◌, None, codes}
 use Rattle.std.specs.Option.{option_map_or}
 use Rattle.clap.specs.Words.{Shape, Row, Text, first_of, new_rule}
@@ -6,11 +6,11 @@ use Rattle.dbm_words.specs.Given.{IsForm, IsNotation, IsWord, is_given}
 use Rattle.dbm_runs.specs.declared.batch.Batch.{Batch}
 use Rattle.dbm_words.specs.CommandLine.{required_word, flag, subcommand, writing_in}
 
--- the word that stands for so many workers as there are cores, also where no word says how many
+-- the word for one worker per core, which is also the default
 abbrev pub each_core : Text
 each_core = codes "cores"
 
--- how many workers the words say
+-- the number of workers, as a word
 abbrev pub workers_in : List Row → Text
 workers_in rows = option_map_or (λ word. word) (first_of (codes "WORKERS") rows) each_core
 

@@ -1,4 +1,4 @@
--- What `run` takes and asks, what comes of it, and why nothing does.
+-- The arguments of `run`, its results and its errors.
 use Rattle.std.specs.Prelude.{◌≡◌, ℕ, List, ◌∷◌, codes}
 use Rattle.clap.specs.Words.{Shape, Row}
 use Rattle.dbm_words.specs.Given.{IsForm, IsGiven, IsNotation, IsWord, is_given}
@@ -18,7 +18,7 @@ abbrev pub RunAsks : List Row → Run → Type 0
 RunAsks rows run =
     IsWord (codes "BASE") rows run.base × (IsForm rows run.form × (IsNotation rows run.notation × (IsWord (codes "KEY") rows run.key × (IsWord (codes "FILE") rows run.file × (IsWord (codes "ARG") rows run.arg × (IsWord (codes "BLANK") rows run.blank × (IsWord (codes "NOW") rows run.now × (IsGiven (codes "expect") rows run.expect × ((run.image ≡ is_given (codes "image") rows) × (run.raw_key ≡ is_given (codes "raw-key") rows))))))))))
 
--- the words of a run, by that of its key
+-- the words of a run, given the bytes of its key
 abbrev pub texts_by : List ℕ → Run → RunTexts
 texts_by key run = record { key = key; arg = run.arg.now; blank = run.blank.now; now = run.now.now; expect = run.expect }
 

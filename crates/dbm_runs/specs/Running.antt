@@ -1,4 +1,4 @@
--- The run of a program of a file on a database, and why there is none.
+-- A run of a program from a file on a database, and its errors.
 use Rattle.std.specs.Prelude.{◌≡◌, ℕ, ◌⊎◌, Bool, true, false, List, [], Option, Some, None, IsSome, option_map}
 use Rattle.std.specs.Borrow.{Bor}
 use Rattle.std.specs.declared.alloc.Global.{Global}
@@ -20,7 +20,7 @@ use Rattle.dbm_script.specs.Numbers.{number_of}
 use Rattle.dbm_reports.specs.Reports.{Changes, IsFileImage, Refuses}
 use Rattle.dbm_reports.specs.Causes.{Causes, no_causes, file_causes}
 
--- the words of a run, and the code with which it is to end, as they were given
+-- the words of a run, and its expected code, as they were given
 pub record RunTexts : Type 0 where
   pub key : List ℕ
   pub arg : List ℕ
@@ -28,7 +28,7 @@ pub record RunTexts : Type 0 where
   pub now : List ℕ
   pub expect : Option (Bor (List ℕ))
 
--- the code with which a run is to end, where there is one
+-- the expected code of a run, if any; `None` if the option is not a number
 abbrev pub expected_code : Option (Bor (List ℕ)) → Option (Option ℕ)
 expected_code None = Some None
 expected_code (Some text) = option_map Some (number_of 18446744073709551615 text.now)
@@ -37,14 +37,14 @@ expected_code (Some text) = option_map Some (number_of 18446744073709551615 text
 abbrev pub run_asked : Notation Global → RunTexts → Option (RunWords Global)
 run_asked notation texts = run_words_of notation texts.key texts.arg texts.blank texts.now
 
--- what they mean, and the code with which it is to end
+-- the meaning of the words, and the expected code
 abbrev pub AreRunWords : Notation Global → RunTexts → RunWords Global → Option ℕ → Type 0
 AreRunWords notation texts words expect = (run_asked notation texts ≡ Some words) × (expected_code texts.expect ≡ Some expect)
 
 abbrev pub Means : Notation Global → RunTexts → Type 0
 Means notation texts = (words : RunWords Global) × ((expect : Option ℕ) × AreRunWords notation texts words expect)
 
--- the words mean a run, and the code is no number
+-- the words are valid, but the code is not a number
 abbrev pub HasBadCode : Notation Global → RunTexts → Type 0
 HasBadCode notation texts = IsSome (run_asked notation texts) × (expected_code texts.expect ≡ None)
 
@@ -55,7 +55,7 @@ word_causes notation texts = record no_causes {
   numbers = HasBadNumber notation texts.key texts.arg texts.blank texts.now ⊎ HasBadCode notation texts;
 }
 
--- the files of a database, and then a program's file
+-- the database's files are opened first, then the program's file is read
 abbrev pub program_causes : Form → Given → Bool → Causes
 program_causes form given is_image = record no_causes {
   opening = IsShut form given;
@@ -63,7 +63,7 @@ program_causes form given is_image = record no_causes {
   assembling = λ fault. Opens form given × (file_causes is_image given.file.items).assembling fault;
 }
 
--- a run: its words come before the files
+-- a run checks its words before it opens files
 abbrev pub run_causes : Notation Global → Form → Given → RunTexts → Bool → Causes
 run_causes notation form given texts is_image = record no_causes {
   words = (word_causes notation texts).words;
@@ -74,19 +74,19 @@ run_causes notation form given texts is_image = record no_causes {
   assembling = λ fault. Means notation texts × (program_causes form given is_image).assembling fault;
 }
 
--- the status where the program is refused: 3 where it is to end with a code
+-- the status if the program is refused: 3 if a code is expected
 abbrev pub refusal_status : Option ℕ → ℕ
 refusal_status None = 1
 refusal_status (Some code) = 3
 
--- The run of an image's accepted program answers a command, after which the files are written; or the image gets no number in a
--- registry without programs, and the files are written as they are.
+-- Either the accepted program of the image runs and answers a command, and the files are written; or a registry without programs
+-- refuses the image, and the files are written with the database unchanged.
 abbrev pub RunsImage : Notation Global → Database → RunWords Global → Option ℕ → List ℕ → Report → Type 0
 RunsImage notation before words expect image report =
     ((p : Accepted) × (IsProgramOf image p × Changes notation before (Run words.key p.code words.arg words.blank words.now) expect report))
     ⊎ ((fault : RegFault) × (Denies [] image fault × Refuses fault (refusal_status expect) (Some before) report))
 
--- what comes of a run by its words, on the database of the files, of the program of a file
+-- the result of a run on the database of the files, with the program of a file
 pub record OnRun (notation : Notation Global) (form : Form) (given : Given) (texts : RunTexts) (is_image : Bool) (report : Report) : Type 0 where
   pub before : Database
   pub opened : IsOpened form given before

@@ -1,4 +1,4 @@
-//! The words of `batch`: a program runs on the records of many keys, by workers side by side.
+//! The words of `batch`: workers run a program on the records of many keys in parallel.
 ghost use Rattle.std.specs.Prelude.{◌≡◌, IfOk, IfSome, IsNone, codes, false};
 ghost use Rattle.clap.specs.Words.{found_of, new_rule, rows_of, rule_of};
 ghost use Rattle.dbm_words.specs.CommandLine.{IsSubcommand};
@@ -16,11 +16,11 @@ use dbm_words::{
 };
 use std::alloc::{AllocError, Global};
 
-/// The word for as many workers as there are cores.
+/// The word for one worker per core.
 pub const EACH_CORE: &str = "cores";
 
-/// A program is to be run on the records of many keys by so many workers, each run as a line on standard input says: the program
-/// of a text, or with `image` that of a program image.
+/// Runs a program on the records of many keys, one run for each line of standard input, with `workers` workers. The file is the text of the
+/// program, or with `image` its program image.
 #[derive(Clone, Copy, Debug)]
 pub struct Batch<'a> {
     pub base: &'a str,
@@ -29,14 +29,14 @@ pub struct Batch<'a> {
     pub file: &'a str,
     pub workers: &'a str,
     pub image: bool,
-    /// Its lines may ask the time of day.
+    /// Its lines may request the time of day.
     pub clock: bool,
-    /// The time that its lines are told, once the clock was read.
+    /// The time for its lines, once the clock was read.
     pub time: Option<TimeOfDay>,
 }
 
 impl<'a> Batch<'a> {
-    /// What the matches of `batch` ask. There is none where they lack a word that it has to have.
+    /// Reads the matches of `batch`. Returns `None` if a required argument is missing.
     pub fn matched(matches: &ArgMatches<'a>) -> Option<Batch<'a>>
         ensures some { IfSome result (BatchAsks (rows_of (found_of matches.now))) }
         ensures none { IsNone result → has_words spec.batch.rules (rows_of (found_of matches.now)) ≡ false }
@@ -53,7 +53,7 @@ impl<'a> Batch<'a> {
         })
     }
 
-    /// Its words, as sentences show them.
+    /// Its words as messages show them.
     pub fn words(&self) -> Words<'a> {
         Words {
             file: Some(self.file),
@@ -67,7 +67,7 @@ impl<'a> Batch<'a> {
     }
 }
 
-// How many workers the words say, or that there are to be as many as there are cores.
+// The number of workers as a word. The default is one per core.
 fn workers_in<'a>(matches: &ArgMatches<'a>) -> &'a str
     ensures { result.now ≡ spec.workers_in (rows_of (found_of matches.now)) }
 {
@@ -77,7 +77,7 @@ fn workers_in<'a>(matches: &ArgMatches<'a>) -> &'a str
     }
 }
 
-// The word for that, which may be left out.
+// The optional word for the number of workers.
 fn workers_word<'a>(alloc: Global) -> Arg<'a>
     ensures rule { rule_of result ≡ new_rule (codes "WORKERS") }
     ensures local { result.global ≡ false }
@@ -87,10 +87,10 @@ fn workers_word<'a>(alloc: Global) -> Arg<'a>
     Arg::new(alloc, "WORKERS").help(help)
 }
 
-/// The subcommand `batch`, as `clap` is told it.
+/// Defines the subcommand `batch` for `clap`.
 ///
 /// # Errors
-/// `AllocError` where no memory is left.
+/// `AllocError` if allocation fails.
 pub fn batch_command<'a>(alloc: Global) -> Result<Command<'a>, AllocError>
     ensures { IfOk result (IsSubcommand spec.batch) }
 {

@@ -1,4 +1,4 @@
-//! `run`: a program runs on the record of a key.
+//! `run`: runs a program on the record of a key.
 ghost use Rattle.std.specs.Prelude.{◌≡◌, IfOk, IfSome, IsNone, false, IfErr};
 ghost use Rattle.clap.specs.Words.{found_of, rows_of};
 ghost use Rattle.dbm_words.specs.CommandLine.{IsSubcommand};
@@ -23,8 +23,8 @@ use dbm_words::{
 use std::alloc::{AllocError, Global};
 use std::io::Read;
 
-/// A program is to be run on the record of a key: that of a text, or with `image` that of an image. `expect` is the code with
-/// which it is to end.
+/// Runs a program on the record of a key. The file is the text of the program, or with `image` its program image. `expect` is the code that
+/// the run has to return.
 #[derive(Clone, Copy, Debug)]
 pub struct Run<'a> {
     pub base: &'a str,
@@ -37,12 +37,12 @@ pub struct Run<'a> {
     pub now: &'a str,
     pub expect: Option<&'a str>,
     pub image: bool,
-    /// The bytes of the key are those of its word.
+    /// Takes the bytes of the key's word unchanged.
     pub raw_key: bool,
 }
 
 impl<'a> Run<'a> {
-    /// What the matches of `run` ask. There is none where they lack a word that it has to have.
+    /// Reads the matches of `run`. Returns `None` if a required argument is missing.
     pub fn matched(matches: &ArgMatches<'a>) -> Option<Run<'a>>
         ensures some { IfSome result (RunAsks (rows_of (found_of matches.now))) }
         ensures none { IsNone result → has_words spec.run.rules (rows_of (found_of matches.now)) ≡ false }
@@ -62,7 +62,7 @@ impl<'a> Run<'a> {
         })
     }
 
-    /// Its words, as sentences show them.
+    /// Its words as messages show them.
     pub fn words(&self) -> Words<'a> {
         Words {
             file: Some(self.file),
@@ -83,7 +83,7 @@ impl<'a> Run<'a> {
         }
     }
 
-    // The word for its key, as sentences show it; a raw one is always bytes.
+    // The word for its key as messages show it; a raw key is always valid bytes.
     fn named_key(&self) -> Option<Named<'a>> {
         if self.raw_key {
             return None;
@@ -95,10 +95,10 @@ impl<'a> Run<'a> {
     }
 }
 
-/// The subcommand `run`, as `clap` is told it.
+/// Defines the subcommand `run` for `clap`.
 ///
 /// # Errors
-/// `AllocError` where no memory is left.
+/// `AllocError` if allocation fails.
 pub fn run_command<'a>(alloc: Global) -> Result<Command<'a>, AllocError>
     ensures { IfOk result (IsSubcommand spec.run) }
 {
@@ -151,8 +151,8 @@ pub fn run_command<'a>(alloc: Global) -> Result<Command<'a>, AllocError>
     subcommand(alloc, "run", about, notes, args)
 }
 
-// The database is written after the run. Where the program gets no number, the report says why, as a line of a script would that
-// submits its program image first.
+// The database is written after the run. If the program gets no number, the report says why, like the line of a script that submits the
+// program image first.
 impl Subcommand for Run<'_> {
     ghost use Rattle.std.specs.Prelude.{false, true};
     ghost use Rattle.dbm_runs.specs.Run.{run_in};
@@ -182,10 +182,10 @@ impl Subcommand for Run<'_> {
     }
 }
 
-/// What the words mean, read from left to right, and then the code, where the bytes of the key are these.
+/// Reads the words from left to right, and then the expected code. `key` has the bytes of the key.
 ///
 /// # Errors
-/// `BadHex`, or as text `BadText`, where a word is no bytes, `BadNumber` where one is no number, and `NoMemory`.
+/// `BadHex`, or as text `BadText`, if a word is not valid bytes; `BadNumber` if one is not a number; `NoMemory` if allocation fails.
 pub fn run_words(
     alloc: Global,
     notation: &Notation<Global>,
@@ -204,7 +204,7 @@ pub fn run_words(
     }
 }
 
-// The code with which a run is to end, if with a certain one, and none where the option is no number.
+// The expected code of a run, if any. Returns `None` if the option is not a number.
 fn expected_code(expect: Option<&str>) -> Option<Option<u64>>
     ensures { result ≡ expected_code expect.entry }
 {

@@ -1,4 +1,4 @@
-//! The run of a program of a file on a database.
+//! Runs a program from a file on a database.
 ghost use Rattle.std.specs.Prelude.{◌≡◌, ◌⊎◌, IfOk, IfErr, None, Some, slice_get, IsSome};
 ghost use Rattle.bpf_verify.specs.Verified.{Accepted};
 ghost use Rattle.store_cmd.specs.declared.Command.TheVariants as command;
@@ -14,7 +14,7 @@ use prog_registry::Registry;
 use sdbm_files::Image;
 use std::alloc::{AllocError, Global};
 
-/// The database of the files, and then the image of the program's file.
+/// Opens the database of the files, then reads the image of the program's file.
 ///
 /// # Errors
 /// Those of `open`, and then those of `file_image`.
@@ -32,10 +32,10 @@ pub fn database_and_image(
     Ok((database, image))
 }
 
-/// Runs the program of an image on a database, where it is accepted.
+/// Runs the program of an image on a database if it is accepted.
 ///
 /// # Errors
-/// `AllocError` where no memory is left.
+/// `AllocError` if allocation fails.
 pub fn run_image(
     alloc: Global,
     notation: &Notation<Global>,
@@ -62,7 +62,7 @@ pub fn run_image(
     }
 }
 
-// The status where a program is refused that is to end with a code, or of which nothing is asked.
+// The status if a program is refused, with or without an expected code.
 fn refusal_status(expect: Option<u64>) -> u8
     ensures { result ≡ refusal_status expect }
 {

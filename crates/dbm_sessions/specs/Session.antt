@@ -1,4 +1,4 @@
--- What `session` takes and asks.
+-- The arguments of `session` and the request that they make.
 use Rattle.std.specs.Prelude.{◌≡◌, List, ◌∷◌, codes}
 use Rattle.clap.specs.Words.{Shape, Row}
 use Rattle.dbm_words.specs.CommandLine.{flag, required_word, valued_option, subcommand, writing_in}

@@ -5,15 +5,16 @@ use dbm_script::read_number;
 /// When a session saves by itself.
 #[derive(Clone, Copy, Debug, PartialEq, Eq)]
 pub enum Every {
-    /// At its end alone.
+    /// Only at its end.
     Never,
-    /// After the line with which so many lines have asked changes since the last save.
+    /// After the line that brings the number of changing lines since the last save to this count.
     Changes(u64),
-    /// After the first line that is answered so many seconds after the last save, where lines have asked changes since.
+    /// After the first line answered at least this many seconds after the last save, if lines have requested changes since.
     Seconds(u64),
 }
 
-/// What a word says of it: `N` lines, or `Ns` for seconds. `N` is a decimal number from 1 on, without leading zeros. `None` where it says nothing.
+/// Reads when to save: `N` lines, or `Ns` seconds. `N` is a decimal number from 1, without leading zeros. Returns `None` if the word is
+/// invalid.
 pub fn read_every(word: Option<&str>) -> Option<Every> {
     let Some(word) = word else {
         return Some(Every::Never);
@@ -24,7 +25,7 @@ pub fn read_every(word: Option<&str>) -> Option<Every> {
     }
 }
 
-// A number from 1 on.
+// Reads a number from 1 upwards.
 fn read_count(word: &str) -> Option<u64> {
     match read_number(word.as_bytes(), u64::MAX) {
         Some(0) => None,
@@ -33,7 +34,7 @@ fn read_count(word: &str) -> Option<u64> {
 }
 
 impl Every {
-    /// Whether a save is due, where so many lines have asked changes since the last one, and so many seconds have passed.
+    /// Returns `true` if a save is due, given the number of lines that requested changes since the last save and the seconds since then.
     pub fn is_due(self, changes: u64, seconds: u64) -> bool {
         match self {
             Every::Never => false,

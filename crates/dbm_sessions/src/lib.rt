@@ -1,4 +1,4 @@
-//! The subcommand that answers lines one by one: its words, when it saves, and the lines that scripts do not have.
+//! The words of the subcommand `session`, when it saves by itself, and the lines that scripts do not have. `dbm_session` answers the lines.
 #![tactic(auto)]
 
 mod every;

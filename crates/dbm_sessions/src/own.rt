@@ -21,17 +21,17 @@ The end of the input, Ctrl-D at a terminal, saves and ends the session.
 /// A line that scripts do not have.
 #[derive(Clone, Copy)]
 pub enum OwnLine<'a> {
-    /// It asks for a text about the database.
+    /// Requests a text about the database.
     Shows(Shown<'a>),
-    /// It asks which lines there are.
+    /// Requests the list of lines.
     Help,
-    /// The program in a file of this name is to get a number.
+    /// Requests a number for the program in the file of this name.
     Program(&'a [u8]),
-    /// It asks nothing.
+    /// An invalid line.
     Bad,
 }
 
-/// What such a line asks. A prefix is the word after its name.
+/// Reads such a line. A prefix is the word after its name.
 pub fn read_own(line: &[u8]) -> OwnLine<'_> {
     if line == b"help".as_slice() || line == b".help".as_slice() {
         return OwnLine::Help;
@@ -57,10 +57,10 @@ pub fn read_own(line: &[u8]) -> OwnLine<'_> {
     }
 }
 
-/// Puts what such a line asks after a text. One that asks nothing is answered `bad line`, as in a script.
+/// Appends the answer to such a line to `text`. An invalid line is answered `bad line`, as in a script.
 ///
 /// # Errors
-/// `AllocError` where no memory is left.
+/// `AllocError` if allocation fails.
 pub fn show_own(
     alloc: Global,
     notation: &Notation<Global>,
@@ -82,8 +82,8 @@ pub fn show_own(
     Ok(())
 }
 
-/// The line of a script that submits the program of a text. Returns `None` if the text is not that of a program; a line after `text` names
-/// the fault then. A text without instructions is an empty program, which the verifier refuses.
+/// The line of a script that submits the program in `file`. Returns `None` if the text is not a program; a line appended to `text` then
+/// names the fault. A text without instructions is an empty program, which the verifier refuses.
 ///
 /// # Errors
 /// `AllocError` if allocation fails.
@@ -113,7 +113,7 @@ pub fn program_line(
     Ok(Some(line))
 }
 
-// The line that names why a program's text is refused.
+// Appends the line that says why a program's text is refused.
 fn show_fault(alloc: Global, fault: ReportFault, text: &mut Vec<u8>) -> Result<(), AllocError> {
     let line = format!(in alloc; "refused {fault}\n")?;
     text.extend_from_slice(line.as_bytes())

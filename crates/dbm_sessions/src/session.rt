@@ -1,4 +1,4 @@
-//! `session`: a database that is kept open, and lines on standard input that are answered one by one.
+//! `session`: keeps a database open and answers the lines of standard input one by one.
 ghost use Rattle.std.specs.Prelude.{◌≡◌, IfOk, IfSome, IsNone, false};
 ghost use Rattle.clap.specs.Words.{found_of, rows_of};
 ghost use Rattle.dbm_words.specs.CommandLine.{IsSubcommand};
@@ -15,19 +15,19 @@ use dbm_words::{
 };
 use std::alloc::{AllocError, Global};
 
-/// The lines of standard input are to be answered one by one on a database, which is saved at the end, and in between as `save_every` says.
+/// Answers the lines of standard input one by one. The database is saved at the end, and in between as `save_every` says.
 #[derive(Clone, Copy, Debug)]
 pub struct Session<'a> {
     pub base: &'a str,
     pub form: Form,
     pub notation: NotationOptions<'a>,
     pub save_every: Option<&'a str>,
-    /// Its lines may ask the time of day.
+    /// Its lines may request the time of day.
     pub clock: bool,
 }
 
 impl<'a> Session<'a> {
-    /// What the matches of `session` ask. There is none where they lack a word that it has to have.
+    /// Reads the matches of `session`. Returns `None` if a required argument is missing.
     pub fn matched(matches: &ArgMatches<'a>) -> Option<Session<'a>>
         ensures some { IfSome result (SessionAsks (rows_of (found_of matches.now))) }
         ensures none { IsNone result → has_words spec.session.rules (rows_of (found_of matches.now)) ≡ false }
@@ -41,7 +41,7 @@ impl<'a> Session<'a> {
         })
     }
 
-    /// Its words, as sentences show them.
+    /// Its words as messages show them.
     pub fn words(&self) -> Words<'a> {
         Words {
             subject: Subject::Session,
@@ -55,10 +55,10 @@ impl<'a> Session<'a> {
     }
 }
 
-/// The subcommand `session`, as `clap` is told it.
+/// Defines the subcommand `session` for `clap`.
 ///
 /// # Errors
-/// `AllocError` where no memory is left.
+/// `AllocError` if allocation fails.
 pub fn session_command<'a>(alloc: Global) -> Result<Command<'a>, AllocError>
     ensures { IfOk result (IsSubcommand spec.session) }
 {

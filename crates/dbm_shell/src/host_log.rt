@@ -1,4 +1,4 @@
-//! A log of what a session asks of its host, which only clauses read.
+//! A log of a session's calls to its host, which only clauses read.
 ghost use Rattle.std.specs.Prelude.{◌≡◌, ◌++◌, ◌∷◌, [], List};
 ghost use Rattle.std.specs.Coded.{coded_list};
 ghost use base.Fml.{ftrue};
@@ -10,7 +10,7 @@ use sdbm_files::Image;
 use std::alloc::Global;
 use std::marker::Model;
 
-/// The saves of a host and the times that it gave, in order, as clauses see them. It has no bytes and owns nothing.
+/// The saves of a host and the times that it returned, in order, for clauses. It has no bytes and owns nothing.
 pub(crate) struct HostLog {
     pub(crate) ghost calls: { List HostCall } by { coded_list coded_call },
 }
@@ -27,7 +27,7 @@ impl HostLog {
         HostLog {}
     }
 
-    /// The log with a time after it.
+    /// Appends a time to the log.
     pub(crate) fn with_time(&self, time: &Option<TimeOfDay>) -> HostLog
         ensures { result.calls ≡ self.now.calls ++ GaveTime time.now ∷ [] }
     {
@@ -35,7 +35,7 @@ impl HostLog {
         HostLog {}
     }
 
-    /// The log with a save after it, which was committed.
+    /// Appends a committed save to the log.
     pub(crate) fn with_save(&self, image: &Image<Global>) -> HostLog
         ensures { result.calls ≡ self.now.calls ++ DidSave image.now ∷ [] }
     {

@@ -16,13 +16,13 @@ use std::rt::Runtime;
 use std::time::Clock;
 
 /// Answers the lines of a reader on the database of files that were taken, and saves it there. No other run may change the database until
-/// the end; others may read it between two saves.
+/// the end; other runs may read it between two saves.
 ///
 /// # Errors
 /// `Report` with `BadLayout` if the layout of values is invalid, with `BadNumber` if `--save-every` is, and with `Open` if the files do not
-/// open, before a line is read; then `Report` with `Read`, and with `TooLong` if a line has more than 16,777,216 bytes, `Write` if an answer
-/// was not written, those of a save, and `NoMemory`. The changes since the last save are lost then, and a note says how many lines asked for
-/// them. `CutLine` if the input ends within a line: that line is not run, and the changes before it are saved.
+/// open, before a line is read; then `Report` with `Read`, and with `TooLong` if a line has more than 16,777,216 bytes, `Write` if an
+/// answer was not written, those of a save, and `NoMemory`. The changes since the last save are lost then, and a note says how many lines
+/// requested them. `CutLine` if the input ends within a line: that line is not run, and the changes before it are saved.
 pub fn serve_session<R: Runtime<File = File> + Clock + AllocGlobal, I: Read>(
     rt: &R,
     session: Session<'_>,
@@ -49,7 +49,7 @@ pub fn serve_session<R: Runtime<File = File> + Clock + AllocGlobal, I: Read>(
     answer_lines(rt, &notation, image, reader, &mut shell)
 }
 
-// The database of the files. Their bytes are dropped.
+// Opens the database of the files, and drops their bytes.
 fn opened(
     alloc: Global,
     session: Session<'_>,
@@ -63,7 +63,7 @@ fn opened(
     Ok(open(alloc, &given, session.form)?)
 }
 
-// Answers the lines. After a fault it reports how many of them are lost.
+// Answers the lines. After a fault it reports the number of lines whose changes are lost.
 fn answer_lines<R: Runtime<File = File> + Clock + AllocGlobal, I: Read>(
     rt: &R,
     notation: &Notation<Global>,
@@ -89,7 +89,7 @@ fn answer_lines<R: Runtime<File = File> + Clock + AllocGlobal, I: Read>(
     }
 }
 
-// The fault of the program.
+// The fault of a session as a fault of the program.
 fn serve_fault(fault: SessionFault<FilesFault>) -> ServeFault {
     match fault {
         SessionFault::Read => ServeFault::Report(ReportFault::Read),

@@ -19,7 +19,7 @@ use std::rt::Runtime;
 use std::time::{Clock, Duration, SystemTime, UNIX_EPOCH};
 use stock_names::{NAMES, ProgramWord, read_word};
 
-/// What the words ask of a session: the notation of its lines, when it saves by itself, and whether its lines may ask for the time of day.
+/// The options of a session: the notation of its lines, when it saves by itself, and whether its lines may request the time of day.
 #[derive(Clone, Copy)]
 pub struct Options<'a> {
     pub notation: &'a Notation<Global>,
@@ -27,9 +27,9 @@ pub struct Options<'a> {
     pub clock: bool,
 }
 
-/// The files of a session's database, the clock, and the terminal at which its lines are typed, if there is one. Its saves share a log, which is
-/// open from the first one on. It keeps which files they are, since a save is into these alone. Clauses see its saves and the times that it
-/// gave by a log of its own.
+/// The files of a session's database, the clock, and the terminal for typing its lines, if there is one. Its saves share a log, which is
+/// open from the first one on. It remembers the identity of its files, since a save may only go into these. Clauses see its saves and the
+/// times that it returned through a separate log.
 #[derive(Drop)]
 pub struct Shell<'a, R: Runtime<File = File>> {
     rt: &'a R,
@@ -41,15 +41,15 @@ pub struct Shell<'a, R: Runtime<File = File>> {
     saves: SessionSaves<'a, R>,
     options: Options<'a>,
     is_prompted: bool,
-    // How many lines have asked for changes since the last save.
+    // The number of lines that requested changes since the last save.
     changes: u64,
-    // When it was saved last. If the system does not tell, a save is due.
+    // The time of the last save. If the system does not report it, a save is due.
     saved_at: Option<Duration>,
     log: HostLog,
 }
 
 impl<'a, R: Runtime<File = File> + Clock + AllocGlobal> Shell<'a, R> {
-    /// The host of a session of which no line was read.
+    /// The host of a session before any line is read.
     pub fn new(
         rt: &'a R,
         place: RunPlace<'a>,
@@ -72,14 +72,14 @@ impl<'a, R: Runtime<File = File> + Clock + AllocGlobal> Shell<'a, R> {
         }
     }
 
-    /// Reports how many lines have asked for changes that are not saved, if there are any.
+    /// Reports the number of lines whose changes are not saved, if there are any.
     pub fn tell_unsaved(&self) {
         if self.changes > 0 {
             note_unsaved(self.rt, self.changes);
         }
     }
 
-    // The time of day. `None` if lines may not ask for it, or the system does not tell it.
+    // The time of day. `None` if lines may not request it, or the system does not report it.
     fn clock_time(&self) -> Option<TimeOfDay> {
         if !self.options.clock {
             return None;
@@ -107,15 +107,15 @@ impl<'a, R: Runtime<File = File> + Clock + AllocGlobal> Shell<'a, R> {
         Ok(self.log.with_save(image))
     }
 
-    /// Ends the saves of the session: both data files are whole then. If a file cannot be written, it reports that the next run that writes does
-    /// the rest.
+    /// Ends the saves of the session: both data files are whole then. If a file cannot be written, it reports that the next run that writes
+    /// finishes the save.
     pub fn end_saves(&mut self) {
         if close_session(self.rt, self.held, &mut self.saves).is_err() {
             note_waiting_save(self.rt, self.place.base);
         }
     }
 
-    // The seconds since the last save, as far as the system tells them.
+    // The seconds since the last save, as far as the system reports them.
     fn seconds(&self) -> u64 {
         let (Some(saved_at), Ok(now)) = (self.saved_at, self.rt.monotonic()) else {
             return u64::MAX;
@@ -131,8 +131,8 @@ impl<'a, R: Runtime<File = File> + Clock + AllocGlobal> Shell<'a, R> {
         }
     }
 
-    // The line that submits the program that a word names: a stock program, or the one in a file of this name. `None` if there is no such
-    // program, and then a line after the text says why.
+    // The line that submits the named program: a stock program, or the one in a file of this name. `None` if there is no such
+    // program; a line appended to `text` then says why.
     fn program(&self, name: &[u8], text: &mut Vec<u8>) -> Result<Option<Vec<u8>>, AllocError>
         ensures { IfOk result (λ line. IfSome line (λ full. starts_with nat_eq full.items (codes "program ") ≡ true)) }
     {

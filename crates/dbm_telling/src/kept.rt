@@ -1,4 +1,4 @@
-//! Lines of a script that ask nothing, found once it was answered.
+//! Keeps the input and watches the output of a script, to find its invalid lines once it was answered.
 
 ghost use Rattle.std.specs.Prelude.{◌≡◌, ◌<◌, ◌≤◌, ◌++◌, length, take, drop};
 
@@ -10,31 +10,31 @@ use memchr::memmem;
 use std::alloc::Global;
 use std::io::{self, ErrorKind, Read, Write};
 
-// How many bytes are read ahead at once.
+// The number of bytes to read ahead at once.
 const PIECE: usize = 65_536;
 
-/// A reader that keeps what it gives, where a note may show it. Where memory runs out it keeps nothing.
+/// A reader that records what it returns, for a note. If memory runs out it records nothing.
 #[derive(Drop)]
 pub struct Kept<R: Read> {
     reader: R,
-    // What was read ahead, and how much of it was given.
+    // The bytes that were read ahead, and the number of those already returned.
     ahead: Vec<u8>,
     given: usize,
     text: Vec<u8>,
     keeps: bool,
     has_lost: bool,
-    /// Whether `bad line` is among the answers to what was read.
+    /// `bad line` is among the answers to the input.
     pub has_bad_line: bool,
-    /// Why a program was refused that was to be run.
+    /// Why the program of a run was refused.
     pub refusal: Option<String>,
-    /// Whether the reader of a pipe was gone to which answers were written.
+    /// The answers went to a pipe whose reader was gone.
     pub has_no_reader: bool,
-    /// Whether the change is kept in the redo file, and not done in the files of the database.
+    /// The change is durable in the redo file, but not yet done in the files of the database.
     pub is_pending: bool,
 }
 
 impl<R: Read> Kept<R> {
-    /// The reader, of which nothing was read. What it gives is kept where it `keeps`.
+    /// Wraps a reader before anything is read. It records what it returns if it `keeps`.
     pub fn new(alloc: Global, reader: R, keeps: bool) -> Self {
         Kept {
             reader,
@@ -50,7 +50,7 @@ impl<R: Read> Kept<R> {
         }
     }
 
-    /// Reads ahead, about so many bytes at most, which later reads give. What cannot be read, or finds no memory, is left to those.
+    /// Reads ahead about `most` bytes, which later reads return. Errors and failed allocations are left to those reads.
     pub fn read_ahead(&mut self, most: usize) {
         for _ in 0..u64::MAX {
             if self.ahead.len() >= most || !self.read_piece() {
@@ -59,7 +59,7 @@ impl<R: Read> Kept<R> {
         }
     }
 
-    // Reads a piece ahead, and returns whether more may follow.
+    // Reads a piece ahead. Returns `true` if more may follow.
     fn read_piece(&mut self) -> bool {
         let len = self.ahead.len();
         if self.ahead.resize(len.saturating_add(PIECE), 0).is_err() {
@@ -73,7 +73,7 @@ impl<R: Read> Kept<R> {
         more
     }
 
-    // Gives bytes that were read ahead, and returns how many.
+    // Copies bytes that were read ahead to `buf`, and returns their number.
     fn give(&mut self, buf: &mut [u8]) -> usize
         requires some { self.old.given < length self.old.ahead.items }
         ensures count { result ≤ length buf.old }
@@ -89,7 +89,7 @@ impl<R: Read> Kept<R> {
         count
     }
 
-    /// What was kept, and nothing where memory ran out.
+    /// The recorded bytes. Empty if memory ran out.
     pub fn text(&self) -> &[u8] {
         if self.has_lost {
             return &[];
@@ -117,7 +117,7 @@ impl<R: Read> Read for Kept<R> {
     }
 }
 
-/// A writer that looks for `bad line` in what it is given, and whether a pipe has a reader.
+/// A writer that looks for `bad line` in its output, and notices if the reader of a pipe is gone.
 #[derive(Drop)]
 pub struct Watched<W: Write> {
     writer: W,
@@ -126,7 +126,7 @@ pub struct Watched<W: Write> {
 }
 
 impl<W: Write> Watched<W> {
-    /// The writer, which was given nothing.
+    /// Wraps a writer before anything is written.
     pub fn new(writer: W) -> Self {
         Watched {
             writer,
@@ -135,12 +135,12 @@ impl<W: Write> Watched<W> {
         }
     }
 
-    /// Whether it was given that answer.
+    /// Returns `true` if `bad line` was written.
     pub fn has_bad_line(&self) -> bool {
         self.has_bad_line
     }
 
-    /// Whether it is a pipe, and its reader was gone.
+    /// Returns `true` if it is a pipe and its reader was gone.
     pub fn has_no_reader(&self) -> bool {
         self.has_no_reader
     }
@@ -163,18 +163,18 @@ impl<W: Write> Write for Watched<W> {
     }
 }
 
-/// Whether `bad line` is among some answers.
+/// Returns `true` if `bad line` is among some answers.
 pub fn has_bad_line(answers: &[u8]) -> bool {
     memmem::find(answers, b"bad line\n").is_some()
 }
 
-/// Whether an answer is that the verifier refuses a program.
+/// Returns `true` if an answer says that the verifier refuses a program.
 pub fn is_refused(answer: &[u8]) -> bool {
     answer.starts_with(b"refused Verify(")
 }
 
-/// The note on the lines of a script that ask nothing in the notation of its options: which is the first, and how many more there
-/// are. With a clock they may ask the time of day. `None` where there are none.
+/// The note on the invalid lines of a script, read in the notation of its options: the first one, and the number of further ones. With a
+/// clock the lines may request the time of day. Returns `None` if all lines are valid.
 pub fn note_of_bad_lines(
     alloc: Global,
     options: NotationOptions<'_>,
@@ -184,7 +184,7 @@ pub fn note_of_bad_lines(
     let Ok(notation) = notation_by(alloc, options) else {
         return None;
     };
-    // Whether a line asks anything is the same at each time.
+    // The time does not change whether a line is valid.
     let time = clock.then_some(TimeOfDay {
         seconds: 0,
         millis: 0,
@@ -199,7 +199,7 @@ pub fn note_of_bad_lines(
     Some(bad_lines_note(first.saturating_add(1), count - 1))
 }
 
-/// The note on the first line of a text that ends in CR. `None` where none does. A comment of a script may.
+/// The note on the first line of a text that ends in CR. Returns `None` if no line does. A comment in a script may end so.
 pub fn note_of_line_end(lines: Lines, text: &[u8]) -> Option<Sentence<'static>> {
     for (at, line) in text.split(|byte| *byte == b'\n').enumerate() {
         let is_comment = lines == Lines::OfScript && line.starts_with(b"#");
@@ -210,7 +210,7 @@ pub fn note_of_line_end(lines: Lines, text: &[u8]) -> Option<Sentence<'static>> 
     None
 }
 
-/// The note on the last line of a script or a batch that was run, if it has no LF after it. A comment of a script needs none.
+/// The note on the last line of a script or a batch that was run, if it has no LF after it. A comment in a script needs none.
 pub fn note_of_half_line(lines: Lines, text: &[u8]) -> Option<Sentence<'static>> {
     let mut count = 0u64;
     let mut last = text;
@@ -224,7 +224,7 @@ pub fn note_of_half_line(lines: Lines, text: &[u8]) -> Option<Sentence<'static>>
     Some(half_line_note(count))
 }
 
-// The first of the lines that ask nothing, counted from 0, and how many there are.
+// The first invalid line, counted from 0, and the number of invalid lines.
 fn count_bad_lines(alloc: Global, notation: &Notation<Global>, script: &[u8]) -> (u64, u64) {
     let mut first = 0u64;
     let mut count = 0u64;
@@ -239,7 +239,7 @@ fn count_bad_lines(alloc: Global, notation: &Notation<Global>, script: &[u8]) ->
     (first, count)
 }
 
-// Whether a line asks nothing. An empty one is skipped.
+// Returns `true` if a line is invalid. An empty line is skipped.
 fn is_bad(alloc: Global, notation: &Notation<Global>, line: &[u8]) -> bool {
     !line.is_empty() && matches!(read_line(alloc, notation, line), Ok(None))
 }

@@ -1,4 +1,5 @@
-//! What the program prints on standard error after a fault and beside an answer, and what it keeps for that of standard input and output.
+//! Prints sentences and notes on standard error after a fault or an answer, and records the parts of standard input and output that they
+//! need.
 #![tactic(auto)]
 
 mod findings;

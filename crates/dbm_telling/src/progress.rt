@@ -1,4 +1,4 @@
-//! How far a command is that takes its time, as it says at a terminal.
+//! Reports the progress of a slow command at a terminal.
 
 use crate::terminal::is_at_terminal;
 use dbm_places::{names_of, resolve};
@@ -7,10 +7,10 @@ use std::io::{self, Read};
 use std::rt::Runtime;
 use std::time::{Clock, Duration};
 
-/// A `.pag` of so many bytes takes a command about a second.
+/// A command takes about a second for a `.pag` of this length in bytes.
 const LONG_FILE: u64 = 67_108_864;
 
-/// A command that takes its time on a large database.
+/// A command that is slow on a large database.
 #[derive(Clone, Copy)]
 pub enum Work {
     Backup,
@@ -21,7 +21,7 @@ pub enum Work {
 }
 
 impl Work {
-    // What the command does once it has read the files.
+    // The step of the command after it has read the files.
     fn doing(self) -> &'static str {
         match self {
             Work::Backup | Work::Check => "checking",
@@ -32,7 +32,7 @@ impl Work {
     }
 }
 
-/// Says that the files of a base are read, where the command takes its time on them and standard error is a terminal.
+/// Reports that the files of a base are being read, if the command is slow on them and standard error is a terminal.
 pub fn tell_reading<R: Runtime<File = File> + AllocGlobal>(
     rt: &R,
     work: Option<Work>,
@@ -46,21 +46,21 @@ pub fn tell_reading<R: Runtime<File = File> + AllocGlobal>(
     }
 }
 
-/// Says that a command is at work on the bytes of a `.pag`, where it takes its time on them and standard error is a terminal.
+/// Reports that a command is working on a `.pag` of `len` bytes, if it is slow on it and standard error is a terminal.
 pub fn tell_work<R: Runtime<File = File> + AllocGlobal>(rt: &R, work: Option<Work>, len: u64) {
     if let Some(work) = work {
         tell_step(rt, work.doing(), len);
     }
 }
 
-/// Says that a `.pag` of so many bytes is saved, where that takes its time and standard error is a terminal.
+/// Reports that a `.pag` of `len` bytes is being saved, if that is slow and standard error is a terminal.
 pub fn tell_saving<R: Runtime<File = File> + AllocGlobal>(rt: &R, work: Option<Work>, len: u64) {
     if work.is_some() {
         tell_step(rt, "saving", len);
     }
 }
 
-// Says what is done with a long `.pag`. Where standard error fails, nobody is told.
+// Reports a step on a long `.pag`. Errors of standard error are ignored.
 fn tell_step<R: Runtime<File = File> + AllocGlobal>(rt: &R, step: &str, len: u64) {
     if len >= LONG_FILE && is_at_terminal(rt) {
         let mebibytes = len >> 20;
@@ -68,14 +68,14 @@ fn tell_step<R: Runtime<File = File> + AllocGlobal>(rt: &R, step: &str, len: u64
     }
 }
 
-// The length of the `.pag` of a base, where it is there.
+// The length of the `.pag` of a base, if the file exists.
 fn pages_len<R: Runtime<File = File> + AllocGlobal>(rt: &R, base: &str) -> Option<u64> {
     let base = resolve(rt, base).ok()?;
     let names = names_of(rt.alloc(), base.as_str()).ok()?;
     Some(fs::metadata(rt, names.pages.as_str()).ok()?.len())
 }
 
-// How much was read, and when that was told.
+// The number of bytes read, and the time of the last report.
 #[derive(Drop)]
 struct Meter<R: Runtime> {
     rt: R,
@@ -85,7 +85,7 @@ struct Meter<R: Runtime> {
 }
 
 impl<R: Runtime<File = File> + Clock + AllocGlobal> Meter<R> {
-    // Of nothing that was read yet. There is none but for a `load` at a terminal, nor where memory runs out.
+    // Starts at zero. Returns `None` except for a `load` at a terminal, and if memory runs out.
     fn new(rt: &R, work: Option<Work>) -> Option<Self> {
         if !matches!(work, Some(Work::Load)) || !is_at_terminal(rt) {
             return None;
@@ -98,7 +98,7 @@ impl<R: Runtime<File = File> + Clock + AllocGlobal> Meter<R> {
         })
     }
 
-    // Counts what was read: at its end what was said is taken away, and else it says how much it was, once a second.
+    // Counts bytes that were read, and reports the sum once a second. At the end of the input it erases the report.
     fn count(&mut self, given: usize) {
         self.count = self.count.saturating_add(given as u64);
         if given == 0 {
@@ -108,7 +108,7 @@ impl<R: Runtime<File = File> + Clock + AllocGlobal> Meter<R> {
         }
     }
 
-    // Says how much was read, where the last time was a second ago. What is printed next stands in its place.
+    // Reports the number of bytes read if the last report is at least a second old. The next output overwrites it.
     fn tell(&mut self) {
         let (Some(told_at), Ok(now)) = (self.told_at, self.rt.monotonic()) else {
             return;
@@ -130,7 +130,7 @@ impl<R: Runtime<File = File> + Clock + AllocGlobal> Meter<R> {
     }
 }
 
-/// A reader of a dump that says at a terminal, once a second, how much it has given.
+/// A reader of a dump that reports its progress at a terminal once a second.
 #[derive(Drop)]
 pub struct Counted<R: Runtime, I: Read> {
     reader: I,
@@ -138,7 +138,7 @@ pub struct Counted<R: Runtime, I: Read> {
 }
 
 impl<R: Runtime<File = File> + Clock + AllocGlobal, I: Read> Counted<R, I> {
-    /// The reader, which has given nothing. It says how much it gives only where it is that of a `load`.
+    /// Wraps a reader before anything is read. It reports progress only for a `load`.
     pub fn new(rt: &R, reader: I, work: Option<Work>) -> Self {
         Counted {
             reader,

@@ -1,4 +1,4 @@
-//! What is printed on standard error after a fault, and beside an answer.
+//! Prints sentences on standard error after a fault, and notes next to an answer.
 
 use crate::findings::{find_object, find_too_long, find_unread, find_unsafe, find_unwritten};
 use crate::told::Told;
@@ -12,12 +12,12 @@ use std::alloc::AllocError;
 use std::fs::File;
 use std::rt::Runtime;
 
-// Prints a sentence after a text. Where standard error fails, nobody is told.
+// Prints a sentence after a text. Errors of standard error are ignored.
 fn say<R: Runtime>(rt: &R, before: &str, sentence: Sentence<'_>) {
     let _ = eprintln!(rt; "{before}{sentence}");
 }
 
-/// Says in a line what a fault is about, and what to do.
+/// Prints one line: what a fault is about, and what to do.
 pub fn advise<R: Runtime<File = File> + AllocGlobal>(
     rt: &R,
     told: Option<&Told<'_>>,
@@ -35,13 +35,13 @@ pub fn advise<R: Runtime<File = File> + AllocGlobal>(
     }
 }
 
-// The same, of words that were read. The files are looked at once more where that says which of them the fault was about.
+// The same for words that were read. Examines the files again if that shows which of them the fault was about.
 fn advise_on<R: Runtime<File = File> + AllocGlobal>(
     rt: &R,
     told: &Told<'_>,
     fault: ServeFault,
 ) -> Result<(), AllocError> {
-    // Where a name leads elsewhere by now, its files are those that the words named.
+    // If a name leads elsewhere by now, the message shows the base that the words named.
     let base = match fault {
         ServeFault::Moved(_) | ServeFault::Changed => None,
         _ => base_behind(rt, told.words.base),
@@ -61,7 +61,7 @@ fn advise_on<R: Runtime<File = File> + AllocGlobal>(
     Ok(())
 }
 
-// The words with another base, where there is one.
+// The words with another base, if one is given.
 fn with_base<'a>(words: Words<'a>, base: Option<&'a String>) -> Words<'a> {
     match base {
         Some(base) => Words {
@@ -132,7 +132,7 @@ fn tell_unsafe<R: Runtime<File = File> + AllocGlobal>(
     Ok(())
 }
 
-// Prints the sentence of a fault, with what a second look has found.
+// Prints the sentence of a fault, with the result of a second look.
 fn tell_found<R: Runtime + AllocGlobal>(
     rt: &R,
     words: &Words<'_>,
@@ -152,7 +152,7 @@ pub fn note_that<R: Runtime>(rt: &R, note: Sentence<'_>) {
     say(rt, "dbm: note: ", note);
 }
 
-/// Says that neither file of the database was there that was read.
+/// Notes that neither file of the database exists.
 pub fn note_absent<R: Runtime<File = File> + AllocGlobal>(rt: &R, told: &Told<'_>) {
     if let Some(base) = told.place.base
         && has_no_files(rt, Some(base))
@@ -161,22 +161,22 @@ pub fn note_absent<R: Runtime<File = File> + AllocGlobal>(rt: &R, told: &Told<'_
     }
 }
 
-/// Says that a save is kept in the redo file, and not done in the files of the database.
+/// Notes that a save is durable in the redo file, but not yet done in the files of the database.
 pub fn note_pending<R: Runtime>(rt: &R, told: &Told<'_>) {
     note_waiting_save(rt, told.place.base);
 }
 
-/// The same of the files of a base.
+/// The same for the files of a base.
 pub fn note_waiting_save<R: Runtime>(rt: &R, base: Option<&str>) {
     note_that(rt, pending_note(base.unwrap_or("BASE")));
 }
 
-/// Says of how many lines of a session the changes are not saved.
+/// Notes the number of lines of a session whose changes are not saved.
 pub fn note_unsaved<R: Runtime>(rt: &R, lines: u64) {
     note_that(rt, unsaved_note(lines));
 }
 
-/// Says of a program's image that was refused that it is an object, where it is one.
+/// Notes that a refused program image is an object file, if it is one.
 pub fn note_object<R: Runtime<File = File>>(rt: &R, told: &Told<'_>) {
     if let Some(file) = told.place.file
         && told.words.image
@@ -186,7 +186,7 @@ pub fn note_object<R: Runtime<File = File>>(rt: &R, told: &Told<'_>) {
     }
 }
 
-/// Says why a program is refused that was to be run, and how to see more.
+/// Notes why a program is refused, and how to see more.
 pub fn note_refusal<R: Runtime>(rt: &R, told: &Told<'_>, refusal: &str) {
     let file = told.place.file.unwrap_or("FILE");
     note_that(rt, refusal_note(refusal, file, told.words.image));

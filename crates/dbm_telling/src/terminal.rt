@@ -1,14 +1,14 @@
-//! Whether somebody looks on.
+//! Detects terminals.
 
 use std::fs::{self, File};
 use std::rt::Runtime;
 
-/// Whether standard error is a terminal, where the system tells that.
+/// Returns `true` if standard error is known to be a terminal.
 pub fn is_at_terminal<R: Runtime<File = File> + AllocGlobal>(rt: &R) -> bool {
     is_terminal(rt, 2)
 }
 
-/// Whether a descriptor is that of a terminal, where the system tells that.
+/// Returns `true` if a descriptor is known to be that of a terminal.
 pub fn is_terminal<R: Runtime<File = File> + AllocGlobal>(rt: &R, descriptor: u32) -> bool {
     let Ok(link) = format!(in rt.alloc(); "/proc/self/fd/{descriptor}") else {
         return false;

@@ -1,22 +1,22 @@
-//! What of a request the notes and the sentences take.
+//! The parts of a request that notes and sentences show.
 
 use dbm_places::RunPlace;
 use dbm_script::Lines;
 use dbm_words::{NotationOptions, Words};
 
-/// What of a request the notes and the sentences take. It names no wish, so they are not checked anew where one changes.
+/// The parts of a request that notes and sentences show. It does not depend on `Wish`, so a change of that does not check them again.
 #[derive(Clone, Copy)]
 pub struct Told<'a> {
-    /// What it says of its files.
+    /// Its files.
     pub place: RunPlace<'a>,
     /// The words that a sentence may show.
     pub words: Words<'a>,
-    /// How its bytes are written.
+    /// The notation of its bytes.
     pub notation: NotationOptions<'a>,
-    /// It is a script that is not run where a line of it asks nothing.
+    /// It is a script that is not run if one of its lines is invalid.
     pub strict: bool,
-    /// Its lines may ask the time of day.
+    /// Its lines may request the time of day.
     pub clock: bool,
-    /// Whose lines are on standard input, of a script or a batch.
+    /// The kind of lines on standard input, if it is a script or a batch.
     pub lines: Option<Lines>,
 }

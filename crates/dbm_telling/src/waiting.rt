@@ -1,4 +1,4 @@
-//! A run that waits for the lock of its database, and says so.
+//! A run that waits for the lock of its database, and reports that.
 
 use crate::progress::{Work, tell_reading, tell_work};
 use crate::terminal::is_at_terminal;
@@ -9,11 +9,12 @@ use std::fs::{self, File};
 use std::rt::Runtime;
 use std::time::{Clock, Duration};
 
-/// A run waits so many milliseconds before it says that it waits.
+/// Milliseconds that a run waits before it reports that it waits.
 const SILENT_WAIT: u64 = 500;
 
-/// What `take_files` does; but if the run is verbose, or standard error is a terminal, it says who has the lock once it has waited for half a
-/// second, and else at the end of a longer wait that was in vain. At a terminal a command that takes its time on large files says so.
+/// Does the same as `take_files`. If the run is verbose, or standard error is a terminal, it reports who holds the lock after a wait of
+/// half a second; otherwise it reports that at the end of a longer wait that failed. At a terminal it also reports that a command is slow
+/// on large files.
 ///
 /// # Errors
 /// Those of `take_files`.
@@ -31,7 +32,7 @@ pub fn take_and_tell<R: Runtime<File = File> + Clock + AllocGlobal>(
     Ok(taken)
 }
 
-// The same, but of its work nothing is said.
+// The same, without reports on the work.
 fn take_patiently<R: Runtime<File = File> + Clock + AllocGlobal>(
     rt: &R,
     place: RunPlace<'_>,
@@ -61,7 +62,7 @@ fn take_patiently<R: Runtime<File = File> + Clock + AllocGlobal>(
     }
 }
 
-// Says who has the lock. Where standard error fails, nobody is told.
+// Reports who holds the lock. Errors of standard error are ignored.
 fn tell_wait<R: Runtime<File = File> + AllocGlobal>(rt: &R, place: RunPlace<'_>) {
     let Some(base) = place.base else {
         return;
@@ -78,7 +79,7 @@ fn tell_wait<R: Runtime<File = File> + AllocGlobal>(rt: &R, place: RunPlace<'_>)
     let _ = eprintln!(rt; "dbm: note: {note}");
 }
 
-// Says who has the lock at the end of a wait of which nothing was said.
+// Reports who holds the lock at the end of a wait without reports.
 fn tell_holder<R: Runtime<File = File> + AllocGlobal>(rt: &R, place: RunPlace<'_>) {
     let Some(base) = place.base else {
         return;
@@ -94,7 +95,7 @@ fn tell_holder<R: Runtime<File = File> + AllocGlobal>(rt: &R, place: RunPlace<'_
     let _ = eprintln!(rt; "dbm: note: {note}");
 }
 
-// The number of the process that a run waits for, if the system tells it: one that is at the files, or, if the run may write, first one
+// The number of the process that a run waits for, if the system reports it: one that has locked the files. If the run may write, first one
 // that has the base open to change it.
 fn holder_of<R: Runtime<File = File> + AllocGlobal>(
     rt: &R,
@@ -108,7 +109,7 @@ fn holder_of<R: Runtime<File = File> + AllocGlobal>(
     seen_locker_of(rt, names.lock.as_str())
 }
 
-// The number of the process that has a lock, if this one can see it.
+// The number of the process that holds a lock, if this process can see it.
 fn seen_locker_of<R: Runtime<File = File> + AllocGlobal>(rt: &R, name: &str) -> Option<u64> {
     match locker_of(rt, name)? {
         0 => None,
@@ -116,7 +117,7 @@ fn seen_locker_of<R: Runtime<File = File> + AllocGlobal>(rt: &R, name: &str) -> 
     }
 }
 
-// What a process is called.
+// The name of a process.
 fn name_of<R: Runtime<File = File> + AllocGlobal>(rt: &R, process: u64) -> Option<String> {
     let path = format!(in rt.alloc(); "/proc/{process}/comm").ok()?;
     let mut name = fs::read_to_string(rt, path.as_str()).ok()?;

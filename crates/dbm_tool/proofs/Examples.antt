@@ -1,4 +1,4 @@
--- What the definition of the status makes of endings that are written out.
+-- Examples: the definition of the status on given endings.
 use Rattle.std.proofs.Common.{refl}
 use Rattle.dbm_tool.specs.Endings.{IsExitStatus}
 use Rattle.dbm_tool.specs.declared.ending.Ending.TheVariants.{Served, Failed}

@@ -1,4 +1,4 @@
--- The fault of a step, as a fault of the whole.
+-- The fault of a step as a fault of the whole.
 use Rattle.std.proofs.Common.{Option, Some, None}
 use Rattle.std.specs.declared.alloc.Global.{Global}
 use Rattle.dbm_script.specs.declared.notations.Notation.{Notation}
@@ -13,7 +13,7 @@ use Rattle.dbm_dumps.specs.declared.fault.DumpsFault.TheVariants as dumps
 use Rattle.dbm_batches.specs.Causes.{HasCause, WishCauses}
 use Rattle.dbm_tool.specs.Services.{Service, dumping, noted}
 
--- a fault of what comes of a wish
+-- a fault of a report
 pub raised : (causes : WishCauses) (fault : ReportFault) → IsCaused causes.report fault → HasCause causes (report_fault fault)
 raised causes reports.BadHex h = h
 raised causes reports.BadText h = h
@@ -33,7 +33,7 @@ pub raised_dump : (known : DumpKnown) (fault : DumpsFault) → HasDumpCause know
 raised_dump known (dumps.Report fault) h = raised (dumping known).causes fault h
 raised_dump known (dumps.Dump fault) h = h
 
--- a layout that is none comes before all else
+-- an unknown layout is reported before all else
 pub unlaid : (o : Option (Notation Global)) (known : Notation Global → Service) (fault : ReportFault) → IsCaused (layout_causes o) fault → HasCause (noted o known).causes (report_fault fault)
 unlaid None known fault h = raised (noted None known).causes fault h
 unlaid (Some n) known reports.BadHex h = absurd h

@@ -1,4 +1,4 @@
--- What a subcommand comes to, as the outcome of a wish.
+-- The result of a subcommand as the outcome of a request.
 use Rattle.std.proofs.Common.{◌≡◌, ℕ, List, Option, Some, None, Bool, true, false, is_some, Result, Ok, Err, IfOk, IfErr, refl, sym, subst}
 use Rattle.std.specs.Io.KnownBytes.{Keeps}
 use Rattle.std.specs.declared.alloc.Global.{Global}
@@ -64,7 +64,7 @@ turned service writes reads input left old new f causes (Err (unserved.Unreporte
 turned service writes reads input left old new f causes (Err unserved.Write) lift ok err gives unread = failed_by service writes reads input left old new Write err unread
 turned service writes reads input left old new f causes (Err unserved.TooLong) lift ok err gives unread = failed_by service writes reads input left old new FileTooLong err unread
 
--- a subcommand that is no batch
+-- a subcommand other than a batch
 pub reported : (known : Known) (writes reads : Bool) (input left old new : Option (List ℕ)) (came : Result Served (Unserved ReportFault)) (outcome : WishOutcome) → outcome ≡ outcome_by report_fault came
     → IfOk came (λ (served : Served). IsPrinted known.reports old new served.status served.database) → IfErr came (IsUnserved known.reports (IsCaused known.causes) old new)
     → IfOk came (λ (served : Served). is_some served.database ≡ writes) → (reads ≡ false → left ≡ input) → IsOutcome (reporting known) writes reads input left old new outcome
@@ -88,7 +88,7 @@ batched service writes input left old new came outcome is ok err gives =
     subst (λ (o : WishOutcome). IsOutcome service writes true input left old new o) (sym is)
     (turned service writes true input left old new (λ fault. fault) (HasCause service.causes) came (λ fault caused. caused) ok err gives (λ never. cc))
 
--- an outcome in the notation that is asked
+-- an outcome in the requested notation
 pub noted_outcome : (o : Option (Notation Global)) (n : Notation Global) (known : Notation Global → Service) (writes reads : Bool) (input left old new : Option (List ℕ)) (outcome : WishOutcome)
     → o ≡ Some n → IsOutcome (known n) writes reads input left old new outcome → IsOutcome (noted o known) writes reads input left old new outcome
 noted_outcome o n known writes reads input left old new outcome is h = subst (λ (m : Option (Notation Global)). IsOutcome (noted m known) writes reads input left old new outcome) (sym is) h

@@ -1,4 +1,4 @@
--- In which units the time of day is told.
+-- Units of the time of day.
 use Rattle.std.specs.Prelude.{ℕ}
 use Rattle.dbm_words.specs.declared.options.TimeUnit.{TimeUnit}
 use Rattle.dbm_words.specs.declared.options.TimeUnit.TheVariants.{Seconds, Milliseconds}

@@ -1,4 +1,4 @@
--- The status with which the program ends.
+-- The exit status of the program.
 use Rattle.std.specs.Prelude.{◌≡◌, ◌⊎◌, ℕ, Option, Some, None}
 use Rattle.dbm_command_line.specs.Wishes.{IsAnswer}
 use Rattle.dbm_command_line.specs.declared.fault.ToolFault.{ToolFault}
@@ -8,7 +8,7 @@ use Rattle.dbm_faults.specs.declared.fault.ServeFault.{ServeFault}
 use Rattle.dbm_faults.specs.declared.fault.ServeFault.TheVariants as fault
 use Rattle.dbm_tool.specs.declared.outcome.WishOutcome.{WishOutcome}
 
--- help and the version are no fault
+-- help and the version are not faults
 abbrev pub IsRefusalStatus : ToolFault → ℕ → Type 0
 IsRefusalStatus fault status = (IsAnswer fault → status ≡ 0) × ((IsAnswer fault → ⊥) → status ≡ 2)
 
@@ -21,11 +21,11 @@ abbrev pub ending_by : Option ServeFault → ℕ → Ending
 ending_by (Some fault) status = Failed fault
 ending_by None status = Served status
 
--- the fault of an outcome, or its status where it has none
+-- the fault of an outcome, or its status if it has no fault
 abbrev pub IsEndingOf : WishOutcome → Ending → Type 0
 IsEndingOf outcome ending = ending ≡ ending_by outcome.err outcome.status
 
--- An ending stays as it is when it is told, but for a refusal or help that cannot be printed.
+-- Printing an ending leaves it unchanged, except a refusal or help that cannot be printed.
 abbrev pub IsTold : Ending → Ending → Type 0
 IsTold (Served status) told = told ≡ Served status
 IsTold (Refused refusal) told = (told ≡ Refused refusal) ⊎ (told ≡ Failed fault.Write)

@@ -1,4 +1,4 @@
--- What stands on the output, and which database is to be written, after a wish was served or refused.
+-- The output, and the database that has to be written, after a request was served or refused.
 use Rattle.std.specs.Prelude.{◌≡◌, ℕ, Bool, false, List, Option, Some, None, IfSome, IsNone, Result, Ok, Err, is_some}
 use Rattle.std.specs.Io.KnownBytes.{Keeps}
 use Rattle.sdbm_addr.specs.Database.{Database}
@@ -14,22 +14,22 @@ use Rattle.dbm_batches.specs.Causes.{HasCause}
 use Rattle.dbm_tool.specs.Services.{Service, service_for}
 use Rattle.dbm_tool.specs.declared.outcome.WishOutcome.{WishOutcome}
 
--- A wish is served: the text of what comes of it was written, the status is its own, and so is the database that is to be written.
+-- A request is served: the text of its result was written, and the status and the database that has to be written are those of the result.
 abbrev pub IsServed : Wish → Given → Option (List ℕ) → Option (List ℕ) → Option (List ℕ) → ℕ → Option Database → Type 0
 IsServed wish given input old new status database = IsPrinted (service_for wish given input).reports old new status database
 
--- Before the text is written a fault has its cause, and nothing was written; `Write` leaves a part of the text, and `FileTooLong` all
+-- A fault before the text is written has its cause, and nothing was written; `Write` leaves a part of the text, and `FileTooLong` all
 -- of it.
 abbrev pub IsUnservedBy : Service → Option (List ℕ) → Option (List ℕ) → ServeFault → Type 0
 IsUnservedBy service old new Write = WasCutShort service.reports old new
 IsUnservedBy service old new FileTooLong = WasTooLong service.reports old new
 IsUnservedBy service old new fault = HasCause service.causes fault × Keeps old new
 
--- a wish is refused
+-- a request is refused
 abbrev pub IsUnserved : Wish → Given → Option (List ℕ) → Option (List ℕ) → Option (List ℕ) → ServeFault → Type 0
 IsUnserved wish given input old new fault = IsUnservedBy (service_for wish given input) old new fault
 
--- All that is known of an outcome: what is printed and what is to be written, or the fault; what is left of standard input.
+-- All facts about an outcome: what is printed and the database that has to be written, or the fault; and the rest of standard input.
 pub record IsOutcome (service : Service) (writes reads : Bool) (input left old new : Option (List ℕ)) (outcome : WishOutcome) : Type 0 where
   pub served : IsNone outcome.err → IsPrinted service.reports old new outcome.status outcome.database
   pub fault : IfSome outcome.err (IsUnservedBy service old new)
@@ -42,7 +42,7 @@ pub record IsOutcome (service : Service) (writes reads : Bool) (input left old n
 abbrev pub failed : ServeFault → WishOutcome
 failed fault = record { err = Some fault; status = 2; database = None }
 
--- what a subcommand comes to, as the outcome of a wish
+-- the result of a subcommand as the outcome of a request
 abbrev pub outcome_by : {F : Type 0} → (F → ServeFault) → Result Served (Unserved F) → WishOutcome
 outcome_by f (Ok served) = record { err = None; status = served.status; database = served.database }
 outcome_by f (Err (unserved.Unreported fault)) = failed (f fault)

@@ -1,4 +1,4 @@
--- Each wish: what comes of it, and why nothing does.
+-- The result of each request, and its errors.
 use Rattle.std.specs.Prelude.{ℕ, Bool, true, false, List, Option, Some, None}
 use Rattle.std.specs.declared.alloc.Global.{Global}
 use Rattle.dbm_script.specs.declared.notations.Notation.{Notation}
@@ -31,12 +31,12 @@ use Rattle.dbm_batches.specs.Batches.{OnBatch, batch_causes}
 use Rattle.dbm_batches.specs.Causes.{WishCauses, only_report}
 
 pub record Service : Type 1 where
-  -- what comes of it
+  -- the possible results
   pub reports : Report → Type 0
-  -- why nothing comes of it
+  -- the causes of its errors
   pub causes : WishCauses
 
--- a subcommand that is no batch
+-- a subcommand other than a batch
 abbrev pub reporting : Known → Service
 reporting known = record {
   reports = known.reports;
@@ -57,7 +57,7 @@ batch_in n batch given input = record {
   causes = batch_causes n batch.form given batch.workers batch.image batch.time input;
 }
 
--- What is known of a wish by its notation, the bytes of its files and of what is read.
+-- The facts about a request, given its notation, the bytes of its files and its input.
 abbrev pub service_in : Notation Global → Wish → Given → Option (List ℕ) → Service
 service_in n (wish.Fetch fetch) given input = reporting (fetch_in n fetch given)
 service_in n (wish.Store store) given input = reporting (store_in n store given input)
@@ -77,11 +77,11 @@ service_in n (wish.Asm asm) given input = reporting (asm_in given)
 service_in n (wish.Disasm disasm) given input = reporting (disasm_in given)
 service_in n (wish.Verify verify) given input = reporting (verify_in verify given)
 
--- the notation of a wish, where its layout is one
+-- the notation of a request, if its layout is valid
 abbrev pub notation_for : Wish → Option (Notation Global)
 notation_for wish = notation_by (notation_of wish).text (notation_of wish).layout
 
--- what is known in a notation; where the layout is none, nothing comes of it
+-- the facts in a notation; an unknown layout has no result
 abbrev pub noted : Option (Notation Global) → (Notation Global → Service) → Service
 noted None known = record {
   reports = λ report. ⊥;
@@ -89,11 +89,11 @@ noted None known = record {
 }
 noted (Some n) known = known n
 
--- What is known of a wish, by the bytes of its files and of what is read.
+-- The facts about a request, given the bytes of its files and its input.
 abbrev pub service_for : Wish → Given → Option (List ℕ) → Service
 service_for wish given input = noted (notation_for wish) (λ n. service_in n wish given input)
 
--- a script, a batch and a load read, and a store whose value is standard input
+-- a script, a batch and a load read standard input, and so does a store whose value is standard input
 abbrev pub reads_input : Wish → Bool
 reads_input (wish.Batch batch) = true
 reads_input (wish.Script script) = true

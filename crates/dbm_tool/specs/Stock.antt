@@ -19,7 +19,7 @@ abbrev pub file_in : Option (List ℕ) → Option (List ℕ)
 file_in None = None
 file_in (Some word) = only_file word (word_named word)
 
--- The bytes are those of the named stock program, as an image or as a text. There are none if the word names a file.
+-- The bytes are those of the named stock program, as an image or as a text. `None` if the word names a file.
 abbrev pub IsStockFile : Bool → ProgramWord → Option (List ℕ) → Type 0
 IsStockFile is_image words.File file = file ≡ None
 IsStockFile is_image (words.Stock s) file = IsSomeAnd file (IsFileOf is_image (code_of s))

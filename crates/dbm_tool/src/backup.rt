@@ -22,11 +22,11 @@ use std::time::Clock;
 // The mode of a copy of a database without BASE.pag and BASE.redo.
 const NEW_MODE: u32 = 0o666;
 
-/// Copies a database whose files were read into the new files of a backup, and prints how many pairs it has. A fault of the copy is reported
+/// Copies a database whose files were read into the new files of a backup, and prints the number of pairs. A fault of the copy is reported
 /// here, with its name.
 ///
 /// # Errors
-/// `Report` with `Open` if the files are no database, and `NoMemory`: those are about the database.
+/// `Report` with `Open` if the files are not a database, and `NoMemory`: those are about the database.
 pub fn serve_backup<R: Runtime<File = File> + Clock + AllocGlobal>(
     rt: &R,
     backup: &Backup<'_>,
@@ -49,7 +49,7 @@ pub fn refuse_copy<R: Runtime<File = File> + AllocGlobal>(
     Ending::Served(FAULT)
 }
 
-// Saves a database in the files of the copy, and prints how many pairs it has.
+// Saves a database in the files of the copy, and prints the number of pairs.
 fn make_copy<R: Runtime<File = File> + Clock + AllocGlobal>(
     rt: &R,
     backup: &Backup<'_>,
@@ -78,7 +78,7 @@ fn mode_of<R: Runtime<File = File> + AllocGlobal>(rt: &R, base: &str) -> Result<
     Ok(NEW_MODE)
 }
 
-// What a backup says of the files of its copy.
+// The files of the copy.
 fn place_of_copy<'a>(backup: &Backup<'a>) -> RunPlace<'a> {
     RunPlace {
         base: Some(backup.to),
@@ -89,7 +89,7 @@ fn place_of_copy<'a>(backup: &Backup<'a>) -> RunPlace<'a> {
     }
 }
 
-// What the sentences about the copy take.
+// The context for sentences about the copy.
 fn told_of_copy<'a>(backup: &Backup<'a>) -> Told<'a> {
     told_without_bytes(place_of_copy(backup), backup.words_of_copy())
 }

@@ -1,4 +1,4 @@
-//! The time of day, for a run that asks it and for lines that do.
+//! The time of day, for a run and for lines that request it.
 ghost use Rattle.std.specs.Prelude.{◌≡◌, ◌/◌, IfOk, IfSome, decimal, string_bytes};
 ghost use Rattle.std.specs.Duration.{as_nanos};
 ghost use Rattle.dbm_tool.specs.Clocks.{nanos_in};
@@ -10,10 +10,10 @@ use dbm_words::TimeUnit;
 use std::alloc::{AllocError, Global};
 use std::time::{Clock, Duration, SystemTime, UNIX_EPOCH};
 
-/// The time of day in decimal, in a unit from the beginning of 1970 in UTC on.
+/// The time of day in decimal, in a unit since the beginning of 1970 in UTC.
 ///
 /// # Errors
-/// `ReadClock` where the system does not tell it, and `NoMemory`.
+/// `ReadClock` if the system does not report it, and `NoMemory`.
 pub fn read_clock<C: Clock>(
     clock: &C,
     alloc: Global,
@@ -26,7 +26,7 @@ pub fn read_clock<C: Clock>(
 /// The time of day in both units.
 ///
 /// # Errors
-/// `ReadClock` where the system does not tell it.
+/// `ReadClock` if the system does not report it.
 pub fn read_time<C: Clock>(clock: &C) -> Result<TimeOfDay, ServeFault> {
     let since = since_beginning(clock)?;
     match time_of_day(since) {
@@ -35,7 +35,7 @@ pub fn read_time<C: Clock>(clock: &C) -> Result<TimeOfDay, ServeFault> {
     }
 }
 
-// The time since the beginning of 1970 in UTC.
+// The time since the beginning of 1970 in UTC. `ReadClock` if the system does not report it.
 fn since_beginning<C: Clock>(clock: &C) -> Result<Duration, ServeFault> {
     let Ok(now) = SystemTime::now(clock) else {
         return Err(ServeFault::ReadClock);
@@ -46,7 +46,7 @@ fn since_beginning<C: Clock>(clock: &C) -> Result<Duration, ServeFault> {
     }
 }
 
-// A time in both units, those of it that are whole. There is none where the milliseconds are too many for 64 bits.
+// A time in both units, rounded down. Returns `None` if the milliseconds do not fit 64 bits.
 fn time_of_day(since: Duration) -> Option<TimeOfDay>
     ensures { IfSome result (λ time. (time.seconds ≡ as_nanos since / nanos_in Seconds) × (time.millis ≡ as_nanos since / nanos_in Milliseconds)) }
 {
@@ -59,7 +59,7 @@ fn time_of_day(since: Duration) -> Option<TimeOfDay>
     })
 }
 
-// A time in decimal, the units of it that are whole.
+// A time in decimal, in whole units, rounded down.
 fn time_text(alloc: Global, since: Duration, unit: TimeUnit) -> Result<String, AllocError>
     ensures { IfOk result (λ text. string_bytes text ≡ decimal (as_nanos since / nanos_in unit)) }
 {

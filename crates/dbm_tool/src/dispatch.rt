@@ -1,4 +1,4 @@
-//! Which subcommand is served.
+//! Selects the subcommand to serve.
 ghost use Rattle.std.specs.Prelude.{◌≡◌, None};
 ghost use Rattle.dbm_command_line.specs.Wishes.{writes_files};
 ghost use Rattle.dbm_faults.specs.Faults.{dumps_fault, report_fault};
@@ -17,7 +17,7 @@ use std::io::{Read, Write};
 use std::sync::Wait;
 use std::thread::Threads;
 
-/// Serves a wish: the layout is read first.
+/// Serves a request. Reads the layout first.
 pub fn serve_wish<T: Threads + Wait + Sync, R: Read, W: Write>(
     rt: &T,
     alloc: Global,
@@ -34,7 +34,7 @@ pub fn serve_wish<T: Threads + Wait + Sync, R: Read, W: Write>(
     }
 }
 
-// Serves a wish whose bytes are in a notation.
+// Serves a request whose bytes are in a notation.
 fn serve_in<T: Threads + Wait + Sync, R: Read, W: Write>(
     rt: &T,
     alloc: Global,
@@ -69,7 +69,7 @@ fn serve_in<T: Threads + Wait + Sync, R: Read, W: Write>(
     }
 }
 
-// What a subcommand comes to.
+// The outcome of a subcommand.
 fn outcome_of(came: Result<Served, Unserved<ReportFault>>) -> WishOutcome
     ensures { result ≡ outcome_by report_fault came }
 {
@@ -81,7 +81,7 @@ fn outcome_of(came: Result<Served, Unserved<ReportFault>>) -> WishOutcome
     }
 }
 
-// What `dump` or `load` comes to.
+// The outcome of `dump` or `load`.
 fn outcome_of_dump(came: Result<Served, Unserved<DumpsFault>>) -> WishOutcome
     ensures { result ≡ outcome_by dumps_fault came }
 {
@@ -93,7 +93,7 @@ fn outcome_of_dump(came: Result<Served, Unserved<DumpsFault>>) -> WishOutcome
     }
 }
 
-// What a batch comes to.
+// The outcome of a batch.
 fn outcome_of_batch(came: Result<Served, Unserved<ServeFault>>) -> WishOutcome
     ensures { result ≡ outcome_by (λ fault. fault) came }
 {

@@ -9,15 +9,15 @@ use dbm_faults::ServeFault;
 /// How a run of the program ends.
 #[derive(Drop)]
 pub enum Ending {
-    /// The wish was served, with this status.
+    /// The request was served, with this status.
     Served(u8),
-    /// The words ask nothing, or they ask for help or the version.
+    /// The words are invalid, or they request help or the version.
     Refused(ToolFault),
-    /// There was a fault.
+    /// The request failed.
     Failed(ServeFault),
 }
 
-/// What an outcome comes to, once its files have been written.
+/// The ending of an outcome, once its files have been written.
 pub fn ending_of(outcome: &WishOutcome) -> Ending
     ensures { IsEndingOf outcome.now result }
 {
@@ -27,7 +27,7 @@ pub fn ending_of(outcome: &WishOutcome) -> Ending
     }
 }
 
-/// The status with which the program ends: that of the wish that was served, 0 where the words asked for help or the version, and 2
+/// The exit status of the program: that of the served request, 0 if the words requested help or the version, and 2
 /// for every other refusal and for every fault.
 pub fn exit_status(ending: &Ending) -> u8
     ensures { IsExitStatus ending.now result }

@@ -1,4 +1,4 @@
-//! A program over the files of a store: pairs fetched, stored and listed, scripts, and programs as text and images.
+//! A program for the files of a store: fetches, stores and lists pairs, runs scripts, and handles programs as text and images.
 #![tactic(auto)]
 
 ghost use Rattle.dbm_tool.specs.Endings.{IsTold};
@@ -46,7 +46,7 @@ use std::time::Duration;
 use std::{env, fs, io, thread};
 use stock::{print_programs, stock_file};
 
-// The seconds that a run waits for the lock which may change the database, unless it is told otherwise.
+// The default wait in seconds for the lock that a change of the database needs.
 const DEFAULT_PATIENCE: u64 = 60;
 
 fn main(rt: HostRuntime) -> ExitCode {
@@ -58,13 +58,13 @@ fn main(rt: HostRuntime) -> ExitCode {
     ExitCode::from(exit_status(&ending))
 }
 
-// Takes the descriptors 0, 1 and 2 that are closed, so that no file of a database gets one of them. What is read from such a one
-// or printed to it fails, since it is a folder.
+// Opens the descriptors 0, 1 and 2 that are closed, so that no file of a database gets one of them. Reads and writes on them
+// fail, since they are a folder.
 fn hold_standard<R: Files>(rt: &R) -> [io::Result<R::File>; 3] {
     [fs::open(rt, "/"), fs::open(rt, "/"), fs::open(rt, "/")]
 }
 
-// The words of the command line, and before them the program's name.
+// The words of the command line, preceded by the program's name.
 fn read_args<R: Runtime + AllocGlobal>(rt: &R) -> Result<Vec<String>, ServeFault> {
     match env::args(rt) {
         Ok(args) => Ok(args.collect(rt.alloc())?),
@@ -73,7 +73,7 @@ fn read_args<R: Runtime + AllocGlobal>(rt: &R) -> Result<Vec<String>, ServeFault
     }
 }
 
-// Reads the words after the program's name, serves what they ask, and tells what went wrong.
+// Reads the words after the program's name, serves the request, and reports errors.
 fn run<R: Runtime<File = File> + AllocGlobal + Threads + Wait + Sync>(
     rt: &R,
     args: &[String],
@@ -96,7 +96,8 @@ fn run<R: Runtime<File = File> + AllocGlobal + Threads + Wait + Sync>(
                 Ok(ending) => ending,
                 Err(fault) => Ending::Failed(fault),
             };
-            // A command such as `head` has what it wants and is gone: that is no fault. But a dump that is cut off is none.
+            // The reader of the pipe, such as `head`, has read enough and is gone. This is not a fault, except for a dump: a truncated dump
+            // is an error.
             if reader.has_no_reader && !is_dump {
                 return Ending::Served(0);
             }
@@ -116,8 +117,8 @@ fn run<R: Runtime<File = File> + AllocGlobal + Threads + Wait + Sync>(
     }
 }
 
-// The refusal of the same words with `\n` for each line feed, if one has a line feed: `clap` shows words as they are, and what looks like a
-// line of this program is to be one.
+// The refusal of the same words with `\n` for each line feed, if one has a line feed. `clap` shows words unchanged, and a word must not be
+// able to print a line that looks like one of this program.
 fn refused_in_lines(alloc: Global, words: &[&str], fault: ToolFault) -> ToolFault {
     if !words.iter().any(|word| word.contains('\n')) {
         return fault;
@@ -145,7 +146,7 @@ fn words_in_lines(alloc: Global, words: &[&str]) -> Result<Vec<String>, AllocErr
     Ok(plain)
 }
 
-// Why words are refused. `None` if they are not, or memory runs out.
+// Why words are refused. Returns `None` if they are accepted, or if memory ran out.
 fn refused_again(alloc: Global, words: &[String]) -> Option<ToolFault> {
     let mut lent: Vec<&str> = Vec::new(alloc);
     for word in words {
@@ -157,9 +158,9 @@ fn refused_again(alloc: Global, words: &[String]) -> Option<ToolFault> {
     }
 }
 
-// Prints notes beside an answer that may not be what was meant: missing files, an object instead of an image, a program that is refused, the
-// lines of a script that ask nothing, a last line without LF, and a save that is not done in its files. After a bad line it also reports
-// where lines end in CR.
+// Prints notes next to an answer that may not be what the user meant: missing files, an object instead of an image, a refused program,
+// invalid lines of a script, a last line without LF, and a save that is not done in its files. After a bad line it also reports
+// a line that ends in CR.
 fn note<R: Runtime<File = File> + AllocGlobal, I: Read>(
     rt: &R,
     told: &Told<'_>,
@@ -181,7 +182,7 @@ fn note<R: Runtime<File = File> + AllocGlobal, I: Read>(
     if let Some(refusal) = &input.refusal {
         note_refusal(rt, told, refusal.as_str());
     }
-    // A strict script that is not run answers nothing.
+    // A strict script that is not run has no answers.
     if (input.has_bad_line || (told.strict && matches!(ending, Ending::Served(1))))
         && let Some(note) = note_of_bad_lines(rt.alloc(), told.notation, told.clock, input.text())
     {
@@ -196,16 +197,15 @@ fn note<R: Runtime<File = File> + AllocGlobal, I: Read>(
     }
 }
 
-// Says which line of a script or a batch ends in CR, where one does.
+// Notes which line of a script or a batch ends in CR, if one does.
 fn note_line_end<R: Runtime, I: Read>(rt: &R, lines: Lines, input: &Kept<I>) {
     if let Some(note) = note_of_line_end(lines, input.text()) {
         note_that(rt, note);
     }
 }
 
-// Serves what is asked once it is plain that its base is a name, for how long it waits, and that its files are there where they have to be.
-// The lock of a run that writes is held until its change is saved. What writes is refused first where standard output cannot be written: after the
-// change its answer would be lost.
+// Serves a request after these checks: its base is a name, the timeout is valid, and required files exist. A run that writes holds its lock
+// until its change is saved. It is refused first if standard output cannot be written, since its answer would be lost after the change.
 fn serve_request<R: Runtime<File = File> + AllocGlobal + Threads + Wait + Sync, I: Read>(
     rt: &R,
     request: Request<'_>,
@@ -238,7 +238,7 @@ fn serve_request<R: Runtime<File = File> + AllocGlobal + Threads + Wait + Sync, 
         return Err(ServeFault::Write);
     }
     let taking = Taking { place, patience };
-    // A terminal tells the end of its input once, to who reads it then.
+    // A terminal reports the end of its input only once, so it is not read ahead.
     if place.base.is_some() && reads_whole(&ask) && !is_terminal(rt, 0) {
         reader.read_ahead(SCRIPT_LIMIT + 1);
     }
@@ -263,7 +263,7 @@ fn serve_request<R: Runtime<File = File> + AllocGlobal + Threads + Wait + Sync, 
     }
 }
 
-// Takes the files of a request, but for pages that it may not need.
+// Takes the files of a request, except pages that it may not need.
 fn take_asked<R: Runtime<File = File> + AllocGlobal>(
     rt: &R,
     ask: &Ask<'_>,
@@ -276,14 +276,14 @@ fn take_asked<R: Runtime<File = File> + AllocGlobal>(
     Ok(take_and_tell(rt, place, peeks, patience, access.verbose, work)?)
 }
 
-// How the files of a request are taken.
+// The files of a request, and the timeout of their lock.
 #[derive(Clone, Copy)]
 struct Taking<'a> {
     place: RunPlace<'a>,
     patience: Option<Duration>,
 }
 
-// Whether the environment asks for what the option `--quick` does.
+// Returns `true` if the environment requests the same as the option `--quick`.
 fn is_quick<R: Runtime + AllocGlobal>(rt: &R) -> bool {
     match env::var(rt, "DBM_QUICK") {
         Ok(word) => word.as_str() == "1",
@@ -291,7 +291,7 @@ fn is_quick<R: Runtime + AllocGlobal>(rt: &R) -> bool {
     }
 }
 
-// Whether the files of a base have names of their own: those of a folder, as of `users/`, would be `users/.dir` and `users/.pag`.
+// Returns `true` if the base has a file name: a base such as `users/` would name the files `users/.dir` and `users/.pag`.
 fn is_name(base: &str) -> bool {
     let last = match base.rsplit_once('/') {
         Some((_, last)) => last,
@@ -300,8 +300,8 @@ fn is_name(base: &str) -> bool {
     !matches!(last, "" | "." | "..")
 }
 
-// For how long a run waits for the lock: as the words ask, else as DBM_TIMEOUT asks, else for a minute if it may change the database. `None` is
-// without an end.
+// The time that a run waits for the lock: that of the words, else that of DBM_TIMEOUT, else a minute if it may change the database. `None`
+// means forever.
 fn patience_of<R: Runtime + AllocGlobal>(
     rt: &R,
     timeout: Option<&str>,
@@ -320,7 +320,7 @@ fn patience_of<R: Runtime + AllocGlobal>(
     })
 }
 
-// What DBM_TIMEOUT asks. If it is no number, a note says so, and it counts as unset.
+// The timeout in DBM_TIMEOUT. If it is not a number, prints a note and treats it as unset.
 fn asked_patience<R: Runtime + AllocGlobal>(rt: &R) -> Option<Duration> {
     let word = env::var(rt, "DBM_TIMEOUT").ok()?;
     let seconds = read_number(word.as_bytes(), u64::MAX);
@@ -332,7 +332,8 @@ fn asked_patience<R: Runtime + AllocGlobal>(rt: &R) -> Option<Duration> {
     Some(Duration::from_secs(seconds?))
 }
 
-// Serves a wish on its files, which were taken, with the time of day where it asks that: the clock is read once, after the wait for the lock.
+// Serves a request on its files, which were taken, with the time of day if it needs that. The clock is read once, after the wait for the
+// lock.
 fn serve_timed<R: Runtime<File = File> + AllocGlobal + Threads + Wait + Sync, I: Read>(
     rt: &R,
     wish: Wish<'_>,
@@ -348,7 +349,7 @@ fn serve_timed<R: Runtime<File = File> + AllocGlobal + Threads + Wait + Sync, I:
     serve_peeked(rt, wish.with_time(time.as_str()), taking, taken, reader)
 }
 
-// Serves a wish on its files, which were taken, with as many workers as there are cores where it asks that.
+// Serves a request on its files, which were taken. If it wants one worker per core, it gets their number.
 fn serve_staffed<R: Runtime<File = File> + AllocGlobal + Threads + Wait + Sync, I: Read>(
     rt: &R,
     wish: Wish<'_>,
@@ -369,7 +370,7 @@ fn serve_staffed<R: Runtime<File = File> + AllocGlobal + Threads + Wait + Sync, 
     )
 }
 
-// How many cores this process may use, in decimal; one where the system does not tell.
+// The number of cores that this process may use, in decimal; 1 if the system does not report it.
 fn cores_text<R: Threads>(rt: &R, alloc: Global) -> Result<String, AllocError> {
     let cores = match thread::available_parallelism(rt) {
         Ok(cores) => cores.get(),
@@ -378,7 +379,7 @@ fn cores_text<R: Threads>(rt: &R, alloc: Global) -> Result<String, AllocError> {
     format!(in alloc; "{cores}")
 }
 
-// Serves a wish on the page of its key where its files were taken so and that page tells what comes of it, and else on all of them.
+// Serves a request from the page of its key if its files were taken so and that page is enough, otherwise from the whole files.
 fn serve_peeked<R: Runtime<File = File> + AllocGlobal + Threads + Wait + Sync, I: Read>(
     rt: &R,
     wish: Wish<'_>,
@@ -417,7 +418,7 @@ fn serve_peeked<R: Runtime<File = File> + AllocGlobal + Threads + Wait + Sync, I
     Ok(Ending::Served(quick.status))
 }
 
-// The same wish, with the time of day for its lines where they may ask that.
+// The same request, with the time of day for its lines if they may request it.
 fn with_lines_timed<'a, R: Runtime>(rt: &R, wish: Wish<'a>) -> Result<Wish<'a>, ServeFault> {
     if !wish.asks_clock() {
         return Ok(wish);
@@ -426,7 +427,7 @@ fn with_lines_timed<'a, R: Runtime>(rt: &R, wish: Wish<'a>) -> Result<Wish<'a>, 
     Ok(wish.with_clock(time))
 }
 
-// Serves a wish on its files, which were taken.
+// Serves a request on its files, which were taken.
 fn serve_taken<R: Runtime<File = File> + AllocGlobal + Threads + Wait + Sync, I: Read>(
     rt: &R,
     wish: Wish<'_>,
@@ -448,7 +449,7 @@ fn serve_taken<R: Runtime<File = File> + AllocGlobal + Threads + Wait + Sync, I:
     }
 }
 
-// Serves a wish that may change its database. Its lines are printed once the save is committed, and the lock given back.
+// Serves a request that may change its database. Its lines are printed once the save is committed and the lock released.
 fn serve_change<R: Runtime<File = File> + AllocGlobal + Threads + Wait + Sync, I: Read>(
     rt: &R,
     wish: Wish<'_>,
@@ -472,14 +473,14 @@ fn serve_change<R: Runtime<File = File> + AllocGlobal + Threads + Wait + Sync, I
         reader.is_pending = saved == Saved::Pending;
     }
     match outcome.err {
-        // Lines that are gathered fail only where memory runs out.
+        // Collecting lines in memory only fails if allocation fails.
         Some(ServeFault::Write) => Err(ServeFault::NoMemory),
         _ => Ok(ending_of(&outcome)),
     }
 }
 
-// Prints why the words ask nothing, or the help or the version that they ask for, or the fault and what to do. Where standard output
-// takes no help, that is the fault; where standard error fails, the status alone says it.
+// Prints why the words are refused, or the help or the version that they request, or the fault and what to do. If help cannot be printed
+// on standard output, that is the fault. If standard error fails, only the status reports the fault.
 fn tell<R: Runtime<File = File> + AllocGlobal>(
     rt: &R,
     told: Option<&Told<'_>>,

@@ -1,4 +1,4 @@
-//! What came of a wish.
+//! The outcome of a request.
 
 use dbm_faults::ServeFault;
 use sdbm_files::Image;
@@ -7,7 +7,7 @@ use std::alloc::Global;
 /// The status of every fault.
 pub const FAULT: u8 = 2;
 
-/// What came of a wish: the fault, where there was one, the status, and the database where its files are to be written.
+/// The outcome of a request: the fault, if any, the status, and the database if its files have to be written.
 #[derive(Drop)]
 pub struct WishOutcome {
     pub err: Option<ServeFault>,

@@ -1,4 +1,4 @@
-//! A wish that is served on the page of its key, where all else of `.pag` stays unread.
+//! A request that is served from the page of its key, so that the rest of `.pag` stays unread.
 ghost use Rattle.std.specs.Prelude.{◌≡◌, ◌+◌, ◌*◌, ◌%◌, ◌<◌, ◌≤◌, ℕ, List, Option, length, get_or, IfSome, Ok, Some};
 ghost use Rattle.sdbm_addr.specs.Pairs.{page_bytes};
 ghost use Rattle.sdbm_saves.specs.Redo.{IsPlan, Knows};
@@ -28,7 +28,7 @@ use std::fs::File;
 use std::io::{self, Read};
 use std::rt::{Files, Runtime};
 
-/// Whether a wish may be served so.
+/// Returns `true` if a request may be served so.
 pub fn may_be_quick(ask: &Ask<'_>) -> bool {
     matches!(
         ask,
@@ -36,12 +36,12 @@ pub fn may_be_quick(ask: &Ask<'_>) -> bool {
     )
 }
 
-/// Works a wish out on the page of its key, of files that were taken but for `.pag`. Where there is something to save it saves that, gives
-/// the lock back, and prints the lines. What only prints its lines is left to `print_quick`, once the lock is given back. None where that page does not tell what
-/// comes of it, and then nothing was written: all has to be read.
+/// Serves a request from the page of its key; its files were taken except `.pag`. If there is a change it saves it, releases
+/// the lock, and prints the lines. If there is none, `print_quick` prints the lines after the lock is released. Returns `None` if that page
+/// is not enough: then nothing was written, and the caller has to read all of `.pag`.
 ///
 /// # Errors
-/// `Write` where its lines could not be written, and those of a save.
+/// `Write` if its lines could not be written, and those of a save.
 pub fn serve_quick<R: Runtime<File = File> + AllocGlobal, I: Read>(
     rt: &R,
     wish: Wish<'_>,
@@ -87,7 +87,7 @@ pub fn serve_quick<R: Runtime<File = File> + AllocGlobal, I: Read>(
     Ok(Some(quick))
 }
 
-// Saves what a command has come to, where there is something to save, gives the lock back, and prints the lines.
+// Saves the change of a command, if there is one, releases the lock, and prints the lines.
 fn save_quick<R: Runtime<File = File> + AllocGlobal, I: Read>(
     rt: &R,
     held: LockedFiles,
@@ -113,10 +113,10 @@ fn save_quick<R: Runtime<File = File> + AllocGlobal, I: Read>(
     Ok(())
 }
 
-/// Prints the lines of a wish that saves nothing. Where it is one that reads, its reader may have gone.
+/// Prints the lines of a request that saves nothing. If it only reads, its reader may be gone.
 ///
 /// # Errors
-/// `Write` where they could not be printed.
+/// `Write` if they could not be printed.
 pub fn print_quick<R: Runtime<File = File> + AllocGlobal, I: Read>(
     rt: &R,
     reads: bool,
@@ -132,7 +132,7 @@ pub fn print_quick<R: Runtime<File = File> + AllocGlobal, I: Read>(
     }
 }
 
-// What a wish asks that may be done on the page of its key, and how its files are read.
+// The request that may be served from the page of its key, and the form of its files.
 fn asked_of(
     alloc: Global,
     notation: &Notation<Global>,
@@ -153,7 +153,7 @@ fn asked_of(
     }
 }
 
-// What is asked, where something is, beside how its files are read.
+// The request, if there is one, together with the form of its files.
 fn meant(form: Form, asked: Result<Option<Asked>, ReportFault>) -> Option<(Form, Asked)>
     ensures { IfSome result (λ meant. (meant.0 ≡ form) × (asked ≡ Ok (Some meant.1))) }
 {
@@ -163,8 +163,8 @@ fn meant(form: Form, asked: Result<Option<Asked>, ReportFault>) -> Option<(Form,
     }
 }
 
-// The page to which a key leads, and its number. None where it cannot be read, or the file has no whole pages, or its last page has no
-// pairs or is that of other keys.
+// The page to which a key leads, and its number. Returns `None` if it cannot be read, if the length of the file is not a multiple of a
+// page, or if its last page has no pairs or those of other keys.
 fn page_for(
     alloc: Global,
     unread: &UnreadPages,
@@ -188,8 +188,8 @@ fn page_for(
     Some((number, page))
 }
 
-// Whether the last page of a file has pairs that belong there, where it has one. So a directory that is gone, or that of another database,
-// is seen.
+// Returns `true` if the file is empty, or its last page has pairs that belong to it. This detects a directory that is lost, or that of
+// another database.
 fn ends_with_pairs(alloc: Global, unread: &UnreadPages, directory: &[u8], form: Form) -> bool {
     let (kind, size) = (key_bytes_of(form), page_size_of(form));
     let pages = unread.len / size.bytes();
@@ -205,7 +205,7 @@ fn ends_with_pairs(alloc: Global, unread: &UnreadPages, directory: &[u8], form: 
     has_own_pairs(alloc, directory, kind, size, last, page.as_slice())
 }
 
-// Whether the pages with these numbers are zeros, but for the one that was read.
+// Returns `true` if the pages with these numbers are zeros, except the one that was read.
 fn are_free(
     alloc: Global,
     unread: &UnreadPages,
@@ -228,7 +228,7 @@ fn is_free(alloc: Global, unread: &UnreadPages, number: u32, size: PageSize) -> 
     }
 }
 
-/// Why the program of a run is refused whose lines say that it is, where memory is left to say it.
+/// Why the program of a run is refused, if its lines say so. Returns `None` if memory ran out.
 pub fn refusal_in(alloc: Global, wish: Wish<'_>, file: &[u8], lines: &[u8]) -> Option<String> {
     match wish {
         Wish::Run(run) if is_refused(lines) => {

@@ -1,4 +1,4 @@
-//! A request as the files and the sentences take it: plain records of its words.
+//! The parts of a request that files and sentences need, as plain records.
 ghost use Rattle.std.specs.Prelude.{◌≡◌, option_map};
 ghost use Rattle.dbm_command_line.specs.Wishes.{base_of, file_of, writes_files};
 ghost use Rattle.dbm_tool.specs.Stock.{file_in};
@@ -17,7 +17,7 @@ use dbm_words::{NotationOptions, Numbers, Words};
 use sdbm_addr::PageSize;
 use sdbm_files::PAG_LIMIT;
 
-/// What a wish says of its files.
+/// The files of a request.
 pub fn place_of<'a>(wish: &Wish<'a>) -> RunPlace<'a>
     ensures base { option_map (λ text. text.now) result.base ≡ base_of wish.now }
     ensures file { option_map (λ text. text.now) result.file ≡ file_in (file_of wish.now) }
@@ -33,7 +33,7 @@ pub fn place_of<'a>(wish: &Wish<'a>) -> RunPlace<'a>
     }
 }
 
-// How large the pages are, by the words.
+// The page size that the words request.
 fn size_of(words: &Words<'_>) -> PageSize {
     if words.wide {
         PageSize::Wide
@@ -42,7 +42,7 @@ fn size_of(words: &Words<'_>) -> PageSize {
     }
 }
 
-/// The files that were read, as a report takes them.
+/// The files that were read, in the form for a report.
 pub fn given_of(bytes: FileBytes) -> Given
     ensures { result ≡ record { dir = bytes.directory; pag = bytes.pages; file = bytes.program } }
 {
@@ -53,7 +53,7 @@ pub fn given_of(bytes: FileBytes) -> Given
     }
 }
 
-/// What of a request the notes and the sentences take.
+/// The parts of a request that notes and sentences show.
 pub fn told_of<'a>(request: &Request<'a>) -> Told<'a> {
     let told = match &request.ask {
         Ask::Wish(wish) => told_of_wish(wish),
@@ -89,7 +89,7 @@ fn told_of_wish<'a>(wish: &Wish<'a>) -> Told<'a> {
     }
 }
 
-// Whose lines are on standard input, if it is that of a script or a batch.
+// The kind of lines on standard input, if it is a script or a batch.
 fn lines_of(wish: &Wish<'_>) -> Option<Lines> {
     match wish {
         Wish::Script(_) => Some(Lines::OfScript),
@@ -117,7 +117,7 @@ fn told_of_programs<'a>(programs: &Programs<'a>) -> Told<'a> {
     told_without_bytes(no_place(), programs.words())
 }
 
-/// What the sentences take of a request whose words and lines have no bytes.
+/// The parts that sentences show of a request whose words and lines have no bytes.
 pub fn told_without_bytes<'a>(place: RunPlace<'a>, words: Words<'a>) -> Told<'a> {
     Told {
         place,
@@ -143,7 +143,7 @@ fn no_place() -> RunPlace<'static> {
     }
 }
 
-/// What a request says of its files.
+/// The files of a request.
 pub fn place_asked<'a>(ask: &Ask<'a>) -> RunPlace<'a> {
     match ask {
         Ask::Wish(wish) => place_of(wish),
@@ -153,7 +153,7 @@ pub fn place_asked<'a>(ask: &Ask<'a>) -> RunPlace<'a> {
     }
 }
 
-// What a backup says of the files that it reads.
+// The files that a backup reads.
 fn place_of_backup<'a>(backup: &Backup<'a>) -> RunPlace<'a> {
     RunPlace {
         base: Some(backup.base),
@@ -164,7 +164,7 @@ fn place_of_backup<'a>(backup: &Backup<'a>) -> RunPlace<'a> {
     }
 }
 
-// What a session says of its files.
+// The files of a session.
 fn place_of_session<'a>(session: &Session<'a>) -> RunPlace<'a> {
     RunPlace {
         base: Some(session.base),
@@ -175,8 +175,8 @@ fn place_of_session<'a>(session: &Session<'a>) -> RunPlace<'a> {
     }
 }
 
-/// Whether a request reads its input whole before it changes anything: the lines of a script or a batch, or a value. It reads that before it
-/// waits for the lock: what writes the input may want the lock too.
+/// Returns `true` if a request reads its whole input before it changes anything: the lines of a script or a batch, or a value. It reads the
+/// input before it waits for the lock, since the writer of the input may want the lock too.
 pub fn reads_whole(ask: &Ask<'_>) -> bool {
     match ask {
         Ask::Wish(Wish::Script(_) | Wish::Batch(_)) => true,
@@ -185,7 +185,7 @@ pub fn reads_whole(ask: &Ask<'_>) -> bool {
     }
 }
 
-/// What a request asks that takes its time on a large database.
+/// The work of a request that is slow on a large database.
 pub fn work_asked(ask: &Ask<'_>) -> Option<Work> {
     match ask {
         Ask::Wish(wish) => work_of(wish),
@@ -194,7 +194,7 @@ pub fn work_asked(ask: &Ask<'_>) -> Option<Work> {
     }
 }
 
-/// What a wish does that takes its time on a large database.
+/// The work of a `Wish` that is slow on a large database.
 pub fn work_of(wish: &Wish<'_>) -> Option<Work> {
     match wish {
         Wish::Check(_) => Some(Work::Check),

@@ -1,4 +1,4 @@
-//! What a wish comes to on the bytes of its files, standard input and standard output.
+//! Serves a request on the bytes of its files, standard input and standard output.
 ghost use Rattle.std.specs.Prelude.{◌≡◌, false, IfSome, IsNone, None, is_some};
 ghost use Rattle.dbm_command_line.specs.Wishes.{writes_files};
 ghost use Rattle.dbm_tool.specs.Outcomes.{IsServed, IsUnserved};
@@ -13,19 +13,20 @@ use std::io::{Read, Write};
 use std::sync::Wait;
 use std::thread::Threads;
 
-/// Serves a wish: reads what its words mean, opens the database, reads standard input for a script, a batch or a dump that is loaded, does what is asked,
-/// and writes the lines that it prints. The status is 1 where the answer is that nothing was found or changed, and `FAULT` where there
-/// is a fault. A database is given exactly for a wish that writes (`Wish::writes`), and none where there is a fault.
+/// Serves a request: reads its words, opens the database, reads standard input for a script, a batch or a load, executes the request, and
+/// writes the lines that it prints. The status is 1 if nothing was found or changed, and `FAULT` if there is a fault. The outcome has a
+/// database exactly for a request that writes (`Wish::writes`), and never with a fault.
 ///
 /// # Errors
-/// The first that is met, in this order; those that a `ReportFault` names come within `Report`. `BadLayout` where the
-/// layout is none, `BadHex`, or as text `BadText`, where a word is no bytes,
-/// `BadNumber` where one is no number; `Open` where the files do not open; `NotText` and `Assemble` where a program's file is no text
-/// of one, `Decode` where it is no image, and of a batch `Submit` where its program gets no number; of a script or a batch, `Read`
-/// where it could not be read and `TooLong` above 16,777,216 bytes; of a dump, `BadFormat` before the files and the other faults of `Dump` with the first line at fault; of a batch, `BadLine` with the first line that asks no task,
-/// `Pool` where not all tasks were done, and `Close` where the store does not close; `Write` where lines could not be written;
-/// `FileTooLong` where `.pag` would be above `PAG_LIMIT`, after the lines were written. `NoMemory` may come at any step before
-/// the lines, and stands within no other fault but that of a task. Nothing is written at a fault before the lines, and their first bytes at `Write`.
+/// The first that is met, in this order; those that a `ReportFault` names are within `Report`. `BadLayout` if the layout is unknown;
+/// `BadHex`, or as text `BadText`, if a word is not valid bytes; `BadNumber` if one is not a number; `Open` if the files do not open;
+/// `NotText` and `Assemble` if a program's file is not the text of one, `Decode` if it is not an image, and for a batch `Submit` if its
+/// program is refused; for a script or a batch, `Read` if it could not be read and `TooLong` above 16,777,216 bytes; for a dump,
+/// `BadFormat` before the files and the other faults of `Dump` with the first invalid line; for a batch, `BadLine` with the first line that
+/// is not a task, `Pool` if not all tasks were done, and `Close` if the store does not close; `Write` if lines could not be written;
+/// `FileTooLong` if `.pag` would exceed `PAG_LIMIT`, after the lines were written. `NoMemory` may occur at any step before the lines, and
+/// is within no other fault except that of a task. Nothing is written if a fault occurs before the lines, and their first bytes if it is
+/// `Write`.
 pub fn serve<T: Threads + Wait + Sync, R: Read, W: Write>(
     rt: &T,
     alloc: Global,

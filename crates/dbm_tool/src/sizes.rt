@@ -1,4 +1,4 @@
-//! Files that are to be opened with wide pages, and look like those of small ones.
+//! Detects files of small pages that are to be opened with wide pages.
 use crate::request::told_of;
 use dbm_command_line::Request;
 use dbm_faults::ServeFault;
@@ -11,15 +11,15 @@ use std::fs::File;
 use std::rt::Files;
 use std::time::{Clock, Duration};
 
-// How the keys of a database may hash. The user may have given the other one.
+// The two ways to hash the keys of a database. The user may have chosen the wrong one.
 const KINDS: [KeyBytes; 2] = [KeyBytes::Signed, KeyBytes::Unsigned];
 
-/// Whether the files of a request must not look small: they are opened with wide pages, and the user does not insist.
+/// Returns `true` if the files of a request must not look small: they are opened with wide pages, and the user does not insist.
 pub fn must_be_wide(request: &Request<'_>) -> bool {
     told_of(request).words.wide && !request.access.insist
 }
 
-/// Refuses files that look small. A `.pag` of which nothing was read is read whole if its last page may be small: a database of small
+/// Refuses files that look small. An unread `.pag` is read whole if its last page may be small: a database of small
 /// pages shows it on each page that is not all zeros.
 ///
 /// # Errors
@@ -47,7 +47,7 @@ pub fn refuse_small<R: Files<File = File> + Clock + AllocGlobal>(
     Ok(taken)
 }
 
-// Whether the last page of a `.pag` looks small, is all zeros, or cannot be read alone.
+// Returns `true` if the last page of a `.pag` looks small, is all zeros, or cannot be read alone.
 fn may_be_small(alloc: Global, directory: &[u8], unread: &UnreadPages) -> Result<bool, AllocError> {
     let pages = unread.len / PageSize::Wide.bytes();
     if pages == 0 || pages > MOST_PAGES {

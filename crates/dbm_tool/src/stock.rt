@@ -34,7 +34,7 @@ pub fn file_or_unknown<'a>(word: Option<&'a str>) -> Option<&'a str> {
     }
 }
 
-/// The bytes of the stock program that a wish names: its image if the wish takes one, or else its text. `None` if the wish names a file, or
+/// The bytes of the stock program that a request names: its image if the request takes one, or else its text. `None` if it names a file, or
 /// no program.
 ///
 /// # Errors

@@ -1,5 +1,5 @@
-//! A service in small: four threads count visits in one database, which is read from its two files and written to them again. What
-//! is printed is read from the files that were written.
+//! A small service: four threads count visits in one database, which is read from its two files and written to them again. The output
+//! is read from the files that were written.
 #![tactic(auto)]
 
 mod files;
@@ -31,7 +31,7 @@ fn serve<R: AllocGlobal + Threads + Wait + Sync>(
     }
 }
 
-// Prints each key with the number that it has.
+// Prints each key with its number.
 fn show<R: Runtime>(rt: &R, image: &Image<Global>) -> Result<(), &'static str> {
     let pairs = image.pairs().map_err(|_| "no memory for the pairs")?;
     for (key, value) in &pairs {

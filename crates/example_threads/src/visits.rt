@@ -1,4 +1,4 @@
-//! What the threads do: each has a session of its own, and counts visits by runs of one program.
+//! The work of the threads: each has its own session, and counts visits by runs of one program.
 
 use boddurci::{Calls, NoGate, Program, Refusal, Session, Store, assemble, verify};
 use std::alloc::Global;
@@ -8,10 +8,10 @@ use std::thread::Threads;
 
 const THREADS: usize = 4;
 
-// How many visits a thread counts.
+// The number of visits that a thread counts.
 const EACH: usize = 1000;
 
-/// How many visits are counted in all.
+/// The number of visits that all threads count.
 pub const ALL: usize = THREADS * EACH;
 
 const PLACES: [&[u8]; 3] = [b"door", b"gate", b"yard"];
@@ -51,7 +51,7 @@ struct Visitor<'a> {
     refused: Option<Refusal>,
 }
 
-// Counts a visit to each place in turn. Where a key is not there, its record begins as eight zeros.
+// Counts a visit to each place in turn. If a key is missing, its record begins as eight zeros.
 fn visit<R: Wait>(rt: &R, visitor: &mut Visitor<'_>) {
     let Visitor {
         session,
@@ -67,7 +67,7 @@ fn visit<R: Wait>(rt: &R, visitor: &mut Visitor<'_>) {
     }
 }
 
-/// Lets each thread count its visits, and leaves the calls of all sessions, with which the store is closed.
+/// Lets each thread count its visits. Returns the calls of all sessions, which the store needs to close.
 pub fn all_visits<R: Threads + Wait + Sync>(
     rt: &R,
     alloc: Global,

@@ -1,4 +1,4 @@
-//! What the lines of a test work on.
+//! The state of a test.
 
 use desk_core::{Desk, Done, Job};
 use linked_list_allocator::LocalHeap;
@@ -6,27 +6,27 @@ use sdbm_files::Image;
 use std::alloc::{AllocError, Allocator, Global};
 use store_cmd::Trail;
 
-/// A command that was asked, or one that was worked.
+/// A command before work, or after it.
 #[derive(Drop)]
 pub enum InHand<A: Allocator> {
     Job(Job<A>),
     Done(Done<A>),
 }
 
-// How many hands there are.
+// The number of hands.
 const HANDS: usize = 4;
 
-/// What is in each hand.
+/// The content of each hand.
 pub type Hands<A> = Vec<Option<InHand<A>>>;
 
-/// A desk and one beside it, what stayed of a desk that was closed, and what is in hand.
+/// Two desks, which can be swapped, the database and the trail of a closed desk, and the hands.
 #[derive(Drop)]
 pub struct Bench<'h, A: Allocator> {
-    /// The memory of texts.
+    /// The allocator of texts.
     pub global: Global,
-    /// The memory of desks.
+    /// The allocator of desks.
     pub alloc: A,
-    /// The heap of that memory, where it is to run out.
+    /// The heap of that allocator, if it can run out.
     pub heap: Option<&'h LocalHeap>,
     pub desk: Option<Desk<A>>,
     pub beside: Option<Desk<A>>,
@@ -36,7 +36,7 @@ pub struct Bench<'h, A: Allocator> {
 }
 
 impl<'h, A: Allocator + Copy> Bench<'h, A> {
-    /// A bench without a desk, with nothing in hand.
+    /// A bench without a desk, with empty hands.
     pub fn new(global: Global, alloc: A, heap: Option<&'h LocalHeap>) -> Result<Self, AllocError> {
         let mut hands = Vec::new(global);
         for _ in 0..HANDS {
@@ -55,12 +55,12 @@ impl<'h, A: Allocator + Copy> Bench<'h, A> {
     }
 }
 
-/// Takes what is in a hand.
+/// Takes the content of a hand.
 pub fn take<A: Allocator>(hands: &mut Hands<A>, hand: usize) -> Option<InHand<A>> {
     hands.get_mut(hand)?.take()
 }
 
-/// Puts something in a hand, in place of what was there.
+/// Puts something in a hand. Replaces its content.
 pub fn put<A: Allocator>(hands: &mut Hands<A>, hand: usize, what: InHand<A>) {
     if let Some(place) = hands.get_mut(hand) {
         *place = Some(what);

@@ -1,4 +1,4 @@
-//! Calls of a desk, and what comes of them. What a call takes comes back where it is refused.
+//! Calls of a desk, and their outcomes. A refused call returns its arguments.
 
 use crate::bench::{Hands, InHand, put, take};
 use desk_core::{
@@ -19,7 +19,7 @@ pub enum Call<A: Allocator> {
     Abandon(Ticket),
 }
 
-/// What comes of a call, and the call, where it was refused and may be made again.
+/// The outcome of a call, and the call itself if it was refused and may be made again.
 #[derive(Drop)]
 pub struct Came<A: Allocator> {
     pub outcome: EventOutcome<A>,
@@ -42,7 +42,7 @@ impl<A: Allocator> Came<A> {
     }
 }
 
-/// Whether there was no memory for a call.
+/// Returns `true` if there was no memory for a call.
 pub fn lacks_memory<A: Allocator>(outcome: &EventOutcome<A>) -> bool {
     match outcome {
         EventOutcome::AskRefused(fault) => *fault == AskFault::NoMemory,
@@ -52,7 +52,7 @@ pub fn lacks_memory<A: Allocator>(outcome: &EventOutcome<A>) -> bool {
     }
 }
 
-// The desk's calls, each alone.
+// The calls of the desk, one function for each.
 fn step<A: Allocator + Copy>(
     desk: &mut Desk<A>,
     session: u64,

@@ -25,7 +25,7 @@ fn read_ask<A: Allocator + Copy>(alloc: A, words: &str) -> Option<Call<A>> {
     Some(Call::Ask(hand.parse::<usize>().ok()?, session, command))
 }
 
-/// The call that a line makes.
+/// Reads the call of a line.
 pub fn read_call<A: Allocator + Copy>(alloc: A, line: &str) -> Option<Call<A>> {
     let (name, rest) = line.split_once(' ')?;
     match name {
@@ -42,7 +42,7 @@ pub fn read_call<A: Allocator + Copy>(alloc: A, line: &str) -> Option<Call<A>> {
     }
 }
 
-// One event.
+// Reads an event.
 fn read_event<A: Allocator + Copy>(alloc: A, words: &str) -> Option<Event<A>> {
     let (name, rest) = words.split_once(' ')?;
     match name {

@@ -1,32 +1,31 @@
-//! Does with desks what lines say, and prints what comes of it.
+//! Executes lines on desks, and prints the results.
 //!
-//! Each line of standard input is a case, and its first word says of which kind.
+//! Each line of standard input is a case. Its first word is the kind.
 //!
 //! | Line | Answer |
 //! |---|---|
-//! | `open KIND SIZE LIMIT` | `opened`: a desk over an empty database, its trail's limit told |
+//! | `open KIND SIZE LIMIT` | `opened`: a desk over an empty database, with this limit of its trail |
 //! | `files KIND SIZE DIR PAG` | `opened`: the database of both files, or the fault |
-//! | `close` | `closed`, and the numbers of pairs in the trail's opening and of its entries: the desk's database stays |
-//! | `reopen LIMIT` | `opened`: a desk over the database that stayed |
-//! | `beside` | `beside`: the desk and the one beside it change places |
+//! | `close` | `closed`, and the numbers of pairs in the trail's opening and of its entries: the desk's database is kept |
+//! | `reopen LIMIT` | `opened`: a desk over the database that was kept |
+//! | `beside` | `beside`: swaps the two desks |
 //! | `step SESSION COMMAND` | the reply, or the fault |
 //! | `ask HAND SESSION COMMAND` | `ticket N`, the reply of a count, or the fault; the job is in that hand then |
-//! | `work HAND` | `worked`: what was done is in the same hand |
+//! | `work HAND` | `worked`: the result is in the same hand |
 //! | `done HAND` | the ticket, the reply, and whether the page changes |
 //! | `finish HAND` | the reply, or the fault |
 //! | `convert TICKET`, `abandon TICKET` | `converted`, `abandoned`, or the fault |
-//! | `play EVENT / EVENT / ..` | what comes of each |
-//! | `pairs`, `trail` | all pairs; the opening and the entries, of the desk and of the trail that stayed |
-//! | `count` | of the database that stayed, how many pairs it has, how their keys hash, the size of its pages and the length of `.pag` |
+//! | `play EVENT / EVENT / ..` | the outcome of each |
+//! | `pairs`, `trail` | all pairs; the opening and the entries, of the desk and of the trail that was kept |
+//! | `count` | for the database that was kept: the number of its pairs, how their keys hash, the size of its pages and the length of `.pag` |
 //! | `place KEY` | page, depth and bit |
-//! | `page NUMBER` | the pairs of the page, in their order |
+//! | `page NUMBER` | the pairs of the page, in order |
 //! | `write` | the bytes of both files |
 //! | `# TEXT` | the line itself |
 //!
-//! An event is a line from `ask` to `abandon` but for `done`, where a hand is a ticket and `ask` has
-//! none. After the word `lean` a line is for a desk in a heap, and its call is made with more and
-//! more memory until there is enough, with 16 bytes more each time. `with more memory` says that there was not
-//! at first, and each time the call came back and the desk was as before.
+//! An event is a line from `ask` to `abandon` except `done`; instead of a hand it has a ticket, and `ask` has none. A line after the word
+//! `lean` is for a desk in a heap, and its call is made with 16 bytes more each time until there is enough. `with more memory` says that
+//! there was not enough at first, and that each refused call was returned and left the desk unchanged.
 #![tactic(auto)]
 
 mod bench;
@@ -43,7 +42,7 @@ use std::alloc::{AllocError, Allocator, Global};
 use std::io;
 use test_lines::read_all;
 
-// The answer to a line, by desks in a heap where it is lean, or of its own.
+// The answer to a line. A lean line is for the desks in a heap.
 fn answer<A: Allocator + Copy>(
     lean: &mut Bench<A>,
     ample: &mut Bench<Global>,
@@ -69,7 +68,7 @@ fn answer_all<A: Allocator + Copy>(
     Ok(answers)
 }
 
-// The answers to the lines of a text, on benches of their own.
+// The answers to the lines of a text, on new benches.
 fn answer_in<A: Allocator + Copy>(
     global: Global,
     alloc: A,

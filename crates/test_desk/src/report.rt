@@ -14,7 +14,7 @@ use std::alloc::{AllocError, Allocator};
 use std::mem;
 use test_lines::{read_bytes, read_file, read_kind, read_size, same_trail};
 
-// How keys hash and the size of pages, and the words after.
+// The hash of keys and the size of pages, and the rest of the words.
 fn read_shape(words: &str) -> Option<(KeyBytes, PageSize, &str)> {
     let (kind, rest) = words.split_once(' ')?;
     let (size, rest) = rest.split_once(' ')?;
@@ -112,7 +112,7 @@ fn trail<A: Allocator + Copy>(bench: &Bench<A>) -> Option<String> {
     Some(out)
 }
 
-// What the database that stayed is, by a word and the words after.
+// Describes the database that was kept. The word says which part.
 fn image_text<A: Allocator + Copy>(bench: &Bench<A>, word: &str, rest: &str) -> Option<String> {
     let image = bench.image.as_ref()?;
     let mut out = String::new(bench.global);

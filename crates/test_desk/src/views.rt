@@ -1,4 +1,4 @@
-//! What desks and databases are, as text.
+//! Desks and databases as text.
 
 use desk_core::{Desk, Done, EventOutcome};
 use sdbm_files::{Image, MemSink};
@@ -8,7 +8,7 @@ use std::fmt::Write;
 use store_cmd::{KeptEntry, Trail};
 use test_lines::{show_bytes, show_command, show_file, show_pairs, show_reply};
 
-/// Writes what comes of a call or of an event.
+/// Writes the outcome of a call or of an event.
 pub fn show_outcome<A: Allocator>(
     out: &mut String,
     outcome: &EventOutcome<A>,
@@ -28,7 +28,7 @@ pub fn show_outcome<A: Allocator>(
     }
 }
 
-/// Writes what was worked.
+/// Writes a command after work.
 pub fn show_done<A: Allocator>(out: &mut String, done: &Done<A>) -> Result<(), AllocError> {
     write!(out, "ticket {} ", done.ticket().0)?;
     show_reply(out, done.reply())?;
@@ -78,7 +78,7 @@ pub fn view<A: Allocator + Copy>(global: Global, desk: &Desk<A>) -> Result<Strin
     Ok(out)
 }
 
-// Writes the pairs of a page, in their order.
+// Writes the pairs of a page, in order.
 fn show_page<A: Allocator + Copy>(out: &mut String, page: &Page<A>) -> Result<(), AllocError> {
     for i in 0..page.len() {
         out.push_str(" ")?;
@@ -89,7 +89,7 @@ fn show_page<A: Allocator + Copy>(out: &mut String, page: &Page<A>) -> Result<()
     Ok(())
 }
 
-/// Writes the pairs of the page with a number, in their order.
+/// Writes the pairs of the page with a number, in order.
 pub fn show_page_of<A: Allocator + Copy>(
     out: &mut String,
     image: &Image<A>,
@@ -116,7 +116,7 @@ pub fn show_place<A: Allocator + Copy>(
     )
 }
 
-/// Writes how many pairs a database has, how their keys hash, the size of its pages and the length of `.pag`.
+/// Writes the number of pairs of a database, how their keys hash, the size of its pages and the length of `.pag`.
 pub fn show_count<A: Allocator + Copy>(
     out: &mut String,
     image: &Image<A>,

@@ -1,11 +1,11 @@
-//! What the lines of a test work on.
+//! The state of a test.
 
 use linked_list_allocator::LocalHeap;
 use sdbm_addr::{KeyBytes, PageSize};
 use sdbm_files::Image;
 use std::alloc::{Allocator, Global};
 
-/// Both files of a database, and what it is.
+/// Both files of a database, its kind of keys and its page size.
 #[derive(Drop)]
 pub struct Known {
     pub kind: KeyBytes,
@@ -17,20 +17,20 @@ pub struct Known {
 /// A database, and the files that were opened last.
 #[derive(Drop)]
 pub struct Bench<'h, A: Allocator> {
-    /// The memory of texts.
+    /// The allocator of texts.
     pub global: Global,
-    /// The memory of what is tested.
+    /// The allocator of the tested code.
     pub alloc: A,
-    /// The heap of that memory, where it is to run out.
+    /// The heap of that allocator, if it can run out.
     pub heap: Option<&'h LocalHeap>,
-    /// What takes the memory of the heap away.
+    /// Blocks that fill the heap.
     pub blocks: Vec<Vec<u8, &'h LocalHeap>>,
     pub image: Option<Image<A>>,
     pub known: Option<Known>,
 }
 
 impl<'h, A: Allocator + Copy> Bench<'h, A> {
-    /// A bench with nothing on it.
+    /// An empty bench.
     pub fn new(global: Global, alloc: A, heap: Option<&'h LocalHeap>) -> Self {
         Bench {
             global,

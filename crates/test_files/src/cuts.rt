@@ -1,4 +1,4 @@
-//! Files that are cut, and what comes of them.
+//! Truncated files, and the results of opening them.
 
 use crate::bench::Known;
 use crate::files::open_files;
@@ -7,12 +7,12 @@ use std::alloc::{AllocError, Global};
 use std::fmt::Write;
 use test_lines::{cut, number};
 
-// The first bytes, all where there are not so many.
+// The first `count` bytes, or all if there are fewer.
 fn first(bytes: &[u8], count: usize) -> &[u8] {
     &bytes[..count.min(bytes.len())]
 }
 
-// The number of pairs of a database, or its fault, where one of its files is cut.
+// The number of pairs of a database with one truncated file, or the fault.
 fn count_of_cut(
     global: Global,
     known: &Known,
@@ -32,14 +32,14 @@ fn count_of_cut(
     }
 }
 
-// What came of a cut, and how often.
+// The result of a truncation, and how often it occurred.
 #[derive(Clone, Copy)]
 struct Tally {
     came: Result<usize, OpenFault>,
     times: usize,
 }
 
-// Counts what came of a cut.
+// Counts the result of a truncation.
 fn count(tallies: &mut Vec<Tally>, came: Result<usize, OpenFault>) -> Result<(), AllocError> {
     for tally in tallies.iter_mut() {
         if tally.came == came {
@@ -64,7 +64,7 @@ fn tallies_text(global: Global, tallies: &[Tally]) -> Result<String, AllocError>
     Ok(out)
 }
 
-// What comes of the files where one is cut to so many lengths.
+// The results of truncating a file to several lengths: `from`, `from + step` and so on.
 fn tallies_of(
     global: Global,
     known: &Known,
@@ -80,7 +80,7 @@ fn tallies_of(
     Ok(tallies)
 }
 
-/// What comes of the files where one is cut to so many lengths, from the first told, each so many bytes above the one before.
+/// Reports the results of truncating a file to several lengths: the first length is given, and each further one is longer by the step.
 pub fn cut_text(global: Global, known: &Known, rest: &str) -> Result<String, AllocError> {
     let (file, rest) = cut(rest);
     let (from, rest) = cut(rest);

@@ -1,4 +1,4 @@
-//! Databases of files, and what is written of them.
+//! Databases of files, and the bytes that are written of them.
 
 use crate::bench::{Bench, Known};
 use sdbm_addr::{KeyBytes, PageSize};
@@ -13,7 +13,7 @@ pub struct Files {
     pub pag: MemSink<Global>,
 }
 
-/// Whether files have the same bytes.
+/// Returns `true` if files have the same bytes.
 pub fn same_files(a: &Files, b: &Files) -> bool {
     a.dir.bytes() == b.dir.bytes() && a.pag.bytes() == b.pag.bytes()
 }
@@ -27,7 +27,7 @@ pub fn write_both<A: Allocator + Copy, B: Allocator>(
     image.write(dir, pag)
 }
 
-/// The files of a database, whose `.pag` has to have the length that is told before.
+/// The files of a database. The predicted length of `.pag` has to be right.
 pub fn files_of<A: Allocator + Copy>(global: Global, image: &Image<A>) -> Option<Files> {
     let mut dir = MemSink::new(global);
     let mut pag = MemSink::new(global);
@@ -52,7 +52,7 @@ pub fn open_files<A: Allocator + Copy>(
     Image::open(alloc, dir, pag, kind, size)
 }
 
-/// The database of files that are known.
+/// The database of known files.
 pub fn open_known<A: Allocator + Copy>(alloc: A, known: &Known) -> Result<Image<A>, OpenFault> {
     let dir = known.dir.as_slice();
     let pag = known.pag.as_slice();
@@ -66,7 +66,7 @@ fn file_of(global: Global, text: &str) -> Vec<u8> {
     }
 }
 
-/// The files that a line tells.
+/// The files of a line.
 pub fn read_known(global: Global, rest: &str) -> Option<Known> {
     let (kind, rest) = cut(rest);
     let (size, rest) = cut(rest);
@@ -81,7 +81,7 @@ pub fn read_known(global: Global, rest: &str) -> Option<Known> {
     })
 }
 
-/// How many pairs a database has, or the fault of its files.
+/// The number of pairs of a database, or the fault of its files.
 pub fn opened_text<A: Allocator + Copy>(
     global: Global,
     opened: &Result<Image<A>, OpenFault>,
@@ -101,7 +101,7 @@ fn open<A: Allocator + Copy>(bench: &mut Bench<A>, rest: &str) -> Option<String>
     Some(text)
 }
 
-/// How many pairs a database has, the size of its pages and the length of `.pag`.
+/// The number of pairs of a database, the size of its pages and the length of `.pag`.
 pub fn count_text<A: Allocator + Copy>(global: Global, image: &Image<A>) -> Option<String> {
     let size = image.page_size();
     format!(in global; "{} {size:?} {}", image.count(), image.pag_len()).ok()
@@ -120,7 +120,7 @@ fn write_text<A: Allocator + Copy>(global: Global, image: &Image<A>) -> Option<S
     show_files(global, files.dir.bytes(), files.pag.bytes()).ok()
 }
 
-/// The answer to a line, where it is one of these.
+/// The answer to a line of this module. Returns `None` for any other line.
 pub fn file_line<A: Allocator + Copy>(
     bench: &mut Bench<A>,
     word: &str,

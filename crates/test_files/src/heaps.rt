@@ -8,7 +8,7 @@ use std::alloc::{Allocator, Global};
 use std::fmt::Write;
 use test_lines::{bytes_of, cut, number, show_bytes};
 
-/// What comes of files in a heap of so many bytes, and how much of it is taken afterwards.
+/// Opens files in a heap of this size, and reports the result and the use of the heap afterwards.
 pub fn within_text(global: Global, known: &Known, count: &str) -> Option<String> {
     let heap = LocalHeap::new(global, number(count)).ok()?;
     let opened = open_known(&heap, known);
@@ -17,8 +17,8 @@ pub fn within_text(global: Global, known: &Known, count: &str) -> Option<String>
     format!(in global; "{text} used {}", heap.used()).ok()
 }
 
-// What comes of files in memory: whether it is enough, or nothing where it is and what is written differs, or the fault is
-// another.
+// Opens files in some memory, and returns whether it is enough. Returns `None` if the files written from it differ, or if there is another
+// fault.
 fn opens<A: Allocator + Copy>(
     global: Global,
     alloc: A,
@@ -37,7 +37,7 @@ fn opens<A: Allocator + Copy>(
     }
 }
 
-// Opens known files in a heap of so many bytes, which has to be empty afterwards.
+// Opens known files in a heap of `size` bytes, which has to be empty afterwards.
 fn opens_in(global: Global, size: usize, known: &Known, files: &Files) -> Option<bool> {
     let heap = LocalHeap::new(global, size).ok()?;
     let enough = opens(global, &heap, known, files)?;
@@ -47,8 +47,8 @@ fn opens_in(global: Global, size: usize, known: &Known, files: &Files) -> Option
     Some(enough)
 }
 
-// Whether sinks have what a write that came to an end leaves: whole files where it was not refused, and else whole pages, and
-// the mark where the refusal was.
+// Returns `true` if sinks have the bytes that a write leaves: whole files if it was not refused, otherwise whole pages, and
+// the failure in the sink that refused.
 fn are_written<A: Allocator>(
     ended: Result<(), WriteFault>,
     dir: &MemSink<A>,
@@ -71,7 +71,7 @@ fn are_written<A: Allocator>(
     dir.bytes().is_empty() && pag.bytes().len() % 1024 == 0 && is_whole == dir.has_failed()
 }
 
-// Whether memory is enough for what is written of a database, or nothing where sinks have something else.
+// Writes a database in some memory, and returns whether it is enough. Returns `None` if the sinks have wrong bytes.
 fn writes<A: Allocator + Copy>(alloc: A, image: &Image<Global>, files: &Files) -> Option<bool> {
     let mut dir = MemSink::new(alloc);
     let mut pag = MemSink::new(alloc);
@@ -87,7 +87,7 @@ fn writes_in(global: Global, size: usize, image: &Image<Global>, files: &Files) 
     writes(&heap, image, files)
 }
 
-// The bytes of the first heap of 128, 144 and so on that is large enough.
+// The size of the first heap of 128, 144 and so on bytes that is large enough.
 fn least_heap(global: Global, known: &Known, is_opened: bool) -> Option<usize> {
     let image = open_known(global, known).ok()?;
     let files = files_of(global, &image)?;
@@ -105,7 +105,7 @@ fn least_heap(global: Global, known: &Known, is_opened: bool) -> Option<usize> {
     None
 }
 
-/// Whether smaller heaps refuse a database, and a larger one does not.
+/// Reports whether a database is refused in each heap up to a larger one.
 pub fn heaps_text(global: Global, known: &Known, rest: &str) -> Option<String> {
     let (word, count) = cut(rest);
     let count = number(count);
@@ -118,7 +118,7 @@ pub fn heaps_text(global: Global, known: &Known, rest: &str) -> Option<String> {
     String::from_str(global, text).ok()
 }
 
-// Puts bytes in a sink, and writes what it says and then has.
+// Puts bytes in a sink, and writes its answer and its bytes.
 fn show_put<S: Allocator>(out: &mut String, sink: &mut MemSink<S>, bytes: &[u8]) -> Option<()> {
     match sink.put(bytes) {
         Ok(count) => write!(out, " / {count} ").ok()?,
@@ -143,7 +143,7 @@ fn show_puts<A: Allocator>(
     Some(())
 }
 
-/// What a sink in a heap of so many bytes takes.
+/// Puts bytes in a sink in a heap of this size.
 pub fn sink_text(global: Global, rest: &str) -> Option<String> {
     let (count, words) = cut(rest);
     let heap = LocalHeap::new(global, number(count)).ok()?;

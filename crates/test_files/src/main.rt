@@ -1,26 +1,25 @@
-//! Does with files of databases what lines say, and prints what comes of it.
+//! Executes lines on files of databases, and prints the results.
 //!
-//! Each line of standard input is a case, and its first word says of which kind.
+//! Each line of standard input is a case. Its first word is the kind.
 //!
 //! | Line | Answer |
 //! |---|---|
 //! | `open KIND SIZE dir FILE pag FILE` | `count N`: the database of both files; or the fault |
-//! | `count` | how many pairs the database has, the size of its pages and the length of `.pag` |
+//! | `count` | the number of pairs of the database, the size of its pages and the length of `.pag` |
 //! | `write` | the bytes of both files |
-//! | `widen COUNT` | `widened`, and whether it was refused more often than that |
-//! | `cut dir FROM STEP COUNT`, `cut pag FROM STEP COUNT` | what comes of the files of the last `open` where one is cut to so many lengths, and how often |
-//! | `within COUNT` | what comes of these files in a heap of so many bytes, and what of it is taken afterwards |
-//! | `heaps open COUNT`, `heaps write COUNT` | whether the database is refused in each heap up to one of more bytes than that |
-//! | `short STOP COUNT COUNT` | what comes of a write where the sinks of `.dir` and `.pag` stop after so many bytes |
-//! | `sink COUNT BYTES ..` | what a sink in a heap of so many bytes takes of each |
+//! | `widen COUNT` | `widened`, and whether it was refused more often than COUNT times |
+//! | `cut dir FROM STEP COUNT`, `cut pag FROM STEP COUNT` | the results of opening the files of the last `open`, with one truncated to COUNT lengths, and how often each occurred |
+//! | `within COUNT` | the result of opening these files in a heap of COUNT bytes, and the use of the heap afterwards |
+//! | `heaps open COUNT`, `heaps write COUNT` | whether the database is refused in each heap up to one of more than COUNT bytes |
+//! | `short STOP COUNT COUNT` | the result of a write if the sinks of `.dir` and `.pag` stop after these numbers of bytes |
+//! | `sink COUNT BYTES ..` | the answers of a sink in a heap of COUNT bytes |
 //! | `whole files KIND SIZE dir FILE pag FILE` | `count N`: the database of both files; or the fault |
-//! | `full`, `free` | all memory is taken away, or given back |
+//! | `full`, `free` | takes all memory, or gives it back |
 //! | `# TEXT` | the line itself |
 //!
-//! Bytes and files are as in `test_lines`. After the word `lean` a line is for a bench in a heap. There `widen` is called with
-//! more and more memory until there is enough, with 16 bytes more each time. What is `whole` is written, read again and written
-//! a second time: `again` says that it stayed the same. The answers there but for that word are those of an independent
-//! implementation.
+//! Bytes and files are as in `test_lines`. A line after the word `lean` is for a bench in a heap. There `widen` is called with 16 bytes
+//! more each time until there is enough. A `whole` database is written, read again and written a second time: `again` says that it stayed
+//! the same. Except for that word, the answers there are those of an independent implementation.
 #![tactic(auto)]
 
 mod bench;
@@ -39,7 +38,7 @@ use std::alloc::{AllocError, Allocator, Global};
 use std::io;
 use test_lines::read_all;
 
-// The answer to a line, by the bench in a heap where it is lean.
+// The answer to a line. A lean line is for the bench in a heap.
 fn answer<A: Allocator + Copy>(
     lean: &mut Bench<A>,
     ample: &mut Bench<Global>,
@@ -65,7 +64,7 @@ fn answer_all<A: Allocator + Copy>(
     Ok(answers)
 }
 
-// The answers to the lines of a text, on benches of their own.
+// The answers to the lines of a text, on new benches.
 fn answer_in<A: Allocator + Copy>(
     global: Global,
     alloc: A,

@@ -1,4 +1,4 @@
-//! Sinks that stop after so many bytes.
+//! Sinks that stop after some bytes.
 
 use crate::files::{Files, files_of};
 use sdbm_files::{Image, Sink, SinkFault, WriteFault};
@@ -6,7 +6,7 @@ use std::alloc::{AllocError, Allocator, Global};
 use std::fmt::Write;
 use test_lines::{cut, number};
 
-// How a sink stops.
+// The way in which a sink stops.
 #[derive(Clone, Copy, Debug, PartialEq, Eq)]
 enum Stop {
     // It fails.
@@ -71,7 +71,7 @@ fn write_short<A: Allocator + Copy>(
     image.write(dir, pag)
 }
 
-// Writes how many bytes a sink has, whether it stopped, and whether they are other ones than the first of a file.
+// Writes the number of bytes of a sink, whether it stopped, and whether its bytes differ from the first bytes of a file.
 fn show_sink(out: &mut String, sink: &ShortSink, file: &[u8]) -> Result<(), AllocError> {
     write!(out, "{}", sink.bytes.len())?;
     if sink.stopped {
@@ -107,7 +107,7 @@ fn read_stop(word: &str) -> Option<Stop> {
     }
 }
 
-// Writes a database into sinks with so much room.
+// Writes a database into sinks with limited room.
 fn short<A: Allocator + Copy>(
     global: Global,
     image: &Image<A>,
@@ -121,7 +121,7 @@ fn short<A: Allocator + Copy>(
     show_short(global, ended, (&dir, &pag), &files).ok()
 }
 
-/// What comes of a write where sinks stop.
+/// Reports the result of a write into sinks that stop.
 pub fn short_text<A: Allocator + Copy>(
     global: Global,
     image: &Image<A>,

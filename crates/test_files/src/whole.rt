@@ -1,11 +1,11 @@
-//! Databases that are given as bytes: what they are, and whether what is written of them is read as the same.
+//! Databases that are given as bytes: their contents, and whether they are the same after they are written and read again.
 
 use crate::files::{files_of, open_files, open_known, opened_text, read_known, same_files};
 use sdbm_files::Image;
 use std::alloc::Global;
 use test_lines::tail;
 
-// Whether what is written of a database is one with as many pairs, of which the same is written.
+// Returns whether a database that is written and read again has the same number of pairs and is written as the same bytes.
 fn image_stays(global: Global, image: &Image<Global>) -> Option<bool> {
     let files = files_of(global, image)?;
     let dir = files.dir.bytes();
@@ -15,7 +15,7 @@ fn image_stays(global: Global, image: &Image<Global>) -> Option<bool> {
     Some(again.count() == image.count() && same_files(&second, &files))
 }
 
-/// How many pairs the database of both files has, or their fault.
+/// The number of pairs of the database of both files, or their fault.
 pub fn files_text(global: Global, rest: &str) -> Option<String> {
     let opened = open_known(global, &read_known(global, rest)?);
     let mut out = opened_text(global, &opened)?;

@@ -141,7 +141,7 @@ fn faults(rt: HostRuntime) -> Result<(), Fail> {
     Ok(())
 }
 
-// The image of so many units that end the program.
+// The image of `units` units that end the program.
 fn exits(alloc: std::alloc::Global, units: usize) -> Result<Vec<u8>, std::alloc::AllocError> {
     let mut image = Vec::new(alloc);
     for _ in 0..units {

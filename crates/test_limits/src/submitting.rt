@@ -14,7 +14,7 @@ fn image_of(alloc: Global, text: &str) -> Result<Vec<u8>, Fail> {
     Ok(encode(alloc, &code)?)
 }
 
-// Takes all memory of a heap but for so many blocks.
+// Takes all memory of a heap except `spared` blocks.
 fn fill<'a>(
     alloc: Global,
     heap: &'a LocalHeap,
@@ -32,8 +32,7 @@ fn fill<'a>(
     Ok(blocks)
 }
 
-// A growth that is refused changes nothing, and the same image gets its number from the same registry
-// once there is memory.
+// A failed allocation changes nothing, and the same image gets its number from the same registry once there is memory.
 #[test]
 fn each_growth_refused(rt: HostRuntime) -> Result<(), Fail> {
     let image = image_of(rt.alloc(), "mov r0, 0\nexit")?;
@@ -57,7 +56,7 @@ fn each_growth_refused(rt: HostRuntime) -> Result<(), Fail> {
     Err(Fail::from("the heap is too small"))
 }
 
-// A verdict is told also where there is no memory to keep it.
+// A verdict is returned even if there is no memory to keep it.
 #[test]
 fn verdict_without_room(rt: HostRuntime) -> Result<(), Fail> {
     let empty: [u8; 0] = [];

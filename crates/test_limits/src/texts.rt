@@ -1,4 +1,4 @@
-//! Texts of the most units, and texts of the most labels.
+//! Texts with the most units, and texts with the most labels.
 
 use bpf_asm::{AsmFault, FaultKind, assemble, disassemble};
 use std::alloc::{AllocError, Global};
@@ -10,7 +10,7 @@ fn fault_of(alloc: Global, text: &str) -> Option<AsmFault> {
     assemble(alloc, text).err()
 }
 
-// A text of so many instructions.
+// A text of `count` instructions.
 fn exits(alloc: Global, count: usize) -> Result<String, AllocError> {
     let mut text = String::new(alloc);
     for _ in 0..count {
@@ -53,7 +53,7 @@ fn most_units(rt: HostRuntime) -> Result<(), Fail> {
     Ok(())
 }
 
-// Each unit a label and a jump to the next label.
+// Each unit is a label and a jump to the next label.
 #[test]
 fn most_labels(rt: HostRuntime) -> Result<(), Fail> {
     let mut text = String::new(rt.alloc());
@@ -78,7 +78,7 @@ fn most_labels(rt: HostRuntime) -> Result<(), Fail> {
     Ok(())
 }
 
-// Jumps over all of the code, from its first unit and from each other unit, to its end.
+// Jumps from the first unit over all of the code, and from each further unit, to its end.
 #[test]
 fn longest_jumps(rt: HostRuntime) -> Result<(), Fail> {
     let mut text = String::new(rt.alloc());

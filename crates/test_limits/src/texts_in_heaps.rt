@@ -1,4 +1,4 @@
-//! Memory that runs out, at each growth of an assembler and a disassembler.
+//! Memory that runs out, at each allocation of an assembler and a disassembler.
 
 use bpf_asm::{AsmFault, FaultKind, assemble, disassemble};
 use bpf_insn::{Code, encode};
@@ -20,7 +20,7 @@ fn jumps(alloc: Global) -> Result<String, AllocError> {
     Ok(text)
 }
 
-// Whether two codes have the same image.
+// Returns `true` if two codes have the same image.
 fn same_image<A: Allocator, B: Allocator>(
     alloc: Global,
     one: &Code<A>,
@@ -29,8 +29,7 @@ fn same_image<A: Allocator, B: Allocator>(
     Ok(encode(alloc, one)?.as_slice() == encode(alloc, other)?.as_slice())
 }
 
-// The least number of blocks of 16 bytes in which a text is assembled. Smaller heaps have to refuse
-// it, and to be empty again afterwards.
+// The least number of blocks of 16 bytes for assembling a text. Smaller heaps have to refuse it, and to be empty again afterwards.
 fn blocks_for_text(rt: &(impl Abort + AllocGlobal), text: &str) -> Result<usize, Fail> {
     let want = assemble(rt.alloc(), text)?;
     for blocks in 8..2000 {
@@ -53,7 +52,7 @@ fn blocks_for_text(rt: &(impl Abort + AllocGlobal), text: &str) -> Result<usize,
     Err(Fail::from("no heap is large enough"))
 }
 
-// How many blocks of 16 bytes a heap needs for the text of a code.
+// The number of blocks of 16 bytes that a heap needs for the text of a code.
 fn blocks_for_code(rt: &(impl Abort + AllocGlobal), code: &Code) -> Result<usize, Fail> {
     let want = disassemble(rt.alloc(), code)?;
     for blocks in 8..2000 {

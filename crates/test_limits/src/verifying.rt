@@ -1,4 +1,4 @@
-//! Memory that runs out, what states take, and programs that are compared.
+//! Memory that runs out, the memory of states, and comparisons of programs.
 
 use bpf_asm::assemble;
 use bpf_insn::Code;
@@ -12,7 +12,7 @@ use std::test::Fail;
 const COUNTER: &str =
     "jlt r2, 8, +5\nldxdw r6, [r1+0]\nadd r6, 1\nstxdw [r1+0], r6\nmov r0, 1\nexit\nmov r0, 0\nexit";
 
-// A program of one jump over so many instructions.
+// A program of one jump over `count` instructions.
 fn jump_over(alloc: Global, count: usize) -> Result<String, AllocError> {
     let mut text = format!(in alloc; "mov r0, 0\nja +{count}\n")?;
     for _ in 0..count {
@@ -22,7 +22,7 @@ fn jump_over(alloc: Global, count: usize) -> Result<String, AllocError> {
     Ok(text)
 }
 
-// A growth that is refused gives the program back, and leaves nothing behind.
+// A failed allocation returns the program, and leaves nothing in the heap.
 #[test]
 fn each_growth_refused(rt: HostRuntime) -> Result<(), Fail> {
     let want = assemble(rt.alloc(), COUNTER)?;
@@ -51,7 +51,7 @@ fn each_growth_refused(rt: HostRuntime) -> Result<(), Fail> {
     Err(Fail::from("no heap is large enough"))
 }
 
-// The same where what is known is kept: a copy of a state may be refused too.
+// The same if the states are kept: a copy of a state may fail too.
 #[test]
 fn each_growth_refused_to_examine(rt: HostRuntime) -> Result<(), Fail> {
     let want = assemble(rt.alloc(), COUNTER)?;
@@ -86,7 +86,7 @@ fn each_growth_refused_to_examine(rt: HostRuntime) -> Result<(), Fail> {
     Err(Fail::from("no heap is large enough"))
 }
 
-// A text of 4,096 units, each of which is reached.
+// A text of 4,096 units, all of them reached.
 fn straight_line(alloc: Global) -> Result<String, AllocError> {
     let mut text = String::from_str(alloc, "mov r0, 0\n")?;
     for _ in 0..4094 {
@@ -96,7 +96,7 @@ fn straight_line(alloc: Global) -> Result<String, AllocError> {
     Ok(text)
 }
 
-// How many bytes an accepted program keeps beside its code. All its states would take 2 MB: the heap has half of that.
+// The number of bytes that an accepted program keeps in addition to its code. All its states would take 2 MB: the heap has half of that.
 fn kept(rt: &impl Abort, alloc: Global, text: &str) -> Result<usize, Fail> {
     let heap = LocalHeap::new(alloc, 1 << 20)?;
     let code = assemble(&heap, text)?;
@@ -108,8 +108,8 @@ fn kept(rt: &impl Abort, alloc: Global, text: &str) -> Result<usize, Fail> {
     Ok(heap.used().saturating_sub(before))
 }
 
-// A unit takes 8 bytes for its own, 8 for its ready form and 24 for the kinds of its registers, and 40 for each kind that is new there. So
-// it takes 80 where each instruction makes a new kind, and 40 where no state is.
+// A unit takes 8 bytes for itself, 8 for its ready form and 24 for the kinds of its registers, and 40 for each new kind. So
+// it takes 80 if each instruction makes a new kind, and 40 if it has no state.
 #[test]
 fn units_take_little(rt: HostRuntime) -> Result<(), Fail> {
     let line = straight_line(rt.alloc())?;
@@ -119,7 +119,7 @@ fn units_take_little(rt: HostRuntime) -> Result<(), Fail> {
     Ok(())
 }
 
-// Whether a program has the kinds of a state at a unit, or none if there is no state.
+// Returns `true` if a program has the kinds of a state at a unit, or no kinds if there is no state.
 fn has_kinds(verified: &Verified, state: Option<&State>, at: usize) -> bool {
     for register in 0..11u8 {
         let kind = match state {
@@ -133,7 +133,7 @@ fn has_kinds(verified: &Verified, state: Option<&State>, at: usize) -> bool {
     true
 }
 
-// Whether an accepted program has at each unit the kinds of the states by which it was accepted, and how many states there are.
+// Counts the states of an accepted program. Returns `None` if its kinds at some unit are not those of the state for which it was accepted.
 fn count_states(alloc: Global, text: &str) -> Result<Option<usize>, Fail> {
     let Ok(verified) = verify(alloc, assemble(alloc, text)?) else {
         return Err(Fail::from("it is refused"));
@@ -153,7 +153,7 @@ fn count_states(alloc: Global, text: &str) -> Result<Option<usize>, Fail> {
     Ok(Some(count))
 }
 
-// Kinds of a register, with joins, calls, a constant of two units and units that nothing reaches.
+// Kinds of a register, with joins, calls, a constant of two units and unreached units.
 #[test]
 fn kinds_of_registers(rt: HostRuntime) -> Result<(), Fail> {
     assert_eq!(rt; count_states(rt.alloc(), COUNTER)?, Some(8));
@@ -179,7 +179,7 @@ fn kinds_of_registers(rt: HostRuntime) -> Result<(), Fail> {
     Ok(())
 }
 
-// A program that is refused comes back.
+// A refused program is returned.
 #[test]
 fn a_refused_program_comes_back(rt: HostRuntime) -> Result<(), Fail> {
     let code = assemble(rt.alloc(), "mov r0, r1\nexit")?;
@@ -194,7 +194,7 @@ fn a_refused_program_comes_back(rt: HostRuntime) -> Result<(), Fail> {
     }
 }
 
-// Whether two texts are accepted and the same.
+// Returns `true` if two texts are accepted and give the same program.
 fn are_same(alloc: Global, one: &str, other: &str) -> Result<bool, Fail> {
     let one: Code = assemble(alloc, one)?;
     let other: Code = assemble(alloc, other)?;
@@ -207,7 +207,7 @@ fn are_same(alloc: Global, one: &str, other: &str) -> Result<bool, Fail> {
     Ok(one == other)
 }
 
-// Accepted programs are the same where their instructions are.
+// Accepted programs are the same if their instructions are.
 #[test]
 fn equal_programs(rt: HostRuntime) -> Result<(), Fail> {
     assert!(rt; are_same(rt.alloc(), COUNTER, COUNTER)?);

@@ -3,10 +3,10 @@
 use std::alloc::{AllocError, Allocator};
 use std::fmt::Write;
 
-/// How many equal bytes are written as one of them and their number.
+/// The least number of equal bytes that are written as one byte and their number.
 pub const LONG_RUN: usize = 8;
 
-/// Bytes: in hex, `.` for none, or `BYTE*COUNT` for one that comes so often.
+/// Reads bytes: in hex, `.` for no bytes, or `BYTE*COUNT` for a repeated byte.
 pub fn read_bytes<A: Allocator + Copy>(alloc: A, word: &str) -> Option<Vec<u8, A>> {
     let Some((digits, count)) = word.split_once('*') else {
         let digits = if word == "." { "" } else { word };

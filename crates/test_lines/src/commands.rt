@@ -30,7 +30,7 @@ fn read_program<A: Allocator + Copy>(alloc: A, word: &str) -> Option<Program<A>>
     Some(Program::new(Arc::new(alloc, accepted).ok()?))
 }
 
-// The length of a blank, `.` for none.
+// The length of a blank, `.` for no blank.
 fn read_blank(word: &str) -> Option<Option<usize>> {
     if word == "." {
         return Some(None);
@@ -53,7 +53,7 @@ fn read_run<A: Allocator + Copy>(alloc: A, words: &str) -> Option<Command<A>> {
 }
 
 /// A command: `fetch KEY`, `insert KEY VALUE`, `replace KEY VALUE`, `delete KEY`, `run KEY IMAGE ARG BLANK NOW` or `count`. The
-/// image of a program has to be accepted; `.` as the blank is none.
+/// image of a program has to be accepted; `.` means no blank.
 pub fn read_command<A: Allocator + Copy>(alloc: A, words: &str) -> Option<Command<A>> {
     let (name, rest) = words.split_once(' ').unwrap_or((words, ""));
     match name {
@@ -71,7 +71,6 @@ pub fn read_command<A: Allocator + Copy>(alloc: A, words: &str) -> Option<Comman
     }
 }
 
-// Writes the image of a program.
 fn show_program<A: Allocator>(
     global: Global,
     out: &mut String,

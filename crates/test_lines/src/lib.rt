@@ -1,5 +1,5 @@
-//! What the tests of the store share: bytes, commands and replies as their lines write them, whether trails are the same, and memory
-//! that is taken away.
+//! Shared parts of the tests of the store: bytes, commands and replies in the words of lines, comparisons of trails, and heaps
+//! without memory.
 #![tactic(auto)]
 
 mod bytes;

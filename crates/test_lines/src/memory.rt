@@ -1,11 +1,11 @@
-//! Memory that is taken away.
+//! Heaps without memory.
 use linked_list_allocator::LocalHeap;
 use std::alloc::{AllocError, Global};
 
-/// How often a call is made with more memory each time, at most.
+/// The largest number of attempts of a call, with more memory each time.
 pub const MOST_TIMES: usize = 4000;
 
-/// Takes all memory of a heap but for so many bytes.
+/// Takes all memory of a heap except `spared` bytes.
 pub fn fill<'a>(
     alloc: Global,
     heap: &'a LocalHeap,

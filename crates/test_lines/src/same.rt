@@ -1,10 +1,10 @@
-//! Whether entries and trails are the same.
+//! Comparisons of entries and trails.
 
 use sdbm_addr::Bytes;
 use std::alloc::Allocator;
 use store_cmd::{KeptEntry, Trail};
 
-// Whether pairs are the same, in the same order.
+// Returns `true` if pairs are the same, in the same order.
 fn same_pairs<A: Allocator>(a: &[(Bytes<A>, Bytes<A>)], b: &[(Bytes<A>, Bytes<A>)]) -> bool {
     if a.len() != b.len() {
         return false;
@@ -17,7 +17,7 @@ fn same_pairs<A: Allocator>(a: &[(Bytes<A>, Bytes<A>)], b: &[(Bytes<A>, Bytes<A>
     true
 }
 
-// Whether two entries are the same, and so are their sessions, commands and replies.
+// Returns `true` if two entries are the same, with the same sessions, commands and replies.
 fn same_entry<A: Allocator>(a: &KeptEntry<A>, b: &KeptEntry<A>) -> bool {
     a.equals(b)
         && a.session() == b.session()
@@ -25,7 +25,7 @@ fn same_entry<A: Allocator>(a: &KeptEntry<A>, b: &KeptEntry<A>) -> bool {
         && a.reply() == b.reply()
 }
 
-/// Whether two trails are the same.
+/// Returns `true` if two trails are the same.
 pub fn same_trail<A: Allocator>(a: &Trail<A>, b: &Trail<A>) -> bool {
     if a.entries.len() != b.entries.len() {
         return false;

@@ -4,7 +4,7 @@ use crate::bytes::{LONG_RUN, read_bytes};
 use std::alloc::{AllocError, Global};
 use std::fmt::Write;
 
-// Puts a segment at its offset, as far as there are bytes.
+// Puts a segment at its offset, as far as it fits.
 fn put_segment(alloc: Global, bytes: &mut [u8], segment: &str) -> Option<()> {
     let (offset, word) = segment.split_once(':')?;
     let offset = offset.parse::<usize>().ok()?;
@@ -26,7 +26,7 @@ pub fn read_file(alloc: Global, text: &str) -> Option<Vec<u8>> {
     Some(bytes)
 }
 
-// Equal bytes, one after another.
+// A run of equal bytes.
 #[derive(Clone, Copy)]
 struct Run {
     start: usize,
@@ -34,7 +34,7 @@ struct Run {
     count: usize,
 }
 
-// Equal bytes of a file, from the first on.
+// The runs of equal bytes of a file, in order.
 fn runs_of(alloc: Global, bytes: &[u8]) -> Result<Vec<Run>, AllocError> {
     let mut runs = Vec::new(alloc);
     let mut last: Option<Run> = None;
@@ -59,7 +59,7 @@ fn runs_of(alloc: Global, bytes: &[u8]) -> Result<Vec<Run>, AllocError> {
     Ok(runs)
 }
 
-// Writes equal bytes, and tells whether the next ones go on after them in the same segment.
+// Writes equal bytes, and returns whether the next ones continue in the same segment.
 fn show_run(out: &mut String, run: Run, goes_on: bool) -> Result<bool, AllocError> {
     let Run { start, byte, count } = run;
     if count >= LONG_RUN {
@@ -77,7 +77,7 @@ fn show_run(out: &mut String, run: Run, goes_on: bool) -> Result<bool, AllocErro
     Ok(true)
 }
 
-/// Writes the bytes of a file: all but eight zeros or more, and eight equal bytes or more in a segment of their own.
+/// Writes the bytes of a file. Omits eight or more zeros; writes eight or more equal bytes as a separate segment.
 pub fn show_file(alloc: Global, out: &mut String, bytes: &[u8]) -> Result<(), AllocError> {
     write!(out, "{}", bytes.len())?;
     let mut goes_on = false;

@@ -5,8 +5,8 @@ use sdbm_addr::{Bytes, Mode};
 use std::alloc::{AllocError, Global};
 use store_cmd::{Command, Program, Reply, SharedCommand};
 
-/// The keys, sorted by their bytes, and their hashes. Some part at their first bits, `0000` and `0808` at the tenth, and `003f`,
-/// `0100` and `3f` not before.
+/// The keys, sorted by their bytes, and their hashes. Some differ in their first bits, `0000` and `0808` in the tenth, and `003f`,
+/// `0100` and `3f` only after that.
 pub const KEYS: [(&[u8], u32); 8] = [
     (b"\x00\x00", 0),
     (b"\x00\x3f", 63),
@@ -18,7 +18,7 @@ pub const KEYS: [(&[u8], u32); 8] = [
     (b"\x63", 99),
 ];
 
-/// A run on a key, of a program by its place among the programs.
+/// A run on a key. The program is given by its place among the programs.
 #[derive(Clone, Copy, Debug)]
 pub struct Run {
     pub key: usize,
@@ -28,7 +28,7 @@ pub struct Run {
     pub now: u64,
 }
 
-/// A command on a key, by the key's place among `KEYS`.
+/// A command on a key. The key is given by its place among `KEYS`.
 #[derive(Clone, Copy, Debug)]
 pub enum Ask {
     Fetch(usize),
@@ -39,7 +39,7 @@ pub enum Ask {
     Count,
 }
 
-/// What is answered.
+/// A reply.
 #[derive(Clone, Copy, Debug, PartialEq, Eq)]
 pub enum Told {
     Found(Value),
@@ -51,7 +51,7 @@ pub enum Told {
     /// A program's number, and its reply word.
     Ran(u64, u64),
     Count(usize),
-    /// A value whose bytes after the first eight differ.
+    /// A value whose bytes after the first eight are not all the same.
     Wrong,
 }
 
@@ -116,7 +116,7 @@ fn command_of(
     }
 }
 
-/// The command, with one owner.
+/// The command as a shared one.
 pub fn shared_of(
     alloc: Global,
     programs: &[Program<Global>],
@@ -128,7 +128,7 @@ pub fn shared_of(
     }
 }
 
-/// What a reply says.
+/// The content of a reply.
 pub fn said_by(reply: &Reply<Global>) -> Told {
     match reply {
         Reply::Found(value) => match value_of(value.as_slice()) {
@@ -145,7 +145,7 @@ pub fn said_by(reply: &Reply<Global>) -> Told {
     }
 }
 
-// Whether a command is this run.
+// Returns `true` if a command is this run.
 fn is_run(command: &Command<Global>, programs: &[Program<Global>], run: Run) -> bool {
     let Command::Run {
         key,
@@ -167,7 +167,7 @@ fn is_run(command: &Command<Global>, programs: &[Program<Global>], run: Run) -> 
         && *now == run.now
 }
 
-/// Whether a command is what was asked.
+/// Returns `true` if a command is the one of `ask`.
 pub fn is_asked(command: &Command<Global>, programs: &[Program<Global>], ask: Ask) -> bool {
     if let Ask::Run(run) = ask {
         return is_run(command, programs, run);

@@ -1,4 +1,4 @@
-//! Whether desks are what the model says.
+//! Compares desks with the model.
 
 use crate::asks::{is_asked, key_of, said_by};
 use crate::model::Answered;
@@ -11,7 +11,7 @@ fn is_pair(pair: &(Bytes<Global>, Bytes<Global>), key: usize, value: Value) -> b
     pair.0.as_slice() == key_of(key) && is_value(pair.1.as_slice(), value)
 }
 
-/// Whether pairs are those of the keys that have values, in the order of the keys.
+/// Returns `true` if pairs are those of the keys that have values, in the order of the keys.
 pub fn are_pairs(pairs: &[(Bytes<Global>, Bytes<Global>)], values: &[Option<Value>]) -> bool {
     let mut rest = pairs.iter();
     for (key, value) in values.iter().enumerate() {
@@ -31,7 +31,7 @@ fn is_entry(entry: &KeptEntry<Global>, programs: &[Program<Global>], own: &Answe
         && said_by(entry.reply()) == own.told
 }
 
-/// Whether the entries of a trail are those of the model.
+/// Returns `true` if the entries of a trail are those of the model.
 pub fn are_entries(
     entries: &[KeptEntry<Global>],
     programs: &[Program<Global>],

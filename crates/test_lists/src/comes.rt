@@ -15,7 +15,7 @@ pub enum Does {
     Abandon(usize),
 }
 
-/// What comes of one.
+/// The outcome of an event.
 #[derive(Clone, Copy, Debug, PartialEq, Eq)]
 pub enum Comes {
     Asked(usize),
@@ -32,7 +32,7 @@ pub enum Comes {
     NoHand,
 }
 
-/// The event.
+/// Creates the event.
 pub fn event_of(
     alloc: Global,
     programs: &[Program<Global>],
@@ -47,7 +47,7 @@ pub fn event_of(
     }
 }
 
-/// What an outcome says.
+/// The content of an outcome.
 pub fn come_of(outcome: &EventOutcome<Global>) -> Comes {
     match outcome {
         EventOutcome::Asked(ticket) => Comes::Asked(ticket.0),

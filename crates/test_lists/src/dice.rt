@@ -1,4 +1,4 @@
-//! What is drawn at random.
+//! Random commands and events.
 ghost use Rattle.std.specs.Prelude.{◌<◌};
 
 use crate::asks::{Ask, Run};
@@ -26,8 +26,8 @@ impl Dice {
     }
 }
 
-// Sizes with which pairs go on one page, part pages, crowd them, and are too large. Beside 600 bytes, under keys of two bytes, 410
-// fill a page and 411 are too many; 1,006 are the most under such a key.
+// Sizes whose pairs fit on one page, divide pages, crowd them, or are too large. Next to 600 bytes, with keys of two bytes, 410
+// fill a page and 411 are too many; 1,006 are the most with such a key.
 const COUNTS: [usize; 8] = [1, 2, 300, 410, 411, 600, 1006, 1008];
 
 fn any_value(dice: &mut Dice) -> Value {
@@ -36,10 +36,10 @@ fn any_value(dice: &mut Dice) -> Value {
     same_bytes(byte, count)
 }
 
-// Lengths of arguments, of which the last is too long.
+// Lengths of arguments. The last is too long.
 const ARGUMENTS: [usize; 5] = [0, 7, 8, 1024, 1025];
 
-// Lengths of blanks. Under keys of two bytes 1,006 are the most, and 1,007 are too large.
+// Lengths of blanks. With keys of two bytes 1,006 are the most, and 1,007 are too large.
 const BLANKS: [usize; 8] = [0, 7, 8, 410, 411, 600, 1006, 1007];
 
 fn any_blank(dice: &mut Dice) -> Option<usize> {

@@ -12,10 +12,10 @@ use sdbm_files::Image;
 use std::alloc::{AllocError, Global};
 use store_cmd::{Program, SharedCommand, Trail};
 
-// How many steps follow a list.
+// The number of steps after a list.
 const STEPS: usize = 5;
 
-// The desk's calls, each alone.
+// The calls of the desk, one function for each.
 fn open(alloc: Global, image: Image<Global>, limit: usize) -> Result<Desk<Global>, AllocError> {
     match Desk::open(alloc, image, limit) {
         Ok(desk) => Ok(desk),
@@ -61,7 +61,7 @@ fn events_of(
     Ok(events)
 }
 
-// Plays a list, and gives the first difference, if there is one.
+// Plays a list, and returns the first difference, if there is one.
 fn play_both(
     alloc: Global,
     programs: &[Program<Global>],
@@ -84,7 +84,7 @@ fn play_both(
     Ok(None)
 }
 
-// Does a step on both, and gives the difference, if there is one.
+// Does a step on both, and returns the difference, if there is one.
 fn step_both(
     alloc: Global,
     programs: &[Program<Global>],
@@ -101,7 +101,7 @@ fn step_both(
     Ok(None)
 }
 
-// Any steps, while the tickets of a list that was played are still open.
+// Does random steps while the tickets of a list that was played are still open.
 fn steps_both(
     alloc: Global,
     programs: &[Program<Global>],
@@ -119,7 +119,7 @@ fn steps_both(
     Ok(None)
 }
 
-// The first difference of a list, its steps, and what is left then.
+// Plays a list and its steps, and compares the pairs and entries after them. Returns the first difference, if there is one.
 fn difference(
     alloc: Global,
     programs: &[Program<Global>],
@@ -148,14 +148,14 @@ fn difference(
     Ok(None)
 }
 
-// A database, and what the model has of it.
+// A database, and the model of it.
 #[derive(Drop)]
 struct Pair {
     image: Image<Global>,
     store: Store,
 }
 
-// What comes after a list: both databases, or the first difference.
+// The result of a list: both databases, or the first difference.
 #[derive(Drop)]
 enum After {
     Same(Pair, Seen),
@@ -209,7 +209,7 @@ fn agreement(alloc: Global, count: usize, seen: Seen) -> Result<String, AllocErr
     format!(in alloc; "{count} lists agree{splits}{crowded}{busy}{saved}{deleted}")
 }
 
-/// Plays random lists, and says that they agree or how the first of them differs.
+/// Plays random lists, and reports that they agree or the first difference.
 pub fn run_lists(
     alloc: Global,
     programs: &[Program<Global>],

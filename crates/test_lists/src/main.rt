@@ -2,10 +2,10 @@
 //!
 //! | Line of standard input | Answer |
 //! |---|---|
-//! | `lists SEED COUNT LENGTH` | `COUNT lists agree`: so many random lists of so many events, with five steps after each, on desks of their own and on a plain model, with what came among them; or the first difference |
+//! | `lists SEED COUNT LENGTH` | `COUNT lists agree`: COUNT random lists of LENGTH events, with five steps after each, on new desks and on a plain model, with the kinds of outcomes among them; or the first difference |
 //! | `# TEXT` | the line itself |
 //!
-//! A random list begins with the database that the one before it left, or with an empty one.
+//! A random list begins with the database that the list before it left, or with an empty one.
 #![tactic(auto)]
 
 mod asks;
@@ -35,7 +35,7 @@ fn read_lists(words: &str) -> Option<(u64, usize, usize)> {
     ))
 }
 
-// Whether lists of events agree, by their seed, their number and their length.
+// Reports whether lists of events agree, given their seed, their number and their length.
 fn show_lists(global: Global, words: &str) -> Result<String, AllocError> {
     let Some(programs) = all_programs(global) else {
         return String::from_str(global, "a program is refused");

@@ -1,4 +1,4 @@
-//! The model of a desk: its database, what stands under each ticket, and the entries.
+//! The model of a desk: its database, its open tickets, and the entries.
 
 use crate::asks::{Ask, Told};
 use crate::comes::{Comes, Does};
@@ -6,7 +6,7 @@ use crate::store::{Answer, Store, size_fault};
 use desk_core::{AskFault, ConvertFault, FinishFault};
 use std::alloc::{AllocError, Global};
 
-// The three modes of a hold, each barring those that the next function says.
+// The three modes of a hold. The next function says which modes exclude each other.
 #[derive(Clone, Copy, Debug, PartialEq, Eq)]
 enum Mode {
     Read,
@@ -22,7 +22,7 @@ fn go_together(one: Mode, other: Mode) -> bool {
     }
 }
 
-// What is open under a ticket.
+// An open ticket: its session, and its hold on a page.
 #[derive(Clone, Copy)]
 struct Open {
     session: u64,
@@ -30,7 +30,7 @@ struct Open {
     mode: Mode,
 }
 
-// What stands under a ticket: what is open, and what is in hand, with whether it was worked.
+// A ticket: its hold if it is open, and the command in hand, with whether it was worked.
 #[derive(Clone, Copy)]
 struct Slot {
     open: Option<Open>,
@@ -50,7 +50,7 @@ pub struct Answered {
     pub told: Told,
 }
 
-/// What the lists did, so that one sees that they did it.
+/// Counts of the outcomes of lists, to show what they cover.
 #[derive(Clone, Copy)]
 pub struct Seen {
     pub splits: usize,
@@ -62,7 +62,7 @@ pub struct Seen {
 }
 
 impl Seen {
-    /// Nothing.
+    /// Zero for all.
     pub fn nothing() -> Self {
         Seen {
             splits: 0,
@@ -73,7 +73,7 @@ impl Seen {
         }
     }
 
-    // Notes what was answered.
+    // Counts a reply.
     fn note(&mut self, told: Told, changes: bool) {
         let count = match told {
             Told::Crowded => &mut self.crowded,
@@ -85,7 +85,7 @@ impl Seen {
     }
 }
 
-/// A desk: tickets that were closed are handed out again, the one that was closed last first.
+/// A desk: closed tickets are used again, the one that was closed last first.
 #[derive(Drop)]
 pub struct Model {
     pub store: Store,
@@ -96,7 +96,7 @@ pub struct Model {
     limit: usize,
 }
 
-// The key of a command and the mode in which its page is held first, or none for a count.
+// The key of a command and the mode of the first hold on its page. `None` for a count.
 fn first_hold(ask: Ask) -> Option<(usize, Mode)> {
     match ask {
         Ask::Fetch(key) => Some((key, Mode::Read)),
@@ -129,13 +129,13 @@ impl Model {
         }
     }
 
-    // Whether entries and open tickets are as many as there may be.
+    // Returns `true` if the entries and open tickets together have reached the limit.
     fn is_full(&self) -> bool {
         let open = self.slots.iter().filter(|slot| slot.open.is_some()).count();
         self.limit <= self.entries.len().saturating_add(open)
     }
 
-    // Whether a ticket other than one holds a page in a mode that bars this one.
+    // Returns `true` if another ticket than `own` holds a page in a mode that excludes this one.
     fn bars(&self, page: u32, mode: Mode, own: Option<usize>) -> bool {
         for (ticket, slot) in self.slots.iter().enumerate() {
             if let Some(open) = slot.open {
@@ -147,7 +147,7 @@ impl Model {
         false
     }
 
-    // Answers a command, which goes into the trail.
+    // Answers a command, and appends it to the trail.
     fn commit(&mut self, session: u64, ask: Ask) -> Result<Told, AllocError> {
         let Answer { told, change } = self.store.answer(session, ask);
         if let Some((key, value)) = change {
@@ -159,7 +159,7 @@ impl Model {
         Ok(told)
     }
 
-    // Whether a session's command comes to a change.
+    // Returns `true` if a session's command makes a change.
     fn changes(&self, session: u64, ask: Ask) -> bool {
         self.store.answer(session, ask).change.is_some()
     }
@@ -169,7 +169,7 @@ impl Model {
         Comes::AskRefused(AskFault::Busy)
     }
 
-    // The ticket that is handed out next.
+    // The next ticket.
     fn next_ticket(&mut self) -> Result<usize, AllocError> {
         if let Some(ticket) = self.closed.pop() {
             return Ok(ticket);
@@ -202,7 +202,7 @@ impl Model {
         Ok(Comes::Asked(ticket))
     }
 
-    /// What comes of a step.
+    /// The outcome of a step.
     pub fn steps(&mut self, session: u64, ask: Ask) -> Result<Comes, AllocError> {
         if let Some(fault) = size_fault(ask) {
             return Ok(Comes::AskRefused(fault));
@@ -275,7 +275,7 @@ impl Model {
         Ok(Comes::Abandoned)
     }
 
-    /// What comes of an event.
+    /// The outcome of an event.
     pub fn happens(&mut self, does: Does) -> Result<Comes, AllocError> {
         match does {
             Does::Ask(session, ask) => self.asks(session, ask),

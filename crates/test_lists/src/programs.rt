@@ -1,4 +1,4 @@
-//! Programs, as texts and as what they do.
+//! Programs, as texts and as functions.
 
 use crate::values::Value;
 use bpf_asm::assemble;
@@ -7,10 +7,10 @@ use std::alloc::Global;
 use std::sync::Arc;
 use store_cmd::Program;
 
-/// How many programs there are.
+/// The number of programs.
 pub const PROGRAMS: usize = 6;
 
-// What they do stands in `end_of`, in the same order.
+// `end_of` has their results, in the same order.
 const TEXTS: [&str; PROGRAMS] = [
     "jlt r2, 8, +7\nldxdw r6, [r1+0]\nadd r6, 1\nstxdw [r1+0], r6\nmov r1, r6\ncall 1\nmov r0, 1\nexit\nmov r0, 0\nexit",
     "mov r0, 2\nexit",
@@ -20,7 +20,7 @@ const TEXTS: [&str; PROGRAMS] = [
     "call 3\nadd r0, 1\nexit",
 ];
 
-/// What a program is given.
+/// The input of a program.
 #[derive(Clone, Copy)]
 pub struct Given {
     pub value: Value,
@@ -30,7 +30,7 @@ pub struct Given {
     pub who: u64,
 }
 
-/// How a program ends: its number, its reply word and the value.
+/// The end of a program: its number, its reply word and the value.
 #[derive(Clone, Copy)]
 pub struct End {
     pub code: u64,
@@ -80,7 +80,7 @@ fn ended(code: u64, word: u64, value: Value) -> End {
     End { code, word, value }
 }
 
-/// How the program with a place ends.
+/// The end of the program with this place.
 pub fn end_of(program: usize, given: Given) -> End {
     let present = u64::from(given.present);
     let value = given.value;

@@ -35,7 +35,7 @@ fn length_of(key: usize) -> usize {
     }
 }
 
-// What a pair takes on a page, with its two offsets.
+// The bytes of a pair on a page, with its two offsets.
 fn taken_by(key: usize, value: Value) -> usize {
     length_of(key).saturating_add(value.count).saturating_add(4)
 }
@@ -44,7 +44,7 @@ fn is_too_large(key: usize, count: usize) -> bool {
     length_of(key).saturating_add(count) > 1008
 }
 
-/// Why a command is refused for a size: of the pair, where it may store one, before that of the argument.
+/// Why a command is refused for a size. The size of the pair, if it may store one, is checked before that of the argument.
 pub fn size_fault(ask: Ask) -> Option<AskFault> {
     let (pair, arg) = match ask {
         Ask::Insert(key, value) | Ask::Replace(key, value) => (is_too_large(key, value.count), 0),
@@ -63,7 +63,7 @@ pub fn size_fault(ask: Ask) -> Option<AskFault> {
     None
 }
 
-/// What a command comes to: what is answered, and the change, of one key to a value or to none.
+/// The answer to a command: the reply, and the change of one key to a value or to none.
 #[derive(Clone, Copy)]
 pub struct Answer {
     pub told: Told,
@@ -90,7 +90,7 @@ impl Store {
         }
     }
 
-    // How many bits of a hash lead to its page.
+    // The number of bits of a hash that lead to its page.
     fn depth(&self, hash: u32) -> u32 {
         for bits in 0..32 {
             if !self.splits.contains(&(bits, low(hash, bits))) {
@@ -110,12 +110,12 @@ impl Store {
         self.values.get(key).copied().unwrap_or(None)
     }
 
-    /// How many keys have values.
+    /// The number of keys that have values.
     pub fn count(&self) -> usize {
         self.values.iter().filter(|value| value.is_some()).count()
     }
 
-    // What the other keys take that agree with one in so many bits.
+    // The bytes of all other keys whose hashes have the same last `bits` bits.
     fn taken(&self, key: usize, bits: u32) -> usize {
         let own = low(hash_of(key), bits);
         let mut taken = 0usize;
@@ -141,7 +141,7 @@ impl Store {
         None
     }
 
-    // What comes of a new pair, which is answered so where there is room.
+    // The answer to a new pair. If there is room, the reply is `told`.
     fn stored(&self, told: Told, key: usize, value: Value) -> Answer {
         match self.splits_for(key, value) {
             Some(_) => changed(told, key, Some(value)),
@@ -149,7 +149,7 @@ impl Store {
         }
     }
 
-    // What comes of a run on a record.
+    // The answer to a run on a record.
     fn ran_on(&self, session: u64, run: Run, value: Value, present: bool) -> Answer {
         let given = Given {
             value,
@@ -175,7 +175,7 @@ impl Store {
         }
     }
 
-    /// What a session's command comes to.
+    /// The answer to a session's command.
     pub fn answer(&self, session: u64, ask: Ask) -> Answer {
         match ask {
             Ask::Fetch(key) => match self.value(key) {
@@ -202,7 +202,7 @@ impl Store {
         }
     }
 
-    // Splits so many prefixes of a key's hash, from its page on.
+    // Splits `more` prefixes of a key's hash, beginning with its page.
     fn split(&mut self, key: usize, more: u32) -> Result<(), AllocError> {
         let hash = hash_of(key);
         let depth = self.depth(hash);
@@ -213,7 +213,7 @@ impl Store {
         Ok(())
     }
 
-    /// Gives a key a value or none, and tells how many prefixes are split for it.
+    /// Sets or removes the value of a key, and returns the number of prefixes that are split for it.
     pub fn change(&mut self, key: usize, value: Option<Value>) -> Result<u32, AllocError> {
         let more = match value {
             Some(value) => self.splits_for(key, value).unwrap_or(0),

@@ -2,11 +2,11 @@
 
 use std::alloc::{AllocError, Global};
 
-// How many bytes the head has.
+// The number of bytes of the head.
 const HEAD: usize = 8;
 
-/// A value: its first eight bytes as a number, lowest byte first, and the byte that all others are. Where it has fewer, the number's
-/// other bytes are zeros, and where it has no others, `byte` is zero.
+/// A value: its first eight bytes as a number, lowest byte first, and the byte that all further ones are equal to. If it has fewer bytes,
+/// the number's other bytes are zeros; if it has no further bytes, `byte` is zero.
 #[derive(Clone, Copy, Debug, PartialEq, Eq)]
 pub struct Value {
     pub head: u64,
@@ -14,7 +14,7 @@ pub struct Value {
     pub count: usize,
 }
 
-// The number of bytes of which the first is the lowest.
+// Reads bytes as a number, lowest byte first.
 fn number_of(bytes: &[u8]) -> u64 {
     let mut number = 0u64;
     for byte in bytes.iter().rev() {
@@ -23,7 +23,7 @@ fn number_of(bytes: &[u8]) -> u64 {
     number
 }
 
-/// A byte, so many times.
+/// The byte `byte`, `count` times.
 pub fn same_bytes(byte: u8, count: usize) -> Value {
     let head = [byte; HEAD];
     Value {
@@ -43,7 +43,7 @@ pub fn bytes_of(alloc: Global, value: Value) -> Result<Vec<u8>, AllocError> {
     Ok(bytes)
 }
 
-/// The value that bytes are, or none where those after the first eight differ.
+/// The value of some bytes. Returns `None` if those after the first eight are not all the same.
 pub fn value_of(bytes: &[u8]) -> Option<Value> {
     let (head, rest) = bytes.split_at(bytes.len().min(HEAD));
     let byte = rest.first().copied().unwrap_or(0);
@@ -59,7 +59,7 @@ pub fn value_of(bytes: &[u8]) -> Option<Value> {
     })
 }
 
-/// Whether bytes are a value.
+/// Returns `true` if bytes are those of a value.
 pub fn is_value(bytes: &[u8], value: Value) -> bool {
     value_of(bytes) == Some(value)
 }

@@ -6,7 +6,7 @@ use bpf_machine::{Checked, run, run_checked};
 use bpf_verify::{Verified, verify};
 use std::alloc::{AllocError, Global};
 
-/// How many runs were the same on both machines, and how many were not.
+/// The number of runs that were the same on both machines, and of those that were not.
 #[derive(Clone, Copy)]
 pub struct Tally {
     pub alike: u64,
@@ -31,7 +31,7 @@ impl Tally {
     }
 }
 
-/// Whether both machines answer the same of a run, and leave the same record.
+/// Returns `true` if both machines answer a run in the same way and leave the same record.
 pub fn is_alike(
     alloc: Global,
     program: &Verified,
@@ -54,7 +54,7 @@ pub fn is_alike(
     Ok(same && ended.steps <= steps)
 }
 
-/// Runs a program on a record and an argument, and on others that come of them.
+/// Runs a program on a record and an argument, and on variants of them.
 pub fn count_runs(
     alloc: Global,
     program: &Verified,

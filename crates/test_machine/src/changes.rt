@@ -1,4 +1,4 @@
-//! Each change of one byte of an image, run on records of several lengths.
+//! All changes of one byte of an image, run on records of several lengths.
 
 use crate::both::is_alike;
 use crate::lines::UNREAD;
@@ -11,19 +11,19 @@ use std::alloc::{AllocError, Global};
 // The lengths of the records, which are zeros.
 const LENGTHS: [usize; 5] = [0, 7, 8, 1008, 8008];
 
-// What came of the images.
+// The results of the images.
 #[derive(Clone, Copy)]
 struct Changes {
-    // No image.
+    // Not decoded.
     undecoded: u64,
     // Not accepted.
     refused: u64,
-    // Run to an end within their lengths, and the same on both machines.
+    // Accepted, run to an end within their lengths, and the same on both machines.
     alike: u64,
     unlike: u64,
 }
 
-// Whether both machines answer the same of each record, within the program's length.
+// Returns `true` if both machines give the same answer for each record, within the program's length.
 fn is_alike_on_all(alloc: Global, program: &Verified, zeros: &[u8]) -> Result<bool, AllocError> {
     let env = Env {
         now: 5,
@@ -41,7 +41,7 @@ fn is_alike_on_all(alloc: Global, program: &Verified, zeros: &[u8]) -> Result<bo
     Ok(true)
 }
 
-// Looks at an image.
+// Examines an image.
 fn count_image(
     alloc: Global,
     image: &[u8],
@@ -64,7 +64,7 @@ fn count_image(
     Ok(())
 }
 
-// Gives one byte of an image every other value.
+// Tries every other value of one byte of an image.
 fn count_byte(
     alloc: Global,
     image: &mut Vec<u8>,
@@ -87,7 +87,7 @@ fn count_byte(
     Ok(())
 }
 
-// What comes of all changes of one byte of a text's image.
+// Reports all changes of one byte of a text's image.
 fn changes_text(alloc: Global, text: &str) -> Option<String> {
     let text = text.replace(alloc, " / ", "\n").ok()?;
     let code = assemble(alloc, text.as_str()).ok()?;
@@ -113,7 +113,7 @@ fn changes_text(alloc: Global, text: &str) -> Option<String> {
     ).ok()
 }
 
-/// What comes of the changes of a text's image, or that the text cannot be read.
+/// Reports all changes of one byte of a text's image, or that the text cannot be read.
 pub fn show_changes(alloc: Global, text: &str) -> Result<String, AllocError> {
     match changes_text(alloc, text) {
         Some(said) => Ok(said),

@@ -1,4 +1,4 @@
-//! Verdicts, and runs of programs that are accepted, with what the key has afterwards.
+//! Verdicts, and runs of accepted programs, with the value of the key afterwards.
 
 use crate::lines::Input;
 use bpf_asm::assemble;
@@ -19,7 +19,7 @@ fn accepted(alloc: Global, text: &str) -> Result<Result<Verified, String>, Alloc
     }
 }
 
-/// The verdict on a text that was written on one line.
+/// The verdict on a text that is written on one line.
 pub fn show_verdict(alloc: Global, text: &str) -> Result<String, AllocError> {
     let text = if text == "." { "" } else { text };
     let lines = text.replace(alloc, " / ", "\n")?;
@@ -29,7 +29,7 @@ pub fn show_verdict(alloc: Global, text: &str) -> Result<String, AllocError> {
     }
 }
 
-// What a key has: bytes, which may be none, or no value.
+// The value of a key: bytes, which may be empty, or no value.
 fn show_value(alloc: Global, value: Option<&[u8]>) -> Result<String, AllocError> {
     match value {
         None => String::from_str(alloc, "none"),
@@ -38,7 +38,7 @@ fn show_value(alloc: Global, value: Option<&[u8]>) -> Result<String, AllocError>
     }
 }
 
-// What comes of a run: what it answers, and what the key has once the code has been obeyed.
+// The end of a run: its answer, and the value of the key once the code has been obeyed.
 fn show_end(
     alloc: Global,
     end: Ended,
@@ -59,7 +59,7 @@ fn show_end(
     )
 }
 
-/// What comes of a text that is run on a record, or why it is refused.
+/// Runs a text on a record, or reports why it is refused.
 pub fn show_example(alloc: Global, text: &str, input: Input) -> Result<String, AllocError> {
     let program = match accepted(alloc, text)? {
         Ok(program) => program,

@@ -5,10 +5,10 @@ use bpf_helpers::Env;
 use bpf_insn::{Code, decode};
 use std::alloc::Global;
 
-/// What is said of a line of no kind.
+/// The answer to a line of an unknown kind.
 pub const UNREAD: &str = "a line that cannot be read";
 
-/// What a program is run on.
+/// The input of a program.
 #[derive(Drop)]
 pub struct Input {
     pub env: Env,
@@ -30,7 +30,7 @@ pub fn read_bytes(alloc: Global, word: &str) -> Option<Vec<u8>> {
     Some(bytes)
 }
 
-// What the helpers know, and the words after.
+// The environment for the helpers, and the rest of the words.
 fn read_env(words: &str) -> Option<(Env, &str)> {
     let (now, rest) = words.split_once(' ')?;
     let (key, rest) = rest.split_once(' ')?;
@@ -48,7 +48,7 @@ fn read_env(words: &str) -> Option<(Env, &str)> {
     Some((env, rest))
 }
 
-/// What a program is run on, and the words after.
+/// The input of a program, and the rest of the words.
 pub fn read_input(alloc: Global, words: &str) -> Option<(Input, &str)> {
     let (bytes, rest) = words.split_once(' ')?;
     let (argument, rest) = rest.split_once(' ')?;
@@ -76,7 +76,7 @@ fn read_program(alloc: Global, kind: &str, program: &str) -> Option<Code> {
     }
 }
 
-/// A program, by the kind in which it is given, and what it is to be run on.
+/// A program, given as a `kind`, and its input.
 pub fn read_run(alloc: Global, kind: &str, words: &str) -> Option<(Code, Input)> {
     let (input, program) = read_input(alloc, words)?;
     Some((read_program(alloc, kind, program)?, input))

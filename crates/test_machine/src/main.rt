@@ -1,44 +1,41 @@
-//! Works out what is known of numbers, and runs programs on records, as lines say; and measures both machines.
+//! Computes knowledge of numbers and runs programs on records as lines request, and measures both machines.
 //!
-//! Each line of standard input is a case, and its first word says of which kind.
+//! Each line of standard input is a case. Its first word is the kind.
 //!
 //! | Line | Answer |
 //! |---|---|
 //! | `image RECORD ARGUMENT NOW KEY WHO IMAGE` | `ended CODE WORD STEPS RECORD` on the checked machine, or `stuck AT RECORD` |
-//! | `text RECORD ARGUMENT NOW KEY WHO TEXT` | the same of a text, with ` / ` in the place of line feeds |
-//! | `changes TEXT` | of all images that differ from a text's in one byte, how many are none, how many are refused, and how many are alike and unlike on both machines on records of 0, 7, 8, 1,008 and 8,008 zeros, within their lengths |
-//! | `file RECORD ARGUMENT NOW KEY WHO NAME` | `code CODE, word WORD, STEPS steps, VALUE` of the program in a file of `data/`, or why it is refused |
-//! | `example RECORD ARGUMENT NOW KEY WHO TEXT` | the same of a text |
+//! | `text RECORD ARGUMENT NOW KEY WHO TEXT` | the same for a text, with ` / ` instead of line feeds |
+//! | `changes TEXT` | for all images that differ from a text's in one byte: how many are invalid, how many are refused, and how many are alike and unlike on both machines on records of 0, 7, 8, 1,008 and 8,008 zeros, within their lengths |
+//! | `file RECORD ARGUMENT NOW KEY WHO NAME` | `code CODE, word WORD, STEPS steps, VALUE` for the program in a file of `data/`, or why it is refused |
+//! | `example RECORD ARGUMENT NOW KEY WHO TEXT` | the same for a text |
 //! | `verdict TEXT` | `accepted`, or why the text is refused |
-//! | `MACHINE counter ROUNDS` | of so many runs of a program that adds 1 to a record of 8 bytes, the steps and a sum of what they gave; `MACHINE` is `run` or `run_checked` |
-//! | `MACHINE line LENGTH ROUNDS` | the same of a straight line of so many instructions, from 4 on, arithmetic on two registers |
-//! | `MACHINE image RECORD ARGUMENT IMAGE ROUNDS` | the same of an image that is accepted; each run begins with that record |
-//! | `verify ..` | the same of as many verdicts on such a program, whose units are told as steps |
-//! | `time LINE` | the same of such a line, with the instructions or units a second, and the nanoseconds of a run or a verdict |
+//! | `MACHINE counter ROUNDS` | the steps and a sum of the results of ROUNDS runs of a program that adds 1 to a record of 8 bytes; `MACHINE` is `run` or `run_checked` |
+//! | `MACHINE line LENGTH ROUNDS` | the same for a straight line of LENGTH instructions, at least 4: arithmetic on two registers |
+//! | `MACHINE image RECORD ARGUMENT IMAGE ROUNDS` | the same for an accepted image; each run begins with that record |
+//! | `verify ..` | the same for ROUNDS verdicts on such a program; its units count as steps |
+//! | `time LINE` | the same for such a line, with the instructions or units a second, and the nanoseconds of a run or a verdict |
 //! | `transfer OPERATION WIDTH RANGE RANGE` | the range of the results |
 //! | `refine TEST WIDTH EDGE RANGE RANGE` | both ranges on that edge of a conditional jump, or `never` |
-//! | `of RANGE` | what is known of a number of the range |
-//! | `known OPERATION WIDTH KNOWN KNOWN` | what is known of the results |
-//! | `join KNOWN KNOWN` | what is known of one or the other |
-//! | `refined TEST WIDTH EDGE KNOWN KNOWN` | what is known of both on that edge, or `never` |
-//! | `helper NUMBER` | what is known of the number that a helper gives, or `never` where there is no such helper |
+//! | `of RANGE` | the knowledge of a number of the range |
+//! | `known OPERATION WIDTH KNOWN KNOWN` | the knowledge of the results |
+//! | `join KNOWN KNOWN` | the knowledge of a number that is one or the other |
+//! | `refined TEST WIDTH EDGE KNOWN KNOWN` | the knowledge of both on that edge, or `never` |
+//! | `helper NUMBER` | the knowledge of the number that a helper returns, or `never` if there is no such helper |
 //! | `# WORDS` | the line itself |
 //!
-//! Bytes are in hex, `.` is none, and `+N` after them stands for N zeros more; the record that is
-//! printed is the one that the run left, its last zeros written so. `KEY` is `there`, or `absent`, where
-//! the record of an example is zeros. `VALUE` is what the key has once the code has been obeyed: bytes,
-//! or `none`; such a program is verified before it runs. A range is `LO..HI`, what is known
-//! `LO..HI,VALUE,UNKNOWN`, and an edge `taken` or `untaken`; operations and tests have the names of the
-//! assembler.
+//! Bytes are in hex, `.` is the empty string, and `+N` after bytes means N more zeros. The printed record is the one that the run left,
+//! with its last zeros written so. `KEY` is `there`, or `absent`, in which case the record of an example is zeros. `VALUE` is the value of
+//! the key once the code has been obeyed: bytes, or `none`; such a program is verified before it runs. A range is `LO..HI`, knowledge is
+//! `LO..HI,VALUE,UNKNOWN`, and an edge is `taken` or `untaken`. Operations and tests have the names of the assembler.
 //!
-//! The first 112 images were answered by an independent machine that tests everything, the 402 after
-//! them by an independent implementation of what a run of an accepted program means. The last 51 texts
-//! were answered by a model in Python, the others worked out by hand from the rules of a step, and so were the examples, whose steps an interpreter of
-//! its own counted. The first 48 lines of `transfer`, 56 of `refine`, 18 of `known` and 4 of `join` have the
-//! answers of an independent implementation of the rules, and the others those of a second one, which
-//! agrees with it on these; 15 lines, as far as the helpers, were worked out by hand. The last 83 lines
-//! of ranges have the answers of a third one, which agrees on all the others: each is a case that an
-//! answer may miss which is true and tells less.
+//! The first 112 images were answered by an independent machine that tests everything, and the 402 after them by an independent
+//! implementation of the meaning of a run of an accepted program. The last 51 texts were answered by a model in Python. The other texts
+//! were worked out by hand from the rules of a step, and so were the examples, whose steps a separate interpreter counted. The first 48
+//! lines of `transfer`, 56 of `refine`, 18 of `known` and 4 of `join` have the answers of an independent implementation of the rules. The
+//! rest have those of a second one, which agrees with it on these; 15 lines, up to the helpers, were worked out by hand. The last 83 lines
+//! of ranges have the answers of a third one, which agrees on all the rest: each is a case that a correct but less precise answer would
+//! miss.
 #![tactic(auto)]
 
 mod both;
@@ -60,7 +57,7 @@ use std::alloc::{AllocError, Global};
 use std::rt::{Clock, Files};
 use std::{fs, io};
 
-// The text of a program that was written on one line, or that a file has.
+// The text of a program, which is written on one line or in a file.
 fn program_text<R: Files + AllocGlobal>(rt: &R, word: &str, program: &str) -> io::Result<String> {
     match word {
         "file" => fs::read_to_string(rt, program),

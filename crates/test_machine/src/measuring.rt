@@ -1,4 +1,4 @@
-//! Measurements, and what is said of them.
+//! Measurements and their reports.
 
 use crate::lines::{UNREAD, read_bytes};
 use crate::programs::{counter, line};
@@ -11,7 +11,7 @@ use std::io;
 use std::rt::Clock;
 use std::time::Instant;
 
-/// What is done with a program.
+/// The work to measure.
 #[derive(Clone, Copy)]
 enum Work {
     Run,
@@ -19,19 +19,19 @@ enum Work {
     Verify,
 }
 
-/// What is asked to be measured.
+/// A requested measurement.
 #[derive(Drop)]
 struct Measurement {
     work: Work,
     program: Verified,
     bytes: Vec<u8>,
     argument: Vec<u8>,
-    // Whether each run begins with the same record.
+    // Each run begins with the same record.
     again: bool,
     rounds: u64,
 }
 
-/// What came of the rounds.
+/// The totals of the rounds.
 #[derive(Clone, Copy)]
 struct Total {
     steps: u64,
@@ -45,7 +45,7 @@ const ENV: Env = Env {
     who: 3,
 };
 
-// One run, on the machine that tests nothing or on the one that tests everything: the steps, and what it gave.
+// One run, on the machine that tests nothing or on the one that tests everything. Returns the steps and the result.
 fn run_once(asked: &Measurement, bytes: &mut [u8]) -> Option<(u64, u64)> {
     if bytes.len() > RECORD_LIMIT || asked.argument.len() > ARGUMENT_LIMIT {
         return None;
@@ -61,7 +61,7 @@ fn run_once(asked: &Measurement, bytes: &mut [u8]) -> Option<(u64, u64)> {
     Some((ended.steps as u64, ended.code))
 }
 
-// Runs a program so many times.
+// Runs a program once in each round.
 fn run_rounds(rt: &impl Clock, alloc: Global, asked: &Measurement) -> io::Result<Total> {
     let mut bytes = Vec::from_slice(alloc, &asked.bytes)?;
     let mut total = Total {
@@ -83,7 +83,7 @@ fn run_rounds(rt: &impl Clock, alloc: Global, asked: &Measurement) -> io::Result
     Ok(total)
 }
 
-// Verifies a program so many times. Its units count as steps.
+// Verifies a program once in each round. Its units count as steps.
 fn verify_rounds(rt: &impl Clock, alloc: Global, asked: &Measurement) -> io::Result<Total> {
     let image = encode(alloc, asked.program.code())?;
     let mut total = Total {
@@ -122,7 +122,7 @@ fn read_work(word: &str) -> Option<Work> {
     }
 }
 
-// One of the programs that are measured, on a record of 8 zeros.
+// One of the built-in programs, on a record of 8 zeros.
 fn own_measurement(
     alloc: Global,
     work: Work,
@@ -139,7 +139,7 @@ fn own_measurement(
     })
 }
 
-// The program of an image, with what it is run on.
+// The program of an image, with its input.
 fn image_measurement(alloc: Global, work: Work, words: &str) -> Option<Measurement> {
     let (bytes, rest) = words.split_once(' ')?;
     let (argument, rest) = rest.split_once(' ')?;
@@ -156,7 +156,7 @@ fn image_measurement(alloc: Global, work: Work, words: &str) -> Option<Measureme
     })
 }
 
-// The measurement that a line asks for.
+// Reads the measurement of a line.
 fn read_measurement(alloc: Global, line_of: &str) -> Option<Measurement> {
     let (work, rest) = line_of.split_once(' ')?;
     let (name, rest) = rest.split_once(' ')?;

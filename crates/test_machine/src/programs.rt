@@ -1,4 +1,4 @@
-//! The programs that are measured.
+//! The programs for measurements.
 
 use bpf_asm::assemble;
 use bpf_verify::{Verified, verify};

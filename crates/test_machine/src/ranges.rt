@@ -1,4 +1,4 @@
-//! What is known of numbers.
+//! Knowledge of numbers.
 
 mod names;
 mod words;
@@ -9,9 +9,9 @@ use bpf_range::{Known, Range, join, refine, refine_range, transfer, transfer_ran
 use std::alloc::{AllocError, Global};
 use words::{read_jump, read_operation, read_range, read_ranges, read_two_known};
 
-/// What a line is answered by.
+/// The answer to a line.
 enum Answer {
-    /// No number comes so far.
+    /// No number is possible.
     Never,
     Range(Range),
     Ranges(Range, Range),

@@ -8,7 +8,7 @@ use bpf_machine::{Checked, run_checked};
 use bpf_verify::{Verified, verify};
 use std::alloc::{AllocError, Global};
 
-// Bytes in hex, with the number of the zeros at their end.
+// Bytes in hex, with the number of zeros at their end.
 fn show_bytes(alloc: Global, bytes: &[u8]) -> Result<String, AllocError> {
     let all = hex::encode(alloc, bytes)?;
     let digits = all.as_str().trim_end_matches("00");
@@ -20,7 +20,7 @@ fn show_bytes(alloc: Global, bytes: &[u8]) -> Result<String, AllocError> {
     format!(in alloc; "{digits}+{zeros}")
 }
 
-// What comes of a run on the checked machine, and the record that it leaves.
+// The result of a run on the checked machine, and the record that it leaves.
 fn show_checked(
     alloc: Global,
     code: &Code,
@@ -42,7 +42,7 @@ fn show_checked(
     }
 }
 
-// The answer of the checked machine to an accepted program, with what comes of it and its like on both machines.
+// The answer of the checked machine to an accepted program. Also runs it and variants on both machines, and reports differences.
 fn show_both(
     alloc: Global,
     program: &Verified,
@@ -61,7 +61,7 @@ fn show_both(
     format!(in alloc; "{answer}, unlike in {} runs", tally.unlike)
 }
 
-// What comes of a code.
+// The result of a code.
 fn show_code(alloc: Global, code: Code, input: Input) -> Result<String, AllocError> {
     let Input {
         env,
@@ -74,7 +74,7 @@ fn show_code(alloc: Global, code: Code, input: Input) -> Result<String, AllocErr
     }
 }
 
-/// What comes of a run, by the kind in which its program is given.
+/// The result of a run. The program is given as a `kind`.
 pub fn show_run(alloc: Global, kind: &str, words: &str) -> Result<String, AllocError> {
     match read_run(alloc, kind, words) {
         Some((code, input)) => show_code(alloc, code, input),

@@ -1,4 +1,4 @@
-//! What the lines of a test work on.
+//! The state of a test.
 
 use crate::list_page::ListPage;
 use linked_list_allocator::LocalHeap;
@@ -10,13 +10,13 @@ use std::alloc::{Allocator, Global};
 /// A directory, and a page with a copy and its list.
 #[derive(Drop)]
 pub struct Bench<'h, A: Allocator> {
-    /// The memory of texts.
+    /// The allocator of texts.
     pub global: Global,
-    /// The memory of what is tested.
+    /// The allocator of the tested code.
     pub alloc: A,
-    /// The heap of that memory, where it is to run out.
+    /// The heap of that allocator, if it can run out.
     pub heap: Option<&'h LocalHeap>,
-    /// What takes the memory of the heap away.
+    /// Blocks that fill the heap.
     pub blocks: Vec<Vec<u8, &'h LocalHeap>>,
     pub dir: Dir<A>,
     pub page: Option<Page<A>>,
@@ -25,7 +25,7 @@ pub struct Bench<'h, A: Allocator> {
 }
 
 impl<'h, A: Allocator + Copy> Bench<'h, A> {
-    /// A bench with nothing on it.
+    /// An empty bench.
     pub fn new(global: Global, alloc: A, heap: Option<&'h LocalHeap>) -> Self {
         Bench {
             global,

@@ -1,4 +1,4 @@
-//! Places in directories of known bits, and the bytes of these.
+//! Places in directories of known bits, and the bytes of these directories.
 
 use crate::bench::Bench;
 use sdbm_dir::{Dir, DirFault, Place};
@@ -6,7 +6,7 @@ use std::alloc::{AllocError, Allocator, Global};
 use std::fmt::Write;
 use test_lines::{read_file, show_file};
 
-// Splits the place to which a hash leads, and tells its bit.
+// Splits the place to which a hash leads, and returns its bit.
 fn split<A: Allocator>(dir: &mut Dir<A>, hash: u32) -> Result<Option<u32>, AllocError> {
     let place = dir.place(hash);
     if place.depth > 30 {
@@ -87,7 +87,7 @@ fn again<A: Allocator + Copy>(bench: &mut Bench<A>) -> Option<String> {
     String::from_str(bench.global, text).ok()
 }
 
-/// The answer to a line, where it is one of these.
+/// The answer to a line of this module. Returns `None` for any other line.
 pub fn dir_line<A: Allocator + Copy>(
     bench: &mut Bench<A>,
     word: &str,

@@ -7,14 +7,14 @@ use sdbm_page::Page;
 use std::alloc::{AllocError, Global};
 use test_lines::{cut, number, read_size};
 
-// The next of a sequence of numbers that look drawn.
+// The next of a sequence of pseudo-random numbers.
 fn next_number(number: u64) -> u64 {
     number
         .wrapping_mul(6364136223846793005)
         .wrapping_add(1442695040888963407)
 }
 
-// An edit of a page and of its list: a key of at most two bytes is stored or taken out.
+// Edits a page and its list: stores or removes a key of at most two bytes.
 fn edit_both(page: &mut Page<Global>, list: &mut ListPage, number: u64) -> Result<(), AllocError> {
     let key = [((number >> 33) % 8) as u8, ((number >> 40) % 3) as u8];
     let key = &key[..(number >> 48) as usize % 3];
@@ -30,7 +30,7 @@ fn edit_both(page: &mut Page<Global>, list: &mut ListPage, number: u64) -> Resul
     Ok(())
 }
 
-// Whether a page is as its list, has as much room, and finds a key in the same place.
+// Returns `true` if a page equals its list, has as much room, and finds a key in the same place.
 fn agree(page: &Page<Global>, list: &ListPage, number: u64) -> Result<bool, AllocError> {
     let need = (number >> 52) as usize;
     if has_room(page, need) != list.fits(need) {
@@ -42,7 +42,7 @@ fn agree(page: &Page<Global>, list: &ListPage, number: u64) -> Result<bool, Allo
     list.is(page)
 }
 
-// Makes so many edits, and gives the last number; or nothing where the page was not as its list.
+// Makes `count` edits, and returns the last number. Returns `None` if the page differs from its list.
 fn edit_all(
     page: &mut Page<Global>,
     list: &mut ListPage,
@@ -69,7 +69,7 @@ fn edited(global: Global, size: PageSize, first: u64, count: usize) -> Result<St
     }
 }
 
-/// What comes of edits.
+/// The result of edits.
 pub fn edits_text(global: Global, rest: &str) -> Option<String> {
     let (size, rest) = cut(rest);
     let (first, count) = cut(rest);

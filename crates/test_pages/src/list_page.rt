@@ -1,4 +1,4 @@
-//! A page as the list of its pairs, written after the rules alone: what the page that is kept as bytes has to agree with.
+//! A page as the list of its pairs, written after the rules alone. The page in bytes has to agree with it.
 use sdbm_addr::{Bytes, PageSize};
 use sdbm_page::Page;
 use std::alloc::{AllocError, Allocator, Global};
@@ -21,12 +21,12 @@ impl ListPage {
         }
     }
 
-    /// Where a key's pair stands.
+    /// The place of a key's pair.
     pub fn find(&self, key: &[u8]) -> Option<usize> {
         self.pairs.iter().position(|pair| pair.0.as_slice() == key)
     }
 
-    /// Whether a pair of so many bytes more has room: with two offsets, beside the others and the count.
+    /// Returns `true` if a pair of `need` bytes fits: with two offsets, next to the other pairs and the count.
     pub fn fits(&self, need: usize) -> bool {
         let mut taken = 2usize;
         for (key, value) in &self.pairs {
@@ -48,7 +48,7 @@ impl ListPage {
         }
     }
 
-    /// Takes the pair at a place out.
+    /// Removes the pair at a place.
     pub fn remove(&mut self, i: usize) {
         if i < self.pairs.len() {
             let _pair = self.pairs.remove(i);
@@ -73,7 +73,7 @@ impl ListPage {
         Ok(bytes)
     }
 
-    /// Whether a page has the same pairs in the same places, and the same bytes.
+    /// Returns `true` if a page has the same pairs in the same places, and the same bytes.
     pub fn is<A: Allocator>(&self, page: &Page<A>) -> Result<bool, AllocError> {
         if page.page_size() != self.size || page.len() != self.pairs.len() {
             return Ok(false);
@@ -93,7 +93,7 @@ fn two_bytes(number: usize) -> [u8; 2] {
     u16::try_from(number).unwrap_or(0).to_le_bytes()
 }
 
-// Writes a part over bytes, where it has room.
+// Overwrites bytes with a part, as far as it fits.
 fn put(bytes: &mut [u8], at: usize, part: &[u8]) {
     for (i, byte) in part.iter().enumerate() {
         if let Some(place) = bytes.get_mut(at.saturating_add(i)) {

@@ -1,6 +1,6 @@
-//! Does with pages, directories and plans what lines say, and prints what comes of it.
+//! Executes lines on pages, directories and plans, and prints the results.
 //!
-//! Each line of standard input is a case, and its first word says of which kind.
+//! Each line of standard input is a case. Its first word is the kind.
 //!
 //! | Line | Answer |
 //! |---|---|
@@ -9,31 +9,31 @@
 //! | `bytes BYTES BYTE` | the byte string with that first byte, and a copy made before |
 //! | `copies KEY=VALUE ..` | a copy of the pairs |
 //! | `check SIZE COMMAND` | `fits`, or the fault |
-//! | `plan SIZE MODE KEY KEY` | of a store beside another key, each with 600 zeros: the page, the pages split off with their numbers, and the bits; or the fault |
+//! | `plan SIZE MODE KEY KEY` | for a store next to another key, each with 600 zeros: the page, the pages split off with their numbers, and the bits; or the fault |
 //! | `dir`, `dir FILE` | `dir`: a directory without bits, or that of the bytes; or the fault |
-//! | `split HASH` | the bit that is marked, or `deep` |
+//! | `split HASH` | the bit that is set, or `deep` |
 //! | `place HASH` | page, depth and bit |
-//! | `marked BIT ..` | which of the bits are marked |
+//! | `marked BIT ..` | those of the bits that are set |
 //! | `grow BIT` | `grown`, for the bit |
 //! | `bits` | the directory's bytes |
-//! | `again` | `again`: the directory of these bytes, which has the same, is the directory now |
-//! | `page SIZE` | `page`: one without pairs |
+//! | `again` | `again`: the directory is now the one read from its bytes, which has the same bytes |
+//! | `page SIZE` | `page`: an empty page |
 //! | `read SIZE SEGMENTS` | `page`: that of the bytes; or the fault |
-//! | `between BYTE SEGMENTS` | the same of a small page, with that byte outside segments |
+//! | `between BYTE SEGMENTS` | the same for a small page, with that byte outside segments |
 //! | `add KEY VALUE`, `replace KEY VALUE` | `added`, or `not added` |
 //! | `remove PLACE`, `put PLACE BYTE` | `removed`; `put`: as the first byte of the value |
-//! | `find KEY`, `fits COUNT` | the place, or `none`; whether so many bytes more fit |
-//! | `pairs`, `image` | the page's size and its pairs, in their order; the page's bytes |
-//! | `list` | whether the page is as the list of the pairs that were added to it |
-//! | `keep`, `beside`, `same` | `kept`: a copy; the page and the copy change places; whether they have the same pairs |
-//! | `edits SIZE NUMBER COUNT` | how many pairs a page has after so many edits, each as of a list, and the last number |
+//! | `find KEY`, `fits COUNT` | the place, or `none`; whether COUNT more bytes fit |
+//! | `pairs`, `image` | the page's size and its pairs, in order; the page's bytes |
+//! | `list` | whether the page equals the list of the pairs that were added to it |
+//! | `keep`, `beside`, `same` | `kept`: a copy; swaps the page and the copy; whether they have the same pairs |
+//! | `edits SIZE NUMBER COUNT` | the number of pairs of a page after COUNT edits, each also made on a list, and the last number |
 //! | `whole page SIZE SEGMENTS` | the pairs of the page of the bytes, or the fault |
-//! | `full`, `free` | all memory is taken away, or given back |
+//! | `full`, `free` | takes all memory, or gives it back |
 //! | `# TEXT` | the line itself |
 //!
-//! Bytes and files are as in `test_lines`. After the word `lean` a line is for a bench in a heap. What is `whole` is written and
-//! read again: `again` says that it stayed the same. The answers there but for that word are those of an independent
-//! implementation, but for 7 pages whose keys were chosen to set the same marks, and whose answers stand by construction.
+//! Bytes and files are as in `test_lines`. A line after the word `lean` is for a bench in a heap. A `whole` page is written and
+//! read again: `again` says that it stayed the same. Except for that word, the answers there are those of an independent
+//! implementation, except for 7 pages whose keys were chosen to set the same marks, and whose answers follow from their construction.
 #![tactic(auto)]
 
 mod bench;
@@ -54,7 +54,7 @@ use std::alloc::{AllocError, Allocator, Global};
 use std::io;
 use test_lines::read_all;
 
-// The answer to a line, by the bench in a heap where it is lean.
+// The answer to a line. A lean line is for the bench in a heap.
 fn answer<A: Allocator + Copy>(
     lean: &mut Bench<A>,
     ample: &mut Bench<Global>,
@@ -80,7 +80,7 @@ fn answer_all<A: Allocator + Copy>(
     Ok(answers)
 }
 
-// The answers to the lines of a text, on benches of their own.
+// The answers to the lines of a text, on new benches.
 fn answer_in<A: Allocator + Copy>(
     global: Global,
     alloc: A,

@@ -1,4 +1,4 @@
-//! Pages: what stands where, what a write in place leaves, how much still goes on them, and their bytes.
+//! Pages: their pairs and places, writes in place, their room, and their bytes.
 
 use crate::bench::Bench;
 use crate::edits::edits_text;
@@ -10,7 +10,7 @@ use std::alloc::{AllocError, Allocator, Global};
 use std::mem;
 use test_lines::{bytes_of, cut, number, read_file, read_size, show_bytes, show_file};
 
-// Whether two pages have the same size and the same pairs in the same places.
+// Returns `true` if two pages have the same size and the same pairs in the same places.
 fn are_equal<A: Allocator>(a: &Page<A>, b: &Page<A>) -> bool {
     if a.page_size() != b.page_size() || a.len() != b.len() {
         return false;
@@ -23,7 +23,7 @@ fn are_equal<A: Allocator>(a: &Page<A>, b: &Page<A>) -> bool {
     true
 }
 
-/// Writes the pairs of a page, in their order.
+/// Writes the pairs of a page, in order.
 pub fn show_pairs_of<A: Allocator>(out: &mut String, page: &Page<A>) -> Result<(), AllocError> {
     for i in 0..page.len() {
         out.push_str(" ")?;
@@ -34,7 +34,7 @@ pub fn show_pairs_of<A: Allocator>(out: &mut String, page: &Page<A>) -> Result<(
     Ok(())
 }
 
-// Writes a byte as the first of a value, and tells whether there is one.
+// Writes a byte as the first of a value, and returns whether there is such a value.
 fn put_first<A: Allocator>(page: &mut Page<A>, i: usize, byte: u8) -> bool {
     if i >= page.len() {
         return false;
@@ -48,7 +48,7 @@ fn put_first<A: Allocator>(page: &mut Page<A>, i: usize, byte: u8) -> bool {
     }
 }
 
-/// The page of bytes, where they are as many as a page of the size has.
+/// The page of some bytes. Returns `None` unless they have the length of a page of that size.
 pub fn read_page<A: Allocator + Copy>(
     alloc: A,
     bytes: &[u8],
@@ -130,7 +130,7 @@ fn add_line<A: Allocator + Copy>(bench: &mut Bench<A>, rest: &str) -> Option<Str
     add(bench, key.as_slice(), value.as_slice())
 }
 
-// Takes a key's own pair out of the page and of its list.
+// Removes a key's pair from the page and from its list.
 fn take_own<A: Allocator + Copy>(bench: &mut Bench<A>, key: &[u8]) -> Option<()> {
     let page = bench.page.as_mut()?;
     if let Some(i) = place_of(page, key) {
@@ -209,7 +209,7 @@ fn same<A: Allocator>(bench: &Bench<A>) -> Option<String> {
     said(bench.global, same, "the same", "others")
 }
 
-// What a page is, by a word and the words after.
+// Describes a page. The word says which part.
 fn told<A: Allocator>(bench: &Bench<A>, word: &str, rest: &str) -> Option<String> {
     let page = bench.page.as_ref()?;
     match word {
@@ -225,7 +225,7 @@ fn told<A: Allocator>(bench: &Bench<A>, word: &str, rest: &str) -> Option<String
     }
 }
 
-/// The answer to a line, where it is one of these.
+/// The answer to a line of this module. Returns `None` for any other line.
 pub fn page_line<A: Allocator + Copy>(
     bench: &mut Bench<A>,
     word: &str,

@@ -10,7 +10,7 @@ use std::alloc::{AllocError, Allocator, Global};
 use std::fmt::Write;
 use test_lines::{bytes_of, cut, read_size};
 
-// The plan of a second key's store beside a first key.
+// The plan for storing a second key next to a first key.
 fn plan_of_two<A: Allocator + Copy>(
     alloc: A,
     size: PageSize,
@@ -83,7 +83,7 @@ fn plan_told(global: Global, plan: &Plan<Global>) -> Result<String, AllocError> 
     Ok(out)
 }
 
-/// The plan that a line asks for.
+/// The plan of a line.
 pub fn plan_text(global: Global, rest: &str) -> Option<String> {
     let (size, rest) = cut(rest);
     let (mode, rest) = cut(rest);

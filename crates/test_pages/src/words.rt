@@ -44,7 +44,7 @@ fn size_text(global: Global, name: &str) -> Option<String> {
     format!(in global; "{bytes} {pair} {offsets}").ok()
 }
 
-// A byte string and a copy of it, and then the first byte is changed.
+// A byte string with another first byte, and a copy from before that change.
 fn changed(
     global: Global,
     bytes: &[u8],
@@ -113,7 +113,7 @@ fn check_text(global: Global, rest: &str) -> Option<String> {
     }
 }
 
-/// The answer to a line, where it is one of these.
+/// The answer to a line of this module. Returns `None` for any other line.
 pub fn word_line(global: Global, word: &str, rest: &str) -> Option<String> {
     match word {
         "hash" => hash_text(global, rest),

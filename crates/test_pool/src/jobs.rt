@@ -1,4 +1,4 @@
-//! A store, the programs, and the tasks that wait.
+//! A store, the programs, and the waiting tasks.
 
 use crate::meeting::{Meeting, MeetingGate};
 use bpf_asm::assemble;
@@ -15,7 +15,7 @@ use store_shared::{Calls, CloseFault, Closed, Store};
 use test_lines::read_bytes;
 use worker_pool::{Answers, PoolFault, Task, run_jobs};
 
-/// What lines act on.
+/// The state of a test.
 #[derive(Drop)]
 pub struct Pool<'a> {
     pub alloc: Global,
@@ -24,7 +24,7 @@ pub struct Pool<'a> {
     store: Option<Store<Global, MeetingGate<'a>>>,
     tasks: Vec<Task<Global>>,
     calls: Vec<Calls<Global>>,
-    /// What was closed last.
+    /// The result of the last close.
     pub closed: Option<Closed<Global>>,
 }
 
@@ -32,8 +32,7 @@ pub struct Pool<'a> {
 pub type Outcome = (Result<Vec<Reply<Global>>, PoolFault>, Vec<Calls<Global>>);
 
 impl<'a> Pool<'a> {
-    /// No program, no store and no task yet. The gates of the stores that it
-    /// opens meet at `meeting`.
+    /// Begins without programs, store and tasks. The gates of its stores meet at `meeting`.
     pub fn new(alloc: Global, meeting: &'a Meeting) -> Result<Self, AllocError> {
         Ok(Pool {
             alloc,
@@ -46,7 +45,7 @@ impl<'a> Pool<'a> {
         })
     }
 
-    /// Opens a store. No calls were made, and nobody has to meet.
+    /// Opens a store. It has no calls, and no session has to meet.
     pub fn open(&mut self, image: Image<Global>, limit: usize) -> Option<()> {
         self.meeting.want(0);
         let gate = MeetingGate {
@@ -71,7 +70,7 @@ impl<'a> Pool<'a> {
         Some(id.0)
     }
 
-    /// Puts a task after those that wait.
+    /// Adds a waiting task.
     pub fn wait(&mut self, words: &[&str]) -> Option<usize> {
         let [key, prog, arg, blank, now] = words else {
             return None;
@@ -87,7 +86,7 @@ impl<'a> Pool<'a> {
         Some(self.tasks.len())
     }
 
-    /// Puts so many tasks after those that wait, told the times from 0 on.
+    /// Adds `count` waiting tasks, with the times from 0.
     pub fn wait_often(&mut self, count: u64, words: &[&str]) -> Option<usize> {
         let [key, prog, arg, blank] = words else {
             return None;
@@ -99,7 +98,7 @@ impl<'a> Pool<'a> {
         Some(self.tasks.len())
     }
 
-    /// Lets workers do the tasks that wait. None waits after that. The memory for what `keep` is to take is there then.
+    /// Lets workers do the waiting tasks, and removes them. Reserves the memory that `keep` needs.
     pub fn run<R: Threads + Wait + Sync>(&mut self, rt: &R, workers: usize) -> Option<Outcome> {
         self.calls.reserve(workers).ok()?;
         let store = self.store.as_ref()?;
@@ -126,7 +125,7 @@ impl<'a> Pool<'a> {
         Some(session.into_calls().number())
     }
 
-    /// Closes the store with the calls that were kept, or tells why it does not close. It is gone after that.
+    /// Closes the store with the calls that were kept, or returns why it does not close. Removes the store in both cases.
     pub fn close(&mut self) -> Option<Result<(), CloseFault>> {
         let store = self.store.take()?;
         let calls = mem::replace(&mut self.calls, Vec::new(self.alloc));

@@ -1,4 +1,4 @@
-//! A gate at which sessions meet.
+//! A gate for sessions to meet.
 ghost use Rattle.std.specs.Prelude.{◌≡◌, IfOk, IfErr};
 
 use desk_core::{Done, Job};
@@ -6,10 +6,11 @@ use std::alloc::{AllocError, Allocator};
 use std::sync::atomic::{AtomicU64, Ordering};
 use store_shared::Gate;
 
-// How often a thread looks before it gives up.
+// The number of looks before a thread stops waiting.
 const TURNS: u64 = 1_000_000_000;
 
-/// Where sessions meet at work: how many have to, whether they pass by instead, how many jobs came, how often session 1 was done, and who waited in vain.
+/// A meeting of sessions at work: the number of sessions that have to meet, whether they pass by instead, the number of jobs that came, how
+/// often session 1 was done, and the number of waits that timed out.
 #[derive(Drop)]
 pub struct Meeting {
     wanted: AtomicU64,
@@ -20,7 +21,7 @@ pub struct Meeting {
 }
 
 impl Meeting {
-    /// A meeting that nobody waits for and nobody has come to.
+    /// A meeting without sessions, for which no session waits.
     pub fn new() -> Self {
         Meeting {
             wanted: AtomicU64::new(0),
@@ -31,12 +32,12 @@ impl Meeting {
         }
     }
 
-    /// From now on no session comes.
+    /// From now on no session comes to the gate.
     pub fn pass(&self) {
         self.passed.store(1, Ordering::SeqCst);
     }
 
-    /// From now on so many sessions have to meet, or none. Nobody came so far, and all come.
+    /// From now on `wanted` sessions have to meet; 0 means no meeting. Resets the counts, and all sessions come to the gate.
     pub fn want(&self, wanted: u64) {
         self.passed.store(0, Ordering::SeqCst);
         for count in [&self.came, &self.done, &self.vain] {
@@ -45,7 +46,7 @@ impl Meeting {
         self.wanted.store(wanted, Ordering::SeqCst);
     }
 
-    /// How many jobs came, and how many sessions waited in vain.
+    /// The number of jobs that came, and of sessions whose wait timed out.
     pub fn counts(&self) -> (u64, u64) {
         (
             self.came.load(Ordering::SeqCst),
@@ -53,7 +54,7 @@ impl Meeting {
         )
     }
 
-    // Waits until a count is reached, and notes where it never is.
+    // Waits until a count is reached, and counts a timeout.
     fn wait_for(&self, count: &AtomicU64, wanted: u64) {
         for _ in 0..TURNS {
             if count.load(Ordering::SeqCst) >= wanted {
@@ -77,7 +78,7 @@ impl Meeting {
     }
 }
 
-/// A gate that keeps sessions at work until they have met, where they have to.
+/// A gate that holds sessions at work until they have met, if they have to.
 #[derive(Clone, Copy)]
 pub struct MeetingGate<'a> {
     pub meeting: &'a Meeting,

@@ -1,4 +1,4 @@
-//! What is said of a line.
+//! The answers to lines.
 
 use crate::jobs::{Outcome, Pool};
 use std::alloc::{AllocError, Global};
@@ -8,7 +8,7 @@ use store_cmd::{Command, KeptEntry};
 use store_shared::Calls;
 use test_lines::show_reply;
 
-// The time that a call was told.
+// The time of a call.
 fn show_time(out: &mut String, entry: &KeptEntry<Global>) -> Result<(), AllocError> {
     match entry.command() {
         Command::Run { now, .. } => write!(out, " {now}"),
@@ -16,7 +16,7 @@ fn show_time(out: &mut String, entry: &KeptEntry<Global>) -> Result<(), AllocErr
     }
 }
 
-// The times that the calls of each session were told, up to the last that has calls.
+// The times of the calls of each session, up to the last that has calls.
 fn show_calls(out: &mut String, calls: &[Calls<Global>]) -> Result<(), AllocError> {
     write!(out, "; sessions {}", calls.len())?;
     let last = calls.iter().rposition(|its| !its.entries().is_empty());
@@ -32,7 +32,7 @@ fn show_calls(out: &mut String, calls: &[Calls<Global>]) -> Result<(), AllocErro
     Ok(())
 }
 
-// What came of tasks.
+// The outcome of tasks.
 fn show_outcome(out: &mut String, outcome: &Outcome) -> Result<(), AllocError> {
     match &outcome.0 {
         Ok(replies) => {
@@ -88,7 +88,7 @@ fn show_order(pool: &Pool<'_>, out: &mut String) -> Option<()> {
     Some(())
 }
 
-// Does what a line of several words says.
+// Executes a line of several words.
 fn show_words<R: Threads + Wait + Sync>(
     rt: &R,
     pool: &mut Pool<'_>,
@@ -126,7 +126,7 @@ fn show_words<R: Threads + Wait + Sync>(
     }
 }
 
-// Does what a line of one word says.
+// Executes a line of one word.
 fn show_word<R: Wait>(rt: &R, pool: &mut Pool<'_>, out: &mut String, kind: &str) -> Option<()> {
     match kind {
         "session" => {

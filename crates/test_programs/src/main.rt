@@ -1,36 +1,36 @@
-//! Decodes images, assembles and verifies texts, and submits programs to a registry, and prints what comes of it.
+//! Decodes images, assembles and verifies texts, submits programs to a registry, and prints the results.
 //!
-//! Each line of standard input is a case, and its first word says of which kind.
+//! Each line of standard input is a case. Its first word is the kind.
 //!
 //! | Line | Answer |
 //! |---|---|
 //! | `form IMAGE TEXT` | the text, the instruction of the image, the image's text, and the text's image |
 //! | `image IMAGE` | the instructions and their text, or the fault |
-//! | `text TEXT` | the image, or the fault; `\n`, `\r` and `\t` stand for a line feed, a carriage return and a tab |
-//! | `file NAME` | the same of the text in a file of `data/` |
+//! | `text TEXT` | the image, or the fault; `\n`, `\r` and `\t` are a line feed, a carriage return and a tab |
+//! | `file NAME` | the same for the text in a file of `data/` |
 //! | `program TEXT` | `accepted`, or the fault |
-//! | `ends TEXT` | the same, of the text with `mov r0, 0 / exit` after it |
-//! | `filled COUNT TEXT` | the same, where `*` stands for so many times `mov r0, 0` |
-//! | `kinds UNIT TEXT` | what is known of the registers before the instruction at a unit, but for those that may hold anything; `nothing` where no state stands |
+//! | `ends TEXT` | the same, for the text with `mov r0, 0 / exit` after it |
+//! | `filled COUNT TEXT` | the same, with each `*` replaced by COUNT times `mov r0, 0` |
+//! | `kinds UNIT TEXT` | the kinds of the registers before the instruction at a unit, except registers that may hold anything; `nothing` if there is no state |
 //! | `why TEXT` | why a program is refused, in a sentence |
 //! | `explain TEXT` | the explanation of a program, ` / ` between its lines |
 //! | `submit TEXT` | `program ID`, or `refused FAULT` |
-//! | `offer BYTES` | the same of an image |
-//! | `each FROM TO TEXT` | the answers for the first and the last number from FROM up to TO in the place of `#`, and how many are refused |
+//! | `offer BYTES` | the same for an image |
+//! | `each FROM TO TEXT` | the answers for the first and the last number from FROM up to TO instead of `#`, and the number of refusals |
 //! | `get ID` | the text of a program, or `none` |
-//! | `counts` | how many verdicts are kept, and how many answers were given from them |
-//! | `new` | `new`; the lines after are asked of a new registry |
+//! | `counts` | the number of verdicts that are kept, and of answers that were found among them |
+//! | `new` | `new`; the following lines use a new registry |
 //! | `# WORDS` | the line itself |
 //!
-//! Images are in hex, and `.` is the empty one; `+N` after the bytes of an offer stands for N zeros more. From `program` on a
-//! text has ` / ` in the place of line feeds, and `.` is the empty one.
+//! Images are in hex, and `.` is the empty one; `+N` after the bytes of an offer means N more zeros. From `program` on a
+//! text has ` / ` instead of line feeds, and `.` is the empty one.
 //!
 //! The forms were confirmed by LLVM's assembler and disassembler. The first 112 images and the first 196 texts have the answers of
-//! an independent decoder and assembler. The other texts were worked out from the rules, and the last of them are the examples of
-//! `docs/ASSEMBLER.md`. After them stand the image of the counter and the programs of `examples/`, which `data/` has as they are
-//! there. Of the verdicts the first 364 have the answers of an independent verifier that was written from the rules, those from the
-//! 436th to the 471st the answers of a second one, which agrees on all, and the 3,000 from the 481st on, at the edges of every rule,
-//! those of a third. The others were worked out by hand.
+//! an independent decoder and assembler. The remaining texts were worked out from the rules, and the last of them are the examples of
+//! `docs/ASSEMBLER.md`. After them come the image of the counter and the programs of `examples/`; `data/` has unchanged
+//! copies of these. The first 364 verdicts have the answers of an independent verifier that was written from the rules. Those from the
+//! 436th to the 471st have the answers of a second one, which agrees on all, and the 3,000 from the 481st on, at the edges of every rule,
+//! have those of a third. The remaining ones were worked out by hand.
 #![tactic(auto)]
 
 mod submissions;

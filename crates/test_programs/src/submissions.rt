@@ -1,11 +1,11 @@
-//! What comes of programs that are submitted to a registry.
+//! Submits programs to a registry.
 
 use bpf_asm::{assemble, disassemble};
 use bpf_insn::encode;
 use prog_registry::{ProgId, Registry};
 use std::alloc::{AllocError, Global};
 
-// The image of a program that was written on one line.
+// The image of a program that is written on one line.
 fn image_of(alloc: Global, text: &str) -> Result<Option<Vec<u8>>, AllocError> {
     let text = if text == "." { "" } else { text };
     let lines = text.replace(alloc, " / ", "\n")?;
@@ -51,13 +51,13 @@ fn show_image(
     }
 }
 
-// The text of a number in the place of each mark.
+// The text with a number instead of each mark.
 fn numbered(alloc: Global, text: &str, number: u32) -> Result<String, AllocError> {
     let digits = format!(in alloc; "{number}")?;
     text.replace(alloc, "#", digits.as_str())
 }
 
-// The first answer and the last one, and how many are refused.
+// The first answer and the last one, and the number of refusals.
 fn show_range(
     alloc: Global,
     registry: &mut Registry,
@@ -85,7 +85,7 @@ fn show_range(
     format!(in alloc; "{first}, {last}, {refused} refused")
 }
 
-// The first and the last answer, and how many were refused, of the range and the text in a line's words.
+// The first and the last answer, and the number of refusals, for the range and the text in a line's words.
 fn show_each(alloc: Global, registry: &mut Registry, words: &str) -> Result<String, AllocError> {
     let Some((from, rest)) = words.split_once(' ') else {
         return String::from_str(alloc, "a line without a range");

@@ -1,4 +1,4 @@
-//! Images and texts, and what they are.
+//! Describes images and texts.
 
 use bpf_asm::{assemble, disassemble};
 use bpf_insn::{Code, decode, encode};
@@ -16,14 +16,14 @@ fn push_insns(out: &mut String, code: &Code) -> Result<(), AllocError> {
     Ok(())
 }
 
-// The text of a code, with a mark in the place of line feeds.
+// The text of a code, with marks instead of line feeds.
 fn push_text(alloc: Global, out: &mut String, code: &Code) -> Result<(), AllocError> {
     let text = disassemble(alloc, code)?;
     let marked = text.as_str().trim_end().replace(alloc, "\n", " / ")?;
     out.push_str(marked.as_str())
 }
 
-// What an image holds: its instructions and their text, or its fault.
+// The content of an image: its instructions and their text, or its fault.
 fn push_image(alloc: Global, out: &mut String, image: &[u8]) -> Result<(), AllocError> {
     let code = match decode(alloc, image) {
         Ok(code) => code,
@@ -38,7 +38,7 @@ fn push_image(alloc: Global, out: &mut String, image: &[u8]) -> Result<(), Alloc
     Ok(())
 }
 
-/// What the digits of an image hold.
+/// The content of an image in hex.
 pub fn show_image(alloc: Global, digits: &str) -> Result<String, AllocError> {
     let digits = if digits == "." { "" } else { digits };
     let Ok(image) = hex::decode(alloc, digits) else {
@@ -58,7 +58,7 @@ pub fn show_text(alloc: Global, text: &str) -> Result<String, AllocError> {
     }
 }
 
-/// A text and an image that are to say the same, each with what it is.
+/// A text and an image that should be equivalent, each with its content.
 pub fn show_form(alloc: Global, line: &str) -> Result<String, AllocError> {
     let Some((digits, line)) = line.split_once(' ') else {
         return String::from_str(alloc, "a form without a text");
@@ -68,7 +68,7 @@ pub fn show_form(alloc: Global, line: &str) -> Result<String, AllocError> {
     format!(in alloc; "{line}: {decoded}; {assembled}")
 }
 
-/// A text that was written on one line.
+/// Unescapes a text that is written on one line.
 pub fn unescaped(alloc: Global, text: &str) -> Result<String, AllocError> {
     let text = text.replace(alloc, "\\n", "\n")?;
     let text = text.as_str().replace(alloc, "\\r", "\r")?;

@@ -1,4 +1,4 @@
-//! Verdicts, and what is known of registers.
+//! Verdicts, and the kinds of registers.
 
 use bpf_asm::assemble;
 use bpf_explain::{Explanation, explain_accepted, explain_refused};
@@ -8,7 +8,7 @@ use bpf_verify::{Examined, Refused, examine, verify};
 use std::alloc::{AllocError, Global};
 use std::fmt::Write;
 
-// A program that was written on one line.
+// A program that is written on one line.
 fn code_of(alloc: Global, text: &str) -> Result<Result<Code, String>, AllocError> {
     let text = if text == "." { "" } else { text };
     let lines = text.replace(alloc, " / ", "\n")?;
@@ -18,7 +18,7 @@ fn code_of(alloc: Global, text: &str) -> Result<Result<Code, String>, AllocError
     }
 }
 
-// A program that is accepted, with what is known of it.
+// An accepted program, with its states.
 fn accepted(alloc: Global, text: &str) -> Result<Result<Examined, String>, AllocError> {
     let code = match code_of(alloc, text)? {
         Ok(code) => code,
@@ -30,7 +30,7 @@ fn accepted(alloc: Global, text: &str) -> Result<Result<Examined, String>, Alloc
     }
 }
 
-// The verdict, which is the same whether what is known is kept or not.
+// The verdict. It has to be the same whether the states are kept or not.
 fn show_verdict(alloc: Global, text: &str) -> Result<String, AllocError> {
     let code = match code_of(alloc, text)? {
         Ok(code) => code,
@@ -50,13 +50,13 @@ fn show_verdict(alloc: Global, text: &str) -> Result<String, AllocError> {
     Ok(verdict)
 }
 
-// The verdict of a text after which 0 is answered.
+// The verdict of a text, with instructions appended that answer 0.
 fn show_ended(alloc: Global, text: &str) -> Result<String, AllocError> {
     let text = format!(in alloc; "{text} / mov r0, 0 / exit")?;
     show_verdict(alloc, text.as_str())
 }
 
-// The verdict of a text in which a mark stands for so many instructions.
+// The verdict of a text, with each mark replaced by some instructions.
 fn show_filled(alloc: Global, words: &str) -> Result<String, AllocError> {
     let Some((count, text)) = words.split_once(' ') else {
         return String::from_str(alloc, "a line without a text");
@@ -72,7 +72,7 @@ fn show_filled(alloc: Global, words: &str) -> Result<String, AllocError> {
     show_verdict(alloc, text.as_str())
 }
 
-// What is known of a register.
+// Appends the kind of a register.
 fn push_kind(out: &mut String, kind: Kind) -> Result<(), AllocError> {
     match kind {
         Kind::Unset => write!(out, "unset"),
@@ -93,7 +93,7 @@ fn push_kind(out: &mut String, kind: Kind) -> Result<(), AllocError> {
     }
 }
 
-// What is known of the registers at a unit.
+// Appends the kinds of the registers at a unit.
 fn push_kinds(out: &mut String, examined: &Examined, at: usize) -> Result<(), AllocError> {
     let Some(state) = examined.states().get(at) else {
         return out.push_str("nothing");
@@ -128,7 +128,7 @@ fn show_kinds(alloc: Global, words: &str) -> Result<String, AllocError> {
     }
 }
 
-// What is told of a program, and its text.
+// The explanation of a program, and its text.
 fn explained(alloc: Global, text: &str) -> Result<Option<(Explanation, String)>, AllocError> {
     let text = if text == "." { "" } else { text };
     let lines = text.replace(alloc, " / ", "\n")?;

@@ -1,4 +1,4 @@
-//! Sessions that make their calls each in a thread of its own.
+//! Sessions that make their calls in parallel, each in a separate thread.
 
 use crate::bench::Bench;
 use crate::calls::{Came, begin, make, make_group};
@@ -13,16 +13,16 @@ use store_cmd::{Command, Refusal, Reply};
 use store_shared::{Calls, Gate, Session, Store};
 use test_lines::{read_command, show_reply};
 
-// The most threads at once.
+// The largest number of threads at once.
 const THREADS: usize = 8;
 
-// How many calls a group has.
+// The number of calls in a group.
 const GROUP: usize = 16;
 
-// Of how many calls each reply is shown.
+// Up to this number of calls, each reply is shown.
 const FEW: usize = 8;
 
-// A session, its commands, whether it makes them in groups, and its replies, up to the first call that was refused, with why.
+// A session, its commands, whether it makes them in groups, and its replies up to the first refused call, with the refusal.
 #[derive(Drop)]
 struct Caller<'s, G: Gate> {
     session: Session<'s, Global, G>,
@@ -49,7 +49,7 @@ fn read_times(alloc: Global, words: &str) -> Option<Vec<Command<Global>>> {
     Some(commands)
 }
 
-// The commands of the session with a place among those that a line makes.
+// The commands of the session with this place among the sessions of a line.
 fn read_commands(alloc: Global, words: &str, place: u64) -> Option<Vec<Command<Global>>> {
     let (kind, rest) = words.split_once(' ')?;
     match kind {
@@ -80,7 +80,7 @@ fn make_groups<R: Wait, G: Gate>(rt: &R, alloc: Global, caller: &mut Caller<'_, 
     }
 }
 
-// Notes what came of the calls of a group.
+// Records the outcomes of the calls of a group.
 fn note(
     outcomes: Vec<Came<Global>>,
     replies: &mut Vec<Reply<Global>>,
@@ -98,7 +98,6 @@ fn note(
     }
 }
 
-// Makes all calls of a session.
 fn make_all<R: Wait, G: Gate>(rt: &R, caller: &mut Caller<'_, G>) {
     for command in caller.commands.iter() {
         match make(rt, &mut caller.session, command) {
@@ -130,7 +129,7 @@ fn run_callers<R: Threads + Wait + Sync, G: Gate>(
     thread::for_each_mut(rt, callers, THREADS, &share);
 }
 
-// Writes a session's replies, or how many there are, and why a call was refused.
+// Writes a session's replies, or their number, and why a call was refused.
 fn show_replies(
     out: &mut String,
     replies: &[Reply<Global>],
@@ -152,7 +151,7 @@ fn show_replies(
     }
 }
 
-// Whether the replies that a session was given are those of its calls.
+// Returns `true` if the replies that a session received are those of its calls.
 fn are_kept(replies: &[Reply<Global>], calls: &Calls<Global>) -> bool {
     let entries = calls.entries();
     let same = replies
@@ -163,7 +162,7 @@ fn are_kept(replies: &[Reply<Global>], calls: &Calls<Global>) -> bool {
 }
 
 impl<'h, R: Threads + Wait + Sync> Bench<'h, R, Global> {
-    // Makes the sessions that a line asks for, each with its commands.
+    // Creates the sessions of a line, each with its commands.
     fn add_callers<'s, G: Gate>(
         &self,
         store: &'s Store<Global, G>,

@@ -1,4 +1,4 @@
-//! What cases work on, and how stores are opened.
+//! The state of cases, and how stores are opened.
 
 use crate::calls::{open, opening};
 use crate::case::Case;
@@ -12,34 +12,34 @@ use store_cmd::Trail;
 use store_shared::{Calls, Gate, Store};
 use test_lines::{MOST_TIMES, fill, show_pairs};
 
-/// How many bytes more a call has each time.
+/// The additional bytes for each new attempt of a call.
 pub const STEP: usize = 16;
 
-/// What goes from one case to the next.
+/// The state that is carried from one case to the next.
 #[derive(Drop)]
 pub struct Bench<'h, R, A: Allocator> {
     pub rt: &'h R,
-    /// The memory of texts, and that of stores.
+    /// The allocator of texts, and that of stores.
     pub global: Global,
     pub alloc: A,
-    /// The heap of stores, where it is to run out.
+    /// The heap of stores, if it can run out.
     pub heap: Option<&'h LocalHeap>,
-    /// What was answered.
+    /// The answers so far.
     pub out: String,
     /// The database and the trail of the store that was closed last.
     pub image: Option<Image<A>>,
     pub trail: Option<Trail<A>>,
-    /// The calls of sessions that were ended since.
+    /// The calls of the sessions that were ended since.
     pub hands: Vec<Option<Calls<A>>>,
 }
 
-/// Whether a call that was refused so often had to be given more memory.
+/// The note for a call that was refused `times` times for lack of memory.
 pub fn more_text(times: usize) -> &'static str {
     if times > 0 { ", with more memory" } else { "" }
 }
 
 impl<'h, R, A: Allocator + Copy> Bench<'h, R, A> {
-    /// A bench on which nothing stayed.
+    /// An empty bench.
     pub fn new(rt: &'h R, global: Global, alloc: A) -> Self {
         Bench {
             rt,
@@ -53,12 +53,12 @@ impl<'h, R, A: Allocator + Copy> Bench<'h, R, A> {
         }
     }
 
-    /// Takes what was answered out.
+    /// Takes the answers out.
     pub fn take_out(&mut self) -> String {
         mem::replace(&mut self.out, String::new(self.global))
     }
 
-    /// Takes all memory of the heap but for so many bytes, until what is answered is let go.
+    /// Allocates all memory of the heap except `spared` bytes. It is free again when the result is dropped.
     pub fn take_memory(&self, spared: usize) -> Result<Vec<Vec<u8, &'h LocalHeap>>, AllocError> {
         match self.heap {
             Some(heap) => fill(self.global, heap, spared),
@@ -80,7 +80,7 @@ impl<'h, R, A: Allocator + Copy> Bench<'h, R, A> {
         Some(Image::empty(self.alloc, KeyBytes::Signed, PageSize::Small))
     }
 
-    /// Opens the store of a case, with more memory each time. A database that is refused has to be as it was.
+    /// Opens the store of a case, with more memory each time. A refused database has to be unchanged.
     pub fn open_store<G: Gate>(&mut self, case: Case<'_>, gate: G) -> Option<Store<A, G>> {
         let mut given = (self.take_image(case.kept)?, gate);
         let before = self.pairs_text(&given.0)?;

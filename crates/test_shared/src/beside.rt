@@ -13,26 +13,26 @@ use store_cmd::Command;
 use store_shared::{Gate, Session, Store};
 use test_lines::read_command;
 
-// How many short calls have to be answered, each well before the programs of its round have ended.
+// The number of short calls that have to be answered, each well before the programs of its round have ended.
 const WANTED: u64 = 3;
 
-// The most rounds. Few more than `WANTED` are needed where two threads run at once.
+// The largest number of rounds. Few more than `WANTED` are needed if two threads run at once.
 const ROUNDS: u64 = 24;
 
 // The number of a round that never begins.
 const OVER: u64 = u64::MAX;
 
-// How often a thread looks before it gives up.
+// The number of looks before a thread stops waiting.
 const TURNS: u64 = 1_000_000_000;
 
-// The rounds of two sessions, by number from 1 on: in each the first session runs its group of programs, and in each but the first the
-// second one makes its call meanwhile.
+// The rounds of two sessions, numbered from 1. In each the first session runs its group of programs; in each except the first the
+// second session makes its call meanwhile.
 #[derive(Drop)]
 struct Rounds {
     began: AtomicU64,
     ended: AtomicU64,
     called: AtomicU64,
-    // How many calls were answered well before the programs of their round had ended.
+    // The number of calls that were answered well before the programs of their round had ended.
     beside: AtomicU64,
     refused: AtomicU64,
 }
@@ -55,12 +55,12 @@ impl Rounds {
         }
     }
 
-    // Whether no round is to follow.
+    // Returns `true` if no round follows.
     fn are_over(&self) -> bool {
         self.beside.load(Ordering::SeqCst) >= WANTED || self.refused.load(Ordering::SeqCst) > 0
     }
 
-    // Looks until a count has a value, or a higher one, and returns how often that took.
+    // Looks until a count has reached a value, and returns the number of looks.
     fn look_for(count: &AtomicU64, wanted: u64) -> u64 {
         for looks in 0..TURNS {
             if count.load(Ordering::SeqCst) >= wanted {
@@ -70,7 +70,7 @@ impl Rounds {
         TURNS
     }
 
-    // Looks this often.
+    // Looks this number of times.
     fn linger(&self, looks: u64) {
         for _ in 0..looks {
             self.ended.load(Ordering::SeqCst);
@@ -85,7 +85,7 @@ impl Rounds {
 }
 
 impl<'s, G: Gate> Party<'s, G> {
-    // Runs all programs once a round.
+    // Runs all programs once in each round.
     fn run_rounds<R: Wait>(&mut self, rt: &R, alloc: Global, rounds: &Rounds) {
         for round in 1..ROUNDS {
             if rounds.are_over() {
@@ -116,7 +116,7 @@ impl<'s, G: Gate> Party<'s, G> {
         }
     }
 
-    // Looks how long the programs take in the first round, and makes its calls in the others.
+    // Measures how long the programs take in the first round, and makes its calls in the later ones.
     fn call_in_rounds<R: Wait>(&mut self, rt: &R, rounds: &Rounds) {
         let mut whole = 0;
         for round in 1..ROUNDS {
@@ -149,7 +149,7 @@ fn run_parties<R: Threads + Wait + Sync, G: Gate>(
     thread::for_each_mut(rt, parties, 2, &share);
 }
 
-// The commands of a line `CALLS COUNT UNIT COMMAND`: so many times the command, in which `~` stands for so many times the unit.
+// Reads the commands of a line `CALLS COUNT UNIT COMMAND`: `CALLS` times the command, with its `~` replaced by `COUNT` times the unit.
 fn read_long(alloc: Global, words: &str) -> Option<Vec<Command<Global>>> {
     let (calls, rest) = words.split_once(' ')?;
     let (count, rest) = rest.split_once(' ')?;
@@ -169,8 +169,8 @@ fn read_long(alloc: Global, words: &str) -> Option<Vec<Command<Global>>> {
 }
 
 impl<'h, R: Threads + Wait + Sync> Bench<'h, R, Global> {
-    /// Runs the programs of a case's first line in a group, and makes the call of its second line meanwhile, until that was answered often
-    /// enough well before the group had ended.
+    /// Runs the programs of a case's first line in a group and makes the call of its second line meanwhile. It repeats this until enough
+    /// calls were answered well before their group had ended.
     pub fn work_beside<G: Gate>(&mut self, store: &Store<Global, G>, case: Case<'_>) -> Option<()> {
         let (long, short) = case.calls.split_once('\n')?;
         let mut commands = Vec::new(self.global);

@@ -1,4 +1,4 @@
-//! Calls of a store and of its sessions, each alone.
+//! Calls of a store and of its sessions, one function for each.
 
 use sdbm_files::Image;
 use std::alloc::{AllocError, Allocator};
@@ -6,13 +6,13 @@ use std::sync::Wait;
 use store_cmd::{Command, Refusal, Reply, SharedCommand};
 use store_shared::{Calls, CloseFault, Closed, Gate, Session, SessionFault, Store};
 
-/// What comes of a session's call.
+/// The outcome of a session's call.
 pub type Came<A> = Result<Reply<A>, Refusal>;
 
-/// What comes of closing a store.
+/// The outcome of closing a store.
 pub type CloseCame<A, G> = Result<Closed<A>, (CloseFault, Store<A, G>, Vec<Calls<A>, A>)>;
 
-/// What comes of the calls of a group, or that there was no memory to make any.
+/// The outcomes of the calls of a group. Fails if there was no memory to make any.
 pub fn make_group<R: Wait, A: Allocator + Copy, G: Gate>(
     rt: &R,
     alloc: A,
@@ -46,7 +46,7 @@ pub fn open<A: Allocator + Copy, G: Gate>(
     }
 }
 
-/// How many pairs a store was opened with.
+/// The number of pairs at the opening of a store.
 pub fn opening<A: Allocator + Copy, G: Gate>(store: &Store<A, G>) -> usize {
     store.opening().len()
 }

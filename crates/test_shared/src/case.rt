@@ -1,12 +1,12 @@
-//! A case, as its lines say it.
+//! A case as its lines describe it.
 
 use crate::gate::Manner;
 
-/// How the store is opened, the calls, and what follows `end`, where that is there.
+/// How the store is opened, the calls, and the lines after `end`, if there are any.
 #[derive(Clone, Copy)]
 pub struct Case<'t> {
     pub who: &'t str,
-    /// Whether the store is opened over the database that stayed, and not over an empty one.
+    /// The store is opened over the database of the last closed store, not over an empty one.
     pub kept: bool,
     pub limit: usize,
     pub manner: Manner,
@@ -32,7 +32,7 @@ fn read_manner(words: &str) -> Option<Manner> {
     }
 }
 
-/// The lines of a case but for its title.
+/// Reads the lines of a case without its title.
 pub fn read_case(lines: &str) -> Option<Case<'_>> {
     let (front, closing) = match lines.split_once("\nend") {
         Some((front, closing)) => (front, Some(closing.trim_start())),

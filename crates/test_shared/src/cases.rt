@@ -30,7 +30,7 @@ impl<'h, R: Threads + Wait + Sync> Bench<'h, R, Global> {
     }
 }
 
-/// What cases work on that have sessions in turn, in a heap, and those that have them apart.
+/// Two benches: one with its stores in a heap, for sessions that make their calls in turn, and one for parallel sessions.
 #[derive(Drop)]
 pub struct Benches<'h, R> {
     heap: &'h LocalHeap,
@@ -39,7 +39,7 @@ pub struct Benches<'h, R> {
 }
 
 impl<'h, R: Threads + Wait + Sync> Benches<'h, R> {
-    /// Benches on which nothing stayed.
+    /// Empty benches.
     pub fn new(rt: &'h R, alloc: Global, heap: &'h LocalHeap) -> Self {
         Benches {
             heap,

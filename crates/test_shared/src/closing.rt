@@ -1,4 +1,4 @@
-//! Sessions end, stores are closed, and what stays of them.
+//! Sessions end, stores are closed, and the results are kept.
 
 use crate::bench::Bench;
 use crate::calls::{close, end, opening};
@@ -8,7 +8,7 @@ use std::fmt::Write;
 use store_shared::{Calls, Closed, Gate, Session, Store};
 
 impl<'h, R, A: Allocator + Copy> Bench<'h, R, A> {
-    /// Ends sessions with no memory in the heap, puts their calls after those in hand, and tells of those that made any.
+    /// Ends sessions with no memory in the heap, appends their calls to those in hand, and reports those that made any.
     pub fn end_all<G: Gate>(&mut self, sessions: Vec<Session<'_, A, G>>) -> Option<()> {
         let _blocks = self.take_memory(0).ok()?;
         let count = sessions.len();
@@ -55,7 +55,7 @@ impl<'h, R, A: Allocator + Copy> Bench<'h, R, A> {
         }
     }
 
-    // Keeps what a closed store leaves. What else was in hand is let go.
+    // Keeps the image and the trail of a closed store. Drops all else in hand.
     fn keep(&mut self, closed: Closed<A>) -> Result<(), AllocError> {
         let Closed { image, trail } = closed;
         let (entries, pairs) = (trail.entries.len(), trail.opening.as_slice().len());
@@ -72,7 +72,7 @@ impl<'h, R, A: Allocator + Copy> Bench<'h, R, A> {
         Ok(())
     }
 
-    // Closes a store with the calls at these places and no memory in the heap. Where that is refused, the store comes back.
+    // Closes a store with the calls at these places and no memory in the heap. If that is refused, returns the store.
     fn close<G: Gate>(&mut self, store: Store<A, G>, words: &str) -> Option<Option<Store<A, G>>> {
         let places = self.read_places(words)?;
         let handed = self.take_calls(places.as_slice())?;
@@ -97,7 +97,7 @@ impl<'h, R, A: Allocator + Copy> Bench<'h, R, A> {
         }
     }
 
-    // The sessions of the entries of the trail, in their order.
+    // The sessions of the entries of the trail, in order.
     fn order_text(&self) -> Option<String> {
         let mut text = String::from_str(self.global, "order").ok()?;
         for entry in self.trail.as_ref()?.entries.iter() {
@@ -114,7 +114,7 @@ impl<'h, R, A: Allocator + Copy> Bench<'h, R, A> {
         }
     }
 
-    /// Closes a store as lines say, and shows what stays.
+    /// Closes a store according to lines, and shows the result.
     pub fn show_closing<G: Gate>(&mut self, store: Store<A, G>, lines: &str) -> Option<()> {
         let mut store = Some(store);
         for line in lines.lines() {

@@ -1,4 +1,4 @@
-//! A gate that looks on, and stands between.
+//! A gate that observes and delays jobs.
 ghost use Rattle.std.specs.Prelude.{◌≡◌, IfOk, IfErr};
 
 use desk_core::{Done, Job};
@@ -7,28 +7,29 @@ use std::fmt::Write;
 use std::sync::atomic::{AtomicU64, Ordering};
 use store_shared::Gate;
 
-/// What a gate does with the jobs that come to it.
+/// The behavior of a gate.
 #[derive(Clone, Copy)]
 pub enum Manner {
-    /// It works them.
+    /// It works the jobs.
     Free,
-    /// It wants none, so that sessions take no ticket.
+    /// It wants no jobs, so that sessions take no ticket.
     Passing,
-    /// It hands the first one back, as where memory is refused.
+    /// It hands the first job back, as if allocation failed.
     Refusing,
-    /// It keeps each of two sessions at work until the other is there too, and the first until the second has finished.
+    /// It holds each of two sessions at work until both have arrived, and the first until the second has finished.
     Meeting,
-    /// It keeps the first job of session 0 at work until so many jobs came, and then for a while, so that others come to wait for its
-    /// page, and works it.
+    /// It holds the first job of session 0 at work until this number of jobs arrived, and then for a while, so that other jobs wait for its
+    /// page; then it works it.
     Keeping(u64),
-    /// It keeps that job as long, and hands it back, as where memory is refused.
+    /// It holds that job as long, and hands it back, as if allocation failed.
     Dropping(u64),
-    /// It wants the job of the first call alone, and keeps that at work for a while. The other calls wait until it is there, and take no
+    /// It wants only the job of the first call, and holds that at work for a while. The other calls wait until it has arrived, and take no
     /// ticket.
     First,
 }
 
-/// How often a gate was asked whether it wants jobs, whether session 0 or the first job began, how many jobs came to a gate, how many were finished, and how often it gave up waiting.
+/// The number of questions whether a gate wants jobs; whether session 0 or the first job began; the numbers of jobs that arrived, of jobs
+/// that were finished, and of waits that timed out.
 #[derive(Drop)]
 pub struct Watch {
     manner: Manner,
@@ -39,10 +40,10 @@ pub struct Watch {
     gave_up: AtomicU64,
 }
 
-// How often a thread looks before it gives up.
+// The number of looks before a thread stops waiting.
 const TURNS: u64 = 1_000_000_000;
 
-// How often it looks again at what it has seen, which takes far longer than another thread needs to come to wait.
+// The number of looks at a count that is already reached. This takes far longer than another thread needs to begin to wait.
 const LINGERED: u64 = 20_000_000;
 
 impl Watch {
@@ -58,12 +59,12 @@ impl Watch {
         }
     }
 
-    /// The gate that is watched.
+    /// The watched gate.
     pub fn gate(&self) -> WatchedGate<'_> {
         WatchedGate { watch: self }
     }
 
-    /// Writes what was seen.
+    /// Writes the counts.
     pub fn show(&self, out: &mut String) -> Result<(), AllocError> {
         let came = self.came.load(Ordering::SeqCst);
         let finished = self.finished.load(Ordering::SeqCst);
@@ -74,7 +75,7 @@ impl Watch {
         )
     }
 
-    // Waits until a count is reached, and notes where it never is.
+    // Waits until a count is reached, and records a timeout.
     fn wait_for(&self, count: &AtomicU64, wanted: u64) {
         for _ in 0..TURNS {
             if count.load(Ordering::SeqCst) >= wanted {
@@ -84,8 +85,8 @@ impl Watch {
         self.gave_up.fetch_add(1, Ordering::SeqCst);
     }
 
-    // Keeps the first job of session 0 until so many came, and then for a while. The others wait until it is there. Tells whether the
-    // job was kept.
+    // Holds the first job of session 0 until `wanted` jobs arrived, and then for a while. The other sessions wait until it has arrived.
+    // Returns whether the job was held.
     fn keeps(&self, session: u64, wanted: u64) -> bool {
         if session != 0 {
             self.wait_for(&self.began, 1);
@@ -99,14 +100,14 @@ impl Watch {
         true
     }
 
-    // Stays for a while.
+    // Waits for a while.
     fn linger(&self) {
         for _ in 0..LINGERED {
             self.came.load(Ordering::SeqCst);
         }
     }
 
-    // Whether a call is to come as a job.
+    // Returns `true` if a call should come as a job.
     fn wants_jobs(&self) -> bool {
         match self.manner {
             Manner::Passing => false,
@@ -121,7 +122,7 @@ impl Watch {
         }
     }
 
-    // Notes that a session's job comes, and tells whether it is to be worked.
+    // Records that a session's job arrives, and returns whether it should be worked.
     fn comes(&self, session: u64) -> bool {
         let before = self.came.fetch_add(1, Ordering::SeqCst);
         match self.manner {
@@ -148,7 +149,7 @@ impl Watch {
     }
 }
 
-/// A gate, as it is watched.
+/// The gate of a watch.
 #[derive(Clone, Copy)]
 pub struct WatchedGate<'w> {
     watch: &'w Watch,

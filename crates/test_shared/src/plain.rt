@@ -1,11 +1,11 @@
-//! A plain map, on which a trail is played: it has a value for each key of up to two bytes, and none for any other.
+//! A plain map for replaying a trail: at most one value for each key of up to two bytes, and no other keys.
 
 use sdbm_addr::{Bytes, Mode};
 use sdbm_files::Image;
 use std::alloc::{AllocError, Allocator, Global};
 use store_cmd::{Command, KeptEntry, Reply, Trail};
 
-// How many keys of up to two bytes there are.
+// The number of keys of up to two bytes.
 const KEYS: usize = 65793;
 
 #[derive(Drop)]
@@ -25,7 +25,7 @@ fn number_of(key: &[u8]) -> usize {
     }
 }
 
-// What the counter does with a record, and its number and its word.
+// Runs the counter on a record, and returns its number and its word.
 fn count_up(record: &mut [u8]) -> (u64, u64) {
     let Some(word) = record.first_chunk_mut::<8>() else {
         return (0, 0);
@@ -90,7 +90,7 @@ impl<A: Allocator + Copy> Plain<A> {
         Reply::Deleted
     }
 
-    // Runs the counter. What it leaves is stored where its number is not 0.
+    // Runs the counter. Its record is stored if its number is not 0.
     fn run(&mut self, key: &[u8], blank: Option<usize>) -> Result<Reply<A>, AllocError> {
         let mut record = match (self.value(key), blank) {
             (Some(value), _) => Vec::from_slice(self.global, value)?,
@@ -116,7 +116,7 @@ impl<A: Allocator + Copy> Plain<A> {
         }
     }
 
-    // Whether it answers all entries as a trail does.
+    // Returns `true` if it answers all entries as a trail does.
     fn plays(&mut self, entries: &[KeptEntry<A>]) -> Result<bool, AllocError> {
         for entry in entries {
             if self.answer(entry.command())? != *entry.reply() {
@@ -126,7 +126,7 @@ impl<A: Allocator + Copy> Plain<A> {
         Ok(true)
     }
 
-    // Whether it has just these pairs.
+    // Returns `true` if it has exactly these pairs.
     fn has(&self, pairs: &[(Bytes<A>, Bytes<A>)]) -> bool {
         for (key, value) in pairs {
             if self.value(key.as_slice()) != Some(value.as_slice()) {
@@ -137,7 +137,7 @@ impl<A: Allocator + Copy> Plain<A> {
     }
 }
 
-/// Whether a plain map with the opening of a trail answers its entries as the trail does, and has the pairs of a database then.
+/// Returns `true` if a plain map with the opening of a trail answers its entries as the trail does, and then has the pairs of a database.
 pub fn is_as_plain<A: Allocator + Copy>(
     global: Global,
     alloc: A,

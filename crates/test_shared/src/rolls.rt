@@ -1,4 +1,4 @@
-//! Commands that are drawn at random.
+//! Random commands.
 ghost use Rattle.std.specs.Prelude.{◌<◌};
 
 use sdbm_addr::{Bytes, Mode};
@@ -25,7 +25,7 @@ impl Dice {
     }
 }
 
-// A command on one of so many keys. A value is a byte, up to 40 times.
+// A command on one of `keys` keys. A value is one byte, repeated up to 40 times.
 fn roll_command(alloc: Global, dice: &mut Dice, keys: u16) -> Result<Command<Global>, AllocError>
     requires { 0 < keys }
 {
@@ -47,7 +47,7 @@ fn roll_command(alloc: Global, dice: &mut Dice, keys: u16) -> Result<Command<Glo
     })
 }
 
-/// `SEED KEYS CALLS`: so many commands on so many keys. The seed is that of the first of several sessions, and goes up by 1.
+/// Reads `SEED KEYS CALLS`: `CALLS` commands on `KEYS` keys. The seed is that of the first session; each further session adds 1.
 pub fn read_rolls(alloc: Global, words: &str, place: u64) -> Option<Vec<Command<Global>>> {
     let (seed, rest) = words.split_once(' ')?;
     let (keys, calls) = rest.split_once(' ')?;

@@ -10,14 +10,14 @@ use store_cmd::{Command, Refusal};
 use store_shared::{Gate, Session, SessionFault, Store};
 use test_lines::{MOST_TIMES, read_command, show_reply};
 
-// The sessions on a store, and what one of them asks while another's calls are refused.
+// The sessions on a store, and the call of one of them that watches while calls of another are refused.
 #[derive(Drop)]
 struct Table<'s, A: Allocator, G: Gate> {
     sessions: Vec<Session<'s, A, G>>,
     watched: Option<(usize, Command<A>)>,
 }
 
-// The commands of a group, parted by slashes.
+// The commands of a group, separated by slashes.
 fn read_group<A: Allocator + Copy>(alloc: A, words: &str) -> Option<Vec<Command<A>, A>> {
     let mut commands = Vec::new(alloc);
     for command in words.split(" / ") {
@@ -26,7 +26,7 @@ fn read_group<A: Allocator + Copy>(alloc: A, words: &str) -> Option<Vec<Command<
     Some(commands)
 }
 
-// What comes of a call, as text.
+// The outcome of a call as text.
 fn came_text<A: Allocator>(global: Global, came: &Came<A>) -> Option<String> {
     let mut text = String::new(global);
     match came {
@@ -36,7 +36,7 @@ fn came_text<A: Allocator>(global: Global, came: &Came<A>) -> Option<String> {
     Some(text)
 }
 
-// What comes of the calls of a group, as text.
+// The outcomes of the calls of a group as text.
 fn outcomes_text<A: Allocator>(global: Global, outcomes: &[Came<A>]) -> Option<String> {
     let mut text = String::new(global);
     for (at, came) in outcomes.iter().enumerate() {
@@ -55,7 +55,7 @@ fn read_call<A: Allocator + Copy>(alloc: A, words: &str) -> Option<(usize, Comma
     Some((number, read_command(alloc, command)?))
 }
 
-// Makes one session more, or tells why no more are made.
+// Creates another session, or reports why it cannot.
 fn add_session<'s, R: Wait, A: Allocator + Copy, G: Gate>(
     rt: &R,
     store: &'s Store<A, G>,
@@ -71,7 +71,7 @@ fn add_session<'s, R: Wait, A: Allocator + Copy, G: Gate>(
 }
 
 impl<'s, A: Allocator + Copy, G: Gate> Table<'s, A, G> {
-    // What the one who watches is answered.
+    // The reply to the session that watches.
     fn seen<R: Wait>(&mut self, bench: &Bench<'_, R, A>) -> Option<String> {
         let Some((number, command)) = &self.watched else {
             return Some(String::new(bench.global));
@@ -80,7 +80,7 @@ impl<'s, A: Allocator + Copy, G: Gate> Table<'s, A, G> {
         came_text(bench.global, &make(bench.rt, session, command))
     }
 
-    // Makes a call, with all memory of the heap taken but for so many bytes.
+    // Makes a call with all memory of the heap taken except `spared` bytes.
     fn make_with<R: Wait>(
         &mut self,
         bench: &Bench<'_, R, A>,
@@ -95,7 +95,7 @@ impl<'s, A: Allocator + Copy, G: Gate> Table<'s, A, G> {
         Some(came)
     }
 
-    // Makes a call, in a heap with more memory each time. What the one who watches is answered has to stay the same.
+    // Makes a call in a heap with more memory each time. The reply to the session that watches must not change.
     fn answer_call<R: Wait>(
         &mut self,
         bench: &Bench<'_, R, A>,
@@ -117,8 +117,8 @@ impl<'s, A: Allocator + Copy, G: Gate> Table<'s, A, G> {
         None
     }
 
-    // Makes the calls of a group, in a heap with more memory each time, until they are made. What the one who watches is answered has
-    // to stay the same up to then.
+    // Makes the calls of a group in a heap with more memory each time, until they are made. Until then the reply to the session that
+    // watches must not change.
     fn answer_group<R: Wait>(
         &mut self,
         bench: &Bench<'_, R, A>,
@@ -146,7 +146,7 @@ impl<'s, A: Allocator + Copy, G: Gate> Table<'s, A, G> {
         None
     }
 
-    // Makes so many sessions more, with no memory in the heap, and tells how many there are then.
+    // Creates `count` more sessions with no memory in the heap, and reports the number of sessions.
     fn answer_sessions<R: Wait>(
         &mut self,
         bench: &Bench<'_, R, A>,
@@ -189,7 +189,7 @@ impl<'s, A: Allocator + Copy, G: Gate> Table<'s, A, G> {
 }
 
 impl<'h, R: Wait, A: Allocator + Copy> Bench<'h, R, A> {
-    /// Makes the sessions and the calls of a case, and ends the sessions where they are to end.
+    /// Makes the sessions and the calls of a case, and ends the sessions if the case says so.
     pub fn take_turns<G: Gate>(&mut self, store: &Store<A, G>, case: Case<'_>) -> Option<()> {
         let mut table = Table {
             sessions: Vec::new(self.global),

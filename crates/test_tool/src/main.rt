@@ -1,27 +1,27 @@
-//! Reads command lines, runs scripts, and prints what comes of them.
+//! Reads command lines, runs scripts, and prints the results.
 //!
-//! Each line of standard input is a case, and its first word says of which kind.
+//! Each line of standard input is a case. Its first word is the kind.
 //!
 //! | Line | Answer |
 //! |---|---|
-//! | `words WORD ..` | the wish, with its base, its file and whether it writes; or why it is refused; or that it is answered by a text |
+//! | `words WORD ..` | the request, with its base, its file and whether it writes; or why it is refused; or that it is answered by a text |
 //! | `help WORD ..` | that text, or `none` |
 //! | `part TEXT \| WORD ..` | whether that text contains another |
-//! | `time UNIT WORD ..` | the wish of the words as it is told the time `1700000000`, where it asks it in that unit, or `none` |
-//! | `faults` | of the faults that are no refusals the text, and whether it is an answer |
+//! | `time UNIT WORD ..` | the request of the words with the time `1700000000`, if it needs the time in that unit, or `none` |
+//! | `faults` | for the faults other than refusals: the text, and whether it is an answer |
 //! | `script TEXT` | `said`, and the answers of the script |
-//! | `again READ WRITE` | the number of pairs after the script of the line before, and its answers, or the fault: as many bytes are read and written at a time as told |
-//! | `reader FAULT COUNT`, `writer FAULT COUNT` | the same where the stream fails once, with so many bytes left or written, and how much of the answers is written |
-//! | `lines COUNT` | the same of so many empty lines |
-//! | `within BYTES` | `said` and the answers of the script of that line, where they have at most so many bytes, or the fault |
-//! | `heaps COUNT` | of that script whether it is refused in each heap up to one of more bytes than that, and then answered as with ample memory |
-//! | `read WORD` | the bytes for which a word stands as text, in hex, or `none` |
-//! | `show HEX` | those bytes as text, and `back` where that is read as them |
-//! | `by LAYOUT HEX` | the same by a layout, or `no layout` |
-//! | `text LAYOUT TEXT` | `said`, and the answers of a script whose bytes are text, and whose values are printed by a layout where it is not `.` |
+//! | `again READ WRITE` | the number of pairs after the script of the line before, and its answers, or the fault: READ bytes are read and WRITE bytes written at a time |
+//! | `reader FAULT COUNT`, `writer FAULT COUNT` | the same if the stream fails once, with COUNT bytes left or written, and how much of the answers is written |
+//! | `lines COUNT` | the same for COUNT empty lines |
+//! | `within BYTES` | `said` and the answers of the script of that line, if they have at most this number of bytes, or the fault |
+//! | `heaps COUNT` | for that script: whether it is refused in each heap up to one of more than COUNT bytes, and then answered as with ample memory |
+//! | `read WORD` | the bytes of a word as text, in hex, or `none` |
+//! | `show HEX` | those bytes as text, and `back` if that text is read as the same bytes |
+//! | `by LAYOUT HEX` | the same with a layout, or `no layout` |
+//! | `text LAYOUT TEXT` | `said`, and the answers of a script whose bytes are text, and whose values are printed with a layout unless it is `.` |
 //! | `# TEXT` | the line itself |
 //!
-//! In texts `\n`, `\r` and `\t` stand for a line feed, a carriage return and a tab. A script runs on an empty database. The answers
+//! In texts `\n`, `\r` and `\t` are a line feed, a carriage return and a tab. A script runs on an empty database. The answers
 //! under `cases` are those of an independent model of the store.
 #![tactic(auto)]
 

@@ -22,7 +22,7 @@ fn read_line(global: Global, word: &str) -> Option<String> {
     }
 }
 
-// A text, and whether it is read as these bytes.
+// Shows a text, and whether it is read as these bytes.
 fn told(global: Global, text: &[u8], bytes: &[u8]) -> Option<String> {
     let read = read_text(global, text).ok()??;
     let back = if read.as_slice() == bytes {
@@ -76,7 +76,7 @@ fn text_line(global: Global, rest: &str) -> Option<String> {
     format!(in global; "said {text}").ok()
 }
 
-/// The answer to a line, where it is one of these.
+/// The answer to a line of this module. Returns `None` for any other line.
 pub fn notation_line(global: Global, word: &str, rest: &str) -> Option<String> {
     match word {
         "read" => read_line(global, rest),

@@ -1,4 +1,4 @@
-//! Scripts, and what they answer.
+//! Scripts and their answers.
 
 use crate::heaps::heaps_text;
 use crate::streams::{Collected, EmptyLines, answers, giving, run};
@@ -9,13 +9,13 @@ use sdbm_files::Image;
 use std::alloc::Global;
 use std::io::ErrorKind;
 
-// What was written, on one line.
+// The written bytes, on one line.
 fn escaped(global: Global, text: &[u8]) -> Option<String> {
     let text = str::from_utf8(text).ok()?;
     text.replace(global, "\n", "\\n").ok()
 }
 
-// How a run ended, and what was written.
+// The end of a run, and the written bytes.
 fn ended(global: Global, came: Result<usize, ScriptFault>, written: &[u8]) -> Option<String> {
     let text = escaped(global, written)?;
     match came {
@@ -95,7 +95,7 @@ fn empty_lines(global: Global, count: &str) -> Option<String> {
     ended(global, came, writer.text.as_slice())
 }
 
-// The answers of a script on an empty database, where they have at most so many bytes.
+// The answers of a script on an empty database, if they have at most `most` bytes.
 fn within_text(global: Global, script: &[u8], most: &str) -> Option<String> {
     let most = most.parse::<u64>().ok()?;
     let image = Image::empty(global, KeyBytes::Signed, PageSize::Small);
@@ -108,7 +108,7 @@ fn within_text(global: Global, script: &[u8], most: &str) -> Option<String> {
     }
 }
 
-/// The answer to a line, where it is one of these.
+/// The answer to a line of this module. Returns `None` for any other line.
 pub fn script_line(global: Global, script: &mut String, word: &str, rest: &str) -> Option<String> {
     match word {
         "script" => script_text(global, script, rest),

@@ -1,4 +1,4 @@
-//! Readers and writers of every kind, and scripts from one to the other.
+//! Readers and writers of every kind, and scripts that run between them.
 
 use dbm_script::{Notation, ScriptFault, run_script};
 use sdbm_addr::{KeyBytes, PageSize};
@@ -7,7 +7,7 @@ use std::alloc::{Allocator, Global};
 use std::io;
 use std::io::{ErrorKind, Read, Write};
 
-/// Gives a text, so many bytes a call, and fails once, where so many are left.
+/// Returns a text, some bytes at each call, and fails once, when a given number of bytes is left.
 #[derive(Drop)]
 pub struct Given<'a> {
     pub text: &'a [u8],
@@ -31,7 +31,7 @@ impl Read for Given<'_> {
     }
 }
 
-/// Gives so many empty lines, which it does not hold.
+/// Returns some empty lines without storing them.
 #[derive(Drop)]
 pub struct EmptyLines {
     pub left: usize,
@@ -48,7 +48,7 @@ impl Read for EmptyLines {
     }
 }
 
-/// Takes so many bytes a call, and fails once, when it has taken so many.
+/// Takes some bytes at each call, and fails once, when it has taken a given number.
 #[derive(Drop)]
 pub struct Collected {
     pub text: Vec<u8>,
@@ -57,7 +57,7 @@ pub struct Collected {
 }
 
 impl Collected {
-    /// A writer that has taken nothing.
+    /// A writer before its first call.
     pub fn new(global: Global, step: usize, fails: Option<(usize, ErrorKind)>) -> Self {
         Collected {
             text: Vec::new(global),
@@ -85,7 +85,7 @@ impl Write for Collected {
     }
 }
 
-/// Runs a script on an empty database, and gives the number of pairs after it.
+/// Runs a script on an empty database, and returns the number of pairs after it.
 pub fn run<A: Allocator + Copy, R: Read>(
     alloc: A,
     reader: &mut R,
@@ -98,7 +98,7 @@ pub fn run<A: Allocator + Copy, R: Read>(
     }
 }
 
-/// Gives a text, so many bytes a call.
+/// Returns a text, `step` bytes at each call.
 pub fn giving(text: &[u8], step: usize) -> Given<'_> {
     Given {
         text,
@@ -107,7 +107,7 @@ pub fn giving(text: &[u8], step: usize) -> Given<'_> {
     }
 }
 
-/// What a script answers where nothing fails.
+/// The answers of a script if nothing fails.
 pub fn answers(global: Global, script: &[u8]) -> Vec<u8> {
     let mut writer = Collected::new(global, 4096, None);
     let _came = run(global, &mut giving(script, 4096), &mut writer);

@@ -1,18 +1,18 @@
-//! What command lines ask, why they are refused, and what help prints.
+//! The requests of command lines, their refusals, and the texts of help.
 
 use dbm_command_line::{Ask, Request, ToolFault, Wish, read_words};
 use dbm_words::{Access, TimeUnit};
 use std::alloc::{AllocError, Global};
 use std::fmt::Write;
 
-/// A text that was written on one line.
+/// Unescapes a text that is written on one line.
 pub fn unescaped(global: Global, text: &str) -> Result<String, AllocError> {
     let text = text.replace(global, "\\n", "\n")?;
     let text = text.as_str().replace(global, "\\r", "\r")?;
     text.as_str().replace(global, "\\t", "\t")
 }
 
-// The words of a line, none where it is empty.
+// The words of a line. An empty line has no words.
 fn words_of(global: Global, line: &str) -> Option<Vec<&str>> {
     let mut words = Vec::new(global);
     if line.is_empty() {
@@ -28,7 +28,7 @@ fn asked<'a>(global: Global, words: &'a [&'a str]) -> Result<Request<'a>, ToolFa
     read_words(global, words)
 }
 
-// The subcommand that a wish asks, with its words and options.
+// The subcommand of a request, with its words and options.
 fn asked_text(global: Global, wish: &Wish<'_>) -> Result<String, AllocError> {
     match wish {
         Wish::Fetch(fetch) => format!(in global; "{fetch:?}"),
@@ -64,7 +64,7 @@ fn wish_text(global: Global, wish: &Wish<'_>) -> Option<String> {
     Some(out)
 }
 
-// The wish, and how its database is come by where the words say so.
+// The request, and how its database is accessed if the words say so.
 fn request_text(global: Global, request: &Request<'_>) -> Option<String> {
     let mut out = match &request.ask {
         Ask::Wish(wish) => wish_text(global, wish)?,
@@ -132,7 +132,7 @@ fn part_text(global: Global, rest: &str) -> Option<String> {
     String::from_str(global, if is_there { "there" } else { "not there" }).ok()
 }
 
-// The wish with a time, where it asks it in a unit.
+// The request with a time, if it needs the time in a unit.
 fn time_text(global: Global, rest: &str) -> Option<String> {
     let (unit, words) = rest.split_once(' ')?;
     let words = words_of(global, words)?;
@@ -154,7 +154,7 @@ fn faults_text(global: Global) -> Option<String> {
     format!(in global; "{memory} {} {word} {}", answers.0, answers.1).ok()
 }
 
-/// The answer to a line, where it is one of these.
+/// The answer to a line of this module. Returns `None` for any other line.
 pub fn word_line(global: Global, word: &str, rest: &str) -> Option<String> {
     match word {
         "words" => words_text(global, rest),

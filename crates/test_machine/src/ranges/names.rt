@@ -75,7 +75,7 @@ pub fn read_width(bits: &str) -> Option<Width> {
     }
 }
 
-/// Whether an edge is the one that is taken.
+/// Returns `true` if the edge is the taken one.
 pub fn read_edge(word: &str) -> Option<bool> {
     match word {
         "taken" => Some(true),

@@ -19,7 +19,7 @@ pub fn read_range(word: &str) -> Option<Range> {
     Some(Range { lo, hi })
 }
 
-// What is known of a number, of the form `LO..HI,VALUE,UNKNOWN`.
+// The knowledge of a number, of the form `LO..HI,VALUE,UNKNOWN`.
 fn read_known(word: &str) -> Option<Known> {
     let (range, bits) = word.split_once(',')?;
     let (value, unknown) = bits.split_once(',')?;
@@ -34,20 +34,20 @@ pub fn read_ranges(words: &str) -> Option<(Range, Range)> {
     Some((read_range(a)?, read_range(b)?))
 }
 
-/// What is known of two numbers.
+/// The knowledge of two numbers.
 pub fn read_two_known(words: &str) -> Option<(Known, Known)> {
     let (a, b) = words.split_once(' ')?;
     Some((read_known(a)?, read_known(b)?))
 }
 
-/// An operation and its width, and the words after.
+/// An operation and its width, and the rest of the words.
 pub fn read_operation(words: &str) -> Option<(Op, Width, &str)> {
     let (op, rest) = words.split_once(' ')?;
     let (width, rest) = rest.split_once(' ')?;
     Some((read_op(op)?, read_width(width)?, rest))
 }
 
-/// The edge of a conditional jump: whether it is taken.
+/// The edge of a conditional jump: `true` if it is taken.
 #[derive(Drop)]
 pub struct Edge {
     pub test: Test,
@@ -55,7 +55,7 @@ pub struct Edge {
     pub taken: bool,
 }
 
-/// An edge, and the words after.
+/// An edge, and the rest of the words.
 pub fn read_jump(words: &str) -> Option<(Edge, &str)> {
     let (test, rest) = words.split_once(' ')?;
     let (width, rest) = rest.split_once(' ')?;

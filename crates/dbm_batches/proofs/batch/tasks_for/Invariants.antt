@@ -4,7 +4,7 @@ use Rattle.std.specs.Vec.Iter.{into_iter_items}
 use Rattle.dbm_batches.specs.Batches.{task_for}
 use Rattle.dbm_batches.proofs.batch.tasks_for.Given as goal
 
--- the tasks so far, and those of the words that are left
+-- the tasks so far, followed by those of the remaining words
 abbrev pub invariant-loop-asked : goal.invariant-loop-asked
 invariant-loop-asked l = record {
   next : (goal.iterator-loop-asked).can_next l.asked-iterator;

@@ -1,4 +1,4 @@
--- `with_save` makes a value of no bytes, whose ghost field is the other's with a save after it.
+-- `with_save` makes a value of no bytes, whose ghost field is that of `self` followed by a save.
 use Rattle.std.proofs.Common.{[], ◌∷◌, ◌++◌, refl}
 use mir.Val.{Val, vstruct, vnil}
 use base.Fml.{Fml}

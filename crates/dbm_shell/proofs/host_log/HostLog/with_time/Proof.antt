@@ -1,4 +1,4 @@
--- `with_time` makes a value of no bytes, whose ghost field is the other's with a time after it.
+-- `with_time` makes a value of no bytes, whose ghost field is that of `self` followed by a time.
 use Rattle.std.proofs.Common.{[], ◌∷◌, ◌++◌, refl}
 use mir.Val.{Val, vstruct, vnil}
 use base.Fml.{Fml}

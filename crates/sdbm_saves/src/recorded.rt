@@ -109,7 +109,7 @@ impl Past for Unknown {
     ghost may_leave = { λ c. c ≡ c };
 }
 
-/// A disk of system files. After a failed call it makes no more calls.
+/// A disk of system files. After a call has returned `Failed`, it makes no more calls.
 #[derive(Drop)]
 pub struct Recorded<H: Host, P: Past, F: Before> {
     host: H,

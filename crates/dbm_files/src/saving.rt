@@ -61,7 +61,7 @@ pub fn save_change<D: Disk, W: Write, L: Drop>(
     ensures saved { OnOk result (IsSaved change.entry.after.now (change.entry.before.pages.now.bytes, change.entry.before.directory.now) D.may_leave disk.old disk.new) }
     ensures printed { OnOk result (Appends (W.contents writer.old) (W.contents writer.new) lines.now) }
 
-    // If the save is whole, the commit byte is not 1, and both files are durable.
+    // If the save is `Whole`, the commit byte is not 1, and both files are durable.
     ensures whole { IfOk result (λ how. how ≡ saved.Whole → IsAtRest (D.seen disk.new) (D.may_leave disk.new)) }
 
     // Lines are printed only if the change is saved.

@@ -35,8 +35,9 @@ pub(crate) struct OldRedo {
 /// save failed before its commit, its redo file is removed.
 ///
 /// # Errors
-/// Those of `save_change`, and `BadRedo` if the commit byte of the redo file is 1. Before everything else, `Moved` if a lock or a data file
-/// has lost its name to another file, and `Changed` if another program has written a data file since it was read.
+/// Those of `save_change`. `BadRedo` if the commit byte of the redo file is 1, `Unsafe` if another user could have planted the redo file,
+/// and `ReadFile` if it cannot be read. Before everything else, `Moved` if a lock or a data file has lost its name to another file, and
+/// `Changed` if another program has written a data file since it was read.
 pub fn save_files<R: Files<File = File> + AllocGlobal, W: Write>(
     rt: &R,
     held: LockedFiles,
@@ -109,7 +110,7 @@ pub struct PlannedPart<'a> {
 /// Like `save_files`, if only one page of the database was read. The plan must know the files.
 ///
 /// # Errors
-/// Those of `save_plan`, `BadRedo` if the commit byte of the redo file is 1, and `Moved` and `Changed` as in `save_files`.
+/// Those of `save_plan`, and `BadRedo`, `Unsafe`, `ReadFile`, `Moved` and `Changed` as in `save_files`.
 pub fn save_part<R: Files<File = File> + AllocGlobal, W: Write>(
     rt: &R,
     held: LockedFiles,

@@ -25,8 +25,8 @@ pub record Does (acts : List Act) (seen : Image) (may_leave : Image → Type 0) 
   pub any_moment : (c : Image) → AnyMoment acts seen may_leave c → P c
   pub after : Q (seen_after acts seen) (LeftAfter acts seen may_leave)
 
--- The images that may be read after a process was killed during a call. The call was done in part, and the result is independent of a
--- crash.
+-- The images that may be read after a process was killed during a call. The call was done in part. The result depends only on the image
+-- that was read before, not on the images that a crash may leave.
 abbrev pub Partly : Act → Image → Image → Type 0
 Partly act seen c = LeftBy act seen (λ d. d ≡ seen) c
 

@@ -11,7 +11,7 @@ use std::alloc::{AllocError, Allocator};
 /// The digits of hex, with lower-case letters.
 pub const DIGITS: [u8; 16] = *b"0123456789abcdef";
 
-// The state of a reader between two bytes of a text.
+// The state of a reader of a text.
 #[derive(Clone, Copy)]
 enum Reading {
     // Between two bytes.

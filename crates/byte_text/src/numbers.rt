@@ -69,7 +69,7 @@ fn parsed(text: &[u8]) -> Option<u64>
     digits.parse().ok()
 }
 
-// Parses a signed number of 64 bits. Returns its two's complement.
+// Parses a signed number of 64 bits and returns its two's complement. Returns `None` if the text is not such a number.
 pub(crate) fn read_signed(text: &[u8]) -> Option<u64>
     ensures { result ≡ signed_of text.now }
 {

@@ -1,4 +1,4 @@
--- Texts cut into parts.
+-- Texts split into parts.
 use Rattle.std.proofs.Common.{◌≡◌, ℕ, suc, ◌+◌, ◌<◌, Bool, true, false, eqb, not, ◌&&◌, ◌||◌, List, [], ◌∷◌, ◌++◌, length, get_or, take, drop, refl, sym, ap, ◌∙◌, append_assoc, append-nil, arith}
 use Rattle.std.proofs.lemmas.Bool.{cond_both, false≢true}
 use Rattle.std.proofs.lemmas.List.{drop_more, take_more}
@@ -28,7 +28,7 @@ onto_none : (a : List ℕ) (parts : List (List ℕ)) → onto [] (onto a parts) 
 onto_none a [] = refl
 onto_none a (part ∷ parts) = refl
 
--- a text has a part at least
+-- a text has at least one part
 pub onto-parts_of : (escape : Bool) (text : List ℕ) → onto [] (parts_of escape text) ≡ parts_of escape text
 onto-parts_of true [] = refl
 onto-parts_of false [] = refl
@@ -44,7 +44,7 @@ parts_some escape text = split (parts_of escape text) (onto-parts_of escape text
     split [] e = ([], ([], sym e))
     split (part ∷ rest) e = (part, (rest, refl))
 
--- ---- texts that end between two signs, and have no comma that cuts
+-- ---- texts without an unfinished escape and without an unescaped comma
 
 abbrev pub IsWhole : List ℕ → Type 0
 IsWhole front = (more : List ℕ) → parts_of false (front ++ more) ≡ onto front (parts_of false more)
@@ -62,12 +62,12 @@ whole_plain c comma slash more = rw (comma, slash) refl
 pub whole_escape : (c : ℕ) → IsWhole (92 ∷ c ∷ [])
 whole_escape c more = onto-onto (92 ∷ []) (c ∷ []) (parts_of false more)
 
--- ---- the cut of a loop
+-- ---- the split by a loop
 
 pub cut_starts : (text : List ℕ) → parts_of false text ≡ onto (take 0 text) (parts_of false (drop 0 text))
 cut_starts text = sym (onto-parts_of false text)
 
--- one byte further
+-- one more byte
 pub cut_goes_on : (text : List ℕ) (at : ℕ) (escape : Bool) → at < length text
     → parts_of false text ≡ onto (take at text) (parts_of escape (drop at text))
     → (eqb (get_or text at 0) 44 && not escape) ≡ false
@@ -85,7 +85,7 @@ cut_goes_on text at escape h is other =
         let plain : eqb (get_or text at 0) 44 ≡ false = sym (and_true (eqb (get_or text at 0) 44)) ∙ n in
         rw plain (ap (λ (b : Bool). onto (get_or text at 0 ∷ []) (parts_of b (drop (at + 1) text))) (sym (and_true (eqb (get_or text at 0) 92))))
 
--- a comma that cuts
+-- an unescaped comma
 pub cut_here : (text : List ℕ) (at : ℕ) (escape : Bool) → at < length text
     → parts_of false text ≡ onto (take at text) (parts_of escape (drop at text))
     → (eqb (get_or text at 0) 44 && not escape) ≡ true
@@ -101,7 +101,7 @@ cut_here text at escape h is comma =
         let hit : eqb (get_or text at 0) 44 ≡ true = sym (and_true (eqb (get_or text at 0) 44)) ∙ y in
         rw hit refl
 
--- ---- a text with no comma and no backslash
+-- ---- a text without comma and backslash
 
 pub whole_from_none : (text : List ℕ) → ((k : ℕ) → k < length text → (eqb (get_or text k 0) 44 || eqb (get_or text k 0) 92) ≡ false) → parts_of false text ≡ text ∷ []
 whole_from_none [] none = refl

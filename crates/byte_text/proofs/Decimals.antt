@@ -1,4 +1,4 @@
--- Texts that are the decimal of a number.
+-- Texts that are decimals of numbers.
 use Rattle.std.proofs.Common.{◌≡◌, ℕ, ◌<◌, ◌≤◌, ◌^◌, List, Bool, true, false, Option, Some, None, refl, sym, ap, ◌∙◌, subst, arith, decimal}
 use Rattle.std.specs.Prelude.{nat_le}
 use Rattle.std.specs.Str.{bytes_eq, IsUtf8}
@@ -9,7 +9,7 @@ use Rattle.std.proofs.lemmas.Str.{IsUtf8-from_ascii}
 use Rattle.std.proofs.lemmas.Slice.Eq.{bytes_eq-Decides}
 use Rattle.byte_text.specs.Numbers.{number_of, written}
 
--- the number is read back from its decimal
+-- reading a decimal returns its number
 pub read_back : (n : ℕ) (text : List ℕ) → n < 2 ^ 64 → text ≡ decimal n → digits_value 10 text ≡ n
 read_back n text h is = ap (digits_value 10) is ∙ (decimal_is_IsNumeral n h).1
 
@@ -41,13 +41,13 @@ unfolding number_of
 no_number most text none =
     written_none most text (digits_value 10 text) (bytes_eq text (decimal (digits_value 10 text))) (nat_le (digits_value 10 text) most) refl refl (none (digits_value 10 text))
 
--- the number that is read is not below the bound, or the text is not its decimal
+-- the number that was read is not below the bound, or the text is not its decimal
 pub refuted : (most : ℕ) (text : List ℕ) (number : ℕ) (r : Option ℕ) → most < 2 ^ 64 → ((n : ℕ) → n < 2 ^ 64 → text ≡ decimal n → r ≡ Some n) → r ≡ Some number
     → (number ≤ most → text ≡ decimal number → ⊥) → None ≡ number_of most text
 refuted most text number r small gives is none = no_number most text (λ n within eq.
     let same : number ≡ n = same_Some number n (sym is ∙ gives n (omega arith) eq) in
     none (subst (λ (m : ℕ). m ≤ most) (sym same) within) (eq ∙ ap decimal (sym same)))
 
--- nothing is read
+-- no number is read
 pub unread : (most : ℕ) (text : List ℕ) (r : Option ℕ) → most < 2 ^ 64 → ((n : ℕ) → n < 2 ^ 64 → text ≡ decimal n → r ≡ Some n) → r ≡ None → None ≡ number_of most text
 unread most text r small gives is = no_number most text (λ n within eq. none-some n (sym is ∙ gives n (omega arith) eq))

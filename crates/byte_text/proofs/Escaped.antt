@@ -1,4 +1,4 @@
--- Bytes by their escapes: read back, and without a comma that cuts.
+-- Escaped bytes: they are read back, and contain no unescaped comma.
 use Rattle.std.proofs.Common.{◌≡◌, ℕ, suc, ◌+◌, ◌*◌, ◌/◌, ◌%◌, ◌<◌, Bool, true, false, cond, eqb, leb, ◌&&◌, List, [], ◌∷◌, ◌++◌, length, take, Option, Some, None, option_map, option_and_then, nat_eq, refl, sym, ap, ◌∙◌, subst, arith, slice_index}
 use Rattle.std.specs.List.{starts_with}
 use Rattle.std.specs.Cmp.Lexicographic.{pointwise}
@@ -11,13 +11,13 @@ use Rattle.byte_text.specs.declared.escapes.Reading.TheVariants.{Plain, Low}
 use Rattle.byte_text.proofs.LowBytes.{rest_bytes, first_byte}
 use Rattle.byte_text.proofs.Cuts.{IsWhole, whole_none, whole_append, whole_plain, whole_escape}
 
--- ---- by the tests of an escape
+-- ---- by the cases of an escape
 
--- what holds of a number holds of the one that equals it
+-- a property of a number holds for an equal number
 at_number : (b k : ℕ) (P : ℕ → Type 0) → P k → eqb b k ≡ true → P b
 at_number b k P h is = subst P (sym (eqb-true b k is)) h
 
--- a fact of each form of an escape is a fact of a byte and its escape
+-- a property of each form of an escape holds for every byte and its escape
 by_escape : (b : ℕ) (P : ℕ → List ℕ → Type 0) → P 32 (92 ∷ 115 ∷ []) → P 10 (92 ∷ 110 ∷ []) → P 9 (92 ∷ 116 ∷ []) → P 92 (92 ∷ 92 ∷ []) → P 44 (92 ∷ 44 ∷ [])
     → (eqb b 92 ≡ false → eqb b 44 ≡ false → P b (b ∷ [])) → ((leb 33 b && leb b 126) ≡ false → P b (hex_escape b)) → P b (escape_of b)
 by_escape b P space line tab slash comma plain digits =
@@ -49,9 +49,9 @@ reads_escaped [] h = refl
 reads_escaped (b ∷ bs) h =
     reads_escape b (escaped bs) (first_byte b bs h) ∙ ap (with_byte (Some b)) (reads_escaped bs (rest_bytes b bs h))
 
--- ---- no comma that cuts
+-- ---- no unescaped comma
 
--- a digit is no comma and no backslash
+-- a digit is not a comma or a backslash
 other_from_digit : (c d k : ℕ) → hex_digit_value c ≡ Some d → hex_digit_value k ≡ None → eqb c k ≡ false
 other_from_digit c d k is none = false_from_ne_true (eqb c k) (λ same.
     none-some d (sym (ap hex_digit_value (eqb-true c k same) ∙ none) ∙ is))
@@ -75,7 +75,7 @@ pub whole_escaped : (bs : List ℕ) → IsBytes bs → IsWhole (escaped bs)
 whole_escaped [] h = whole_none
 whole_escaped (b ∷ bs) h = whole_append (escape_of b) (escaped bs) (whole_escape_of b (first_byte b bs h)) (whole_escaped bs (rest_bytes b bs h))
 
--- ---- a text begins as its bytes do, where the beginning has no escape
+-- ---- a text has the prefix of its bytes if that prefix needs no escape
 
 abbrev pub stays : ℕ → Bool
 stays c = leb 33 c && (leb c 126 && (cond (eqb c 92) false (cond (eqb c 44) false true)))
@@ -97,7 +97,7 @@ outside true true c h = absurd (false≢true (sym h))
 outside true false c h = refl
 outside false b c h = refl
 
--- one that stays is none that does not
+-- a byte that stays differs from a byte that does not
 other_from_stays : (q k : ℕ) → stays q ≡ true → stays k ≡ false → eqb q k ≡ false
 other_from_stays q k stay other = false_from_ne_true (eqb q k) (λ same. false≢true (sym other ∙ ap stays (sym (eqb-true q k same)) ∙ stay))
 

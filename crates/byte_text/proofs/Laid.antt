@@ -1,4 +1,4 @@
--- What a layout prints is read back.
+-- Text printed by a layout is read back.
 use Rattle.std.proofs.Common.{◌≡◌, ℕ, zero, suc, ◌-◌, ◌/◌, ◌%◌, ◌<◌, ◌≤◌, ◌^◌, Bool, true, false, cond, eqb, ◌&&◌, List, [], ◌∷◌, ◌++◌, length, take, drop, slice_index, Option, Some, option_map, refl, sym, ap, ◌∙◌, subst, append_assoc, append-nil, take-append-drop, length-drop, length-take-le, codes, decimal, arith}
 use Rattle.std.specs.Prelude.{nat_le, nat_lt}
 use Rattle.std.specs.Str.{bytes_eq}
@@ -44,7 +44,7 @@ reads_number I64 bs len h =
     ap (option_map (low_bytes 8)) (signed_of-signed_text (number_in bs) small)
     ∙ ap Some (ap (λ k. low_bytes k (number_in bs)) (sym len) ∙ low_bytes-number_in bs h)
 
--- digits cut nothing
+-- digits contain no unescaped comma
 whole_numeral : (ds : List ℕ) → AllDigits 10 ds → IsWhole ds
 whole_numeral [] h = whole_none
 whole_numeral (c ∷ cs) h =
@@ -72,7 +72,7 @@ abbrev all_other : List ℕ → Bool
 all_other [] = true
 all_other (c ∷ cs) = cond (eqb c 44) false (cond (eqb c 92) false (all_other cs))
 
--- a name of a type cuts nothing
+-- the name of a type contains no unescaped comma
 whole_name : (name : List ℕ) → all_other name ≡ true → IsWhole name
 whole_name [] h = whole_none
 whole_name (c ∷ cs) h = by_tests (whole_name cs) (eqb c 44) (eqb c 92) refl refl h
@@ -112,7 +112,7 @@ whole_hex bs h = whole_append (codes "hex:") (encode_lower bs) (whole_name (code
 reads_hex : (bs : List ℕ) → IsBytes bs → part_bytes (codes "hex:" ++ encode_lower bs) ≡ Some bs
 reads_hex bs h = ap result_ok (decode_of-encode_lower bs h)
 
--- ---- parts after a first one
+-- ---- parts after the first
 
 IsBytes-take : (n : ℕ) (bs : List ℕ) → IsBytes bs → IsBytes (take n bs)
 IsBytes-take zero bs h i = omega arith
@@ -125,7 +125,7 @@ IsBytes-drop zero bs h = h
 IsBytes-drop (suc n) [] h = h
 IsBytes-drop (suc n) (b ∷ bs) h = IsBytes-drop n bs (rest_bytes b bs h)
 
--- The text stands for these bytes wherever a part stands before it.
+-- The text represents these bytes after any complete part.
 abbrev Follows : List ℕ → List ℕ → Type 0
 Follows text bytes = (front : List ℕ) → IsWhole front → all_bytes (parts_of false (front ++ text)) ≡ joined (part_bytes front) (Some bytes)
 
@@ -134,7 +134,7 @@ follows_none front whole =
     ap all_bytes (whole [])
     ∙ ap (λ (x : List ℕ). joined (part_bytes x) (Some [])) (append-nil front)
 
--- a part, and what follows it, after a comma
+-- a part and the text after it, after a comma
 follows_part : (part text bytes more : List ℕ) → IsWhole part → part_bytes part ≡ Some bytes → Follows text more → Follows (44 ∷ (part ++ text)) (bytes ++ more)
 follows_part part text bytes more whole is later front first =
     ap all_bytes (first (44 ∷ (part ++ text)))
@@ -149,7 +149,7 @@ and_right : (a b : Bool) → (a && b) ≡ true → b ≡ true
 and_right true b h = h
 and_right false b h = absurd (false≢true h)
 
--- kinds that take no bytes print nothing
+-- kinds that cover no bytes print nothing
 laid_nothing : (layout : List Kind) → fits layout 0 ≡ true → laid true layout [] ≡ []
 laid_nothing [] h = refl
 laid_nothing (kinds.Number U8 ∷ others) h = absurd (false≢true h)
@@ -167,7 +167,7 @@ word_small U32 bs len h = let small : number_in bs < 4294967296 = within_of bs 4
 word_small U64 bs len h = let small : number_in bs < 18446744073709551616 = within_of bs 8 len h in omega arith
 word_small I64 bs len h = let small : number_in bs < 18446744073709551616 = within_of bs 8 len h in omega arith
 
--- a number's part and its facts
+-- the part of a number and its properties
 taken : (number : Number) (bytes : List ℕ) → nat_le (width_of number) (length bytes) ≡ true → length (take (width_of number) bytes) ≡ width_of number
 taken number bytes h = length-take-le (width_of number) bytes (leb-true (width_of number) (length bytes) h)
 

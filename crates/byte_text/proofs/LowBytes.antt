@@ -36,7 +36,7 @@ low_bytes-number_in (b ∷ bs) h =
     let high : (b + 256 * number_in bs) / 256 ≡ number_in bs = omega arith in
     rw (low, high) (ap (λ (xs : List ℕ). b ∷ xs) (low_bytes-number_in bs (rest_bytes b bs h)))
 
--- of eight bytes those after the first
+-- the bytes of eight after the first
 pub rest-small : (bs : List ℕ) → IsBytes bs → length bs ≤ 8 → number_in (take (length bs - 1) (drop 1 bs)) < 2 ^ 56
 rest-small bs h len = subst (λ (xs : List ℕ). number_in xs < 2 ^ 56) (sym (take_rest bs 1)) (by_list bs h len)
   where
@@ -44,14 +44,14 @@ rest-small bs h len = subst (λ (xs : List ℕ). number_in xs < 2 ^ 56) (sym (ta
     by_list [] h len = omega arith
     by_list (x ∷ xs) h len = number_in-small xs 7 (omega arith) (rest_bytes x xs h)
 
--- one byte more
+-- one more byte
 pub low_bytes-some : (width n : ℕ) → 0 < width → low_bytes width n ≡ n % 256 ∷ low_bytes (width - 1) (n / 256)
 low_bytes-some zero n h = absurd (omega arith)
 low_bytes-some (suc width) n h =
     let same : suc width - 1 ≡ width = omega arith in
     ap (λ k. n % 256 ∷ low_bytes k (n / 256)) (sym same)
 
--- a number's bytes from its decimal
+-- the bytes of a number from its decimal
 pub number_bytes-decimal : (width most : ℕ) (bs : List ℕ) → length bs ≡ width → IsBytes bs → number_in bs ≤ most → most < 2 ^ 64
     → number_bytes width most (decimal (number_in bs)) ≡ Some bs
 number_bytes-decimal width most bs len h within fits =
@@ -60,7 +60,7 @@ number_bytes-decimal width most bs len h within fits =
 
 -- ---- signed numbers
 
--- the first character of a decimal is no minus sign
+-- a decimal does not start with a minus sign
 pub signed_of-decimal : (n : ℕ) → n < 2 ^ 64 → signed_of (decimal n) ≡ number_of 9223372036854775807 (decimal n)
 signed_of-decimal n h = by_digits (decimal n) (decimal_is_IsNumeral n h).0
   where

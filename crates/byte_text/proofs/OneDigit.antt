@@ -6,11 +6,11 @@ use Rattle.std.proofs.lemmas.Str.Parse.{digit_from_value}
 use Rattle.byte_text.specs.Numbers.{number_of}
 use Rattle.byte_text.proofs.Decimals.{number_is, no_number, read_back}
 
--- a digit is the decimal of its value, by which it stands after 0
+-- a digit is the decimal of its value
 digit_here : (c d : ℕ) → d ≤ 9 → c ≡ 48 + d → c ∷ [] ≡ decimal d
 digit_here c d h is = ap (λ (b : ℕ). b ∷ []) is ∙ sym (decimal_digit d (omega arith))
 
--- a digit that is not above the bound, one that is, and a byte that is no digit
+-- a digit within the bound, a digit above it, and a byte that is not a digit
 pub digit_is : (most c d : ℕ) → d ≤ 9 → c ≡ 48 + d → d ≤ most → Some d ≡ number_of most (c ∷ [])
 digit_is most c d h is within = number_is most (c ∷ []) d (omega arith) within (digit_here c d h is)
 

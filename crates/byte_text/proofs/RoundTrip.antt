@@ -1,4 +1,4 @@
--- What is printed as text is read back.
+-- Printed text is read back.
 use Rattle.std.proofs.Common.{◌≡◌, ℕ, Bool, true, false, List, [], ◌∷◌, Option, Some, nat_eq, refl, sym, ap, ◌∙◌, append-nil, codes}
 use Rattle.std.specs.List.{starts_with}
 use Rattle.std.specs.Str.{bytes_eq}
@@ -13,14 +13,14 @@ use Rattle.byte_text.proofs.LowBytes.{rest_bytes, first_byte}
 use Rattle.byte_text.proofs.Cuts.{IsWhole, or_left, or_right, whole_append, whole_escape}
 use Rattle.byte_text.proofs.Escaped.{reads_digits, reads_escaped, whole_digits, whole_escaped, same_start}
 
--- ---- a part that names no type
+-- ---- a part without a type
 
 untyped : (text : List ℕ) → starts_with nat_eq text (codes "u8:") ≡ false → starts_with nat_eq text (codes "u16:") ≡ false
     → starts_with nat_eq text (codes "u32:") ≡ false → starts_with nat_eq text (codes "u64:") ≡ false → starts_with nat_eq text (codes "i64:") ≡ false
     → starts_with nat_eq text (codes "hex:") ≡ false → part_bytes text ≡ plain_bytes text
 untyped text a b c d e f = rw (a, b, c, d, e, f) refl
 
--- escapes of bytes that name no type name none
+-- escaping bytes without a type gives a text without a type
 escaped_untyped : (bs : List ℕ) → is_typed bs ≡ false → part_bytes (escaped bs) ≡ plain_bytes (escaped bs)
 escaped_untyped bs h =
     let later1 = or_right _ _ h in
@@ -35,7 +35,7 @@ escaped_untyped bs h =
     (same_start (codes "i64:") bs refl ∙ or_left _ _ later4)
     (same_start (codes "hex:") bs refl ∙ or_right _ _ later4)
 
--- a text that stands for a byte has a letter
+-- a text that represents a byte is not empty
 plain_some : (text : List ℕ) (b : ℕ) (bs : List ℕ) → bytes_left Plain text ≡ Some (b ∷ bs) → plain_bytes text ≡ Some (b ∷ bs)
 plain_some [] b bs h = cc
 plain_some (c ∷ cs) b bs h = h
@@ -58,7 +58,7 @@ whole_text b bs h =
 
 -- ---- a whole text
 
--- a text that stands for other bytes than a dot is not a dot
+-- a text that represents bytes different from a dot is not a dot
 not_dot : (text bytes : List ℕ) → part_bytes text ≡ Some bytes → bytes_eq bytes (codes ".") ≡ false → bytes_eq text (codes ".") ≡ false
 not_dot text bytes is other = false_from_ne_true (bytes_eq text (codes ".")) (λ dot.
     let same : codes "." ≡ bytes = same_Some (codes ".") bytes (sym (ap part_bytes ((bytes_eq-Decides text (codes ".")).0 dot)) ∙ is) in
@@ -71,12 +71,12 @@ text_is_no_dot b bs h = by_dot (bytes_eq (b ∷ bs) (codes ".")) refl
     by_dot true is = rw is refl
     by_dot false is = not_dot (text_of_bytes (b ∷ bs)) (b ∷ bs) (reads_part b bs h) is
 
--- a text that is no dot means the bytes of its parts
+-- a text that is not a dot represents the bytes of its parts
 pub text_means : (text bytes : List ℕ) → bytes_eq text (codes ".") ≡ false → all_bytes (parts_of false text) ≡ Some bytes → bytes_of_text text ≡ Some bytes
 text_means [] bytes other is = absurd (none-some bytes is)
 text_means (c ∷ cs) bytes other is = rw other is
 
--- the bytes of a text of one part
+-- the bytes of a text with a single part
 pub one_part : (text bytes : List ℕ) → IsWhole text → part_bytes text ≡ Some bytes → all_bytes (parts_of false text) ≡ Some bytes
 one_part text bytes whole is =
     ap (λ (x : List ℕ). all_bytes (parts_of false x)) (sym (append-nil text)) ∙ ap all_bytes (whole []) ∙ ap (λ (x : List ℕ). joined (part_bytes x) (Some [])) (append-nil text)

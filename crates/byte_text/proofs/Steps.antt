@@ -11,26 +11,26 @@ use Rattle.byte_text.specs.declared.layouts.Kind.{Kind}
 use Rattle.byte_text.specs.declared.layouts.Kind.TheVariants as kinds
 use Rattle.byte_text.proofs.Cuts.{parts_some}
 
--- no bytes, and nothing is put
+-- no bytes, so nothing is appended
 pub puts_none : (bytes : Option (List ℕ)) (old new : List ℕ) → bytes ≡ None → Puts bytes false old new
 puts_none bytes old new is = subst (λ (o : Option (List ℕ)). Puts o false old new) (sym is) tt
 
--- nothing so far
+-- no bytes so far
 pub joined_start : (later : Option (List ℕ)) → later ≡ joined (Some []) later
 joined_start None = refl
 joined_start (Some later) = refl
 
--- one byte more
+-- one more byte
 joined_byte : (front : List ℕ) (b : ℕ) (later : Option (List ℕ)) → joined (Some front) (with_byte (Some b) later) ≡ joined (Some (front ++ b ∷ [])) later
 joined_byte front b None = refl
 joined_byte front b (Some later) = ap Some (sym (append_assoc front (b ∷ []) later))
 
--- one part more
+-- one more part
 joined_part : (front part : List ℕ) (later : Option (List ℕ)) → joined (Some front) (joined (Some part) later) ≡ joined (Some (front ++ part)) later
 joined_part front part None = refl
 joined_part front part (Some later) = ap Some (sym (append_assoc front part later))
 
--- a part that stands for no bytes, and one that stands for some
+-- an invalid part, and a valid part
 pub got_none : (whole : Option (List ℕ)) (front new part : List ℕ) (later : List (List ℕ)) → whole ≡ joined (Some front) (all_bytes (part ∷ later)) → Puts (part_bytes part) false front new → whole ≡ None
 got_none whole front new part later is puts = is ∙ by_bytes (part_bytes part) puts
   where
@@ -46,7 +46,7 @@ got_part whole front new part later is puts = is ∙ by_bytes (part_bytes part) 
     by_bytes None p = absurd p
     by_bytes (Some bytes) p = joined_part front bytes (all_bytes later) ∙ ap (λ (f : List ℕ). joined (Some f) (all_bytes later)) (sym p)
 
--- ---- a text byte by byte: the bytes so far, and those of what is left
+-- ---- a text byte by byte: the bytes so far, and the bytes of the remaining text
 
 next_left : (text : List ℕ) (i : ℕ) (reading : Reading) (added : List ℕ) → i < length text → bytes_left Plain text ≡ joined (Some added) (bytes_left reading (drop i text))
     → bytes_left Plain text ≡ joined (Some added) (bytes_left reading (get_or text i 0 ∷ drop (i + 1) text))
@@ -67,7 +67,7 @@ pub gives_byte : (text : List ℕ) (i : ℕ) (reading : Reading) (b : ℕ) (adde
 gives_byte text i reading b added h is step =
     next_left text i reading added h is ∙ ap (joined (Some added)) (step (drop (i + 1) text)) ∙ joined_byte added b (bytes_left Plain (drop (i + 1) text))
 
--- a text with no backslash stands for itself
+-- a text without backslash represents itself
 pub no_escape : (text : List ℕ) → ((k : ℕ) → k < length text → eqb (get_or text k 0) 92 ≡ false) → bytes_left Plain text ≡ Some text
 no_escape [] none = refl
 no_escape (c ∷ cs) none =

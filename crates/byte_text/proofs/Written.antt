@@ -1,4 +1,4 @@
--- Bytes that are written one after another.
+-- Bytes that are written in several calls.
 use Rattle.std.proofs.Common.{◌≡◌, ◌∙◌, ap, sym, ℕ, List, Option, Some, None, ◌++◌, append_assoc}
 use Rattle.std.specs.Io.KnownBytes.{Appends}
 

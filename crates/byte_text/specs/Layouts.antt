@@ -1,4 +1,4 @@
--- Layouts: the kinds of which values are made up, and values printed so.
+-- Layouts: the types of the parts of a value, and values printed by them.
 use Rattle.std.specs.Prelude.{ℕ, ◌-◌, ◌==◌, ◌&&◌, nat_le, Bool, true, false, cond, List, [], ◌∷◌, ◌++◌, codes, decimal, length, take, drop, Option, Some, None, option_map, ⊤, ◌≤◌}
 use Rattle.std.specs.Str.{bytes_eq}
 use Rattle.hex.specs.Hex.{encode_lower}
@@ -9,7 +9,7 @@ use Rattle.byte_text.specs.declared.layouts.Number.TheVariants.{U8, U16, U32, U6
 use Rattle.byte_text.specs.declared.layouts.Kind.{Kind}
 use Rattle.byte_text.specs.declared.layouts.Kind.TheVariants as kinds
 
--- how many bytes a number takes
+-- the size of a number in bytes
 abbrev pub width_of : Number → ℕ
 width_of U8 = 1
 width_of U16 = 2
@@ -32,25 +32,25 @@ kind_named name =
     cond (bytes_eq name (codes "text")) (Some kinds.Text)
     (cond (bytes_eq name (codes "hex")) (Some kinds.Hex) (option_map kinds.Number (number_named name)))
 
--- a kind before others, where there are both
+-- a kind before more kinds, if both exist
 abbrev pub with_kind : Option Kind → Option (List Kind) → Option (List Kind)
 with_kind None others = None
 with_kind (Some kind) None = None
 with_kind (Some kind) (Some others) = Some (kind ∷ others)
 
--- the kinds that names name: each but the last is a number
+-- the kinds with these names; each kind except the last is a number
 abbrev pub kinds_of : List (List ℕ) → Option (List Kind)
 kinds_of [] = Some []
 kinds_of (name ∷ []) = with_kind (kind_named name) (Some [])
 kinds_of (name ∷ next ∷ names) = with_kind (option_map kinds.Number (number_named name)) (kinds_of (next ∷ names))
 
--- the layout that a text is: names, with a comma between two
+-- the layout that a text represents: names separated by commas
 abbrev pub layout_of : List ℕ → Option (List Kind)
 layout_of text = kinds_of (parts_of false text)
 
 -- ---- printing
 
--- whether kinds take so many bytes and no more
+-- whether kinds cover exactly this number of bytes
 abbrev pub fits : List Kind → ℕ → Bool
 fits [] len = len == 0
 fits (kinds.Number number ∷ others) len = nat_le (width_of number) len && fits others (len - width_of number)
@@ -64,12 +64,12 @@ number_text U32 n = codes "u32:" ++ decimal n
 number_text U64 n = codes "u64:" ++ decimal n
 number_text I64 n = codes "i64:" ++ signed_text n
 
--- a comma, where something stands before
+-- a comma unless this is the first part
 abbrev pub comma : Bool → List ℕ
 comma false = []
 comma true = 44 ∷ []
 
--- bytes that are left as text, or as hex; where none are left there is no part
+-- the remaining bytes as text, or as hex; there is no part if no bytes remain
 abbrev pub text_part : Bool → List ℕ → List ℕ
 text_part behind [] = []
 text_part behind (b ∷ bs) = comma behind ++ text_of_bytes (b ∷ bs)
@@ -78,7 +78,7 @@ abbrev pub hex_part : Bool → List ℕ → List ℕ
 hex_part behind [] = []
 hex_part behind (b ∷ bs) = comma behind ++ (codes "hex:" ++ encode_lower (b ∷ bs))
 
--- the part of a kind, from the first bytes or from all, and the bytes that it leaves
+-- the part of a kind, from the first bytes or from all bytes, and the remaining bytes
 abbrev pub part_by : Bool → Kind → List ℕ → List ℕ
 part_by behind (kinds.Number number) bytes = comma behind ++ number_text number (number_in (take (width_of number) bytes))
 part_by behind kinds.Text bytes = text_part behind bytes
@@ -89,18 +89,18 @@ left_by (kinds.Number number) bytes = drop (width_of number) bytes
 left_by kinds.Text bytes = []
 left_by kinds.Hex bytes = []
 
--- there are bytes enough for a kind
+-- there are enough bytes for a kind
 abbrev pub HasRoom : Kind → ℕ → Type 0
 HasRoom (kinds.Number number) len = width_of number ≤ len
 HasRoom kinds.Text len = ⊤
 HasRoom kinds.Hex len = ⊤
 
--- bytes as parts of these kinds, with a comma between two, and one before the first where these stand after others
+-- bytes as parts of these kinds, separated by commas; a comma also precedes the first part if there are parts before it
 abbrev pub laid : Bool → List Kind → List ℕ → List ℕ
 laid behind [] bytes = []
 laid behind (kind ∷ others) bytes = part_by behind kind bytes ++ laid true others (left_by kind bytes)
 
--- bytes by a layout where their number is that of its kinds, and as text where it is not; none are a dot
+-- bytes by a layout if it fits their number, and otherwise as text; empty bytes are a dot
 abbrev pub text_by : List Kind → List ℕ → List ℕ
 text_by layout [] = text_of_bytes []
 text_by layout (b ∷ bs) = cond (fits layout (length (b ∷ bs))) (laid false layout (b ∷ bs)) (text_of_bytes (b ∷ bs))

@@ -3,34 +3,34 @@ use Rattle.std.specs.Prelude.{ℕ, zero, suc, ◌+◌, ◌-◌, ◌*◌, ◌/◌
 use Rattle.std.specs.Str.{bytes_eq}
 use Rattle.std.specs.Str.Parse.{digits_value}
 
--- a number, where a text is its decimal and it is not above a bound
+-- a number, if the text is its decimal and it does not exceed the bound
 abbrev pub written : ℕ → List ℕ → ℕ → Option ℕ
 written most text n = cond (bytes_eq text (decimal n)) (cond (nat_le n most) (Some n) None) None
 
--- the number of at most so much that a text is, in decimal without leading zeros
+-- the number that a text represents in decimal without leading zeros, if it does not exceed the bound
 unfoldable pub number_of : ℕ → List ℕ → Option ℕ
 number_of most text = written most text (digits_value 10 text)
 
--- the word of 64 bits whose signed number is n below zero
+-- the word of 64 bits that represents -n in two's complement
 abbrev pub negated : ℕ → ℕ
 negated n = cond (n == 0) 0 (18446744073709551616 - n)
 
--- the word of 64 bits of the signed number that a text is: such a decimal, after a minus sign where it is below zero
+-- the word of 64 bits that represents a signed number: a decimal, after a minus sign if the number is negative
 abbrev pub signed_of : List ℕ → Option ℕ
 signed_of [] = None
 signed_of (c ∷ cs) =
     cond (c == 45) (option_map negated (number_of 9223372036854775808 cs)) (number_of 9223372036854775807 (c ∷ cs))
 
--- the text of a word of 64 bits, read as a signed number
+-- the text of a word of 64 bits as a signed number
 abbrev pub signed_text : ℕ → List ℕ
 signed_text word = cond (nat_lt word 9223372036854775808) (decimal word) (45 ∷ decimal (18446744073709551616 - word))
 
--- so many bytes of a number, the lowest first
+-- the low bytes of a number, little-endian
 abbrev pub low_bytes : ℕ → ℕ → List ℕ
 low_bytes zero n = []
 low_bytes (suc width) n = n % 256 ∷ low_bytes width (n / 256)
 
--- the number of bytes, the lowest of which comes first
+-- the number with these little-endian bytes
 abbrev pub number_in : List ℕ → ℕ
 number_in [] = 0
 number_in (b ∷ bs) = b + 256 * number_in bs

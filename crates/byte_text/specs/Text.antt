@@ -1,4 +1,4 @@
--- Bytes as a text of one word: what it means, and how bytes are printed.
+-- Bytes as a text of one word: the bytes that a text represents, and the text printed for bytes.
 use Rattle.std.specs.Prelude.{ℕ, ◌==◌, ◌||◌, nat_eq, Bool, true, false, cond, List, [], ◌∷◌, ◌++◌, codes, drop, Option, Some, None, option_map, ⊤, ◌≡◌}
 use Rattle.std.specs.Borrow.{Bor}
 use Rattle.std.specs.List.{starts_with}
@@ -11,38 +11,38 @@ use Rattle.byte_text.specs.declared.escapes.Reading.TheVariants.{Plain}
 
 -- ---- reading
 
--- a text before the first of its parts
+-- prepends a text to the first of the parts
 abbrev pub onto : List ℕ → List (List ℕ) → List (List ℕ)
 onto front [] = front ∷ []
 onto front (part ∷ parts) = (front ++ part) ∷ parts
 
--- The parts of a text, cut at each comma that no backslash escapes. The text may begin after a backslash.
+-- The parts of a text, split at each unescaped comma. The text may begin after a backslash.
 abbrev pub parts_of : Bool → List ℕ → List (List ℕ)
 parts_of escape [] = [] ∷ []
 parts_of true (c ∷ cs) = onto (c ∷ []) (parts_of false cs)
 parts_of false (c ∷ cs) = cond (c == 44) ([] ∷ parts_of false cs) (onto (c ∷ []) (parts_of (c == 92) cs))
 
--- the parts of what is left of a text, which may have ended
+-- the parts of the remaining text, which may have ended
 abbrev pub parts_left : Option (Bor (List ℕ)) → List (List ℕ)
 parts_left None = []
 parts_left (Some text) = parts_of false text.now
 
--- so many bytes of the number that a text is
+-- the low `width` bytes of the number that a text represents
 abbrev pub number_bytes : ℕ → ℕ → List ℕ → Option (List ℕ)
 number_bytes width most text = option_map (low_bytes width) (number_of most text)
 
--- the bytes of a text that names no type: none where it is empty
+-- the bytes of a text without a type; an empty text is invalid
 abbrev pub plain_bytes : List ℕ → Option (List ℕ)
 plain_bytes [] = None
 plain_bytes (c ∷ cs) = bytes_left Plain (c ∷ cs)
 
--- the bytes of a part that is no number without a sign: one with a sign, bytes in hex, or text
+-- the bytes of a part that is not an unsigned number: a signed number, bytes in hex, or text
 abbrev pub other_bytes : List ℕ → Option (List ℕ)
 other_bytes text =
     cond (starts_with nat_eq text (codes "i64:")) (option_map (low_bytes 8) (signed_of (drop 4 text)))
     (cond (starts_with nat_eq text (codes "hex:")) (result_ok (decode_of (drop 4 text))) (plain_bytes text))
 
--- the bytes of a part: a number of a type, or another
+-- the bytes of a part
 abbrev pub part_bytes : List ℕ → Option (List ℕ)
 part_bytes text =
     cond (starts_with nat_eq text (codes "u8:")) (number_bytes 1 255 (drop 3 text))
@@ -50,32 +50,32 @@ part_bytes text =
     (cond (starts_with nat_eq text (codes "u32:")) (number_bytes 4 4294967295 (drop 4 text))
     (cond (starts_with nat_eq text (codes "u64:")) (number_bytes 8 18446744073709551615 (drop 4 text)) (other_bytes text))))
 
--- bytes after bytes, where there are both
+-- the concatenation of bytes, if both exist
 abbrev pub joined : Option (List ℕ) → Option (List ℕ) → Option (List ℕ)
 joined None later = None
 joined (Some front) None = None
 joined (Some front) (Some later) = Some (front ++ later)
 
--- the bytes of parts, one after another
+-- the concatenated bytes of parts
 abbrev pub all_bytes : List (List ℕ) → Option (List ℕ)
 all_bytes [] = Some []
 all_bytes (part ∷ parts) = joined (part_bytes part) (all_bytes parts)
 
--- what a text means: a dot means none, no text at all means no bytes, and any other text means the bytes of its parts
+-- the bytes of a text: a dot represents empty bytes, an empty text is invalid, and any different text represents the bytes of its parts
 abbrev pub bytes_of_text : List ℕ → Option (List ℕ)
 bytes_of_text [] = None
 bytes_of_text (c ∷ cs) = cond (bytes_eq (c ∷ cs) (codes ".")) (Some []) (all_bytes (parts_of false (c ∷ cs)))
 
 -- ---- printing
 
--- whether a text begins as a part does that names a type
+-- whether a text starts with the name of a type and a colon
 abbrev pub is_typed : List ℕ → Bool
 is_typed text =
     starts_with nat_eq text (codes "u8:") || (starts_with nat_eq text (codes "u16:") || (starts_with nat_eq text (codes "u32:")
     || (starts_with nat_eq text (codes "u64:") || (starts_with nat_eq text (codes "i64:") || starts_with nat_eq text (codes "hex:")))))
 
--- bytes as text: each as itself or by its escape; the first by its digits where they would name a type, and a dot by its escape where it
--- is alone
+-- bytes as text, each literally or by its escape; the first byte is `\xHH` if the bytes would otherwise start with a type, and a single dot
+-- is escaped
 abbrev pub text_of_bytes : List ℕ → List ℕ
 text_of_bytes [] = codes "."
 text_of_bytes (b ∷ bs) =
@@ -84,7 +84,7 @@ text_of_bytes (b ∷ bs) =
 
 -- ---- what a reader leaves
 
--- The bytes of a text, where it has any, go after others.
+-- Appends the bytes of a text, if it is valid.
 abbrev pub Puts : Option (List ℕ) → Bool → List ℕ → List ℕ → Type 0
 Puts None true old new = ⊥
 Puts None false old new = ⊤

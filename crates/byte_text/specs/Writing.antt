@@ -1,8 +1,8 @@
--- What is written after what was there, where not all of a text was.
+-- The contents of a writer if only a part of a text was written.
 use Rattle.std.specs.Prelude.{ℕ, ◌<◌, List, length, take, Option}
 use Rattle.std.specs.Io.KnownBytes.{Appends}
 
--- known bytes grow by the first bytes of a text, and not by all of them
+-- the known contents grow by a prefix of the text, but not by all of it
 pub record WritesPart (old new : Option (List ℕ)) (text : List ℕ) : Type 0 where
   pub count : ℕ
   pub within : count < length text

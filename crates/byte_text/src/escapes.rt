@@ -1,4 +1,4 @@
-//! Escapes: how a text writes bytes that do not stand for themselves.
+//! Escapes: how a text writes bytes that it cannot contain literally.
 ghost use Rattle.std.specs.Prelude.{◌≡◌, ◌++◌, ◌∷◌, [], ◌<◌, ℕ, List, IfOk, IfSome, OnOk, Some, None, cond};
 ghost use Rattle.hex.specs.Hex.{hex_digit_value};
 ghost use Rattle.byte_text.specs.Escapes.{IsReading, IsStep, after_step, bytes_left, sign_of, hex_escape, escape_of, escaped};
@@ -11,7 +11,7 @@ use std::alloc::{AllocError, Allocator};
 /// The digits of hex, with lower-case letters.
 pub const DIGITS: [u8; 16] = *b"0123456789abcdef";
 
-// Where the reading of a text stands.
+// The state of a reader of a text.
 #[derive(Clone, Copy)]
 enum Reading {
     // Between two bytes.
@@ -24,18 +24,18 @@ enum Reading {
     Low(u8),
 }
 
-// What the next byte of a text does.
+// The effect of the next byte of a text.
 #[derive(Clone, Copy)]
 enum Step {
-    // It stands in no text here.
+    // The byte is invalid here.
     Refused,
-    // The reading goes on so.
+    // The reader continues in this state.
     Goes(Reading),
-    // It is, or ends, the text of a byte.
+    // The byte is, or completes, the text of a byte.
     Byte(u8),
 }
 
-// Puts the bytes for which a text stands after others, and tells whether it stands for any.
+// Appends the bytes that a text represents. Returns whether the text is valid.
 pub(crate) fn read_escapes<A: Allocator>(
     text: &[u8],
     bytes: &mut Vec<u8, A>,
@@ -48,7 +48,7 @@ pub(crate) fn read_escapes<A: Allocator>(
     }
 }
 
-// Puts a text that stands for itself after others.
+// Appends a text without escapes.
 fn put_all<A: Allocator>(text: &[u8], bytes: &mut Vec<u8, A>) -> Result<bool, AllocError>
     ensures { IfOk result (λ good. Puts (Some text.now) good bytes.old.items bytes.new.items) }
 {
@@ -56,7 +56,7 @@ fn put_all<A: Allocator>(text: &[u8], bytes: &mut Vec<u8, A>) -> Result<bool, Al
     Ok(true)
 }
 
-// The same, byte by byte.
+// Like `read_escapes`, byte by byte.
 fn read_each<A: Allocator>(text: &[u8], bytes: &mut Vec<u8, A>) -> Result<bool, AllocError>
     ensures { IfOk result (λ good. Puts (bytes_left Plain text.now) good bytes.old.items bytes.new.items) }
 {
@@ -74,7 +74,7 @@ fn read_each<A: Allocator>(text: &[u8], bytes: &mut Vec<u8, A>) -> Result<bool, 
     Ok(is_plain(reading))
 }
 
-// What the next byte of a text does.
+// Reads the next byte of a text.
 fn step_at(reading: Reading, c: u8) -> Step
     requires { IsReading reading }
     ensures value { (cs : List ℕ) → bytes_left reading (c ∷ cs) ≡ after_step result cs }
@@ -116,7 +116,7 @@ fn is_plain(reading: Reading) -> bool
     }
 }
 
-// The byte for which a letter stands after a backslash.
+// The byte that a backslash and this letter represent.
 fn sign(c: u8) -> Option<u8>
     ensures { result ≡ sign_of c }
 {
@@ -131,7 +131,7 @@ fn sign(c: u8) -> Option<u8>
     }
 }
 
-// The value of a hex digit of either case.
+// The value of a hex digit in either case.
 fn hex_digit(c: u8) -> Option<u8>
     ensures value { result ≡ hex_digit_value c }
     ensures small { IfSome result (λ d. d < 16) }
@@ -144,7 +144,7 @@ fn hex_digit(c: u8) -> Option<u8>
     }
 }
 
-// Writes bytes after a text, each as itself or by its escape.
+// Appends the escaped bytes to `text`.
 pub(crate) fn show_escaped<A: Allocator>(
     bytes: &[u8],
     text: &mut Vec<u8, A>,
@@ -171,7 +171,7 @@ fn show_byte<A: Allocator>(byte: u8, text: &mut Vec<u8, A>) -> Result<(), AllocE
     }
 }
 
-// Writes a byte after a text as `\x` and two digits.
+// Appends a byte as `\x` and two digits.
 pub(crate) fn show_hex_escape<A: Allocator>(
     byte: u8,
     text: &mut Vec<u8, A>,

@@ -1,4 +1,4 @@
-//! Layouts: the kinds of which values are made up, and values printed so.
+//! Layouts: the types of the parts of a value, and values printed by them.
 ghost use Rattle.std.specs.Prelude.{◌≡◌, ◌++◌, ◌≤◌, IfOk, OnOk, Some, cond, false, true, length, option_map};
 ghost use Rattle.byte_text.specs.Text.{bytes_of_text};
 ghost use Rattle.byte_text.specs.Layouts.{HasRoom, comma, fits, hex_part, kind_named, laid, layout_of, left_by, part_by, number_named, number_text, text_by, text_part, width_of};
@@ -9,7 +9,7 @@ use crate::text::print_text;
 use std::alloc::{AllocError, Allocator};
 use std::marker::Model;
 
-/// A number of a value, little-endian.
+/// A little-endian number in a value.
 #[derive(Clone, Copy, Debug, PartialEq, Eq)]
 pub enum Number {
     U8,
@@ -19,18 +19,18 @@ pub enum Number {
     I64,
 }
 
-/// What stands at a place of a value.
+/// The type of a part of a value.
 #[derive(Clone, Copy, Debug, PartialEq, Eq)]
 pub enum Kind {
     /// A number.
     Number(Number),
-    /// The bytes that are left, as text.
+    /// The remaining bytes, as text.
     Text,
-    /// The bytes that are left, in hex.
+    /// The remaining bytes, in hex.
     Hex,
 }
 
-/// A layout: what stands in a value, seen as the list of its kinds.
+/// A layout: the types of the parts of a value. Contracts see it as the list of its kinds.
 #[derive(Drop)]
 pub struct Layout<A: Allocator> {
     kinds: Vec<Kind, A>,
@@ -46,14 +46,14 @@ impl<A: Allocator> Model for Layout<A> {
 }
 
 impl<A: Allocator> Layout<A> {
-    // The layout of kinds. It takes no memory.
+    // A layout of these kinds. It does not allocate.
     fn of(kinds: Vec<Kind, A>) -> Self
         ensures { result ≡ kinds.items }
     {
         Layout { kinds }
     }
 
-    // The kinds, in their order.
+    // The kinds in order.
     fn kinds(&self) -> &[Kind]
         ensures { result.now ≡ self.now }
     {
@@ -62,7 +62,7 @@ impl<A: Allocator> Layout<A> {
 }
 
 impl Number {
-    // How many bytes it takes.
+    // The size in bytes.
     fn width(self) -> usize
         ensures value { result ≡ width_of self }
         ensures small { result ≤ 8 }
@@ -76,11 +76,11 @@ impl Number {
     }
 }
 
-/// The layout that a text is, where it is one: names of kinds (`u8`, `u16`, `u32`, `u64`, `i64`, `text`, `hex`), with a comma between
-/// two. Each but the last is a number.
+/// Parses a layout: names of kinds (`u8`, `u16`, `u32`, `u64`, `i64`, `text`, `hex`), separated by commas. Each kind except the last is a
+/// number. Returns `None` if the text is not a layout.
 ///
 /// # Errors
-/// `AllocError` where there is no memory for the layout.
+/// `AllocError` if allocation fails.
 pub fn read_layout<A: Allocator>(alloc: A, text: &[u8]) -> Result<Option<Layout<A>>, AllocError>
     ensures { IfOk result (λ layout. layout ≡ layout_of text.now) }
 {
@@ -97,7 +97,7 @@ pub fn read_layout<A: Allocator>(alloc: A, text: &[u8]) -> Result<Option<Layout<
     Ok(Some(Layout::of(kinds)))
 }
 
-// The kind of a name, which is a number's where others follow.
+// The kind with this name. Each kind except the last must be a number.
 fn kind_at(name: &[u8], is_last: bool) -> Option<Kind>
     ensures { result ≡ cond is_last (kind_named name.now) (option_map Kind.Number (number_named name.now)) }
 {
@@ -146,11 +146,11 @@ fn named_number(name: &[u8]) -> Option<Number>
     None
 }
 
-/// Writes bytes after a text: by a layout where their number is that of its kinds, as text where it is not, and a dot for none. Where text
-/// or hex stands last it takes what is left, and nothing is written for it where nothing is. What is written is read back as these bytes.
+/// Appends bytes to `text`: by the layout if it fits the number of bytes, otherwise as text. Empty bytes are a dot. A final `text` or `hex`
+/// covers the remaining bytes and is left out if no bytes remain. Reading the text returns these bytes.
 ///
 /// # Errors
-/// `AllocError` where there is no memory for them. The text is of no use then.
+/// `AllocError` if allocation fails. On error, discard `text`.
 pub fn show_by<A: Allocator + Copy>(
     alloc: A,
     layout: &Layout<A>,
@@ -178,7 +178,7 @@ fn print_by<A: Allocator + Copy>(
     print_text(bytes, text)
 }
 
-// Whether kinds take so many bytes and no more.
+// Returns whether kinds cover exactly `len` bytes.
 fn takes(kinds: &[Kind], len: usize) -> bool
     ensures { result ≡ fits kinds.now len }
 {
@@ -197,7 +197,7 @@ fn takes(kinds: &[Kind], len: usize) -> bool
     left == 0
 }
 
-// Writes bytes as parts of kinds that take them.
+// Appends bytes as parts of the kinds, which must fit them.
 fn show_laid<A: Allocator + Copy>(
     alloc: A,
     kinds: &[Kind],
@@ -216,7 +216,7 @@ fn show_laid<A: Allocator + Copy>(
     Ok(())
 }
 
-// Writes the part of a kind, and gives the bytes that are left.
+// Appends the part of a kind and returns the remaining bytes.
 fn show_part<'a, A: Allocator + Copy>(
     alloc: A,
     kind: Kind,
@@ -246,7 +246,7 @@ fn show_part<'a, A: Allocator + Copy>(
     }
 }
 
-// Writes a comma, where something stands before.
+// Appends a comma unless this is the first part.
 fn show_comma<A: Allocator>(behind: bool, text: &mut Vec<u8, A>) -> Result<(), AllocError>
     ensures { OnOk result (text.new.items ≡ text.old.items ++ comma behind) }
 {
@@ -256,7 +256,7 @@ fn show_comma<A: Allocator>(behind: bool, text: &mut Vec<u8, A>) -> Result<(), A
     Ok(())
 }
 
-// Writes bytes that are left as text, where any are.
+// Appends the remaining bytes as text. If no bytes remain, appends nothing.
 fn show_text_part<A: Allocator>(
     behind: bool,
     left: &[u8],
@@ -271,7 +271,7 @@ fn show_text_part<A: Allocator>(
     print_text(left, text)
 }
 
-// Writes bytes that are left in hex, where any are.
+// Appends the remaining bytes in hex. If no bytes remain, appends nothing.
 fn show_hex_part<A: Allocator + Copy>(
     alloc: A,
     behind: bool,
@@ -289,7 +289,7 @@ fn show_hex_part<A: Allocator + Copy>(
     text.extend_from_slice(hex.as_bytes())
 }
 
-// Writes a number with its type.
+// Appends a number with its type.
 fn show_typed<A: Allocator>(
     number: Number,
     value: u64,

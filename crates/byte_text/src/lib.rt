@@ -1,5 +1,5 @@
-//! Bytes as a text of one word: letters for themselves, escapes for the rest, numbers with their types, bytes in hex. What is printed can be
-//! read back. And all of a text to a writer.
+//! Bytes as a text of one word: literal letters, escapes, numbers with their types, and bytes in hex. Reading a printed text returns the
+//! same bytes. `write_all` writes a text to a writer.
 #![tactic(auto)]
 
 mod escapes;

@@ -6,10 +6,11 @@ ghost use Rattle.byte_text.specs.Numbers.{number_of, signed_of, signed_text, low
 use itoa::Buffer;
 use std::alloc::{AllocError, Allocator};
 
-/// A number below this one is not below zero when its 64 bits are read as signed ones.
+/// Words below this are nonnegative as signed numbers.
 const SIGN: u64 = 9_223_372_036_854_775_808;
 
-/// The number of at most `most` that a text is, in decimal without leading zeros, where it is one. No memory is taken.
+/// Parses a decimal number without leading zeros. Returns `None` if the text is not such a number, or if the number exceeds `most`. Does
+/// not allocate.
 #[inline(always)]
 pub fn read_number(text: &[u8], most: u64) -> Option<u64>
     ensures value { result ≡ number_of most text.now }
@@ -21,7 +22,7 @@ pub fn read_number(text: &[u8], most: u64) -> Option<u64>
     }
 }
 
-// The same of a text of any length.
+// Like `read_number`, for a text of any length.
 fn read_long(text: &[u8], most: u64) -> Option<u64>
     ensures value { result ≡ number_of most text.now }
     ensures within { IfSome result (λ n. n ≤ most) }
@@ -36,7 +37,7 @@ fn read_long(text: &[u8], most: u64) -> Option<u64>
     Some(number)
 }
 
-// The number of at most `most` that one digit is, where it is one.
+// Parses a single digit. Returns `None` if the byte is not a digit, or if its value exceeds `most`.
 fn read_digit(digit: u8, most: u64) -> Option<u64>
     ensures value { result ≡ number_of most (digit ∷ []) }
     ensures within { IfSome result (λ n. n ≤ most) }
@@ -51,7 +52,6 @@ fn read_digit(digit: u8, most: u64) -> Option<u64>
     Some(number)
 }
 
-// Whether a text is the decimal of a number.
 fn is_decimal_of(text: &[u8], number: u64) -> bool
     ensures { Decides result (text.now ≡ decimal number) }
 {
@@ -59,7 +59,7 @@ fn is_decimal_of(text: &[u8], number: u64) -> bool
     text == digits.format(number).as_bytes()
 }
 
-// The number of which a text is the decimal, where it is that of one. Of other texts it says nothing.
+// Parses a number. If the text is not the decimal of a number below 2^64, the result is unspecified.
 fn parsed(text: &[u8]) -> Option<u64>
     ensures { (n : ℕ) → n < 2 ^ 64 → text.now ≡ decimal n → result ≡ Some n }
 {
@@ -69,7 +69,7 @@ fn parsed(text: &[u8]) -> Option<u64>
     digits.parse().ok()
 }
 
-// The word of 64 bits of the signed number that a text is, where it is one.
+// Parses a signed number of 64 bits and returns its two's complement. Returns `None` if the text is not such a number.
 pub(crate) fn read_signed(text: &[u8]) -> Option<u64>
     ensures { result ≡ signed_of text.now }
 {
@@ -84,7 +84,7 @@ pub(crate) fn read_signed(text: &[u8]) -> Option<u64>
     }
 }
 
-// Writes a number in decimal after a text.
+// Appends a number in decimal.
 pub(crate) fn show_number<A: Allocator>(
     number: u64,
     text: &mut Vec<u8, A>,
@@ -95,7 +95,7 @@ pub(crate) fn show_number<A: Allocator>(
     text.extend_from_slice(digits.format(number).as_bytes())
 }
 
-// Writes a word of 64 bits, read as a signed number, in decimal after a text.
+// Appends a word of 64 bits as a signed decimal number.
 pub(crate) fn show_signed<A: Allocator>(word: u64, text: &mut Vec<u8, A>) -> Result<(), AllocError>
     ensures { OnOk result (text.new.items ≡ text.old.items ++ signed_text word) }
 {
@@ -106,7 +106,7 @@ pub(crate) fn show_signed<A: Allocator>(word: u64, text: &mut Vec<u8, A>) -> Res
     show_number(u64::MAX - word + 1, text)
 }
 
-// Puts the low bytes of a number after others, the lowest first.
+// Appends the low `width` bytes of a number, little-endian.
 pub(crate) fn put_number<A: Allocator>(
     number: u64,
     width: usize,
@@ -124,7 +124,7 @@ pub(crate) fn put_number<A: Allocator>(
     Ok(())
 }
 
-// The number of at most eight bytes, the lowest of which comes first.
+// Reads a little-endian number of at most eight bytes.
 pub(crate) fn number_from(bytes: &[u8]) -> u64
     requires { length bytes.now ≤ 8 }
     ensures { result ≡ number_in bytes.now }

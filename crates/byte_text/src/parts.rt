@@ -1,4 +1,4 @@
-//! Parts of a text: a number of a type, bytes in hex, or text.
+//! Parts of a text: a number with its type, bytes in hex, or text.
 ghost use Rattle.std.specs.Prelude.{◌≡◌, ◌∷◌, ◌++◌, [], List, ℕ, Option, Some, None, false, IfOk, option_map};
 ghost use Rattle.std.specs.Borrow.{Bor};
 ghost use Rattle.std.specs.Result.{result_ok};
@@ -12,7 +12,7 @@ use hex::FromHexError;
 use memchr::memchr2;
 use std::alloc::{AllocError, Allocator};
 
-// A text as far as the first comma that no backslash escapes, and what is left after it, where there is one.
+// Splits a text at the first unescaped comma. The second result is the text after the comma.
 pub(crate) fn first_part(text: &[u8]) -> (&[u8], Option<&[u8]>)
     ensures { parts_of false text.now ≡ result.0.now ∷ parts_left result.1 }
 {
@@ -22,7 +22,7 @@ pub(crate) fn first_part(text: &[u8]) -> (&[u8], Option<&[u8]>)
     }
 }
 
-// The same, byte by byte.
+// Like `first_part`, byte by byte.
 fn cut_part(text: &[u8]) -> (&[u8], Option<&[u8]>)
     ensures { parts_of false text.now ≡ result.0.now ∷ parts_left result.1 }
 {
@@ -36,7 +36,7 @@ fn cut_part(text: &[u8]) -> (&[u8], Option<&[u8]>)
     (text, None)
 }
 
-// Puts the bytes for which a part stands after others, and tells whether it stands for any.
+// Appends the bytes that a part represents. Returns whether the part is valid.
 pub(crate) fn read_part<A: Allocator + Copy>(
     alloc: A,
     text: &[u8],
@@ -59,7 +59,7 @@ pub(crate) fn read_part<A: Allocator + Copy>(
     read_other(alloc, text, bytes)
 }
 
-// The same of a part that is no number without a sign.
+// Like `read_part`, for a part that is not an unsigned number.
 fn read_other<A: Allocator + Copy>(
     alloc: A,
     text: &[u8],
@@ -91,7 +91,7 @@ fn read_unsigned<A: Allocator>(
     Ok(true)
 }
 
-// The eight bytes of a signed number.
+// Appends the eight bytes of a signed number.
 fn read_word<A: Allocator>(text: &[u8], bytes: &mut Vec<u8, A>) -> Result<bool, AllocError>
     ensures { IfOk result (λ good. Puts (option_map (low_bytes 8) (signed_of text.now)) good bytes.old.items bytes.new.items) }
 {
@@ -128,7 +128,7 @@ fn read_plain<A: Allocator>(text: &[u8], bytes: &mut Vec<u8, A>) -> Result<bool,
     read_escapes(text, bytes)
 }
 
-// Whether bytes, as text, would begin as a part does that names a type.
+// Returns whether the bytes start with the name of a type and a colon.
 pub(crate) fn begins_typed(bytes: &[u8]) -> bool
     ensures { result ≡ is_typed bytes.now }
 {

@@ -6,12 +6,13 @@ use crate::escapes::{show_escaped, show_hex_escape};
 use crate::parts::{begins_typed, first_part, read_part};
 use std::alloc::{AllocError, Allocator};
 
-/// The bytes for which a text stands, where it stands for any. A dot alone is none. Any other text is parts, with a comma between two:
-/// `u8:`, `u16:`, `u32:`, `u64:` or `i64:` and a decimal number, whose bytes are little-endian; `hex:` and hex of either case; or text, in
-/// which each byte stands for itself but for `\s` (a space), `\n`, `\t`, `\\`, `\.`, `\,` and `\xHH`. A part of the last form is not empty.
+/// Parses a text and returns the bytes that it represents. Returns `None` if the text is invalid. A single dot represents empty bytes. Any
+/// other text is a list of parts, separated by commas: `u8:`, `u16:`, `u32:`, `u64:` or `i64:` and a decimal number, whose bytes are
+/// little-endian; `hex:` and hex of either case; or literal text with the escapes `\s` (a space), `\n`, `\t`, `\\`, `\.`, `\,` and `\xHH`.
+/// A part of the last form is not empty.
 ///
 /// # Errors
-/// `AllocError` where there is no memory for the bytes.
+/// `AllocError` if allocation fails.
 pub fn read_text<A: Allocator + Copy>(
     alloc: A,
     text: &[u8],
@@ -36,11 +37,11 @@ pub fn read_text<A: Allocator + Copy>(
     Ok(Some(bytes))
 }
 
-/// Writes bytes as a text of one word after a text: printable ASCII as itself, but for a backslash and a comma, and the rest by escapes.
-/// What is written is read back as these bytes.
+/// Appends bytes to `text` as one word: printable ASCII literally except for backslash and comma, and all remaining bytes by escapes.
+/// Reading the text returns these bytes.
 ///
 /// # Errors
-/// `AllocError` where there is no memory for them. The text is of no use then.
+/// `AllocError` if allocation fails. On error, discard `text`.
 pub fn show_text<A: Allocator>(bytes: &[u8], text: &mut Vec<u8, A>) -> Result<(), AllocError>
     ensures text { OnOk result (text.new.items ≡ text.old.items ++ text_of_bytes bytes.now) }
     ensures reads { OnOk result (bytes_of_text (text_of_bytes bytes.now) ≡ Some bytes.now) }

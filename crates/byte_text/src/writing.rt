@@ -1,4 +1,4 @@
-//! All of a text to a writer, by a loop over `write`.
+//! Writes a whole text to a writer, in a loop over `write`.
 ghost use Rattle.std.specs.Prelude.{OnOk, OnErr, Some, codes};
 ghost use Rattle.std.specs.Io.KnownBytes.{Appends};
 ghost use Rattle.byte_text.specs.Writing.{WritesPart};
@@ -7,7 +7,7 @@ use std::error::Error;
 use std::fmt;
 use std::io::Write;
 
-/// A writer has failed, or has taken no byte, before all of a text was written.
+/// The writer failed, or accepted no bytes, before the whole text was written.
 #[derive(Clone, Copy, Debug, PartialEq, Eq)]
 pub struct CutShort;
 
@@ -21,11 +21,10 @@ impl fmt::Display for CutShort {
 
 impl Error for CutShort {}
 
-/// Writes a text.
+/// Writes a whole text.
 ///
 /// # Errors
-/// `CutShort` where the writer fails or takes no byte, or where a write is interrupted: the first bytes of the text were written then,
-/// and not all of it.
+/// `CutShort` if the writer fails, accepts no bytes, or is interrupted. In these cases only a prefix of the text was written.
 pub fn write_all<W: Write>(writer: &mut W, text: &[u8]) -> Result<(), CutShort>
     ensures ok { OnOk result (Appends (W.contents writer.old) (W.contents writer.new) text.now) }
     ensures part { OnErr result (WritesPart (W.contents writer.old) (W.contents writer.new) text.now) }

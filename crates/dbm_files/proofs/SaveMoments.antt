@@ -1,4 +1,4 @@
--- The moments of a save of a database.
+-- Crashes during a save of a database.
 use Rattle.std.proofs.Common.{◌≡◌, ◌⊎◌, inl, inr, ⊎_elim, ℕ, List, sym, ◌∙◌, ap, subst}
 use Rattle.sdbm_addr.specs.Database.{Database}
 use Rattle.sdbm_saves.specs.declared.disk.File.TheVariants.{Pages, Directory}
@@ -10,7 +10,7 @@ use Rattle.sdbm_saves.proofs.Moments.{at_first, weaker}
 use Rattle.dbm_files.specs.Saving.{HoldsDatabase, IsOldOrSaved, LeavesFiles}
 
 module _ {D : Type 0} (moment : D → ℕ) (left_since : D → ℕ → Image → Type 0) (may_leave : D → Image → Type 0) (before : List ℕ × List ℕ) (db : Database) (old : D) where
-  -- what a crash may leave at any moment
+  -- the images that a crash may leave at any time
   abbrev pub EverSaved : Image → Type 0
   EverSaved c = may_leave old c ⊎ IsOldOrSaved before db c
 

@@ -1,4 +1,4 @@
-//! A database that is saved in new files, under another name until they are whole.
+//! Saves a database in new files, under another name until they are complete.
 
 use crate::files::{RunFiles, take_files};
 use crate::saving::Saved;
@@ -12,21 +12,21 @@ use std::io::{self, ErrorKind};
 use std::rt::Files;
 use std::time::{Clock, Duration};
 
-/// The outcome of a copy that met no fault.
+/// The outcome of a copy without a fault.
 #[derive(Clone, Copy, Debug, PartialEq, Eq)]
 pub enum Copied {
-    /// Both files are whole and synced, and so are their names.
+    /// Both files are complete and durable, and so are their names.
     Done,
-    /// A file of the copy exists already, or a redo file with a save. Nothing was changed.
+    /// A file of the copy exists already, or a redo file with a committed save. Nothing was changed.
     Exists,
 }
 
-/// Saves a database in new files of this base, which get this mode less the umask. They are written and synced under another name, in the same
-/// folder, and get their own once they are whole. After a fault neither of them exists. A kill leaves both, or neither, or BASE.pag alone, and
-/// it may leave files under the other name.
+/// Saves a database in new files of this base, with this mode less the umask. They are written and synced under another name in the same
+/// folder, and get their own names once they are complete. After a fault neither of them exists. A kill leaves both, or neither, or
+/// BASE.pag alone, and may leave files under the other name.
 ///
 /// # Errors
-/// `WriteFile`, `FileTooLong` and `NoMemory`, and those of `take_files` on the other name.
+/// `WriteFile`, `FileTooLong` and `NoMemory`, and those of `take_files` for the other name.
 pub fn save_copy<R: Files<File = File> + Clock + AllocGlobal>(
     rt: &R,
     base: &str,
@@ -48,7 +48,7 @@ pub fn save_copy<R: Files<File = File> + Clock + AllocGlobal>(
     copied
 }
 
-// The base under whose name the files of a copy are written. No other process has it at the same time.
+// The base for the files of a copy until they are complete. No other process uses it at the same time.
 fn early_base_of<R: Files + AllocGlobal>(rt: &R, base: &str) -> Result<String, AllocError> {
     let Ok(process) = fs::read_link(rt, "/proc/self") else {
         return format!(in rt.alloc(); "{base}.new");
@@ -59,7 +59,7 @@ fn early_base_of<R: Files + AllocGlobal>(rt: &R, base: &str) -> Result<String, A
     }
 }
 
-// Makes both data files, which do not exist yet.
+// Makes both data files, which must not exist.
 fn make_both<R: Files<File = File>>(rt: &R, early: &Names, mode: u32) -> Result<(), FilesFault> {
     if make(rt, early.pages.as_str(), mode).is_err() {
         return Err(FilesFault::WriteFile);
@@ -71,7 +71,7 @@ fn make_both<R: Files<File = File>>(rt: &R, early: &Names, mode: u32) -> Result<
     Ok(())
 }
 
-// Saves a database in both files, which have no bytes.
+// Saves a database in both files, which are empty.
 fn save_early<R: Files<File = File> + Clock + AllocGlobal>(
     rt: &R,
     base: &str,
@@ -113,7 +113,7 @@ fn synced(outcome: io::Result<()>) -> Result<(), FilesFault> {
     }
 }
 
-// Gives both files their names, and syncs these. After a fault neither name is left.
+// Gives both files their names and syncs the folder. After a fault neither name exists.
 fn publish<R: Files<File = File>>(
     rt: &R,
     early: &Names,
@@ -136,7 +136,7 @@ fn publish<R: Files<File = File>>(
     outcome.map(|_| Copied::Done)
 }
 
-// Gives a file another name, unless something has it. Where a file system has no hard links, the file is renamed.
+// Gives a file another name. Returns `false` if that name exists. If the file system has no hard links, the file is renamed.
 fn give_name<R: Files<File = File>>(rt: &R, from: &str, to: &str) -> Result<bool, FilesFault> {
     match fs::hard_link(rt, from, to) {
         Ok(()) => return Ok(true),
@@ -156,7 +156,7 @@ fn sync_folder<R: Files<File = File>>(rt: &R, name: &str) -> io::Result<()> {
     fs::open(rt, folder_of(name))?.sync_all()
 }
 
-// Removes what is left under the other name.
+// Removes the files under the other name.
 fn remove_early<R: Files<File = File>>(rt: &R, early: &Names) {
     let names = [
         &early.pages,

@@ -1,4 +1,4 @@
-//! The files of a run, read and written.
+//! Opens, reads and recovers the files of a run.
 ghost use Rattle.std.specs.Prelude.{◌≡◌, ◌≤◌, ◌%◌, length, true, IfOk, IfSome, OnOk};
 ghost use Rattle.sdbm_files.specs.Reading.{with_piece};
 ghost use Rattle.sdbm_addr.specs.Pairs.{page_bytes};
@@ -24,47 +24,48 @@ use std::rt::Files;
 use std::time::{Clock, Duration};
 use std::{fs, thread};
 
-/// A redo file has at most this many bytes: the plan of the largest save has those of both files at their limits, new and old, in blocks of
-/// 1,024 with nine bytes before each, and twenty-nine at the start; a log has a header before it and may have 1 MiB of zeros after it.
+/// Maximum size of a redo file, in bytes. The plan of the largest save has the new and the old bytes of both files at their limits, in
+/// blocks of 1,024 with nine bytes before each, and twenty-nine bytes at the start. A log has a header before it and up to 1 MiB of zeros
+/// after it.
 const REDO_LIMIT: u64 = 2_697_203_749;
 
-/// A run that writes reads its files so many times more if they change meanwhile.
+/// Maximum number of times that a writing run reads its files again because they changed meanwhile.
 const MOST_READS: usize = 2;
 
-/// How many bytes of BASE.pag are read at once: whole pages of either size.
+/// The number of bytes of BASE.pag that are read at once: whole pages of either size.
 const PIECE: usize = 262_144;
 
-/// What was read for a run, and where it may change its database, what is held for that.
+/// The bytes that were read for a run, and its locks if it may change the database.
 #[derive(Drop)]
 pub struct RunFiles {
     pub bytes: FileBytes,
     pub held: Option<LockedFiles>,
-    /// A `.pag` of which nothing was read, for a run that wants one page of it.
+    /// A `.pag` that was not read yet, for a run that needs one page of it.
     pub unread: Option<UnreadPages>,
 }
 
-/// A database that a run may change: its files, which of them were read, and its locks. Others wait until these are dropped.
+/// A database that a run may change: its files, the IDs of those that were read, and its locks. Other runs wait until these are dropped.
 #[derive(Drop)]
 pub struct LockedFiles {
     pub place: Place,
     pub seen: SeenFiles,
     pub locks: WriteLocks,
-    // The data files as they were when they were read.
+    // The state of the data files when they were read.
     pub(crate) states: DataStates,
 }
 
-/// Reads the files of a run, once no other has a lock that keeps it off: a run that reads waits only for one that is at the files. A save that was cut off is ended first by a run that writes;
-/// one that reads lays its redo file over what it reads. A run that writes keeps its lock, since its files are those that were read
-/// until it has written them. The lock and the redo file lie beside the files themselves, whatever links lead there, and all of them in
-/// the folder that the base named first. A run that peeks gets `.pag` unread, unless there is a save to end or something is wrong with a
-/// file: then all is read.
+/// Takes the lock, then reads the files of a run. A reading run waits only for a run that uses the files. An interrupted save is recovered
+/// first by a writing run; a reading run applies the redo file to the bytes that it read. A writing run keeps its lock, so that its files
+/// stay those that were read until it has written them. The lock and the redo file are next to the files themselves, even if links lead
+/// there, and all of them are in the folder that the base named first. A peeking run gets `.pag` unread, unless there is a save to recover
+/// or something is wrong with a file: then all files are read.
 ///
 /// # Errors
-/// Those of `resolve`, `Unsafe` where the lock or the redo file is one that others could have planted, `Locked` where others hold the
-/// lock for longer than the patience, `Moved` where links to another base have come while it was waited for, or the lock goes from file
-/// to file, `WriteFile` where a run that writes cannot have its lock, or cannot end a save, `ReadFile` where
-/// one that reads cannot have a lock that is there, then those of `read_files`, and `BadRedo` where the redo file is marked and is not of
-/// these files, or none that a save has left. Nothing is written at a fault, but for a save that was being ended.
+/// Those of `resolve`, `Unsafe` if another user could have planted the lock or the redo file, and `Locked` if another run holds the lock
+/// for longer than the patience. `Moved` if links to another base appeared during the wait, or if the lock refers to a different file again
+/// and again. `WriteFile` if a writing run cannot take its lock or recover a save. `ReadFile` if a reading run cannot take an existing
+/// lock. Then those of `read_files`, and `BadRedo` if the commit byte of the redo file is 1, but it belongs to different data files, or no
+/// save has left it. On a fault nothing is written, except by the recovery of a save.
 pub fn take_files<R: Files<File = File> + Clock + AllocGlobal>(
     rt: &R,
     place: RunPlace<'_>,
@@ -85,7 +86,7 @@ pub fn take_files<R: Files<File = File> + Clock + AllocGlobal>(
     Ok(read_whole(bytes, None))
 }
 
-// Files that were read whole.
+// Files that were read completely.
 fn read_whole(bytes: FileBytes, held: Option<LockedFiles>) -> RunFiles {
     RunFiles {
         bytes,
@@ -94,7 +95,7 @@ fn read_whole(bytes: FileBytes, held: Option<LockedFiles>) -> RunFiles {
     }
 }
 
-// What a run says of its files, with the names that these have in their folder.
+// The place of a run, with the names that its files have in their folder.
 fn inside<'a>(place: RunPlace<'a>, files: &'a Place) -> RunPlace<'a> {
     RunPlace {
         base: Some(files.base()),
@@ -102,7 +103,7 @@ fn inside<'a>(place: RunPlace<'a>, files: &'a Place) -> RunPlace<'a> {
     }
 }
 
-// Reads the files of a run that may change its database, and keeps their lock.
+// Reads the files of a run that may change its database, and keeps their locks.
 fn take_to_write<R: Files<File = File> + Clock + AllocGlobal>(
     rt: &R,
     place: RunPlace<'_>,
@@ -131,7 +132,7 @@ fn take_to_write<R: Files<File = File> + Clock + AllocGlobal>(
     }
     let (bytes, states) = read_still(rt, place, &files)?;
     let seen = bytes.seen;
-    // A save that was cut off may have been ended, and may have made a file.
+    // An interrupted save may have been recovered, and may have made a file.
     files.hold_data(rt);
     files.must_be_open(&seen)?;
     let held = LockedFiles {
@@ -143,7 +144,7 @@ fn take_to_write<R: Files<File = File> + Clock + AllocGlobal>(
     Ok(read_whole(bytes, Some(held)))
 }
 
-// Reads the files of a run that changes nothing, but for `.pag`, and keeps the lock where there is one; or reads all.
+// Reads the files of a reading run except `.pag`, and keeps the lock if there is one. If that is impossible, reads all files.
 fn peek_to_read<R: Files<File = File> + Clock + AllocGlobal>(
     rt: &R,
     place: RunPlace<'_>,
@@ -162,14 +163,14 @@ fn peek_to_read<R: Files<File = File> + Clock + AllocGlobal>(
     })
 }
 
-// The files of a run but for `.pag`. None where all has to be read.
+// Reads the files of a run except `.pag`. Returns `None` if all files have to be read.
 fn peek<R: Files<File = File> + AllocGlobal>(
     rt: &R,
     place: RunPlace<'_>,
     files: &Place,
     is_locked: bool,
 ) -> Option<(FileBytes, UnreadPages)> {
-    // What a pipe gives could not be read once more.
+    // A pipe could not be read again.
     if let Some(file) = place.file
         && is_special(rt, file)
     {
@@ -187,11 +188,11 @@ fn peek<R: Files<File = File> + AllocGlobal>(
     Some((FileBytes { seen, ..read }, unread))
 }
 
-/// Reads what a run that peeks has left unread of its files, under the lock that it has. A run that reads and found no lock waits for one
-/// that has come since.
+/// Reads the files that a peeking run has left unread, under its lock. A reading run that found no lock waits for a lock that was made
+/// since.
 ///
 /// # Errors
-/// As `take_files`.
+/// The same as `take_files`.
 pub fn take_rest<R: Files<File = File> + Clock + AllocGlobal>(
     rt: &R,
     place: RunPlace<'_>,
@@ -231,7 +232,7 @@ pub fn take_rest<R: Files<File = File> + Clock + AllocGlobal>(
     Ok(read_whole(FileBytes { program, ..read }, None))
 }
 
-// Reads the files of a run that changes nothing and has read but one page.
+// Reads the files of a reading run that has read only one page.
 fn read_guarded<R: Files<File = File> + Clock + AllocGlobal>(
     rt: &R,
     place: RunPlace<'_>,
@@ -244,10 +245,10 @@ fn read_guarded<R: Files<File = File> + Clock + AllocGlobal>(
     }
 }
 
-/// Reads the files of a database once more whose lock is held, and that were seen so.
+/// Reads the files of a database again. Its lock must be held, and `seen` must be the files of the last read.
 ///
 /// # Errors
-/// `Moved` where the lock or one of the files has lost its name to another, and those of `take_files` but for its lock.
+/// `Moved` if the lock or one of the files has lost its name to another file, and those of `take_files` except for its lock.
 pub fn read_again<R: Files<File = File> + AllocGlobal>(
     rt: &R,
     place: RunPlace<'_>,
@@ -258,7 +259,7 @@ pub fn read_again<R: Files<File = File> + AllocGlobal>(
     read_database(rt, place, &held.place, true, Some(*seen))
 }
 
-// Reads the files of a run that changes nothing, under a lock where there is one.
+// Reads the files of a reading run, under a lock if there is one.
 fn read_under_lock<R: Files<File = File> + Clock + AllocGlobal>(
     rt: &R,
     place: RunPlace<'_>,
@@ -269,7 +270,7 @@ fn read_under_lock<R: Files<File = File> + Clock + AllocGlobal>(
     read_locked(rt, place, files, lock, patience)
 }
 
-// The same, where a lock was taken or none was found.
+// Like `read_under_lock`, after the lock was taken or found missing.
 fn read_locked<R: Files<File = File> + Clock + AllocGlobal>(
     rt: &R,
     place: RunPlace<'_>,
@@ -281,7 +282,7 @@ fn read_locked<R: Files<File = File> + Clock + AllocGlobal>(
         return read_held(rt, place, files, lock);
     }
     let read = read_held(rt, place, files, None);
-    // The first run that writes may have come in between, and made the lock.
+    // The first writing run may have come in between, and made the lock.
     match read_lock(rt, files, patience)? {
         Some(lock) => read_held(rt, place, files, Some(lock)),
         None => read,
@@ -298,7 +299,7 @@ fn read_lock<R: Files<File = File> + Clock + AllocGlobal>(
     Ok(lock)
 }
 
-// Reads the database of a run that writes. If a file was changed meanwhile, or recovered, it is read again.
+// Reads the database of a writing run. If a file was changed or recovered meanwhile, it is read again.
 fn read_still<R: Files<File = File> + AllocGlobal>(
     rt: &R,
     place: RunPlace<'_>,
@@ -317,7 +318,7 @@ fn read_still<R: Files<File = File> + AllocGlobal>(
     Ok((read, states))
 }
 
-// Reads the files of a run that changes nothing, and then lets its lock go.
+// Reads the files of a reading run, then releases its lock.
 fn read_held<R: Files<File = File> + AllocGlobal>(
     rt: &R,
     place: RunPlace<'_>,
@@ -327,7 +328,7 @@ fn read_held<R: Files<File = File> + AllocGlobal>(
     read_database(rt, place, files, lock.is_some(), None)
 }
 
-// The database of a run. Where its files were known before, they have to be those.
+// Reads the database of a run. If its files were known before, they must be the same.
 fn read_database<R: Files<File = File> + AllocGlobal>(
     rt: &R,
     place: RunPlace<'_>,
@@ -379,7 +380,7 @@ fn read_database<R: Files<File = File> + AllocGlobal>(
     })
 }
 
-// The bytes of three files, as the log wants them.
+// The bytes of the three files, in the form that the log needs.
 fn log_files(found: &Found) -> LogFiles<'_>
     ensures redo { result.redo.now ≡ found.now.redo.items }
     ensures pages { result.pages.now ≡ found.now.pages.items }
@@ -392,7 +393,7 @@ fn log_files(found: &Found) -> LogFiles<'_>
     }
 }
 
-// The fault of a run whose files cannot be recovered.
+// Converts a fault of a recovery.
 fn fault_of(fault: LogFault) -> FilesFault {
     match fault {
         LogFault::NoMemory => FilesFault::NoMemory,
@@ -400,15 +401,15 @@ fn fault_of(fault: LogFault) -> FilesFault {
     }
 }
 
-// Whether a plan makes a file longer than it may be.
+// Returns whether a plan makes a file longer than it may be.
 fn is_too_long(place: RunPlace<'_>, plan: &[u8]) -> bool
     requires { IsPlan plan.now }
 {
     number(plan, 8) as u64 > place.pages_limit || number(plan, 12) as u64 > DIR_LIMIT
 }
 
-// Keeps a plan that is marked, and its name, before anything that stands on it is told: the run that marked it may have been killed before
-// the mark was on the disk. A file system that cannot be written has nothing to keep.
+// Syncs a committed redo file, and its name, before any answer that depends on it is reported: the run that committed it may have been
+// killed before the commit was durable. A file system that is read-only needs no sync.
 fn keep_plan<R: Files<File = File>>(rt: &R, names: &Names) -> io::Result<()> {
     let name = names.redo.as_str();
     let synced = open_beside(rt, Side::Redo, name, names.pages.as_str(), false)?.sync_data();
@@ -422,7 +423,7 @@ fn keep_plan<R: Files<File = File>>(rt: &R, names: &Names) -> io::Result<()> {
     Ok(())
 }
 
-// What the files mean: the data files with this plan done.
+// Applies the plan to the bytes of the data files.
 fn lay_over(
     alloc: Global,
     place: RunPlace<'_>,
@@ -460,7 +461,7 @@ fn lay_over(
     Ok(read_over(alloc, pages, directory))
 }
 
-// Files that were read, without a program.
+// The files that were read, without a program.
 fn read_over(alloc: Global, pages: ReadPages<Global>, directory: Vec<u8>) -> FileBytes {
     FileBytes {
         directory,
@@ -470,7 +471,7 @@ fn read_over(alloc: Global, pages: ReadPages<Global>, directory: Vec<u8>) -> Fil
     }
 }
 
-// Recovers the files after a kill or the loss of power: does what the redo file holds in both data files, clears its mark, and removes it.
+// Recovers the files after a kill or a power failure: applies the redo file to both data files, clears its commit byte, and removes it.
 fn recover_files<R: Files<File = File> + AllocGlobal>(
     rt: &R,
     names: &Names,
@@ -488,8 +489,8 @@ fn recover_files<R: Files<File = File> + AllocGlobal>(
     Ok(disk.clear()?)
 }
 
-// The bytes of a redo file that is marked, for a run that has BASE.lock or not. A run that reads under that lock needs none while another has
-// the database open to change it: the data files have all that is saved.
+// The bytes of a committed redo file. A reading run under BASE.lock does not need them while another run has the database open for changes,
+// because the data files contain all saves.
 fn redo_of<R: Files<File = File> + AllocGlobal>(
     rt: &R,
     place: RunPlace<'_>,
@@ -502,8 +503,8 @@ fn redo_of<R: Files<File = File> + AllocGlobal>(
     read_redo(rt, &files.names)
 }
 
-// The bytes of a redo file that is marked. One that is not marked has nothing that is to be done: it counts as no bytes, and no more than its
-// first is read.
+// The bytes of a committed redo file. If its commit byte is not 1, there is nothing to apply: it counts as empty, and only its first byte
+// is read.
 fn read_redo<R: Files<File = File> + AllocGlobal>(
     rt: &R,
     names: &Names,
@@ -526,8 +527,8 @@ fn read_redo<R: Files<File = File> + AllocGlobal>(
     Ok(bytes)
 }
 
-// The bytes of the files that a run reads, but for `.pag` where it peeks. The error is the first that is met: `ReadFile`, `FileTooLong`
-// where a file has more bytes than it may, and `NoMemory`.
+// Reads the files of a run, except `.pag` if it peeks. The error is the first that occurs: `ReadFile`, `FileTooLong` if a file is longer
+// than it may be, and `NoMemory`.
 fn read_files<R: Files<File = File> + AllocGlobal>(
     rt: &R,
     place: RunPlace<'_>,
@@ -560,7 +561,7 @@ fn read_files<R: Files<File = File> + AllocGlobal>(
     Ok(read)
 }
 
-// The bytes of a data file, and which file that is. One that is missing has none.
+// The bytes of a data file and its ID. A missing file counts as empty.
 fn read_data<R: Files<File = File> + AllocGlobal>(
     rt: &R,
     name: &str,
@@ -572,7 +573,8 @@ fn read_data<R: Files<File = File> + AllocGlobal>(
     }
 }
 
-// A data file, opened to be read, and which one it is; none where it is missing. It is no FIFO: nobody waits for its other end.
+// Opens a data file for reading and returns its ID, or `None` if the file is missing. A FIFO is an error, because opening it would wait for
+// its other end.
 fn open_data<R: Files<File = File>>(
     rt: &R,
     name: &str,
@@ -603,7 +605,7 @@ fn read_file<R: Files + AllocGlobal>(
     }
 }
 
-// The pages of a file that may be missing, read piece by piece, and which file that is.
+// The pages of a file that may be missing, read piece by piece, and its ID.
 fn read_pages<R: Files<File = File> + AllocGlobal>(
     rt: &R,
     name: &str,
@@ -616,7 +618,7 @@ fn read_pages<R: Files<File = File> + AllocGlobal>(
     }
 }
 
-// The pages of a file that is open, read piece by piece.
+// The pages of an open file, read piece by piece.
 fn read_pieces(
     alloc: Global,
     file: File,
@@ -635,7 +637,7 @@ fn read_pieces(
     Err(FilesFault::FileTooLong)
 }
 
-// Reads the next bytes of a file into a room, and tells how many: fewer than have room only where the file ends.
+// Reads the next bytes of a file into `room` and returns their number. It is less than the size of the room only at the end of the file.
 fn read_piece<F: Read>(file: &mut F, room: &mut [u8]) -> Result<usize, FilesFault>
     ensures count { IfOk result (λ count. count ≤ length room.old) }
     ensures room { length room.new ≡ length room.old }
@@ -658,7 +660,7 @@ fn read_piece<F: Read>(file: &mut F, room: &mut [u8]) -> Result<usize, FilesFaul
     Ok(count)
 }
 
-// Reads a piece after the others, and says whether more may stand after it: a piece that is not full is the last.
+// Appends a piece and returns whether more may follow. A piece that is not full is the last.
 fn push_piece(pages: &mut ReadPages<Global>, piece: &[u8], limit: u64) -> Result<bool, FilesFault>
     requires { length pages.old.bytes % page_bytes pages.old.size ≡ 0 }
     ensures after { OnOk result (pages.new ≡ with_piece pages.old piece.now) }
@@ -675,10 +677,10 @@ fn push_piece(pages: &mut ReadPages<Global>, piece: &[u8], limit: u64) -> Result
     Ok(pages.is_whole())
 }
 
-/// The bytes of a program's file, which is neither a FIFO nor a device.
+/// The bytes of a program's file, which must not be a FIFO or a device.
 ///
 /// # Errors
-/// `ReadFile` where it cannot be read, `FileTooLong` where it has more than 1,048,576 bytes, and `NoMemory`.
+/// `ReadFile` if the file cannot be read, `FileTooLong` if it has more than 1,048,576 bytes, and `NoMemory`.
 pub fn read_program<R: Files + AllocGlobal>(rt: &R, name: &str) -> Result<Vec<u8>, FilesFault> {
     if is_special(rt, name) {
         return Err(FilesFault::ReadFile);
@@ -686,7 +688,7 @@ pub fn read_program<R: Files + AllocGlobal>(rt: &R, name: &str) -> Result<Vec<u8
     read_file(rt, name, PROGRAM_LIMIT)
 }
 
-// All bytes of a file that is open.
+// The bytes of an open file.
 fn read_all<F: Read + Drop>(alloc: Global, file: F, limit: u64) -> Result<Vec<u8>, FilesFault> {
     let mut file = file;
     let mut bytes = Vec::new(alloc);
@@ -697,7 +699,7 @@ fn read_all<F: Read + Drop>(alloc: Global, file: F, limit: u64) -> Result<Vec<u8
     Ok(bytes)
 }
 
-// Reads the next bytes of a file, at most so many, after others.
+// Appends the next bytes of a file, at most `most`.
 pub(crate) fn read_up_to<F: Read>(
     file: &mut F,
     most: u64,

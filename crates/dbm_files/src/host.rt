@@ -1,4 +1,4 @@
-//! The three files of a database, as a save writes them.
+//! Writes the three files of a database for a save.
 ghost use Rattle.std.specs.Prelude.{◌≡◌, IfErr};
 ghost use Rattle.sdbm_saves.specs.declared.disk.DiskError.TheVariants.{Failed};
 
@@ -13,10 +13,9 @@ use std::io::{self, ErrorKind};
 use std::os::unix::fs::FileExt;
 use std::rt::Files;
 
-// The length of the header of a log.
+// The length of the header of a log, in bytes.
 const LOG_HEADER: usize = 4096;
 
-// The name of one of the files.
 fn name_of(names: &Names, part: Part) -> &str {
     match part {
         Part::Pages => names.pages.as_str(),
@@ -25,11 +24,11 @@ fn name_of(names: &Names, part: Part) -> &str {
     }
 }
 
-// A file as a save has it.
+// A file during a save.
 #[derive(Drop)]
 struct SaveFile {
     file: Option<File>,
-    // It was synced, and not written since.
+    // The file was synced and has not been written since.
     is_synced: bool,
 }
 
@@ -42,24 +41,24 @@ impl SaveFile {
     }
 }
 
-// The files of a database, each opened when it is first written or synced, made if it was absent, and kept open. They are written in
-// place, so they keep owner, permissions and links. A data file is the one that was read: another under its name is not opened. If there was
-// no data file, a file that appears later is not used.
+// The files of a database. Each is opened when it is first written or synced, made if it is missing, and kept open. The files are written
+// in place, so they keep owner, permissions and links. A data file must be the one that was read: a different file under its name is not
+// opened. If there was no data file, a file that appears later is not used.
 #[derive(Drop)]
 struct OpenFiles<'a, R: Files<File = File>> {
     rt: &'a R,
     names: &'a Names,
     seen: SeenFiles,
-    // The longest file that this process may write; a longer one raises SIGXFSZ.
+    // The size of the longest file that this process may write, in bytes. A longer file raises SIGXFSZ.
     most: u64,
     pages: SaveFile,
     directory: SaveFile,
     redo: SaveFile,
-    // This run has synced the folder, and has made no file since. Names that an earlier run made are not taken to be kept.
+    // This run has synced the folder and has made no file since. Names that an earlier run made may not be durable.
     is_folder_kept: bool,
-    // The redo file counts as absent, and is to be removed before it is used.
+    // The redo file counts as missing, and is removed before it is used.
     is_redo_stale: bool,
-    // This run has removed the redo file, so it opens none that is there again.
+    // This run has removed the redo file, so it does not open a redo file that appears later.
     is_redo_gone: bool,
 }
 
@@ -72,7 +71,7 @@ impl<'a, R: Files<File = File>> OpenFiles<'a, R> {
         }
     }
 
-    // Opens a file to change it, if it is not open, and makes it if it is absent.
+    // Opens a file for writing if it is not open, and makes it if it is missing.
     fn open(&mut self, part: Part) -> io::Result<&mut File> {
         if self.slot(part).file.is_none() {
             let file = match self.open_there(part) {
@@ -89,7 +88,7 @@ impl<'a, R: Files<File = File>> OpenFiles<'a, R> {
         }
     }
 
-    // Opens a file that is there, to write it.
+    // Opens an existing file for writing.
     fn open_there(&mut self, part: Part) -> io::Result<File> {
         let name = name_of(self.names, part);
         match part {
@@ -107,7 +106,7 @@ impl<'a, R: Files<File = File>> OpenFiles<'a, R> {
         Ok(open_beside(self.rt, Side::Redo, name, pages, true)?)
     }
 
-    // Makes a file that is absent.
+    // Makes a missing file.
     fn make(&mut self, part: Part) -> io::Result<File> {
         self.is_folder_kept = false;
         let name = name_of(self.names, part);
@@ -119,7 +118,7 @@ impl<'a, R: Files<File = File>> OpenFiles<'a, R> {
         }
     }
 
-    // Whether a file may have so many bytes.
+    // Checks that a file may have `len` bytes.
     fn must_fit(&self, len: usize) -> io::Result<()> {
         if len as u64 > self.most {
             return Err(io::Error::from(ErrorKind::FileTooLarge));
@@ -127,8 +126,8 @@ impl<'a, R: Files<File = File>> OpenFiles<'a, R> {
         Ok(())
     }
 
-    // Writes bytes, if the file may be as long as that. What is written after the header of a log is a record, which has the new lengths of
-    // both data files in its plan: they have to fit before it is committed.
+    // Writes bytes, if the file may become that long. Bytes after the header of a log are a record, and its plan has the new lengths of
+    // both data files. These lengths must fit before the record is committed.
     fn write_in(&mut self, part: Part, at: usize, bytes: &[u8]) -> io::Result<()> {
         self.must_fit(at.saturating_add(bytes.len()))?;
         if part == Part::Redo && at >= LOG_HEADER {
@@ -146,7 +145,7 @@ impl<'a, R: Files<File = File>> OpenFiles<'a, R> {
         self.open(part)?.set_len(len as u64)
     }
 
-    // Whether a file is open and has this length.
+    // Returns whether a file is open and has this length.
     fn is_long(&mut self, part: Part, len: usize) -> io::Result<bool> {
         match &self.slot(part).file {
             Some(file) => Ok(file.metadata()?.len() == len as u64),
@@ -154,9 +153,8 @@ impl<'a, R: Files<File = File>> OpenFiles<'a, R> {
         }
     }
 
-    // Syncs a file, and the folder with its name. A file that this run has not written is synced too: an earlier run may have been
-    // killed after a write. One that is absent has nothing to sync, and one that may not be written fails here and not in the
-    // middle of a commit.
+    // Syncs a file, and the folder with its name. A file that this run has not written is synced too, because an earlier run may have been
+    // killed after a write. A missing file needs no sync. A file that may not be written fails here instead of in the middle of a commit.
     fn keep(&mut self, part: Part) -> io::Result<()> {
         if self.slot(part).file.is_none() {
             match self.open_there(part) {
@@ -190,7 +188,7 @@ impl<'a, R: Files<File = File>> OpenFiles<'a, R> {
     }
 }
 
-// Opens a data file that was read, to write it. The error is `NotFound` where there was none, and there is none.
+// Opens a data file that was read, for writing. The error is `NotFound` if the file was missing and still is.
 fn open_seen<R: Files<File = File>>(rt: &R, name: &str, seen: Option<FileId>) -> io::Result<File> {
     let file = match OpenOptions::new().read(true).write(true).open(rt, name) {
         Err(error) if error.kind() == ErrorKind::NotFound && seen.is_some() => return Err(moved()),
@@ -202,12 +200,12 @@ fn open_seen<R: Files<File = File>>(rt: &R, name: &str, seen: Option<FileId>) ->
     Err(moved())
 }
 
-// The error of a file that has lost its name.
+// The error for a file that has lost its name.
 fn moved() -> io::Error {
     io::Error::from(ErrorKind::StaleNetworkFileHandle)
 }
 
-/// The files of a database on the system's disk, with a log of what was called.
+/// The files of a database on the system's disk, with a log of the calls.
 #[derive(Drop)]
 pub struct RealFiles<'a, R: Files<File = File>> {
     files: OpenFiles<'a, R>,
@@ -217,8 +215,8 @@ pub struct RealFiles<'a, R: Files<File = File>> {
 impl<'a, R: Files<File = File>> RealFiles<'a, R> {
     ghost use Rattle.sdbm_saves.specs.CallLog.{acts};
 
-    /// The files with these names, of which these were read. None is opened yet. A stale redo file counts as absent, and is removed before it
-    /// is used.
+    /// The files with these names. `seen` has the IDs of those that were read. No file is opened yet. A stale redo file counts as missing,
+    /// and is removed before it is used.
     pub fn new(
         rt: &'a R,
         names: &'a Names,
@@ -246,7 +244,7 @@ impl<'a, R: Files<File = File>> RealFiles<'a, R> {
     }
 }
 
-// What a call of the system has come to.
+// Converts the outcome of a system call.
 fn told(outcome: io::Result<()>) -> Result<(), DiskError>
     ensures { IfErr result (λ error. error ≡ Failed) }
 {
@@ -256,7 +254,7 @@ fn told(outcome: io::Result<()>) -> Result<(), DiskError>
     }
 }
 
-// Each call is noted before it is made, and a sync once it is done.
+// Each call is logged before it is made, except a sync, which is logged after it succeeded.
 impl<'a, R: Files<File = File>> Host for RealFiles<'a, R> {
     ghost use Rattle.sdbm_saves.specs.CallLog.{acts};
 
@@ -288,8 +286,8 @@ impl<'a, R: Files<File = File>> Host for RealFiles<'a, R> {
     }
 }
 
-/// Removes the redo file of a save that has failed before it wrote either data file. If it stays without a mark, the next save uses it
-/// again; if its mark is set, the next run that writes recovers the files.
+/// Removes the redo file of a save that failed before it wrote either data file. The file may survive. If its commit byte is not 1, the
+/// next save reuses it. If its commit byte is 1, the next writing run recovers the files.
 pub fn forget_redo<R: Files<File = File>>(rt: &R, names: &Names) {
     let _ = fs::remove_file(rt, names.redo.as_str());
 }

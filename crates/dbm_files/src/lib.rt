@@ -1,4 +1,4 @@
-//! What is read of the files of a database, and a save that a crash cannot break.
+//! Reads the files of a database, and saves them so that a crash cannot damage them.
 #![tactic(auto)]
 
 mod copying;

@@ -1,10 +1,10 @@
-//! How long a file of this process may be (`ulimit -f`): the system ends a process that writes further.
+//! The file size limit of this process (`ulimit -f`). The system ends a process that exceeds it.
 
 use std::fs::{self, File};
 use std::io::Read;
 use std::rt::Files;
 
-/// The most bytes that this process may write into a file. Where the system does not tell, there is no end.
+/// The maximum number of bytes that this process may write into a file. If the system does not report it, there is no limit.
 pub fn most_bytes<R: Files<File = File>>(rt: &R) -> u64 {
     let mut room = [0u8; 1024];
     let Ok(mut file) = fs::open(rt, "/proc/self/limits") else {
@@ -16,7 +16,7 @@ pub fn most_bytes<R: Files<File = File>>(rt: &R) -> u64 {
     }
 }
 
-// The limit of a table that has a line `Max file size`, then the soft limit and the hard one, each a number or `unlimited`.
+// The soft limit from a table. Its line `Max file size` has the soft limit and the hard limit, each a number or `unlimited`.
 fn limit_in(table: &[u8]) -> u64 {
     let Ok(table) = str::from_utf8(table) else {
         return u64::MAX;
@@ -31,7 +31,7 @@ fn limit_in(table: &[u8]) -> u64 {
     u64::MAX
 }
 
-/// The number that four bytes of a plan are, the low one first, and 0 where it ends before them.
+/// Reads four bytes of a plan as a little-endian number. Returns 0 if the plan is too short.
 pub fn number_at(plan: &[u8], at: usize) -> usize {
     match plan.get(at..at.saturating_add(4)) {
         Some([a, b, c, d]) => u32::from_le_bytes([*a, *b, *c, *d]) as usize,

@@ -1,4 +1,4 @@
-//! The files of a run that reads one page: all but `.pag`, which stays open.
+//! The files of a run that reads one page: all except `.pag`, which stays open.
 ghost use Rattle.std.specs.Prelude.{◌≡◌, ◌+◌, ◌*◌, ◌<◌, ◌≤◌, ℕ, length, get_or, IfOk};
 ghost use Rattle.sdbm_addr.specs.Pairs.{page_bytes};
 
@@ -10,29 +10,29 @@ use std::io::ErrorKind;
 use std::os::unix::fs::FileExt;
 use std::rt::Files;
 
-/// A `.pag` whose pages are read one by one: it is open, or not there and without bytes.
+/// A `.pag` whose pages are read one by one. It is open, or missing and empty.
 #[derive(Drop)]
 pub struct UnreadPages {
-    /// How many bytes it has.
+    /// The length in bytes.
     pub len: usize,
-    /// Which file it is, where it is there.
+    /// The ID of the file, if it exists.
     pub id: Option<FileId>,
     file: Option<File>,
     guard: Guard,
 }
 
-/// What keeps others from writing the files while a page is read.
+/// Prevents other runs from writing the files while a page is read.
 #[derive(Drop)]
 pub enum Guard {
-    /// The lock of a run that writes, which is held beside this.
+    /// The lock of a writing run, which is held separately.
     Writer,
-    /// The lock of a run that reads, beside the files. There is none where no lock had its name: no run has written yet.
+    /// The place and the lock of a reading run. There is no lock if its file was missing: then no run has written yet.
     Reader(Place, Option<File>),
 }
 
 impl UnreadPages {
-    /// Opens a `.pag` of at most so many bytes, under the lock of a run that writes. None where it cannot be read so: a run that reads all
-    /// of it finds out why.
+    /// Opens a `.pag` of at most `limit` bytes, under the lock of a writing run. Returns `None` if it cannot be read this way. A run that
+    /// reads the whole file finds out why.
     pub fn open<R: Files<File = File>>(rt: &R, name: &str, limit: u64) -> Option<UnreadPages> {
         if is_special(rt, name) {
             return None;
@@ -63,7 +63,7 @@ impl UnreadPages {
         })
     }
 
-    /// The same of a run that reads, which has a lock or found none.
+    /// The same file for a reading run, which holds a lock or found no lock file.
     pub fn read_in(self, place: Place, lock: Option<File>) -> UnreadPages {
         UnreadPages {
             guard: Guard::Reader(place, lock),
@@ -71,10 +71,10 @@ impl UnreadPages {
         }
     }
 
-    /// The bytes of the page with a number, in whole pages of a size: zeros where it is not one of the file.
+    /// Reads page `number`, for pages of this size. A page that is not completely in the file is zeros.
     ///
     /// # Errors
-    /// `ReadFile` where it cannot be read, and `NoMemory`.
+    /// `ReadFile` if the page cannot be read, and `NoMemory`.
     pub fn page(&self, alloc: Global, number: u32, size: PageSize) -> Result<Vec<u8>, FilesFault>
         ensures long { IfOk result (λ page. length page.items ≡ page_bytes size) }
         ensures past { IfOk result (λ page. (i : ℕ) → i < page_bytes size → self.now.len ≤ number * page_bytes size + i → get_or page.items i 0 ≡ 0) }
@@ -94,13 +94,13 @@ impl UnreadPages {
         }
     }
 
-    /// What keeps others from writing the files.
+    /// Returns the guard, which still prevents other runs from writing.
     pub fn into_guard(self) -> Guard {
         let UnreadPages { guard, .. } = self;
         guard
     }
 
-    /// Whether nobody can have written the files meanwhile.
+    /// Returns whether no run can have written the files meanwhile.
     pub fn is_guarded<R: Files<File = File>>(&self, rt: &R) -> bool {
         match &self.guard {
             Guard::Writer | Guard::Reader(_, Some(_)) => true,

@@ -1,4 +1,4 @@
-//! A save and the lines that tell of it.
+//! A save, and the lines that report it.
 ghost use Rattle.std.specs.Prelude.{◌≡◌, ◌≢◌, ◌⊎◌, get_or, None, OnOk, IfOk, IfErr, IsErrOf};
 ghost use Rattle.std.specs.Io.KnownBytes.{Appends};
 ghost use Rattle.byte_text.specs.Writing.{WritesPart};
@@ -17,18 +17,18 @@ use sdbm_saves::{Disk, ReadFiles, plan_read};
 use std::alloc::Global;
 use std::io::Write;
 
-/// What has become of a save that is no fault.
+/// The outcome of a save without a fault.
 #[derive(Clone, Copy, Debug, PartialEq, Eq)]
 pub enum Saved {
-    /// The files were those of the database already, and nothing was written.
+    /// The files already were those of the database, and nothing was written.
     Unchanged,
-    /// It is done in both files.
+    /// The save is done in both files.
     Whole,
-    /// It is durable in the redo file, but a file could not be written after that. The next run that writes does the rest.
+    /// The save is durable in the redo file, but a file could not be written after that. The next writing run finishes the save.
     Pending,
 }
 
-/// What a save changes: both data files as they were read, the bytes of the redo file, and the database that is to be in them.
+/// The change of a save: both data files as read, the bytes of the redo file, and the database to be saved.
 #[derive(Clone, Copy)]
 pub struct Change<'a> {
     pub before: ReadFiles<'a, Global>,
@@ -36,17 +36,17 @@ pub struct Change<'a> {
     pub after: &'a Image<Global>,
 }
 
-/// Saves a change, releases the lock, and then prints the lines that tell of it: whoever reads them can have the lock, and the change stands.
-/// A crash at any moment leaves files that mean those before the change, or that are those of the database after it, and they can be
-/// recovered; once this has returned `Ok`, those of the database. If the files are those of the database already, the lines are printed and
-/// the disk is left alone. It takes memory for the plan, for the steps of the save, and what the disk's calls take.
+/// Saves a change, releases the lock, and then prints the lines that report it. So a reader of the lines can take the lock, and the change
+/// is durable. A crash at any time leaves the files before the change, or those of the database after it, in a state that can be recovered.
+/// Once this function has returned `Ok`, a crash leaves those of the database. If the files are already those of the database, the lines
+/// are printed and the disk is not used. Allocates the plan, the steps of the save, and the memory of the disk's calls.
 ///
 /// # Errors
-/// `FileTooLong` if a file has 2^32 bytes or more or would have, `NoMemory`, and `WriteFile` if the disk has failed, with nothing printed; if
-/// it failed while the save was committed, that may be committed or not. `Write` if the lines could not be printed, or only their first
-/// bytes: the change stands then, and the lock is released. At the other faults the lock is held still. What fails after the commit is no
-/// fault, and the save is `Pending`: the next run that writes does the rest. So that a full disk is found before, the room is tried that the
-/// files may want.
+/// `FileTooLong` if a file has, or would have, 2^32 bytes or more, `NoMemory`, and `WriteFile` if the disk has failed; nothing is printed
+/// then. If the disk failed during the commit, the save may be committed or not. `Write` if the lines could not be printed, or only their
+/// first bytes; the change is committed then, and the lock is released. After all faults except `Write` the lock is still held. A failure
+/// after the commit is not a fault: the save is `Pending`, and the next writing run finishes it. The save first tries whether the disk has
+/// the room that the files may need, so a full disk is found before the commit.
 pub fn save_change<D: Disk, W: Write, L: Drop>(
     alloc: Global,
     disk: &mut D,
@@ -61,10 +61,10 @@ pub fn save_change<D: Disk, W: Write, L: Drop>(
     ensures saved { OnOk result (IsSaved change.entry.after.now (change.entry.before.pages.now.bytes, change.entry.before.directory.now) D.may_leave disk.old disk.new) }
     ensures printed { OnOk result (Appends (W.contents writer.old) (W.contents writer.new) lines.now) }
 
-    // Where the save is whole no mark is left, and both files are on the disk.
+    // If the save is `Whole`, the commit byte is not 1, and both files are durable.
     ensures whole { IfOk result (λ how. how ≡ saved.Whole → IsAtRest (D.seen disk.new) (D.may_leave disk.new)) }
 
-    // Lines are printed only where the change is saved.
+    // Lines are printed only if the change is saved.
     ensures stands { IsErrOf result fault.Write → IsSaved change.entry.after.now (change.entry.before.pages.now.bytes, change.entry.before.directory.now) D.may_leave disk.old disk.new }
     ensures part { IsErrOf result fault.Write → WritesPart (W.contents writer.old) (W.contents writer.new) lines.now }
     ensures unprinted { IfErr result (λ why. why ≢ fault.Write → W.contents writer.new ≡ W.contents writer.old) }
@@ -74,8 +74,8 @@ pub fn save_change<D: Disk, W: Write, L: Drop>(
     ensures unprinted_released { IsErrOf result fault.Write → lock.new ≡ None }
     ensures held { IfErr result (λ why. why ≢ fault.Write → lock.new ≡ lock.old) }
 
-    // A crash at any moment of the call leaves what it might have left before, or the files before the change, or those of the database
-    // after it, and they can be recovered.
+    // A crash during the call leaves what it might have left before, or the files before the change, or those of the database after it, and
+    // they can be recovered.
     ensures any_moment { LeavesOnly D.moment D.left_since disk.old disk.new
         (λ c. D.may_leave disk.old c ⊎ IsOldOrSaved (change.entry.before.pages.now.bytes, change.entry.before.directory.now) change.entry.after.now c) }
 {
@@ -95,7 +95,7 @@ pub fn save_change<D: Disk, W: Write, L: Drop>(
     }
 }
 
-// Prints the lines of a change, once the lock is released.
+// Prints the lines of a change, after the lock was released.
 fn print<W: Write, L>(writer: &mut W, lines: &[u8], _lock: &Option<L>) -> Result<(), FilesFault>
     requires released { _lock.now ≡ None }
     ensures printed { OnOk result (Appends (W.contents writer.old) (W.contents writer.new) lines.now) }
@@ -107,14 +107,14 @@ fn print<W: Write, L>(writer: &mut W, lines: &[u8], _lock: &Option<L>) -> Result
     }
 }
 
-/// The bytes of a redo file that has no mark, and a plan that knows the data files beside it.
+/// The bytes of a redo file whose commit byte is not 1, and a plan that knows the data files next to it.
 #[derive(Clone, Copy)]
 pub struct Planned<'a> {
     pub redo: &'a [u8],
     pub plan: &'a [u8],
 }
 
-/// Saves a change by its plan, releases the lock, and then prints the lines that tell of it, as `save_change` does.
+/// Saves a change by its plan, releases the lock, and then prints the lines that report it, like `save_change`.
 ///
 /// # Errors
 /// Those of `save_change`, and `FileTooLong` if the plan has 3,000,000,000 bytes or more.
@@ -149,7 +149,7 @@ pub fn save_plan<D: Disk, W: Write, L: Drop>(
     Ok(saved)
 }
 
-// Commits a change by its plan, and does it in both data files. The fault is `NoMemory`, `WriteFile` or `FileTooLong`.
+// Commits a change by its plan, and applies it to both data files. The fault is `NoMemory`, `WriteFile` or `FileTooLong`.
 fn commit_plan<D: Disk>(
     alloc: Global,
     disk: &mut D,

@@ -1,4 +1,4 @@
-//! The saves of a session, whose log stays open from one to the next.
+//! Saves of a session. Its log stays open from one save to the next.
 ghost use Rattle.std.specs.Prelude.{◌≡◌, ◌≢◌, ◌<◌, [], length, get_or};
 ghost use Rattle.sdbm_saves.specs.CallLog.{acts};
 ghost use Rattle.sdbm_saves.specs.Redo.{renewed, IsPlan, Knows};
@@ -21,26 +21,26 @@ use std::alloc::Global;
 use std::fs::File;
 use std::rt::Files;
 
-// The log stays open for a `.pag` of at most this many bytes, since a session has those of both files in memory meanwhile.
+// The log stays open if `.pag` has at most this many bytes, because the session keeps both files in memory meanwhile.
 const MOST_KEPT: u64 = 16_777_216;
 
-// The room of the log of a session, for some hundred small saves.
+// The size of a session's log in bytes, for some hundred small saves.
 const ROOM: usize = 258_048;
 
-// The disk of a session, which has the files open.
+// The disk of a session, which holds the files open.
 type SessionDisk<'a, R> = Recorded<RealFiles<'a, R>, Unknown, Noted>;
 
-/// What a session has of its database between two saves.
+/// The state of a session between two saves.
 #[derive(Drop)]
 pub struct SessionSaves<'a, R: Files<File = File>> {
-    // The log, with the files open, from the first save on.
+    // The log and its open files. `None` before the first save, and whenever no log is open.
     log: Option<KeptDisk<SessionDisk<'a, R>>>,
-    // The data files as the session read or saved them last.
+    // The data files as the session last read or saved them.
     states: DataStates,
 }
 
 impl<'a, R: Files<File = File>> SessionSaves<'a, R> {
-    /// Of a session that has read its files and saved nothing. It gives BASE.lock back.
+    /// The state of a session that has read its files and saved nothing. Releases BASE.lock.
     pub fn begin(held: &LockedFiles) -> Self {
         held.locks.leave_files();
         SessionSaves {
@@ -50,14 +50,14 @@ impl<'a, R: Files<File = File>> SessionSaves<'a, R> {
     }
 }
 
-/// Saves a database in a session, under BASE.lock, which is given back once the save is committed. The first save opens a log; each
-/// later one takes one sync while it stays open. If the log is full, or the files may want new blocks of the disk, the log is closed, and the
-/// files are read again and saved in a new one. A large database is saved without a log that stays open, and so is one if the disk has no room
-/// for that.
+/// Saves a database in a session, under BASE.lock. Releases BASE.lock once the save is committed. The first save opens a log. Each later
+/// save needs one sync while the log stays open. If the log is full, or the files may need new blocks of the disk, the log is closed, and
+/// the files are read again and saved in a new log. If the database is large, or the disk has no room for a log that stays open, the save
+/// uses a log for this save alone.
 ///
 /// # Errors
-/// `Changed` if another program has written a data file since the session read or saved it: nothing is saved then. Those of `save_held` and
-/// `read_again`. Of the saves before nothing is lost. After each of them BASE.lock is kept.
+/// `Changed` if another program has written a data file since the session read or saved it; nothing is saved then. Those of `save_held` and
+/// `read_again`. Earlier saves are never lost. After an error BASE.lock is still held.
 pub fn save_session<'a, R: Files<File = File> + AllocGlobal>(
     rt: &'a R,
     place: RunPlace<'_>,
@@ -114,11 +114,11 @@ fn save_locked<'a, R: Files<File = File> + AllocGlobal>(
     }
 }
 
-/// Closes the log of a session, if it is open, under BASE.lock: both data files are whole then, on the disk too.
+/// Closes the log of a session, if it is open, under BASE.lock. Afterwards both data files are complete and durable.
 ///
 /// # Errors
-/// `NoMemory`, `WriteFile` if the disk has failed or BASE.lock cannot be had, and `Moved` if a lock has lost its name: another run may have a
-/// log open in the same file by then. No save is lost: the next run that writes does the rest.
+/// `NoMemory`, `WriteFile` if the disk has failed or BASE.lock cannot be taken, and `Moved` if a lock has lost its name: another run may
+/// have opened a log in the same file by then. No save is lost: the next writing run finishes the work.
 pub fn close_session<R: Files<File = File> + AllocGlobal>(
     rt: &R,
     held: &LockedFiles,
@@ -132,7 +132,6 @@ pub fn close_session<R: Files<File = File> + AllocGlobal>(
     close_log(rt.alloc(), saves.log.take())
 }
 
-// Closes a log that is open.
 fn close_log<R: Files<File = File>>(
     alloc: Global,
     log: Option<KeptDisk<SessionDisk<'_, R>>>,
@@ -160,7 +159,7 @@ fn save_alone<R: Files<File = File> + AllocGlobal>(
     save_held(rt, held, &read.seen, old, image)
 }
 
-// Saves in a log that is open, and keeps it. `None` if it had to be closed instead. If there is no plan the log stays open.
+// Saves in an open log and keeps it. Returns `None` if the log had to be closed instead. If the save cannot be planned, the log stays open.
 fn save_more<'a, R: Files<File = File>>(
     alloc: Global,
     kept: KeptDisk<SessionDisk<'a, R>>,
@@ -180,7 +179,7 @@ fn save_more<'a, R: Files<File = File>>(
     }
 }
 
-// Saves by a plan in a log that is open, and keeps it. `None` if it had to be closed instead.
+// Saves a plan in an open log and keeps it. Returns `None` if the log had to be closed instead.
 fn save_planned<'a, R: Files<File = File>>(
     alloc: Global,
     kept: KeptDisk<SessionDisk<'a, R>>,
@@ -204,7 +203,7 @@ fn save_planned<'a, R: Files<File = File>>(
     }
 }
 
-// Saves in a new log, which stays open. If nothing was committed the redo file is removed.
+// Saves in a new log, which stays open. If nothing was committed, the redo file is removed.
 fn save_opening<'a, R: Files<File = File> + AllocGlobal>(
     rt: &'a R,
     held: &'a LockedFiles,
@@ -241,7 +240,7 @@ fn save_opening<'a, R: Files<File = File> + AllocGlobal>(
     }
 }
 
-// Saves files that were read by a plan, in a new log. `None` if something failed after the commit.
+// Saves files by a plan, in a new log. Returns `None` if something failed after the commit.
 fn save_found<'a, R: Files<File = File>>(
     alloc: Global,
     files: RealFiles<'a, R>,

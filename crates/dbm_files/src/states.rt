@@ -1,11 +1,11 @@
-//! Whether another program has changed the data files.
+//! Detects changes of the data files by another program.
 
 use dbm_places::{FileId, Names};
 use std::fs;
 use std::os::unix::fs::MetadataExt;
 use std::rt::Files;
 
-// Which file one is, how long, and when its bytes and its inode were changed last.
+// The ID and the length of a file, and the times of the last change of its bytes and of its inode.
 #[derive(Clone, Copy, PartialEq, Eq)]
 struct FileState {
     id: FileId,
@@ -15,13 +15,13 @@ struct FileState {
 }
 
 impl FileState {
-    // Whether it is another file, or its bytes were written in between.
+    // Returns whether it is a different file, or its bytes were written in between.
     fn is_written_since(self, other: FileState) -> bool {
         self.id != other.id || self.len != other.len || self.written != other.written
     }
 }
 
-/// The data files as they are now, which another program may change.
+/// The current state of the data files, which another program may change.
 #[derive(Clone, Copy, PartialEq, Eq)]
 pub(crate) struct DataStates {
     pages: Option<FileState>,
@@ -41,7 +41,7 @@ impl DataStates {
     }
 }
 
-// Whether a file was written, made or removed in between.
+// Returns whether a file was written, made or removed in between.
 fn is_written(now: Option<FileState>, before: Option<FileState>) -> bool {
     match (now, before) {
         (Some(now), Some(before)) => now.is_written_since(before),

@@ -1,4 +1,4 @@
-//! The files of a run, written.
+//! Writes the files of a run.
 ghost use Rattle.std.specs.Prelude.{◌≡◌, ◌≢◌, get_or, IfOk};
 ghost use Rattle.sdbm_saves.specs.Redo.{IsPlan, Knows};
 ghost use Rattle.sdbm_saves.specs.Recording.{part_pages};
@@ -18,25 +18,26 @@ use std::fs::File;
 use std::io::{self, Write};
 use std::rt::Files;
 
-// A save removes a redo file with more bytes than this, and does not use it again.
+// A save removes a redo file with more bytes than this instead of reusing it.
 const MOST_REDO: u64 = 262_144;
 
 // The redo file before a save.
 #[derive(Drop)]
 pub(crate) struct OldRedo {
-    // Its bytes. None if it is stale.
+    // Its bytes, or no bytes if it is stale.
     pub(crate) bytes: Vec<u8>,
-    // It is long, or others could not use it: the save removes it first.
+    // It is long, or other users could not use it. The save removes it first.
     pub(crate) is_stale: bool,
 }
 
-/// Saves what a run has made of a database, releases its locks, and then prints its lines. The files are written in place, by a log: a crash at
-/// any moment leaves files from which the next run gets the database before the save or after it. If nothing changed no file is written, made
-/// or touched. If a save failed before it was committed, its redo file is removed.
+/// Saves the database of a run, releases its locks, and then prints its lines. The files are written in place, with a log: after a crash at
+/// any time the next run gets the database before the save or after it. If nothing changed, no file is written, made or touched. If the
+/// save failed before its commit, its redo file is removed.
 ///
 /// # Errors
-/// Those of `save_change`, `BadRedo` if the redo file is marked, and before all else `Moved` if a lock or a data file has lost its name to
-/// another file, and `Changed` if another program has written a data file since it was read.
+/// Those of `save_change`. `BadRedo` if the commit byte of the redo file is 1, `Unsafe` if another user could have planted the redo file,
+/// and `ReadFile` if it cannot be read. Before everything else, `Moved` if a lock or a data file has lost its name to another file, and
+/// `Changed` if another program has written a data file since it was read.
 pub fn save_files<R: Files<File = File> + AllocGlobal, W: Write>(
     rt: &R,
     held: LockedFiles,
@@ -65,10 +66,10 @@ pub fn save_files<R: Files<File = File> + AllocGlobal, W: Write>(
     saved
 }
 
-/// The same, but the locks are kept, and nothing is printed. The files are those that were seen when they were read last.
+/// Like `save_files`, but keeps the locks and prints nothing. The files must be those that were seen at the last read.
 ///
 /// # Errors
-/// As `save_files`.
+/// Those of `save_files`, except `Changed` and `Write`.
 pub fn save_held<R: Files<File = File> + AllocGlobal>(
     rt: &R,
     held: &LockedFiles,
@@ -101,15 +102,15 @@ pub fn save_held<R: Files<File = File> + AllocGlobal>(
 #[derive(Clone, Copy)]
 pub struct PlannedPart<'a> {
     pub part: Part<'a>,
-    /// How large the pages are.
+    /// The page size.
     pub size: PageSize,
     pub plan: &'a [u8],
 }
 
-/// What `save_files` does, of a database of which one page was read, by a plan that knows its files.
+/// Like `save_files`, if only one page of the database was read. The plan must know the files.
 ///
 /// # Errors
-/// Those of `save_plan`, `BadRedo` if the redo file is marked, and `Moved` and `Changed` as `save_files`.
+/// Those of `save_plan`, and `BadRedo`, `Unsafe`, `ReadFile`, `Moved` and `Changed` as in `save_files`.
 pub fn save_part<R: Files<File = File> + AllocGlobal, W: Write>(
     rt: &R,
     held: LockedFiles,
@@ -147,7 +148,7 @@ pub fn save_part<R: Files<File = File> + AllocGlobal, W: Write>(
     saved
 }
 
-// Compares the data files with what they were when they were read. `Changed` if another program has written one since.
+// Returns `Changed` if another program has written a data file since it was read.
 fn must_be_unwritten<R: Files<File = File>>(
     rt: &R,
     names: &Names,
@@ -159,7 +160,7 @@ fn must_be_unwritten<R: Files<File = File>>(
     Ok(())
 }
 
-// What a save changes.
+// The change that a save makes.
 fn change_of<'a>(
     old: ReadFiles<'a, Global>,
     redo: &'a OldRedo,
@@ -175,7 +176,7 @@ fn change_of<'a>(
     }
 }
 
-// The files as they were read.
+// The files, as read.
 fn found_of<'a>(old: ReadFiles<'a, Global>, redo: &'a OldRedo) -> FoundRead<'a>
     ensures files { result.files ≡ old.entry }
     ensures redo { result.redo.now ≡ redo.now.bytes.items }
@@ -186,7 +187,7 @@ fn found_of<'a>(old: ReadFiles<'a, Global>, redo: &'a OldRedo) -> FoundRead<'a>
     }
 }
 
-// The redo file before a save, which has no mark.
+// The redo file before a save. The fault is `BadRedo` if its commit byte is 1.
 pub(crate) fn find_redo<R: Files<File = File> + AllocGlobal>(
     rt: &R,
     names: &Names,
@@ -208,7 +209,7 @@ pub(crate) fn find_redo<R: Files<File = File> + AllocGlobal>(
     Ok(OldRedo { bytes, is_stale })
 }
 
-// The first bytes of the redo file, one more than may be used again. One that is absent has none.
+// Reads the first bytes of the redo file, at most one more than may be reused. A missing file counts as empty.
 fn read_redo<R: Files<File = File> + AllocGlobal>(
     rt: &R,
     names: &Names,
@@ -223,7 +224,7 @@ fn read_redo<R: Files<File = File> + AllocGlobal>(
     Ok(bytes)
 }
 
-// Removes the redo file of a save that has failed before it was committed. The lock is held still.
+// Removes the redo file of a save that failed before its commit. The lock is still held.
 fn forget_failed<R: Files<File = File>>(rt: &R, names: &Names, saved: &Result<Saved, FilesFault>) {
     match saved {
         Ok(_) | Err(FilesFault::Write) => (),

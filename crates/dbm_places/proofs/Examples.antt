@@ -1,4 +1,4 @@
--- What the definitions of files make of runs that are written out.
+-- The definitions of files, applied to example runs.
 use Rattle.sdbm_addr.specs.declared.PageSize.TheVariants.{Small}
 use Rattle.std.proofs.Common.{◌≡◌, ℕ, Bool, List, [], ◌∷◌, Option, Some, None, Bor, true, false, refl, codes}
 use Rattle.dbm_places.specs.Names.{FileRead, files_read}

@@ -11,7 +11,7 @@ abbrev pub disk_fault : DiskError → FilesFault
 disk_fault disk.Memory = NoMemory
 disk_fault disk.Failed = WriteFile
 
--- the fault of a save that has no plan
+-- the fault of a save that cannot be planned
 abbrev pub plan_fault : SavePlanFault → FilesFault
 plan_fault planned.TooLong = FileTooLong
 plan_fault planned.NoMemory = NoMemory

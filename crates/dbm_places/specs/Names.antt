@@ -1,4 +1,4 @@
--- The files that a run is about, each under its name: what is read, what is written, and the lock.
+-- The names of the files that a run reads and writes, and of its locks.
 use Rattle.std.specs.Prelude.{◌≡◌, ℕ, ◌++◌, Bool, true, false, List, [], ◌∷◌, Option, Some, None, codes, option_map, string_bytes}
 use Rattle.dbm_places.specs.declared.names.Names.{Names}
 use Rattle.dbm_places.specs.declared.names.SourceKind.{SourceKind}
@@ -6,7 +6,7 @@ use Rattle.dbm_places.specs.declared.names.SourceKind.TheVariants.{Dir, Pag, Pro
 use Rattle.dbm_places.specs.declared.names.RunPlace.{RunPlace}
 use Rattle.dbm_places.specs.declared.names.Source.{Source}
 
--- A file that is read: which it is, its name, how many bytes it has at most, and whether it may be missing.
+-- A file to be read: its kind, its name, its maximum size in bytes, and whether it may be missing.
 pub record FileRead : Type 0 where
   pub kind : SourceKind
   pub name : List ℕ
@@ -21,14 +21,14 @@ shown_source source = record {
   may_be_absent = source.may_be_absent;
 }
 
--- 256 MiB of directory at most, and as many bytes of pages as the run says
+-- at most 256 MiB of directory; the maximum size of the pages depends on the run
 abbrev pub dir_file : List ℕ → FileRead
 dir_file base = record { kind = Dir; name = base ++ codes ".dir"; limit = 268435456; may_be_absent = true }
 
 abbrev pub pag_file : ℕ → List ℕ → FileRead
 pag_file limit base = record { kind = Pag; name = base ++ codes ".pag"; limit = limit; may_be_absent = true }
 
--- 1 MiB of program at most
+-- at most 1 MiB of program
 abbrev pub program_file : List ℕ → FileRead
 program_file name = record { kind = Program; name = name; limit = 1048576; may_be_absent = false }
 
@@ -38,11 +38,11 @@ named_files limit (Some base) None = dir_file base ∷ pag_file limit base ∷ [
 named_files limit None (Some file) = program_file file ∷ []
 named_files limit None None = []
 
--- the files that are read for a run, in this order
+-- the files to be read for a run, in this order
 abbrev pub files_read : RunPlace → List FileRead
 files_read place = named_files place.pages_limit (option_map (λ text. text.now) place.base) (option_map (λ text. text.now) place.file)
 
--- the names of the files of a base that are written, and of those on which its runs wait for each other
+-- the names of the files of a base that are written, and of its locks
 pub record AreNames (base : List ℕ) (names : Names) : Type 0 where
   pub pages : string_bytes names.pages ≡ base ++ codes ".pag"
   pub directory : string_bytes names.directory ≡ base ++ codes ".dir"

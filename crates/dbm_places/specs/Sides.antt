@@ -1,15 +1,15 @@
--- Which files beside a database are taken.
+-- The files next to a database that are accepted.
 use Rattle.std.specs.Prelude.{◌≡◌, ◌⊎◌, ℕ, ◌/◌, ◌%◌, IsTrue, Option, Some, None}
 use Rattle.dbm_places.specs.declared.side.Standing.{Standing}
 
--- a bit of the permissions of POSIX, as the octal 002 and 020 have them
+-- POSIX permission bits, octal 002 and 020
 abbrev pub others_write : ℕ → Type 0
 others_write mode = mode / 2 % 2 ≡ 1
 
 abbrev pub group_writes : ℕ → Type 0
 group_writes mode = mode / 16 % 2 ≡ 1
 
--- nobody may write the one who may not write the other, by their permissions
+-- no user may write the file who may not write the pages, by their permissions
 abbrev pub IsNoWiderThan : Standing → Standing → Type 0
 IsNoWiderThan side pages =
     others_write pages.mode ⊎ ((others_write side.mode → ⊥) × (group_writes side.mode → group_writes pages.mode × (side.group ≡ pages.group)))
@@ -18,7 +18,7 @@ abbrev pub IsNoWider : Standing → Option Standing → Type 0
 IsNoWider side (Some pages) = IsNoWiderThan side pages
 IsNoWider side None = (others_write side.mode → ⊥) × (group_writes side.mode → ⊥)
 
--- it is of this user, of root, or of the owner of the pages
+-- the owner is this user, root, or the owner of the pages
 abbrev pub IsOwned : Standing → Option Standing → Option ℕ → Type 0
 IsOwned side (Some pages) user = (side.owner ≡ 0) ⊎ ((user ≡ Some side.owner) ⊎ (pages.owner ≡ side.owner))
 IsOwned side None user = (side.owner ≡ 0) ⊎ (user ≡ Some side.owner)
@@ -28,7 +28,7 @@ pub record TakesRedo (side : Standing) (pages : Option Standing) (user : Option 
   pub owned : IsOwned side pages user
   pub no_wider : IsNoWider side pages
 
--- its owner may write the pages, as far as that is seen
+-- the owner may write the pages, as far as that is visible
 abbrev pub IsOfWriters : Standing → Standing → Option ℕ → Type 0
 IsOfWriters side pages user = IsOwned side (Some pages) user ⊎ (others_write pages.mode ⊎ (group_writes pages.mode × (side.group ≡ pages.group)))
 

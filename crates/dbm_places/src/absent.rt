@@ -1,4 +1,4 @@
-//! Files that are not there, and names of no files.
+//! Missing files and special files.
 
 use crate::names::{Names, names_of};
 use crate::side::{Side, SideFault, open_beside};
@@ -6,7 +6,7 @@ use std::fs::{self, File};
 use std::io::{ErrorKind, Read};
 use std::rt::Files;
 
-/// Whether a name leads to a FIFO, a device or a socket: a run that opens a FIFO waits for its other end.
+/// Returns whether a name refers to a FIFO, a device or a socket. Opening a FIFO waits for its other end.
 pub fn is_special<R: Files>(rt: &R, name: &str) -> bool {
     match fs::metadata(rt, name) {
         Ok(found) => !found.is_file() && !found.is_dir(),
@@ -14,7 +14,7 @@ pub fn is_special<R: Files>(rt: &R, name: &str) -> bool {
     }
 }
 
-/// Whether a run is about a database of which neither file is there, nor a redo file with its mark.
+/// Returns whether a database has no data files and no committed redo file. Without a base the answer is `false`.
 pub fn has_no_files<R: Files<File = File> + AllocGlobal>(rt: &R, base: Option<&str>) -> bool {
     let Some(base) = base else {
         return false;
@@ -29,7 +29,7 @@ pub fn has_no_files<R: Files<File = File> + AllocGlobal>(rt: &R, base: Option<&s
     }
 }
 
-// Whether a redo file has its mark, or cannot be read.
+// Returns whether the commit byte of a redo file is 1, or the file cannot be read.
 fn may_be_marked<R: Files<File = File>>(rt: &R, names: &Names) -> bool {
     let (name, pages) = (names.redo.as_str(), names.pages.as_str());
     let mut first = [0u8];
@@ -43,7 +43,7 @@ fn may_be_marked<R: Files<File = File>>(rt: &R, names: &Names) -> bool {
     }
 }
 
-/// Whether nothing has this name.
+/// Returns whether no file has this name. A dangling link counts as a file.
 pub fn is_absent<R: Files<File = File>>(rt: &R, name: &str) -> bool {
     match fs::symlink_metadata(rt, name) {
         Err(error) => error.kind() == ErrorKind::NotFound,

@@ -1,24 +1,24 @@
-//! Why files were not read, locked or written.
+//! Why files could not be read, locked or written.
 ghost use Rattle.std.specs.Prelude.{◌≡◌};
 ghost use Rattle.dbm_places.specs.declared.fault.FilesFault.TheVariants.{NoMemory};
 
 use sdbm_saves::{DiskError, SavePlanFault};
 use std::alloc::{AllocError, AllocFailed};
 
-/// A file of a database under whose name there is another one by now.
+/// A file of a database whose name now refers to a different file.
 #[derive(Clone, Copy, Debug, PartialEq, Eq)]
 pub enum MovedFile {
-    /// BASE.lock, which the run holds.
+    /// BASE.lock, which this run holds.
     Lock,
-    /// BASE.writer, which the run holds.
+    /// BASE.writer, which this run holds.
     Writer,
-    /// BASE.pag, which the run has read.
+    /// BASE.pag, which this run has read.
     Pages,
-    /// BASE.dir, which the run has read.
+    /// BASE.dir, which this run has read.
     Directory,
 }
 
-/// Why files were not read, locked or written. It names no file: `find_unread` and its like look for that one.
+/// Why files could not be read, locked or written. The fault does not name the file: `find_unread` and similar functions find it.
 #[derive(Clone, Copy, Debug, PartialEq, Eq)]
 pub enum FilesFault {
     /// A file could not be read.
@@ -27,19 +27,19 @@ pub enum FilesFault {
     FileTooLong,
     /// A file could not be written.
     WriteFile,
-    /// The redo file is marked, and is not of these files, or none that a save has left.
+    /// The commit byte of the redo file is 1, but it belongs to different data files, or no save has left it.
     BadRedo,
-    /// The redo file or a lock is one that others could have planted.
+    /// Another user could have planted the redo file or a lock.
     Unsafe,
-    /// Another run has had the lock for as long as this one was to wait.
+    /// Another run held the lock for as long as this run was to wait.
     Locked,
     /// `BASE.lock`, `.writer`, `.pag` or `.dir` is no longer the file that this run locked or read. Nothing was saved.
     Moved(MovedFile),
     /// Another program has written `BASE.pag` or `.dir` since this run read or saved it. Nothing was saved.
     Changed,
-    /// The lines that tell of a save could not be written. The save stands.
+    /// The lines that report a save could not be written. The save itself is done.
     Write,
-    /// No memory is left.
+    /// Out of memory.
     NoMemory,
 }
 

@@ -1,11 +1,11 @@
-//! Which process has a lock, by the system's table of locks.
+//! Finds the process that holds a lock, in the system's table of locks.
 
 use std::fs;
 use std::os::unix::fs::MetadataExt;
 use std::rt::Files;
 
-/// The number of a process that has the lock on a file, if one has it and the system tells that. It is 0 for a process that this one cannot see,
-/// as one of another container.
+/// The ID of a process that holds the lock on a file, if there is one and the system reports it. The ID is 0 for a process that this one
+/// cannot see, for example in another container.
 pub fn locker_of<R: Files + AllocGlobal>(rt: &R, name: &str) -> Option<u64> {
     let number = fs::metadata(rt, name).ok()?.ino();
     let locks = fs::read_to_string(rt, "/proc/locks").ok()?;
@@ -18,8 +18,8 @@ pub fn locker_of<R: Files + AllocGlobal>(rt: &R, name: &str) -> Option<u64> {
     holder
 }
 
-// The process of a line of /proc/locks, where the line is of a lock that a process has on the file with this number: the line's number, the
-// kind of the lock, two words on how it is held, the process, and the file as two numbers of its device and its own. Who waits has an arrow
+// Parses a line of /proc/locks. Returns the process if it holds a lock on the file with this inode. A line has its number, the kind of
+// lock, two words about the lock, the process, and the file as the two numbers of its device and its inode. A waiting process has an arrow
 // before the kind.
 fn holder_in(line: &str, number: u64) -> Option<u64> {
     let mut words = line.split_whitespace().skip(1);

@@ -1,5 +1,5 @@
-//! Which files a database has: their names, links that lead to them, what may lie beside them, the lock that keeps runs apart, and why files
-//! are not read, locked or written (`FilesFault`).
+//! The files of a database: their names, links that lead to them, the files next to them, the locks that keep runs apart, and the reasons
+//! why files cannot be read, locked or written (`FilesFault`).
 #![tactic(auto)]
 
 mod absent;

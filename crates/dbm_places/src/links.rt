@@ -5,11 +5,12 @@ use std::fs;
 use std::io::ErrorKind;
 use std::rt::Files;
 
-/// The base under which the files of a database lie: the base of the words, or where BASE.pag and BASE.dir are symbolic links to the
-/// files of another base, that one. So all runs meet at one lock and one redo file. It takes memory for the base.
+/// Resolves a base. If BASE.pag and BASE.dir are symbolic links to the files of another base, returns that base, otherwise `base` itself.
+/// So all runs use the same lock and the same redo file. Allocates the result.
 ///
 /// # Errors
-/// `ReadFile` where a link leads nowhere, or one of the two leads to a file of another base and the other does not, and `NoMemory`.
+/// `ReadFile` if a link is dangling, if only one of the files is such a link, or if they lead to different bases. `NoMemory` if allocation
+/// fails.
 pub fn resolve<R: Files + AllocGlobal>(rt: &R, base: &str) -> Result<String, FilesFault> {
     let (pages, directory) = bases_behind(rt, base)?;
     match (pages, directory) {
@@ -19,7 +20,7 @@ pub fn resolve<R: Files + AllocGlobal>(rt: &R, base: &str) -> Result<String, Fil
     }
 }
 
-// The bases to whose files BASE.pag and BASE.dir lead, each where it is a link.
+// The bases that BASE.pag and BASE.dir lead to, each if it is a link.
 fn bases_behind<R: Files + AllocGlobal>(
     rt: &R,
     base: &str,
@@ -30,7 +31,7 @@ fn bases_behind<R: Files + AllocGlobal>(
     Ok((pages, directory))
 }
 
-// The base to which both files lead.
+// The base that both files lead to.
 fn same_base(pages: String, directory: &String) -> Result<String, FilesFault> {
     if pages.as_str() == directory.as_str() {
         Ok(pages)
@@ -39,8 +40,8 @@ fn same_base(pages: String, directory: &String) -> Result<String, FilesFault> {
     }
 }
 
-// The base to whose file a name leads by a link, where the files of a base have such an end. `None` where the name is no link, or that
-// of a file of no base.
+// The base that a link leads to, if its target ends in `end`. Returns `None` if the name is not a link, or if the target has a different
+// ending.
 fn base_behind<R: Files + AllocGlobal>(
     rt: &R,
     name: &str,

@@ -1,4 +1,4 @@
-//! The two locks of a database: BASE.lock says who is at the files right now, and BASE.writer who may change the database.
+//! The two locks of a database: a run holds BASE.lock while it uses the files, and BASE.writer as long as it may change the database.
 use crate::fault::{FilesFault, MovedFile};
 use crate::holder::locker_of;
 use crate::names::Names;
@@ -10,28 +10,28 @@ use std::rt::Files;
 use std::thread;
 use std::time::{Clock, Duration, Instant};
 
-/// A run rests for at most so many milliseconds between two looks whether it can have the lock.
+/// Longest pause between two attempts to take a lock, in milliseconds.
 const LONGEST_REST: u64 = 5;
 
-/// A run takes at most so many locks in turn, of which each has lost its name to the next by then.
+/// Maximum number of lock files that a run takes in turn, if each has lost its name to the next by then.
 const MOST_LOCKS: usize = 100;
 
-/// A run that reads leaves the files at most so many times to a save that waits for them: the process that saves may be stopped.
+/// Maximum number of times that a reading run yields to a waiting save. There is a limit because the saving process may be stopped.
 const MOST_YIELDS: usize = 8;
 
-/// The locks of a run that may change a database. Others wait until they are dropped.
+/// The locks of a run that may change a database. Other runs wait until they are dropped.
 #[derive(Drop)]
 pub struct WriteLocks {
-    /// BASE.writer: for this run alone while it is not at the files, and else shared. So if it is killed at the files, in whatever order the
-    /// system releases both, nobody takes the data files for whole.
+    /// BASE.writer: exclusive while this run does not use the files, shared while it does. If the run is killed while it uses the files, no
+    /// reader takes the data files for complete, even if the system releases BASE.lock first.
     pub writer: File,
-    /// BASE.lock, which is locked while the run is at the files.
+    /// BASE.lock, locked while the run uses the files.
     pub files: File,
 }
 
 impl WriteLocks {
-    /// Gives BASE.lock back: the data files have all that is saved. If BASE.writer cannot be had alone at once, since a process that looks at it
-    /// was stopped, it stays shared, and readers use the redo file.
+    /// Releases BASE.lock. The data files must contain all saves. Takes BASE.writer exclusively if that is possible at once. It is not
+    /// possible if a process was stopped while it checked BASE.writer. Then BASE.writer stays shared, and readers use the redo file.
     pub fn leave_files(&self) {
         if self.writer.try_lock().is_err() {
             let _ = self.writer.lock_shared();
@@ -39,15 +39,15 @@ impl WriteLocks {
         let _ = self.files.unlock();
     }
 
-    /// Gives BASE.lock back after a save that is committed, and that the data files may lack. BASE.writer stays shared, so readers use the redo file.
+    /// Releases BASE.lock after a committed save that the data files may lack. BASE.writer stays shared, so readers use the redo file.
     pub fn leave_unfinished(&self) {
         let _ = self.files.unlock();
     }
 
-    /// Waits for BASE.lock, if it was given back. BASE.writer is shared before the wait, by which readers of the library see that a save waits.
+    /// Waits for BASE.lock, if it was released. BASE.writer is shared before the wait, so readers of the library see that a save waits.
     ///
     /// # Errors
-    /// `WriteFile` if a lock cannot be had.
+    /// `WriteFile` if a lock cannot be taken.
     pub fn enter_files(&self) -> Result<(), FilesFault> {
         if self.files.try_lock().is_ok() {
             return share(&self.writer);
@@ -60,7 +60,7 @@ impl WriteLocks {
     }
 }
 
-// Has BASE.writer shared.
+// Makes the lock on BASE.writer shared.
 fn share(writer: &File) -> Result<(), FilesFault> {
     match writer.lock_shared() {
         Ok(()) => Ok(()),
@@ -68,20 +68,20 @@ fn share(writer: &File) -> Result<(), FilesFault> {
     }
 }
 
-/// How a run takes a lock: shared or for itself alone, and how long it waits.
+/// How a run takes a lock: shared or exclusive, and how long it waits.
 #[derive(Clone, Copy)]
 struct Take {
     shared: bool,
     patience: Option<Duration>,
 }
 
-/// Waits for both locks of a run that writes, and takes them. Their files are made if they are missing, so that all who may use the pages can
-/// lock them; but a run that may not write the pages makes none. With a patience it waits no longer than that. If another run has BASE.writer
-/// this one has no lock between two tries, so that readers do not wait for it.
+/// Waits for both locks of a writing run and takes them. Missing lock files are made, so that all users who may use the pages can lock
+/// them. A run that may not write the pages makes no lock file. The wait is limited by `patience`, if it is given. If another run holds
+/// BASE.writer, this run holds no lock between two attempts, so readers do not wait for it.
 ///
 /// # Errors
-/// `Unsafe` if a lock is a file that others could have planted, `WriteFile` if it cannot be made or locked, `Locked` if another run has had
-/// one for as long as this one waits, and `Moved` if a name goes from file to file. A call that a signal interrupts is made again.
+/// `Unsafe` if another user could have planted a lock, `WriteFile` if a lock cannot be made or taken, `Locked` if another run held a lock
+/// for the whole wait, and `Moved` if a name refers to a different file again and again. Interrupted calls are repeated.
 pub fn lock_to_write<R: Files<File = File> + Clock>(
     rt: &R,
     names: &Names,
@@ -89,7 +89,7 @@ pub fn lock_to_write<R: Files<File = File> + Clock>(
 ) -> Result<WriteLocks, FilesFault> {
     let mut patience = patience;
     for _ in 0..u64::MAX {
-        // Readers are left alone as long as another run has the database open. Who tries but once looks only at both locks.
+        // Readers are not disturbed as long as another run has the database open. A single attempt checks only both locks.
         if patience != Some(Duration::ZERO) && has_writer(rt, names) {
             patience = rest_within(rt, patience)?;
             continue;
@@ -106,7 +106,7 @@ pub fn lock_to_write<R: Files<File = File> + Clock>(
     Err(FilesFault::Locked)
 }
 
-// Rests for a while, and returns what is left of the patience after that.
+// Pauses, and returns the remaining patience.
 fn rest_within<C: Clock>(
     clock: &C,
     patience: Option<Duration>,
@@ -124,7 +124,7 @@ fn rest_within<C: Clock>(
     Ok(Some(left.saturating_sub(rest)))
 }
 
-// Takes BASE.writer, if no other run has it, and says whether it did. It does not if its name has another file by now.
+// Takes BASE.writer if no other run holds it, and returns whether it did. Returns `false` if the name refers to a different file by now.
 fn is_locked_now<R: Files<File = File>>(
     rt: &R,
     names: &Names,
@@ -137,7 +137,7 @@ fn is_locked_now<R: Files<File = File>>(
     }
 }
 
-// Waits for BASE.lock, and takes it for this run alone. It returns what is left of the patience too.
+// Waits for BASE.lock and takes it exclusively. Also returns the remaining patience.
 fn lock_files<R: Files<File = File> + Clock>(
     rt: &R,
     names: &Names,
@@ -158,7 +158,7 @@ fn lock_files<R: Files<File = File> + Clock>(
     Err(FilesFault::Moved(MovedFile::Lock))
 }
 
-// Opens the file of a lock, which is made if it is missing.
+// Opens a lock file, or makes it if it is missing.
 fn open_to_lock<R: Files<File = File>>(
     rt: &R,
     names: &Names,
@@ -170,13 +170,13 @@ fn open_to_lock<R: Files<File = File>>(
     }
 }
 
-/// Waits for BASE.lock as a run that reads, and takes it. `None` if its file is missing: then no run of the program has written.
-/// With a patience it waits no longer than that. If the name refers to another file by then, it waits for that file's lock. The system lets
-/// readers in before a writer that waits, so the run gives the lock back for a while if a save waits for it.
+/// Waits for BASE.lock and takes it shared. Returns `None` if the lock file is missing: then no run of the program has written. The wait is
+/// limited by `patience`, if it is given. If the name refers to a different file by then, the run waits for that file's lock. The system
+/// lets readers in before a waiting writer, so the run releases the lock for a while if a save waits for it.
 ///
 /// # Errors
-/// `Unsafe` if the file is one that others could have planted, `ReadFile` if it cannot be opened or locked, `Locked` if a run
-/// that writes has had it for as long as this one waits, and `Moved` if the name goes from file to file.
+/// `Unsafe` if another user could have planted the lock, `ReadFile` if it cannot be opened or locked, `Locked` if a writing run held it for
+/// the whole wait, and `Moved` if the name refers to a different file again and again.
 pub fn lock_to_read<R: Files<File = File> + Clock + AllocGlobal>(
     rt: &R,
     names: &Names,
@@ -199,7 +199,7 @@ pub fn lock_to_read<R: Files<File = File> + Clock + AllocGlobal>(
     }
 }
 
-// Whether a patience would end before the lock is had again.
+// Returns whether the patience would end before the lock is taken again.
 fn is_short(left: Option<Duration>) -> bool {
     match left {
         Some(left) => left <= Duration::from_millis(4 * LONGEST_REST),
@@ -207,7 +207,7 @@ fn is_short(left: Option<Duration>) -> bool {
     }
 }
 
-// Waits for BASE.lock, and shares it. It returns what is left of the patience too.
+// Waits for BASE.lock and takes it shared. Also returns the remaining patience.
 fn share_files<R: Files<File = File> + Clock>(
     rt: &R,
     names: &Names,
@@ -233,14 +233,14 @@ fn share_files<R: Files<File = File> + Clock>(
     Err(FilesFault::Moved(MovedFile::Lock))
 }
 
-// Whether a save waits for BASE.lock, which this run shares: a process has BASE.writer, but not alone. Another reader that looks at it counts too,
-// for a moment.
+// Returns whether a save waits for BASE.lock, which this run shares: a process holds BASE.writer, but not exclusively. A reader that is
+// checking BASE.writer also counts, briefly.
 fn is_waited_for<R: Files<File = File> + AllocGlobal>(rt: &R, names: &Names) -> bool {
     !has_writer(rt, names) && locker_of(rt, names.writer.as_str()).is_some()
 }
 
-/// Whether another run has the database open to change it. To one that has BASE.lock it says that the data files have all that is saved,
-/// whatever the redo file has. It says no if that cannot be found out.
+/// Returns whether another run has the database open for changes. If the caller holds BASE.lock, `true` means that the data files contain
+/// all saves, even if the redo file is not empty. Returns `false` if that cannot be determined.
 pub fn has_writer<R: Files<File = File>>(rt: &R, names: &Names) -> bool {
     let (name, pages) = (names.writer.as_str(), names.pages.as_str());
     let Ok(file) = open_beside(rt, Side::Lock, name, pages, false) else {
@@ -252,7 +252,7 @@ pub fn has_writer<R: Files<File = File>>(rt: &R, names: &Names) -> bool {
     }
 }
 
-// Takes a lock, and tells what is left of the patience. A lock that cannot be had is `Locked`, or this fault.
+// Takes a lock and returns the remaining patience. If the lock is held by another run, the fault is `Locked`, otherwise `fault`.
 fn take_named<C: Clock>(
     clock: &C,
     file: &File,
@@ -266,7 +266,7 @@ fn take_named<C: Clock>(
     }
 }
 
-// Takes a lock, and tells what is left of the patience.
+// Takes a lock and returns the remaining patience.
 fn take_lock<C: Clock>(
     clock: &C,
     file: &File,
@@ -285,7 +285,7 @@ fn take_lock<C: Clock>(
     Ok(Some(left))
 }
 
-// Looks whether the lock can be had, and again after rests that grow, until the time is over. It tells how much of that is left.
+// Tries to take the lock, with growing pauses, until the time is over. Returns the remaining time.
 fn take_within<C: Clock>(
     clock: &C,
     file: &File,
@@ -318,8 +318,7 @@ fn take_within<C: Clock>(
     Err(TryLockError::WouldBlock)
 }
 
-// Opens the file of the lock, and makes it where it is missing; another run may have made it meanwhile. One that may only be read serves
-// too.
+// Opens a lock file, or makes it if it is missing. Another run may have made it meanwhile. A file that may only be read is sufficient.
 fn open_lock<R: Files<File = File>>(rt: &R, name: &str, pages: &str) -> Result<File, SideFault> {
     match open_there(rt, name, pages) {
         Err(SideFault::Absent) => match make_lock(rt, name, pages) {

@@ -1,4 +1,4 @@
-//! Which files a run is about: what is read, what is written, and the lock, each under its name.
+//! The names of the files that a run reads and writes, and of its locks.
 ghost use Rattle.std.specs.Prelude.{◌≡◌, ◌++◌, IfOk, codes, map, string_bytes};
 ghost use Rattle.dbm_places.specs.Names.{AreNames, files_read, shown_source};
 ghost use Rattle.dbm_places.specs.Names as spec;
@@ -8,38 +8,38 @@ use sdbm_addr::PageSize;
 use sdbm_files::ReadPages;
 use std::alloc::{AllocError, Global};
 
-/// A `.dir` file of the program has at most this many bytes.
+/// Maximum size of a `.dir` file, in bytes.
 pub const DIR_LIMIT: u64 = 268_435_456;
 
-/// A program's file has at most this many bytes.
+/// Maximum size of a program's file, in bytes.
 pub const PROGRAM_LIMIT: u64 = 1_048_576;
 
-/// What a run of the program says of its files.
+/// The files that a run of the program names.
 #[derive(Clone, Copy)]
 pub struct RunPlace<'a> {
-    /// The database, where there is one: its files are BASE.dir and BASE.pag.
+    /// The database, if there is one. Its files are BASE.dir and BASE.pag.
     pub base: Option<&'a str>,
-    /// The program's file, where there is one.
+    /// The program's file, if there is one.
     pub file: Option<&'a str>,
-    /// The run writes the files of the database, once it has done what it is asked.
+    /// The run writes the files of the database after its commands.
     pub writes: bool,
-    /// BASE.pag has at most this many bytes.
+    /// Maximum size of BASE.pag, in bytes.
     pub pages_limit: u64,
-    /// How large the pages of BASE.pag are taken to be while it is read. It opens in pages of the other size too, at the cost of a copy.
+    /// The page size that is assumed while BASE.pag is read. Pages of the other size open too, at the cost of a copy.
     pub page_size: PageSize,
 }
 
-/// The files that a run names, as they were read; a file of a database that is not there has no bytes.
+/// The files of a run, as read. A missing file of a database has no bytes.
 #[derive(Drop)]
 pub struct FileBytes {
     pub directory: Vec<u8>,
     pub pages: ReadPages<Global>,
     pub program: Vec<u8>,
-    /// Which data files these bytes are of.
+    /// The data files that these bytes were read from.
     pub seen: SeenFiles,
 }
 
-/// Which of the files that are read one is.
+/// The kind of a file that is read.
 #[derive(Clone, Copy, Debug, PartialEq, Eq)]
 pub enum SourceKind {
     /// The directory of a database.
@@ -50,14 +50,14 @@ pub enum SourceKind {
     Program,
 }
 
-/// A file that is to be read.
+/// A file to be read.
 #[derive(Drop)]
 pub struct Source {
     pub kind: SourceKind,
     pub name: String,
-    /// The file has at most this many bytes.
+    /// Maximum size, in bytes.
     pub limit: u64,
-    /// The file may be missing, and is then read as no bytes.
+    /// The file may be missing. It then counts as empty.
     pub may_be_absent: bool,
 }
 
@@ -70,14 +70,14 @@ pub struct Names {
     pub directory: String,
     /// BASE.redo, the log of saves.
     pub redo: String,
-    /// BASE.lock, which a run has while it is at the files.
+    /// BASE.lock, which a run holds while it uses the files.
     pub lock: String,
-    /// BASE.writer, which a run has as long as it may change the database.
+    /// BASE.writer, which a run holds as long as it may change the database.
     pub writer: String,
 }
 
-/// The files that are read for a run, in this order: BASE.dir and BASE.pag, each of which may be missing, and the program's file.
-/// The error is `AllocError`.
+/// The files to be read for a run, in this order: BASE.dir and BASE.pag, which may be missing, and the program's file. The error is
+/// `AllocError`.
 pub fn sources(alloc: Global, place: RunPlace<'_>) -> Result<Vec<Source>, AllocError>
     ensures { IfOk result (λ sources. map shown_source sources.items ≡ files_read place.entry) }
 {
@@ -142,7 +142,7 @@ pub fn names_of(alloc: Global, base: &str) -> Result<Names, AllocError>
     })
 }
 
-/// The folder in which a file lies.
+/// The folder that contains a file.
 pub fn folder_of(name: &str) -> &str {
     match name.rsplit_once('/') {
         Some(("", _)) => "/",
@@ -151,7 +151,7 @@ pub fn folder_of(name: &str) -> &str {
     }
 }
 
-// Both texts, one after the other.
+// Concatenates two texts.
 fn joined(alloc: Global, head: &str, tail: &str) -> Result<String, AllocError>
     ensures { IfOk result (λ text. string_bytes text ≡ head.now ++ tail.now) }
 {

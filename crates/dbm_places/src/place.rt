@@ -1,4 +1,4 @@
-//! The folder of a database, which a run holds open, and which files it has found in it.
+//! The folder of a database, which a run holds open, and the files that the run found in it.
 
 use crate::absent::is_special;
 use crate::fault::{FilesFault, MovedFile};
@@ -12,8 +12,8 @@ use std::os::fd::AsRawFd;
 use std::os::unix::fs::MetadataExt;
 use std::rt::Files;
 
-/// Which file a name leads to: its device and inode. No two files have the same at the same time, and a file that is removed keeps them for
-/// as long as it is open.
+/// Identifies a file by its device and inode. No two files have the same ID at the same time. A removed file keeps its ID as long as it is
+/// open.
 #[derive(Clone, Copy, Debug, PartialEq, Eq)]
 pub struct FileId {
     device: u64,
@@ -21,7 +21,7 @@ pub struct FileId {
 }
 
 impl FileId {
-    /// That of a file that was looked at.
+    /// The ID of the file with this metadata.
     pub fn of(found: &Metadata) -> FileId {
         FileId {
             device: found.dev(),
@@ -30,7 +30,7 @@ impl FileId {
     }
 }
 
-/// Which data files a run has read. `None` is one that was not there.
+/// The data files that a run has read. `None` represents a missing file.
 #[derive(Clone, Copy, Debug, PartialEq, Eq)]
 pub struct SeenFiles {
     pub pages: Option<FileId>,
@@ -38,7 +38,7 @@ pub struct SeenFiles {
 }
 
 impl SeenFiles {
-    /// Those of a database without files.
+    /// The data files of a database without files.
     pub fn none() -> SeenFiles {
         SeenFiles {
             pages: None,
@@ -49,7 +49,7 @@ impl SeenFiles {
     /// The files that the names of the data files refer to now. Links are followed.
     ///
     /// # Errors
-    /// `Moved` with the first of them that cannot be looked at.
+    /// `Moved` with the first file that cannot be looked up.
     pub fn look<R: Files>(rt: &R, names: &Names) -> Result<SeenFiles, FilesFault> {
         let Ok(pages) = id_of(rt, names.pages.as_str()) else {
             return Err(FilesFault::Moved(MovedFile::Pages));
@@ -60,13 +60,13 @@ impl SeenFiles {
         Ok(SeenFiles { pages, directory })
     }
 
-    /// Whether a data file is missing.
+    /// Returns whether a data file is missing.
     pub fn lacks_file(&self) -> bool {
         self.pages.is_none() || self.directory.is_none()
     }
 
-    /// The same files, and those that a save has made of the missing ones. A file that existed stays the one that it was, whatever has its
-    /// name by now.
+    /// Returns these files, with those that a save has made for the missing ones. A file that existed keeps its ID, even if its name now
+    /// refers to a different file.
     pub fn with_made(&self, made: &DataFiles) -> SeenFiles {
         let made = made.seen();
         SeenFiles {
@@ -75,10 +75,10 @@ impl SeenFiles {
         }
     }
 
-    /// Returns `Moved` with the first data file that differs.
+    /// Checks that both data files are the same.
     ///
     /// # Errors
-    /// `Moved` alone.
+    /// `Moved` with the first data file that differs.
     pub fn must_be(&self, others: &SeenFiles) -> Result<(), FilesFault> {
         if self.pages != others.pages {
             return Err(FilesFault::Moved(MovedFile::Pages));
@@ -106,8 +106,8 @@ impl DataFiles {
         }
     }
 
-    /// Opens the data files to be read that are not open yet. One that is missing or cannot be opened is left out, and so is a FIFO, whose
-    /// other end would be waited for.
+    /// Opens the data files that are not open yet, for reading. A file that is missing or cannot be opened is skipped. A FIFO is skipped
+    /// too, because opening it waits for its other end.
     pub fn open_more<R: Files<File = File>>(&mut self, rt: &R, names: &Names) {
         if self.pages.is_none() {
             self.pages = open_plain(rt, names.pages.as_str());
@@ -117,7 +117,7 @@ impl DataFiles {
         }
     }
 
-    /// Which files they are.
+    /// The IDs of these files.
     pub fn seen(&self) -> SeenFiles {
         SeenFiles {
             pages: id_of_opened(&self.pages),
@@ -134,7 +134,7 @@ fn open_plain<R: Files<File = File>>(rt: &R, name: &str) -> Option<File> {
     fs::open(rt, name).ok()
 }
 
-// Which file an opened one is.
+// The ID of an open file.
 fn id_of_opened(file: &Option<File>) -> Option<FileId> {
     let Some(file) = file else {
         return None;
@@ -145,8 +145,8 @@ fn id_of_opened(file: &Option<File>) -> Option<FileId> {
     }
 }
 
-/// The files of a database under their names in a folder that is held open: whatever the folder's own name leads to by now, these names
-/// lead into it. Where the system does not allow that, they are the names that the folder had.
+/// The files of a database, named through a folder that is held open. These names lead into that folder even if the folder's own name
+/// changes. If the system does not support this, they are the ordinary names.
 #[derive(Drop)]
 pub struct Place {
     pub names: Names,
@@ -155,7 +155,7 @@ pub struct Place {
 }
 
 impl Place {
-    /// The place of a base, which is resolved (`resolve`), and whose folder is opened.
+    /// Resolves a base (`resolve`) and opens its folder.
     ///
     /// # Errors
     /// Those of `resolve`, and `NoMemory`.
@@ -182,7 +182,7 @@ impl Place {
         })
     }
 
-    /// Holds the data files open that the names refer to now, beside those that it holds already. Files that are read afterwards have to be
+    /// Opens the data files that the names now refer to, in addition to those that are already open. Files that are read afterwards must be
     /// these (`must_be_open`).
     pub fn hold_data<R: Files<File = File>>(&mut self, rt: &R) {
         self.data.open_more(rt, &self.names);
@@ -191,20 +191,20 @@ impl Place {
     /// Compares the data files that were read with those that are held open.
     ///
     /// # Errors
-    /// `Moved` with the first that differs.
+    /// `Moved` with the first file that differs.
     pub fn must_be_open(&self, read: &SeenFiles) -> Result<(), FilesFault> {
         read.must_be(&self.data.seen())
     }
 
-    /// The base of the names: what stands before `.pag`.
+    /// The base of the names: the text before `.pag`.
     pub fn base(&self) -> &str {
         base_of(&self.names)
     }
 
-    /// Looks whether the names of the data files have become links to those of another base.
+    /// Checks that the names of the data files have not become links to another base.
     ///
     /// # Errors
-    /// `Moved` where they have, and `NoMemory`.
+    /// `Moved` if they have, and `NoMemory`.
     pub fn must_not_lead<R: Files + AllocGlobal>(&self, rt: &R) -> Result<(), FilesFault> {
         match resolve(rt, self.base()) {
             Ok(base) if base.as_str() == self.base() => Ok(()),
@@ -213,10 +213,10 @@ impl Place {
         }
     }
 
-    /// Looks whether the locks that are held and the data files that were read are still those of the names.
+    /// Checks that the names still refer to the held locks and to the data files that were read.
     ///
     /// # Errors
-    /// `Moved` with the first that is not.
+    /// `Moved` with the first name that does not.
     pub fn must_be_held<R: Files<File = File>>(
         &self,
         rt: &R,
@@ -227,10 +227,10 @@ impl Place {
         seen.must_be(&SeenFiles::look(rt, &self.names)?)
     }
 
-    /// Looks whether the locks that are held are still those of the names: if not, another run may write.
+    /// Checks that the names still refer to the held locks. If not, another run may write.
     ///
     /// # Errors
-    /// `Moved` with the first that is not.
+    /// `Moved` with the first name that does not.
     pub fn must_be_locked<R: Files<File = File>>(
         &self,
         rt: &R,
@@ -246,7 +246,7 @@ impl Place {
     }
 }
 
-// The place of a base under its own names.
+// The place of a base under its ordinary names.
 fn plain_place<R: Files + AllocGlobal>(rt: &R, base: &str) -> Result<Place, FilesFault> {
     Ok(Place {
         names: names_of(rt.alloc(), base)?,
@@ -255,8 +255,8 @@ fn plain_place<R: Files + AllocGlobal>(rt: &R, base: &str) -> Result<Place, File
     })
 }
 
-// Opens the folder of a base. `None` where that cannot be: it is missing, is no folder, or may be searched and not read. What is no folder is
-// not waited for, as a FIFO would be.
+// Opens the folder of a base. Returns `None` if it is missing, is not a folder, or may be searched but not read. If the name refers to a
+// FIFO, the result is `None` without waiting.
 fn open_folder<R: Files<File = File> + AllocGlobal>(
     rt: &R,
     base: &str,
@@ -266,7 +266,7 @@ fn open_folder<R: Files<File = File> + AllocGlobal>(
     Ok(fs::open(rt, name.as_str()).ok())
 }
 
-// Whether a name leads to a file that is open.
+// Returns whether a name refers to an open file. Links are followed.
 fn is_there<R: Files>(rt: &R, name: &str, file: &File) -> bool {
     match (fs::metadata(rt, name), file.metadata()) {
         (Ok(named), Ok(opened)) => FileId::of(&named) == FileId::of(&opened),
@@ -274,7 +274,7 @@ fn is_there<R: Files>(rt: &R, name: &str, file: &File) -> bool {
     }
 }
 
-/// Whether a name is that of a file that is open. A link is not followed.
+/// Returns whether a name refers to an open file. Links are not followed.
 pub fn is_named<R: Files>(rt: &R, name: &str, file: &File) -> bool {
     match (fs::symlink_metadata(rt, name), file.metadata()) {
         (Ok(named), Ok(opened)) => FileId::of(&named) == FileId::of(&opened),
@@ -282,7 +282,7 @@ pub fn is_named<R: Files>(rt: &R, name: &str, file: &File) -> bool {
     }
 }
 
-// Which file a name leads to. `None` where there is none.
+// The ID of the file that a name refers to. `None` if the file is missing.
 fn id_of<R: Files>(rt: &R, name: &str) -> Result<Option<FileId>, FilesFault> {
     match fs::metadata(rt, name) {
         Ok(found) => Ok(Some(FileId::of(&found))),
@@ -291,7 +291,7 @@ fn id_of<R: Files>(rt: &R, name: &str) -> Result<Option<FileId>, FilesFault> {
     }
 }
 
-// What stands after the last `/` of a base.
+// Returns the text after the last `/` of a base.
 fn last_of(base: &str) -> &str {
     match base.rsplit_once('/') {
         Some((_, last)) => last,
@@ -299,7 +299,7 @@ fn last_of(base: &str) -> &str {
     }
 }
 
-/// The base of names: what stands before `.pag`.
+/// The base of names: the text before `.pag`.
 pub fn base_of(names: &Names) -> &str {
     match names.pages.as_str().strip_suffix(".pag") {
         Some(base) => base,

@@ -1,4 +1,4 @@
-//! Files beside a database, its redo file and its lock: which are taken, and how they are opened and made. Links are not followed.
+//! The redo file and the locks next to a database: which are accepted, and how they are opened and made. Links are not followed.
 ghost use Rattle.std.specs.Prelude.{◌≡◌, ◌↔◌, IsTrue};
 ghost use Rattle.dbm_places.specs.Sides.{TakesRedo, TakesLock, IsOwned, IsNoWider, others_write, group_writes};
 
@@ -9,37 +9,37 @@ use std::io::{self, ErrorKind};
 use std::os::unix::fs::{MetadataExt, OpenOptionsExt, PermissionsExt, fchown};
 use std::rt::Files;
 
-/// Attempts to open a file beside a database if its name changes between the look and the opening.
+/// Maximum number of attempts to open a file whose name changes between the check and the opening.
 const MOST_LOOKS: usize = 10;
 
-/// Which file beside a database one is.
+/// A kind of file next to a database.
 #[derive(Clone, Copy, Debug, PartialEq, Eq)]
 pub enum Side {
-    /// The redo file, which is done in both data files.
+    /// The redo file, whose changes are applied to both data files.
     Redo,
-    /// The lock, which has no bytes.
+    /// A lock, which is empty.
     Lock,
 }
 
-/// Whose a file is, and who may write it.
+/// The owner, the group and the permissions of a file.
 #[derive(Clone, Copy)]
 pub struct Standing {
-    /// It is a file, not a link, a folder or the like, and has one name at most: one that is open may have lost its name.
+    /// It is a regular file, not a link, a folder or the like, and has at most one name. An open file may have lost its name.
     pub is_plain: bool,
     pub owner: u32,
     pub group: u32,
-    /// The bits of its permissions, as `chmod` has them.
+    /// The permission bits, as in `chmod`.
     pub mode: u32,
 }
 
-/// Why a file beside a database is not opened.
+/// Why a file next to a database is not opened.
 #[derive(Drop)]
 pub enum SideFault {
-    /// It is not there.
+    /// It is missing.
     Absent,
-    /// It is not taken: others could have planted it.
+    /// It is not accepted: another user could have planted it.
     Unsafe,
-    /// The system refuses it.
+    /// The system does not open it.
     Refused(io::Error),
 }
 
@@ -62,21 +62,22 @@ impl From<SideFault> for io::Error {
     }
 }
 
-// Whether all others may write a file.
+// Returns whether all users may write a file.
 fn others_write(mode: u32) -> bool
     ensures { IsTrue result ↔ others_write mode }
 {
     mode / 2 % 2 == 1
 }
 
-// Whether the group of a file may write it.
+// Returns whether the group of a file may write it.
 fn group_writes(mode: u32) -> bool
     ensures { IsTrue result ↔ group_writes mode }
 {
     mode / 16 % 2 == 1
 }
 
-// Whether nobody may write a file who may not write the pages, by its permissions. Where there are no pages its owner alone may.
+// Returns whether the permissions keep out every user who may not write the pages. If there are no pages, only the owner may write the
+// file.
 fn is_no_wider(side: Standing, pages: Option<Standing>) -> bool
     ensures { IsTrue result ↔ IsNoWider side pages }
 {
@@ -90,7 +91,7 @@ fn is_no_wider(side: Standing, pages: Option<Standing>) -> bool
         && (!group_writes(side.mode) || group_writes(pages.mode) && side.group == pages.group)
 }
 
-// Whether a file is this user's, root's, or that of who owns the pages.
+// Returns whether a file is owned by this user, by root, or by the owner of the pages.
 fn is_owned(side: Standing, pages: Option<Standing>, user: Option<u32>) -> bool
     ensures { IsTrue result ↔ IsOwned side pages user }
 {
@@ -103,17 +104,17 @@ fn is_owned(side: Standing, pages: Option<Standing>, user: Option<u32>) -> bool
     }
 }
 
-/// Whether a redo file is taken that is found beside pages: it is a plain file of this user, of root or of the owner of the pages, and
-/// nobody may write it who may not write the pages.
+/// Returns whether a redo file is accepted. It must be a plain file owned by this user, by root, or by the owner of the pages, and no user
+/// may write it who may not write the pages.
 pub fn takes_redo(side: Standing, pages: Option<Standing>, user: Option<u32>) -> bool
     ensures { IsTrue result ↔ TakesRedo side pages user }
 {
     side.is_plain && is_owned(side, pages, user) && is_no_wider(side, pages)
 }
 
-/// Whether a lock is taken that is found beside pages: it is a plain file of one who may write the pages, as far as that is seen, and
-/// nobody may write it who may not write the pages. Where there are no pages yet it is a plain file of this user or of root, or of any
-/// user where the system does not tell which one this is.
+/// Returns whether a lock is accepted. It must be a plain file whose owner may write the pages, as far as that is visible, and no user may
+/// write it who may not write the pages. If there are no pages yet, it must be a plain file owned by this user or by root, or by any user
+/// if the system does not report the current user.
 pub fn takes_lock(side: Standing, pages: Option<Standing>, user: Option<u32>) -> bool
     ensures { IsTrue result ↔ TakesLock side pages user }
 {
@@ -126,7 +127,7 @@ pub fn takes_lock(side: Standing, pages: Option<Standing>, user: Option<u32>) ->
     side.is_plain && is_of_writers && is_no_wider(side, pages)
 }
 
-/// What the system says of a file.
+/// The standing of a file with this metadata.
 pub fn standing_of(found: &Metadata) -> Standing {
     Standing {
         is_plain: found.is_file() && found.nlink() <= 1,
@@ -136,7 +137,7 @@ pub fn standing_of(found: &Metadata) -> Standing {
     }
 }
 
-// What the system says of the pages, where they are there. Links to them are followed.
+// The standing of the pages, if they exist. Links are followed.
 fn pages_standing<R: Files>(rt: &R, pages: &str) -> io::Result<Option<Standing>> {
     match fs::metadata(rt, pages) {
         Ok(found) => Ok(Some(standing_of(&found))),
@@ -145,7 +146,7 @@ fn pages_standing<R: Files>(rt: &R, pages: &str) -> io::Result<Option<Standing>>
     }
 }
 
-// The number of the user for whom this run opens files, where the system tells it.
+// The ID of the user for whom this run opens files, if the system reports it.
 fn own_user<R: Files>(rt: &R) -> Option<u32> {
     match fs::metadata(rt, "/proc/self") {
         Ok(found) => Some(found.uid()),
@@ -160,7 +161,7 @@ fn takes(side: Side, found: Standing, pages: Option<Standing>, user: Option<u32>
     }
 }
 
-/// The standing of a file beside a database that is there and is not taken.
+/// The standing of a file next to a database, if it exists and is not accepted.
 pub fn doubt_of<R: Files>(rt: &R, side: Side, name: &str, pages: &str) -> Option<Standing> {
     let found = match fs::symlink_metadata(rt, name) {
         Ok(found) => standing_of(&found),
@@ -173,9 +174,9 @@ pub fn doubt_of<R: Files>(rt: &R, side: Side, name: &str, pages: &str) -> Option
     Some(found)
 }
 
-/// Opens a file beside a database that is there, to read it, or to write it too. It is looked at before it is opened, so that neither a
-/// link is followed nor a pipe waited for, and what was opened is looked at once more: it has to be the same file. Where another got its
-/// name in between, that one is opened.
+/// Opens an existing file next to a database for reading, and also for writing if `writes` is true. The file is checked before it is
+/// opened, so a link is not followed and a pipe is not waited for. The open file is checked again, because it must be the same file. If the
+/// name refers to a different file by then, that file is tried.
 pub fn open_beside<R: Files<File = File>>(
     rt: &R,
     side: Side,
@@ -202,9 +203,9 @@ pub fn open_beside<R: Files<File = File>>(
     Err(SideFault::Unsafe)
 }
 
-/// Makes a redo file, which is not there. It has the records of the database in it, so nobody else may read it before its owner, its group
-/// and its permissions are those of the pages, as far as the system lets this user give it away. Where there are no pages yet, all may read
-/// it who will read those.
+/// Makes a redo file, which must not exist. It will contain records of the database. So no other user may read it until its owner, its
+/// group and its permissions are those of the pages, as far as the system lets this user set them. If there are no pages yet, the file may
+/// be read by all users who will be able to read the pages.
 pub fn make_redo<R: Files<File = File>>(rt: &R, name: &str, pages: &str) -> io::Result<File> {
     match pages_standing(rt, pages)? {
         Some(like) => {
@@ -216,8 +217,8 @@ pub fn make_redo<R: Files<File = File>>(rt: &R, name: &str, pages: &str) -> io::
     }
 }
 
-/// Whether a redo file has the owner, the group and the permissions of the pages. If not, others who may write the pages may be unable to use
-/// it.
+/// Returns whether a redo file has the owner, the group and the permissions of the pages. If not, other users who may write the pages may
+/// be unable to use it.
 pub fn is_like_pages<R: Files>(rt: &R, name: &str, pages: &str) -> bool {
     let Ok(found) = fs::symlink_metadata(rt, name) else {
         return false;
@@ -231,7 +232,8 @@ pub fn is_like_pages<R: Files>(rt: &R, name: &str, pages: &str) -> bool {
         && found.mode % 0o1000 == like.mode % 0o1000
 }
 
-/// Makes the directory of a database, which is not there. Beside pages it is made like them, as a redo file is; else as the umask says.
+/// Makes the directory of a database, which must not exist. If there are pages, it is made like them, in the way of a redo file. Otherwise
+/// the umask decides.
 pub fn make_directory<R: Files<File = File>>(rt: &R, name: &str, pages: &str) -> io::Result<File> {
     match pages_standing(rt, pages)? {
         Some(like) => {
@@ -243,13 +245,13 @@ pub fn make_directory<R: Files<File = File>>(rt: &R, name: &str, pages: &str) ->
     }
 }
 
-// Gives a file the owner, the group and the permissions of another, as far as the system lets this user.
+// Gives a file the owner, the group and the permissions of `like`, as far as the system lets this user.
 fn be_like(file: &File, like: Standing) -> io::Result<()> {
     let given = give(file, like)?;
     file.set_permissions(Permissions::from_mode(mode_like(given, like)))
 }
 
-// The permissions of another file for one that was given, those of the group only where the group is that of the other.
+// The permissions of `like` for a file with the standing `given`. Those of the group are dropped if the groups differ.
 fn mode_like(given: Standing, like: Standing) -> u32 {
     let mode = like.mode % 0o1000;
     if given.group == like.group {
@@ -259,9 +261,9 @@ fn mode_like(given: Standing, like: Standing) -> u32 {
     }
 }
 
-/// Makes a lock, which is not there, so that all who may use the pages can take it: where it cannot be given to their owner and their
-/// group, all may read it. It has no bytes, and until it is like the pages its user alone may write it. A run that may not write the pages
-/// makes none.
+/// Makes a lock, which must not exist. All users who may use the pages can take it: if the lock cannot be given to the owner and the group
+/// of the pages, all users may read it. It is empty, and until it is like the pages only its user may write it. A run that may not write
+/// the pages makes no lock.
 pub fn make_lock<R: Files<File = File>>(rt: &R, name: &str, pages: &str) -> io::Result<File> {
     match OpenOptions::new().read(true).write(true).open(rt, pages) {
         Err(error) if error.kind() != ErrorKind::NotFound => return Err(error),
@@ -278,12 +280,12 @@ pub fn make_lock<R: Files<File = File>>(rt: &R, name: &str, pages: &str) -> io::
     Ok(file)
 }
 
-// The permissions with that to read for all others.
+// Adds the permission to read for all users.
 fn with_readers(mode: u32) -> u32 {
     if mode / 4 % 2 == 1 { mode } else { mode + 4 }
 }
 
-/// Makes a file that is not there, with these permissions less those of the umask: a link of that name is not followed.
+/// Makes a new file with these permissions less the umask. If the name is a link, the call fails.
 pub fn make<R: Files<File = File>>(rt: &R, name: &str, mode: u32) -> io::Result<File> {
     OpenOptions::new()
         .read(true)
@@ -293,7 +295,7 @@ pub fn make<R: Files<File = File>>(rt: &R, name: &str, mode: u32) -> io::Result<
         .open(rt, name)
 }
 
-// Gives a file an owner and a group, each as far as the system lets this user, and says whose it is then.
+// Sets the owner and the group, each as far as the system lets this user. Returns the resulting standing.
 fn give(file: &File, like: Standing) -> io::Result<Standing> {
     let own = standing_of(&file.metadata()?);
     if own.owner != like.owner {
@@ -305,7 +307,7 @@ fn give(file: &File, like: Standing) -> io::Result<Standing> {
     Ok(standing_of(&file.metadata()?))
 }
 
-/// A file beside a database that cannot be opened, as a fault: `Unsafe`, or this one.
+/// Converts a fault of a file next to a database: to `Unsafe`, or to `other`.
 pub fn side_fault(fault: &SideFault, other: FilesFault) -> FilesFault {
     match fault {
         SideFault::Unsafe => FilesFault::Unsafe,

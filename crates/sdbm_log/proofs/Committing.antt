@@ -1,4 +1,4 @@
--- The calls that commit a save, and those that do its plan.
+-- The calls that commit a save, and those that apply its plan.
 use Rattle.std.proofs.Common.{◌≡◌, ◌⊎◌, inl, inr, ⊎_elim, ℕ, zero, suc, ◌+◌, ◌<◌, ◌≤◌, List, [], ◌∷◌, length, drop, get_or, true, refl, sym, ◌∙◌, ap, subst, arith}
 use Rattle.sdbm_saves.specs.declared.disk.File.TheVariants.{Pages, Directory, Redo}
 use Rattle.sdbm_saves.specs.Disk.{Image, content, put, written, resized, Torn, Within}
@@ -14,7 +14,7 @@ use Rattle.sdbm_log.proofs.Header.{log_marked, kept_self, marked_records, signed
 use Rattle.sdbm_log.proofs.Joins.{for_done}
 use Rattle.sdbm_log.proofs.Logs.{appending, appended, file_after, number_after, plan_after, both_renewed, mark_set, marking, marked_durable, marked_number, marked_plan, half_left, log_left}
 
--- a log that has its mark, and is else as it was
+-- a log whose commit byte was set to 1, otherwise unchanged
 pub record IsMarked (first : Image) (seen : Image) (may_leave : Image → Type 0) : Type 0 where
   pub durable : IsDurable seen may_leave
   pub log : is_log seen.redo ≡ true
@@ -52,7 +52,7 @@ mark_does (suc end) first may_leave file durable = nothing_does first may_leave 
   same = refl;
 })
 
--- a save that is committed in a log, and not yet done
+-- a save that is committed in a log and not yet applied
 pub record IsAppended (end : ℕ) (plan bytes : List ℕ) (first : Image) (seen : Image) (may_leave : Image → Type 0) : Type 0 where
   pub committed : IsCommitted plan seen may_leave
   pub file : IsLogFile (end + length bytes) seen.redo
@@ -116,12 +116,12 @@ module _ (end : ℕ) (plan bytes : List ℕ) (bytes_are : bytes ≡ record_of pl
           (subst (λ k. CanFollow k (plan_of s) plan) (sym marked.number) (subst (λ (l : List ℕ). CanFollow (number_of first) l plan) (sym marked.plan) follows))
           (omega (arith, room, marked.long)))
 
--- what was left before, as far as all plans that end with this one can tell
+-- images that are alike, for all plans that end with this one, to those left before
 abbrev pub Alikes : List ℕ → (Image → Type 0) → Image → Type 0
 Alikes plan may_leave c = (d : Image) × may_leave d × AlikeFor plan d c
 
 module _ (plan : List ℕ) (is_plan : IsPlan plan) (first : Image) (sized : (g : ℕ) → length (content (data_file g) first) ≡ new_length (data_file g) plan) (may_leave : Image → Type 0) where
-  -- k changes are done, and n are left
+  -- k changes are done, and n remain
   changes_do : (n k : ℕ) → k + n ≡ count_of plan → (seen : Image) (left : Image → Type 0) → seen ≡ replayed_image k plan first → ((c : Image) → left c → Alikes plan may_leave c)
       → Does (change_acts n (rest_after k (changes_of plan))) seen left (Alikes plan may_leave) (λ s m. (s ≡ replayed_image (count_of plan) plan first) × ((c : Image) → m c → Alikes plan may_leave c))
   changes_do zero k all seen left is alike =

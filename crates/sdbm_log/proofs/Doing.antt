@@ -1,10 +1,10 @@
--- Lists of calls, one after another.
+-- Lists of calls, one after the other.
 use Rattle.std.proofs.Common.{inl, inr, ⊎_elim, List, [], ◌∷◌, ◌++◌}
 use Rattle.sdbm_saves.specs.Disk.{Image}
 use Rattle.sdbm_saves.specs.Acts.{Act, write, resize, sync, clear, acted, seen_after, LeftBy, LeftAfter}
 use Rattle.sdbm_log.specs.Doing.{AnyMoment, Does}
 
--- one list and the next
+-- a list and the next one
 pub then_does : (acts more : List Act) (seen : Image) (may_leave P : Image → Type 0) (Q R : Image → (Image → Type 0) → Type 0) → Does acts seen may_leave P Q
     → ((s : Image) (m : Image → Type 0) → Q s m → Does more s m P R) → Does (acts ++ more) seen may_leave P R
 then_does [] more seen may_leave P Q R first next = next seen may_leave first.after
@@ -17,7 +17,7 @@ then_does (act ∷ acts) more seen may_leave P Q R first next =
       after = rest.after;
     }
 
--- one list and the next, from what the first leaves
+-- a list and the next one, which starts from the images that the first leaves
 pub then_at : (acts more : List Act) (seen : Image) (may_leave P : Image → Type 0) (Q R : Image → (Image → Type 0) → Type 0) → Does acts seen may_leave P Q
     → Does more (seen_after acts seen) (LeftAfter acts seen may_leave) P R → Does (acts ++ more) seen may_leave P R
 then_at [] more seen may_leave P Q R first next = next
@@ -41,7 +41,7 @@ weaker_does acts seen may_leave P S Q R more then is = record {
 pub nothing_does : (seen : Image) (may_leave P : Image → Type 0) (Q : Image → (Image → Type 0) → Type 0) → ((c : Image) → may_leave c → P c) → Q seen may_leave → Does [] seen may_leave P Q
 nothing_does seen may_leave P Q has after = record { can = tt; any_moment = has; after = after }
 
--- what may be left of more was left of more
+-- a call leaves at least the same images if more images were left before
 pub left_more : (act : Act) (seen : Image) (few many : Image → Type 0) → ((c : Image) → few c → many c) → (c : Image) → LeftBy act seen few c → LeftBy act seen many c
 left_more (write file at bytes) seen few many more c left = (left.0, more left.0 left.1, left.2)
 left_more (resize file len) seen few many more c left = (left.0, more left.0 left.1, left.2)
@@ -59,7 +59,7 @@ moment_more (act ∷ acts) seen few many more c left = ⊎_elim
     (λ later. inr (moment_more acts (acted act seen) (LeftBy act seen few) (LeftBy act seen many) (λ d is. left_more act seen few many more d is) c later))
     left
 
--- what may be left now, and at the end
+-- images that may be left now, and at the end
 pub moment_now : (acts : List Act) (seen : Image) (may_leave : Image → Type 0) (c : Image) → may_leave c → AnyMoment acts seen may_leave c
 moment_now [] seen may_leave c left = left
 moment_now (act ∷ acts) seen may_leave c left = inl left

@@ -1,4 +1,4 @@
--- The calls that settle, close, clear and start a log.
+-- The calls that sync the files, and close, clear and start a log.
 use Rattle.std.proofs.Common.{◌≡◌, inl, ⊎_elim, ℕ, ◌+◌, ◌-◌, ◌≤◌, List, [], ◌∷◌, ◌++◌, length, drop, take, replicate, get_or, true, refl, sym, ◌∙◌, ap, subst, arith}
 use Rattle.std.proofs.lemmas.List.{append-nil, drop-append-le, drop_all, length-replicate, length-take-le}
 use Rattle.sdbm_saves.specs.declared.disk.File.TheVariants.{Pages, Directory, Redo}
@@ -20,7 +20,7 @@ settle_does first may_leave = record {
   after = (refl, λ c l. image_by_files c first (λ i. (l.0.1 i, l.1 i)) l.0.0.1);
 }
 
--- closes a log, or takes the mark of a save that is done
+-- closes a log, or clears the commit byte of a save that is applied
 pub close_any : (first : Image) (may_leave : Image → Type 0) (both : List ℕ × List ℕ) → both ≡ files first → ((c : Image) → may_leave c → Holds both c) → ((c : Image) → may_leave c → 1 ≤ length c.redo)
     → Does close_acts first may_leave (λ c. Holds both c) (λ s m. (s ≡ put Redo (0 ∷ drop 1 first.redo) first) × (IsAtRest s m × IsKept Redo s m))
 close_any first may_leave both are all long =
@@ -44,7 +44,7 @@ pub close_does : (first : Image) (may_leave : Image → Type 0) → IsDurable fi
     → Does close_acts first may_leave (λ c. Holds (files first) c) (λ s m. (s ≡ put Redo (0 ∷ drop 1 first.redo) first) × (IsAtRest s m × IsKept Redo s m))
 close_does first may_leave durable signed = close_any first may_leave (files first) refl durable.holds (λ c l. long_kept first.redo c.redo signed (durable.kept c l))
 
--- what was left before, but that no mark has come
+-- images that were left before, except that no commit byte was set
 abbrev Stays : (Image → Type 0) → Image → Type 0
 Stays may_leave c = (d : Image) × may_leave d × StaysUnmarked d c
 

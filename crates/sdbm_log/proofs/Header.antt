@@ -1,4 +1,4 @@
--- The header of a log, and what a crash leaves of it.
+-- The header of a log, and the header that a crash leaves.
 use Rattle.std.proofs.Common.{Bool, true, false, if◌then◌else◌, ◌==◌, ◌≡◌, ◌≢◌, ◌⊎◌, inl, inr, ⊎_elim, ℕ, zero, suc, ◌+◌, ◌-◌, ◌<◌, ◌≤◌, List, [], ◌∷◌, ◌++◌, length, take, drop, replicate, get_or, refl, sym, ◌∙◌, ap, subst, arith, length-drop}
 use Rattle.std.proofs.lemmas.Bool.Decides.{nat_tests}
 use Rattle.std.proofs.lemmas.Bool.{cases_eq}
@@ -49,7 +49,7 @@ log_mark redo is = (both_true (get_or redo 0 0) 1 (is_signed redo) is).0
 pub log_signed : (redo : List ℕ) → is_log redo ≡ true → is_signed redo ≡ true
 log_signed redo is = (both_true (get_or redo 0 0) 1 (is_signed redo) is).1
 
--- a file with no mark means the data files
+-- if the commit byte is not 1, a file represents the data files
 pub unmarked_holds : (both : List ℕ × List ℕ) (c : Image) → get_or c.redo 0 0 ≢ 1 → files c ≡ both → Holds both c
 unmarked_holds both c unmarked same = (
   ap (λ b. files_by b c) (log_unmarked c.redo unmarked) ∙ when_unmarked c unmarked ∙ same,
@@ -59,7 +59,7 @@ unmarked_holds both c unmarked same = (
 pub holds_unmarked : (both : List ℕ × List ℕ) (c : Image) → get_or c.redo 0 0 ≢ 1 → Holds both c → files c ≡ both
 holds_unmarked both c unmarked holds = sym (ap (λ b. files_by b c) (log_unmarked c.redo unmarked) ∙ when_unmarked c unmarked) ∙ holds.0
 
--- a plan after a mark is no log
+-- a plan after a commit byte is not a log
 plan_no_log : (redo : List ℕ) → take 8 (drop 1 redo) ≡ signature → number_at redo 5 ≢ 828862316
 unfolding number_at
 plan_no_log redo signed = λ is.
@@ -77,7 +77,7 @@ plan_unsigned redo signed = either_false (number_at redo 1) 1835164787 (number_a
     either_false : (p q r s : ℕ) → r ≢ s → (if p == q then r == s else false) ≡ false
     either_false p q r s isnt = grind (arith, nat_tests)
 
--- a save that older versions can end, by its plan or with no mark, is no log
+-- a save that older versions can recover, by its plan or without a commit byte of 1, is not a log
 pub ended_no_log : (c : Image) → CanEnd c → is_log c.redo ≡ false
 ended_no_log c can = ⊎_elim
     (λ marked. test_is (get_or c.redo 0 0) 1 (is_signed c.redo) marked ∙ plan_unsigned c.redo (can marked).0.signed)
@@ -121,7 +121,7 @@ head_torn k bytes a b torn i lt = torn.before i (omega (arith, lt))
 pub head_written : (k : ℕ) (bytes a : List ℕ) → 4096 + k ≤ length a → (i : ℕ) → i < 9 → get_or (written (4096 + k) bytes a) i 0 ≡ get_or a i 0
 head_written k bytes a inside i lt = written_before (4096 + k) bytes a i inside (omega (arith, lt))
 
--- what is read is kept
+-- the log that is read counts as left
 pub kept_self : (read left : List ℕ) → left ≡ read → IsKeptLog read left
 kept_self read left is = record {
   records = ap records_of is;
@@ -129,7 +129,7 @@ kept_self read left is = record {
   mark = inl (ap (λ (l : List ℕ). get_or l 0 0) is);
 }
 
--- a log whose mark is missing has no records
+-- a log whose commit byte was lost has no records
 pub kept_log : (read left : List ℕ) → IsKeptLog read left → is_log read ≡ true → (is_log left ≡ true) ⊎ ((get_or left 0 0 ≡ 0) × (number_in (records_of read) ≡ 0))
 kept_log read left kept is = ⊎_elim
     (λ same. inl (log_marked left (same ∙ log_mark read is) (signed_same read left kept.signed ∙ log_signed read is)))
@@ -152,7 +152,7 @@ torn_byte value d c long within =
     (λ new. inr (image_by_files c (put Redo (value ∷ drop 1 d.redo) d) same (split ∙ ap (λ k. k ∷ drop 1 c.redo) new ∙ ap (λ (l : List ℕ). value ∷ l) behind)))
     (torn.within 0 (omega arith))
 
--- the records and the signature stand after the mark
+-- the records and the signature follow the commit byte
 pub marked_records : (value : ℕ) (redo : List ℕ) → records_of (value ∷ drop 1 redo) ≡ records_of redo
 marked_records value [] = refl
 marked_records value (b ∷ redo) = refl
@@ -177,12 +177,12 @@ written_over bytes rest long =
 not_one : (n : ℕ) → n ≡ 0 → n ≢ 1
 not_one n is = λ one. absurd (omega (arith, is, one))
 
--- a redo file that has no mark and is synced
+-- a redo file whose commit byte is not 1 and that is synced
 pub settled_holds : (seen : Image) (may_leave : Image → Type 0) → IsAtRest seen may_leave → (d c : Image) → may_leave d → StaysUnmarked d c → Holds (files seen) c
 settled_holds seen may_leave settled d c now stays =
     unmarked_holds (files seen) c (stays.mark (settled.left_unmarked d now)) (stays.files ∙ settled.kept d now)
 
--- a write after the mark, and one that writes no mark
+-- a write after the commit byte, and a write that does not set it
 pub stays_behind : (bytes : List ℕ) (d c : Image) → Within Redo (Torn 4096 bytes) d c → StaysUnmarked d c
 stays_behind bytes d c within = stays_within (Torn 4096 bytes) (λ x y torn. inl (torn.before 0 (omega arith))) d c within
 
@@ -193,7 +193,7 @@ stays_first bytes some zero_first d c within =
 pub stays_resized : (n : ℕ) → 1 ≤ n → (d c : Image) → Within Redo (TornLength n) d c → StaysUnmarked d c
 stays_resized n some d c within = stays_within (TornLength n) (λ x y torn. inl (torn.same 0 (omega (arith, some)))) d c within
 
--- a log with no mark, on the disk
+-- a durable log whose commit byte is 0
 pub durable_unmarked : (seen : Image) (may_leave : Image → Type 0) → get_or seen.redo 0 0 ≡ 0 → IsKept Redo seen may_leave
     → ((c : Image) → may_leave c → files c ≡ files seen) → IsDurable seen may_leave
 durable_unmarked seen may_leave unmarked kept same = record {

@@ -1,4 +1,4 @@
--- Two plans done one after the other are one plan.
+-- Two plans that are applied one after the other are equal to their joined plan.
 use Rattle.std.proofs.Common.{◌≡◌, ◌≢◌, ◌⊎◌, inl, inr, ⊎_elim, ℕ, zero, suc, ◌+◌, ◌-◌, ◌/◌, ◌%◌, ◌<◌, ◌≤◌, ◌^◌, List, ◌++◌, length, take, drop, get_or, refl, sym, ◌∙◌, ap, subst, arith, length-append, length-drop}
 use Rattle.std.proofs.lemmas.List.{ext_get_or, get_or-take, get_or-drop, get_or_past, take-append-le, drop-append-le, length-take-le}
 use Rattle.std.proofs.lemmas.Bool.{cases_lt}
@@ -35,14 +35,14 @@ number_spelled x at n small is =
     place : (at k : ℕ) → at + k - at ≡ k
     place at k = omega arith
 
--- these bytes begin with n whole changes
+-- these bytes start with n complete changes
 abbrev Whole : ℕ → List ℕ → Type 0
 Whole n xs = (k : ℕ) → k < n → span_of (rest_after k xs) ≤ length (rest_after k xs)
 
 later : (n : ℕ) (xs : List ℕ) → Whole (suc n) xs → Whole n (rest_of xs)
 later n xs whole = λ k lt. whole (suc k) (omega (arith, lt))
 
--- what follows them does not change them
+-- bytes after them do not change them
 after_append : (n : ℕ) (xs ys : List ℕ) → Whole n xs → rest_after n (xs ++ ys) ≡ rest_after n xs ++ ys
 after_append zero xs ys whole = refl
 after_append (suc n) xs ys whole =
@@ -61,7 +61,7 @@ replayed_split file zero m xs x = let is : 0 + m ≡ m = omega arith in ap (λ k
 replayed_split file (suc n) m xs x = let is : suc n + m ≡ suc (n + m) = omega arith in
     ap (λ k. replayed file k xs x) is ∙ replayed_split file n m (rest_of xs) (effect (file_of xs) file xs x)
 
--- a longer file has the same changes done
+-- the same changes are done in a longer file
 resized_written : (n at : ℕ) (bytes x : List ℕ) → at + length bytes ≤ length x → length x ≤ n → resized n (written at bytes x) ≡ written at bytes (resized n x)
 resized_written n at bytes x inside le =
     let long : length (resized n x) ≡ n = length-resized n x in
@@ -98,7 +98,7 @@ resized_replayed plan n file (suc count) xs x fits is le =
     resized_replayed plan n file count (rest_of xs) (effect (file_of xs) file xs x) (λ k lt. fits (suc k) (omega (arith, lt))) (length-effect plan xs first.whole (file_of xs) file x first.inside is ∙ is) le
     ∙ ap (λ (l : List ℕ). replayed file count (rest_of xs) l) (resized_effect plan xs n (file_of xs) file x first.whole first.inside is (omega (arith, is, le)))
 
--- a length and then a longer one, of a file that is no longer than the first
+-- a length and then a longer one, for a file that is no longer than the first length
 resized_twice : (m n : ℕ) (x : List ℕ) → length x ≤ m → m ≤ n → resized n (resized m x) ≡ resized n x
 resized_twice m n x le grows = ext_get_or 0 (resized n (resized m x)) (resized n x) (length-resized n (resized m x) ∙ sym (length-resized n x))
     (λ i below. let lt : i < n = omega (arith, below, length-resized n (resized m x)) in
@@ -109,7 +109,7 @@ resized_twice m n x le grows = ext_get_or 0 (resized n (resized m x)) (resized n
     (cases_lt i m)
     ∙ sym (read_resized n x i lt))
 
--- the file of a change, or another
+-- the file of a change, or the second file
 same_file : (a b : ℕ) → (data_file a ≡ data_file b) ⊎ (data_file a ≢ data_file b)
 same_file zero zero = inl refl
 same_file zero (suc b) = inr (λ is. cc)
@@ -186,7 +186,7 @@ replayed_outside plan (suc n) xs file at x fits is none =
     (length-effect plan xs first.whole (file_of xs) file x first.inside is ∙ is) (λ k lt. none (suc k) (omega (arith, lt)))
     ∙ effect_outside plan xs (file_of xs) file at x first.whole first.inside is (none 0 (omega arith))
 
--- a change with more after it has the same bytes
+-- a change with more bytes after it has the same bytes
 offers_append : (xs ys : List ℕ) (file : File) (at byte : ℕ) → span_of xs ≤ length xs → Offers xs file at byte → Offers (xs ++ ys) file at byte
 offers_append xs ys file at byte whole offers = record {
   touches = file_append xs ys whole ∙ offers.touches;
@@ -321,7 +321,7 @@ module _ (m q : List ℕ) (m_is : IsPlan m) (q_is : IsPlan q) (grows : Grows m q
     lengths = joined_new m q m_is.header q_is.header;
   }
 
-  -- the plans done one after the other, in a file that is no longer than the first makes it
+  -- the plans applied one after the other, to a file that is no longer than the first plan makes it
   pub renewed_joined : (g : ℕ) (x : List ℕ) → length x ≤ new_length (data_file g) m → renewed (data_file g) (joined m q) x ≡ renewed (data_file g) q (renewed (data_file g) m x)
   renewed_joined g x le =
       let f : File = data_file g in
@@ -338,7 +338,7 @@ module _ (m q : List ℕ) (m_is : IsPlan m) (q_is : IsPlan q) (grows : Grows m q
       (sym (resized_replayed m n f (count_of m) (changes_of m) first m_is.fits (length-resized (new_length f m) x) (grows.on g)
       ∙ ap (λ (l : List ℕ). replayed f (count_of m) (changes_of m) l) (resized_twice (new_length f m) n x le (grows.on g))))
 
-  -- the bytes that each of them has
+  -- the bytes that each plan has
   has_first : (file : File) (at byte : ℕ) → HasByte m file at byte → HasByte (joined m q) file at byte
   has_first file at byte has = record {
     change = has.change ++ changes_of q;
@@ -375,7 +375,7 @@ module _ (m q : List ℕ) (m_is : IsPlan m) (q_is : IsPlan q) (grows : Grows m q
         subst (λ k. HasByte m (data_file g) k (get_or (data_in c (data_file g)) k 0)) on
         (subst (λ f. HasByte m f (offset_of change + (at - offset_of change)) (get_or (data_in c f) (offset_of change + (at - offset_of change)) 0)) covers.touches has)
 
-    -- a byte that it does not cover is as the first plan leaves it
+    -- a byte that the first plan does not cover is unchanged after it
     same_outside : (g at : ℕ) → NoneCovers (count_of m) (changes_of m) (data_file g) at → get_or (data_in c (data_file g)) at 0 ≡ get_or (data_in s (data_file g)) at 0
     same_outside g at none =
         let f : File = data_file g in
@@ -405,7 +405,7 @@ module _ (m q : List ℕ) (m_is : IsPlan m) (q_is : IsPlan q) (grows : Grows m q
     block_next : (change : List ℕ) → IsChangeOf q change → KnowsBlock (joined m q) change (data_in c (file_of change))
     block_next change one = λ i lt. known_next (get_or change 0 0) (offset_of change + i) (s_known.bytes change one i lt)
 
-    -- files that the first plan knows and makes into files that the next one knows
+    -- files that the first plan knows and turns into files that the next plan knows
     pub knows_joined : Knows (joined m q) c
     knows_joined = record {
       pages = record {
@@ -428,7 +428,7 @@ module _ (m q : List ℕ) (m_is : IsPlan m) (q_is : IsPlan q) (grows : Grows m q
           (cases_lt one.index (count_of m));
     }
 
--- a write that is not cut short, and a length
+-- a write that is not interrupted, and a length
 pub torn_written : (at : ℕ) (bytes x : List ℕ) → at ≤ length x → Torn at bytes x (written at bytes x)
 torn_written at bytes x inside = record {
   before = λ i lt. written_before at bytes x i inside lt;
@@ -445,7 +445,7 @@ torn_written at bytes x inside = record {
 torn_resized : (n : ℕ) (x : List ℕ) → TornLength n x (resized n x)
 torn_resized n x = record { same = λ i lt. read_resized n x i lt; no_shorter = omega (arith, length-resized n x); no_longer = omega (arith, length-resized n x) }
 
--- a plan that is done is half done
+-- a plan that is applied is also partly applied
 replayed_for : (plan : List ℕ) → IsPlan plan → (image : Image) → ((g : ℕ) → length (content (data_file g) image) ≡ new_length (data_file g) plan) → (n : ℕ) → n ≤ count_of plan → AlikeFor plan image (replayed_image n plan image)
 replayed_for plan is_plan image sized zero le = for_self plan image
 replayed_for plan is_plan image sized (suc n) le =

@@ -16,7 +16,7 @@ use Rattle.sdbm_log.proofs.Header.{kept_self, unmarked_holds}
 use Rattle.sdbm_log.proofs.Joins.{torn_written}
 use Rattle.sdbm_log.proofs.Logs.{both_renewed}
 
--- a call that a crash does not cut short
+-- a call that no crash interrupts
 whole_length : (n : ℕ) (x : List ℕ) → TornLength n x (resized n x)
 whole_length n x = record { same = λ i lt. read_resized n x i lt; no_shorter = omega (arith, length-resized n x); no_longer = omega (arith, length-resized n x) }
 
@@ -30,12 +30,12 @@ acted_left (resize Redo len) seen may_leave can now = (seen, now, record { stepp
 acted_left (sync file) seen may_leave can now = (now, refl)
 acted_left clear seen may_leave can now = (seen, now, record { stepped = inr refl; others = refl })
 
--- what is read after the calls may be left by them
+-- the image that is read after the calls may be left by them
 pub after_left : (acts : List Act) (seen : Image) (may_leave : Image → Type 0) → CanDo acts seen → may_leave seen → LeftAfter acts seen may_leave (seen_after acts seen)
 after_left [] seen may_leave can now = now
 after_left (act ∷ acts) seen may_leave can now = after_left acts (acted act seen) (LeftBy act seen may_leave) can.1 (acted_left act seen may_leave can.0 now)
 
--- what is read after a kill may be left by a crash
+-- an image that is read after a kill may be left by a crash
 pub killed_left : (acts : List Act) (seen : Image) (may_leave : Image → Type 0) (c : Image) → CanDo acts seen → may_leave seen → Killed acts seen c → AnyMoment acts seen may_leave c
 killed_left [] seen may_leave c can now is = subst may_leave (sym is) now
 killed_left (act ∷ acts) seen may_leave c can now killed = ⊎_elim
@@ -50,7 +50,7 @@ read_left : (ending : Ending) (acts : List Act) (seen : Image) (may_leave : Imag
 read_left returned acts seen may_leave c can is = subst (λ (o : Image). LeftAfter acts seen (Found seen may_leave) o) (sym is) (after_left acts seen (Found seen may_leave) can (inr refl))
 read_left interrupted acts seen may_leave c can killed = killed_left acts seen (Found seen may_leave) c can (inr refl) killed
 
--- all that the next run finds may be left by a crash
+-- every image that the next run finds may be left by a crash
 pub found_left : (power : Power) (ending : Ending) (acts : List Act) (seen : Image) (may_leave : Image → Type 0) (found : Image) (next : Image → Type 0) → CanDo acts seen
     → Leaves power ending acts seen may_leave found next → (c : Image) → Found found next c → LeftByRun ending acts seen may_leave c
 found_left stayed ending acts seen may_leave found next can leaves c is = ⊎_elim
@@ -86,7 +86,7 @@ all_runs (run ∷ runs) seen may_leave was mean made =
     (found_left run.power run.ending run.acts seen (may_leave 0) run.next_seen (may_leave 1) (can_run run.task run.acts seen (may_leave 0) made.0) made.1.0 c found) in
     (here, all_runs runs run.next_seen (λ n. may_leave (suc n)) (After run.task run.ending seen was) here made.1.1)
 
--- a property of what a crash may leave and of what is read
+-- a property of the image that is read and of all images that a crash may leave
 both_found : (seen : Image) (may_leave : Image → Type 0) (P : Image → Type 0) → ((c : Image) → may_leave c → P c) → P seen → (c : Image) → Found seen may_leave c → P c
 both_found seen may_leave P left now c found = ⊎_elim (λ l. left c l) (λ read. subst P (sym read) now) found
 
@@ -124,7 +124,7 @@ found_committed plan seen may_leave committed = record {
   holds = λ c found. both_found seen may_leave (λ d. Holds (renewed_files plan seen) d) committed.holds committed.now c found;
 }
 
--- one list of calls, and the next from what the first leaves
+-- a list of calls, and the next one from the images that the first leaves
 does_on : (acts more : List Act) (seen : Image) (may_leave P : Image → Type 0) (Q R : Image → (Image → Type 0) → Type 0) → Does acts seen may_leave P Q
     → Does more (seen_after acts seen) (LeftAfter acts seen may_leave) P R → Does (acts ++ more) seen may_leave P R
 does_on acts more seen may_leave P Q R first next =
@@ -138,14 +138,15 @@ does_fewer acts seen few many P both more is = record {
   after = (is.after.0, λ c left. is.after.1 c (after_more acts seen few many more c left));
 }
 
--- what is left of calls that keep the files, after a run
+-- images that are left after a run, if the calls do not change its files
 both_then : (both : List ℕ × List ℕ) (seen : Image) (may_leave : Image → Type 0) → AllHold both seen may_leave → (c : Image) → Found seen may_leave c ⊎ Holds (files_of seen) c → Holds both c
 both_then both seen may_leave holds c is = ⊎_elim
     (λ found. both_found seen may_leave (λ d. Holds both d) holds.1 holds.0 c found)
     (λ now. subst (λ (p : List ℕ × List ℕ). Holds p c) holds.0.0 now)
     is
 
--- A run and calls after it that keep the files are one run. So a save may be counted as one run, or as its commit and the rest.
+-- A run and later calls that do not change its files are one run. So a save may be counted as one run, or as its commit and the remaining
+-- calls.
 pub then_keeps : (task : Task) (acts more : List Act) (seen : Image) (may_leave : Image → Type 0) → IsRun task acts seen may_leave
     → IsRun keeps more (seen_after acts seen) (LeftAfter acts seen (Found seen may_leave)) → IsRun task (acts ++ more) seen may_leave
 then_keeps keeps acts more seen may_leave first next =
@@ -167,7 +168,7 @@ then_keeps (saves both) acts more seen may_leave first next =
     (λ t n is. subst (λ (p : List ℕ × List ℕ). AllHold p t n) holds.0.0 is)
     (does_fewer more s m (Found s m) _ (files_of s) (λ c now. inl now) next))
 
--- The files that are meant if a log is durable, at rest, or has a save that is committed.
+-- The files that are represented if a log is durable, at rest, or has a committed save.
 pub durable_holds : (both : List ℕ × List ℕ) (seen : Image) (may_leave : Image → Type 0) → IsDurable seen may_leave → files seen ≡ both → AllHold both seen may_leave
 durable_holds both seen may_leave durable is =
     (subst (λ (p : List ℕ × List ℕ). Holds p seen) is durable.now, λ c left. subst (λ (p : List ℕ × List ℕ). Holds p c) is (durable.holds c left))
@@ -235,7 +236,7 @@ module _ (end : ℕ) (plan bytes : List ℕ) (bytes_are : bytes ≡ record_of pl
       (λ s m is. committed_holds plan (renewed_files plan seen) s m is.committed (ap (λ (p : List ℕ × List ℕ). both_renewed plan p) is.same))
       commits
 
-  -- a save, which commits and then does its plan, as one run
+  -- a save, which commits and then applies its plan, as one run
   pub save_run : IsRun (saves (renewed_files plan seen)) (commit_acts end bytes ++ apply_acts plan) seen may_leave
   save_run = then_keeps (saves (renewed_files plan seen)) (commit_acts end bytes) (apply_acts plan) seen may_leave commit_run
       (apply_run plan is_plan (seen_after (commit_acts end bytes) seen) (LeftAfter (commit_acts end bytes) seen (Found seen may_leave)) commits.after.committed)

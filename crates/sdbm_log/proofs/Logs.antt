@@ -1,4 +1,4 @@
--- The records of a log, and what a crash leaves of them.
+-- The records of a log, and the records that a crash leaves.
 use Rattle.std.proofs.Common.{Bool, true, false, ◌≡◌, ◌⊎◌, inl, inr, ⊎_elim, ℕ, zero, suc, ◌+◌, ◌-◌, ◌<◌, ◌≤◌, ◌^◌, List, [], ◌∷◌, ◌++◌, length, drop, get_or, refl, sym, ◌∙◌, ap, subst, arith, length-append, length-drop, append_assoc}
 use Rattle.std.proofs.lemmas.Bool.{cases_eq}
 use Rattle.std.proofs.lemmas.List.{get_or-append_right, get_or-drop, take-append-le, take_all}
@@ -12,7 +12,7 @@ use Rattle.sdbm_log.proofs.Header.{log_same, log_marked, log_unmarked, log_mark,
 use Rattle.sdbm_log.proofs.Weights.{number_more, first_more, later_more, whole_more, number_log, zeros_no, first_record, later_record, record_fits, record_whole, record_is, record_may, zeros_may, after_append, left, behind, left_is, left_torn, behind_zeros, zeros_are, zero_at, nonzero_append, nonzero_length}
 use Rattle.sdbm_log.proofs.Joins.{joined_old, joined_new, joined_count, is_joined, ends_with, renewed_joined, knows_joined}
 
--- what follows the records of a log means nothing
+-- bytes after the records of a log have no meaning
 joined_slack : (plan : List ℕ) (n : ℕ) (xs ys : List ℕ) → AreRecords n xs → joined_all plan n (xs ++ ys) ≡ joined_all plan n xs
 joined_slack plan zero xs ys are = refl
 joined_slack plan (suc n) xs ys are =
@@ -46,7 +46,7 @@ module _ (plan : List ℕ) (short : length plan < 4000000000) where
       ∙ ap (λ (l : List ℕ). joined_all (joined first (first_plan xs)) (suc n) l) (later_more xs (record_of plan) are.1.0)
       ∙ joined_more (joined first (first_plan xs)) n (later_records xs) are.1.1
 
--- n plans, whatever follows them
+-- n plans, followed by any bytes
 pub whole_slack : (n : ℕ) (xs ys : List ℕ) → AreRecords n xs → ArePlans n xs → ArePlans n (xs ++ ys)
 whole_slack zero xs ys are whole = tt
 whole_slack (suc n) xs ys are whole = (
@@ -127,7 +127,7 @@ pub known_same : (n : ℕ) (plan : List ℕ) (c d : Image) → files c ≡ files
 known_same zero plan c d same known = known
 known_same (suc n) plan c d same known = (known.0, subst (λ (p : List ℕ × List ℕ). Knows plan p) (sym same) known.1)
 
--- One more plan is known and done, if it knows the files that those before it make.
+-- One more plan is known and applied, if it knows the files that the plans before it make.
 module _ (plan : List ℕ) (is_plan : IsPlan plan) (d s : Image) (knows : Knows plan (files s)) where
   pub next_done : (n : ℕ) (first : List ℕ) → CanFollow n first plan → KnownBy n first d → with_plan n first d ≡ files s → with_plan (suc n) (next_plan n first plan) d ≡ renewed_files plan s
   next_done zero first follows known is = ap (λ (p : List ℕ × List ℕ). (renewed Pages plan p.0, renewed Directory plan p.1)) is
@@ -149,7 +149,7 @@ module _ (plan : List ℕ) (is_plan : IsPlan plan) (d s : Image) (knows : Knows 
   next_ends zero first follows known = ends_itself plan is_plan
   next_ends (suc n) first follows known = ends_with first plan known.0 is_plan follows
 
--- what a crash left of a log with n records: their plans are whole, know the data files, and make them these
+-- an image that a crash left of a log with n records: their plans are complete, know the data files, and result in these files
 pub record Stands (n : ℕ) (xs : List ℕ) (both : List ℕ × List ℕ) (d : Image) : Type 0 where
   pub plans : ArePlans n xs
   pub known : KnownBy n (log_plan n xs) d
@@ -170,7 +170,7 @@ stands_none n xs both d none same = subst (λ k. Stands k xs both d) (sym none) 
 
 module _ (n : ℕ) (xs plan : List ℕ) (first : Image) (is_plan : IsPlan plan) (knows : Knows plan (files first)) (short : length plan < 4000000000) (are : AreRecords n xs)
     (follows : CanFollow n (log_plan n xs) plan) (d c : Image) (stands : Stands n xs (files first) d) (same : files c ≡ files d) (log : is_log c.redo ≡ true) where
-  -- a log with no other whole record means the same
+  -- a log without any further complete record represents the same files
   pub still_holds : (rest : List ℕ) → records_of c.redo ≡ xs ++ rest → is_whole rest ≡ false → MayBeTorn rest → Holds (files first) c
   still_holds rest stays none may = (
     files_are n xs rest c stays are none log ∙ with_same n (log_plan n xs) c d same ∙ stands.made,
@@ -202,7 +202,7 @@ module _ (n : ℕ) (xs plan : List ℕ) (first : Image) (is_plan : IsPlan plan) 
         ),
       )
 
--- A record that is written after the others is committed if all of it is there, and else nothing is.
+-- A record that is written after the existing ones is committed exactly if it is complete.
 module _ (n end : ℕ) (xs slack plan : List ℕ) (first : Image) (is_plan : IsPlan plan) (knows : Knows plan (files first)) (short : length plan < 4000000000) (are : AreRecords n xs) (ends : end ≡ length xs)
     (zeros : nonzero slack ≡ 0) (follows : CanFollow n (log_plan n xs) plan) where
   either : {P Q : Type 0} (b : Bool) → (b ≡ true → P) → (b ≡ false → Q) → P ⊎ Q
@@ -225,7 +225,7 @@ module _ (n end : ℕ) (xs slack plan : List ℕ) (first : Image) (is_plan : IsP
       (record_may plan short t z (left_torn end (record_of plan) xs slack old new is ends zeros inside torn) none)))
       (either (is_whole (t ++ z)) (λ yes. yes) (λ no. no))
 
--- the mark is cleared when the data files are on the disk
+-- the commit byte is cleared when the data files are durable
 pub cleared : (both : List ℕ × List ℕ) (d c : Image) → files d ≡ both → Holds both d → 1 ≤ length d.redo → Within Redo (Torn 0 (0 ∷ [])) d c → Holds both c
 cleared both d c are holds long within = ⊎_elim
     (λ old. subst (λ (o : Image). Holds both o) (sym old) holds)
@@ -241,7 +241,7 @@ some_log false redo some = absurd (omega (arith, some))
 pub log_some : (image : Image) → 1 ≤ number_of image → is_log image.redo ≡ true
 log_some image some = some_log (is_log image.redo) image.redo some
 
--- a log that is kept has the same records
+-- a log that a crash leaves has the same records
 pub kept_some : (first d : Image) → 1 ≤ number_of first → IsKeptLog first.redo d.redo → (number_of d ≡ number_of first) × (plan_of d ≡ plan_of first)
 kept_some first d some kept =
     let log : is_log first.redo ≡ true = log_some first some in
@@ -250,7 +250,7 @@ kept_some first d some kept =
     let same : number_of d ≡ number_of first = ap (λ b. number_by b d.redo) left_log ∙ ap (λ (l : List ℕ). number_in l) kept.records ∙ sym number in
     (same, ap (λ k. log_plan k (records_of d.redo)) same ∙ ap (λ (l : List ℕ). log_plan (number_of first) l) kept.records)
 
--- while a committed plan is done
+-- while a committed plan is being applied
 pub half_done : (plan : List ℕ) (both : List ℕ × List ℕ) (d c : Image) → 1 ≤ number_of d → EndsWith (plan_of d) plan → Holds both d → AlikeFor plan d c → Holds both c
 half_done plan both d c some ends holds for =
     let alike = for (plan_of d) ends in
@@ -271,13 +271,13 @@ half_done plan both d c some ends holds for =
       }),
     )
 
--- the same of what a crash left, beside the log that is read
+-- the same for an image that a crash left, compared with the log that is read
 pub half_left : (plan : List ℕ) (both : List ℕ × List ℕ) (first d c : Image) → 1 ≤ number_of first → EndsWith (plan_of first) plan → IsKeptLog first.redo d.redo → Holds both d → AlikeFor plan d c → Holds both c
 half_left plan both first d c some ends kept holds for =
     let same = kept_some first d some kept in
     half_done plan both d c (omega (arith, some, same.0)) (subst (λ (l : List ℕ). EndsWith l plan) (sym same.1) ends) holds for
 
--- the log stays
+-- the log is unchanged
 pub log_left : (plan : List ℕ) (first d c : Image) → EndsWith (plan_of first) plan → IsKeptLog first.redo d.redo → AlikeFor plan d c → IsKeptLog first.redo c.redo
 log_left plan first d c ends kept for = subst (λ (l : List ℕ). IsKeptLog first.redo l) (sym (for (plan_of first) ends).redo) kept
 
@@ -332,7 +332,7 @@ log_holds both c log none may same =
     let number : number_of c ≡ 0 = ap (λ b. number_by b c.redo) log ∙ none in
     (files_none c log number ∙ same, recover_none c log number may)
 
--- a log that is read and on the disk, with its plans as one
+-- a log that is read and durable, with its plans joined
 pub committed_read : (seen : Image) (may_leave : Image → Type 0) (plan : List ℕ) → 1 ≤ number_of seen → plan ≡ plan_of seen → CanRecover seen
     → Only seen may_leave → IsCommitted plan seen may_leave
 committed_read seen may_leave plan some read can only =
@@ -346,7 +346,7 @@ committed_read seen may_leave plan some read can only =
       holds = λ c now. subst (λ (o : Image). Holds (renewed_files plan image) o) (sym (only c now)) holds;
     }
 
--- one that has no records
+-- a log without records
 pub durable_none : (seen : Image) (may_leave : Image → Type 0) → is_log seen.redo ≡ true → number_of seen ≡ 0 → CanRecover seen → Only seen may_leave → IsDurable seen may_leave
 durable_none seen may_leave log none can only =
     let image = seen in
@@ -368,7 +368,7 @@ module _ (s : Image) (some : 1 ≤ number_of s) (holds : Holds (files s) s) wher
       ∙ length-replayed (data_file g) (plan_of s) (count_of (plan_of s)) (changes_of (plan_of s)) (resized (new_length (data_file g) (plan_of s)) (data_in (files s) (data_file g)))
       (known_some s some holds.1).0.fits (length-resized (new_length (data_file g) (plan_of s)) (data_in (files s) (data_file g)))
 
--- a plan that shortens no file may follow plans that shorten none
+-- a plan that shortens no file may follow plans that shorten no file
 pub can_follow : (n count : ℕ) (s : Image) (plan : List ℕ) → n ≡ number_of s → Holds (files s) s → MayGrow n (plan_of s) count → Knows plan (files s) → ((g : ℕ) → old_length (data_file g) plan ≤ new_length (data_file g) plan)
     → count + count_of plan < 2 ^ 32 → CanFollow n (plan_of s) plan
 can_follow zero count s plan is holds ready knows grows few = tt
@@ -384,7 +384,7 @@ can_follow (suc n) count s plan is holds ready knows grows few = record { so_far
     on : (g : ℕ) → new_length (data_file g) (plan_of s) ≤ new_length (data_file g) plan
     on g = omega (arith, length_is s some holds g, (between g).no_longer, grows g)
 
--- another plan may follow them all
+-- another plan may follow all of them
 pub goes_on : (n count : ℕ) (first plan : List ℕ) → (1 ≤ n → IsPlan first) → IsPlan plan → CanFollow n first plan → MayGrow n first count → ((g : ℕ) → old_length (data_file g) plan ≤ new_length (data_file g) plan)
     → (n ≡ 0 → count ≡ 0) → MayGrow (suc n) (next_plan n first plan) (count + count_of plan)
 goes_on zero count first plan is_first is_plan follows ready grows none = (grows, omega (arith, none refl))
@@ -404,7 +404,7 @@ written_behind_front at bytes xs ys is =
     ap (λ (l : List ℕ). l ++ (bytes ++ drop (at + length bytes) (xs ++ ys)))
     (take-append-le at xs ys (omega (arith, is)) ∙ take_all at xs (omega (arith, is)))
 
--- a record written after the others, with zeros after it
+-- a record written after the existing ones, with zeros after it
 pub written_record : (end : ℕ) (bytes xs slack redo : List ℕ) → redo ≡ xs ++ slack → end ≡ length xs → nonzero slack ≡ 0
     → (rest : List ℕ) × ((written end bytes redo ≡ xs ++ (bytes ++ rest)) × (nonzero rest ≡ 0))
 written_record end bytes xs slack redo is ends zeros =
@@ -431,7 +431,7 @@ module _ (end : ℕ) (bytes plan : List ℕ) (first : Image) (bytes_are : bytes 
       subst (λ (l : List ℕ). CanFollow place.number l plan) (plan_is place.number place.records place.slack first place.is place.are none log)
       (subst (λ k. CanFollow k (plan_of first) plan) number_before follows)
 
-  -- what a crash left before it
+  -- an image that a crash left before it
   stands_so : (d : Image) → IsKeptLog first.redo d.redo → Holds (files first) d → Stands place.number place.records (files first) d
   stands_so d kept holds = ⊎_elim
       (λ is. stands_read place.number place.records place.slack (files first) d (kept.records ∙ place.is) place.are place.zeros is holds)
@@ -442,7 +442,7 @@ module _ (end : ℕ) (bytes plan : List ℕ) (first : Image) (bytes_are : bytes 
   room_left : (d : Image) → IsKeptLog first.redo d.redo → end + length (record_of plan) ≤ length (records_of d.redo)
   room_left d kept = omega (arith, inside, ap (λ (l : List ℕ). length l) kept.records, ap (λ (l : List ℕ). length l) bytes_are, length-drop 4096 first.redo)
 
-  -- while it is written
+  -- while it is being written
   pub appending : (d c : Image) → IsKeptLog first.redo d.redo → Holds (files first) d → Within Redo (Torn (4096 + end) bytes) d c → Holds (files first) c ⊎ Holds (renewed_files plan first) c
   appending d c kept holds within =
       let torn : Torn (4096 + end) bytes d.redo c.redo = within.stepped in
@@ -463,7 +463,7 @@ module _ (end : ℕ) (bytes plan : List ℕ) (first : Image) (bytes_are : bytes 
   pub log_after : (redo : List ℕ) → redo ≡ written (4096 + end) bytes first.redo → is_log redo ≡ true
   log_after redo is = ap is_log is ∙ log_same first.redo (written (4096 + end) bytes first.redo) (head_written end bytes first.redo (omega (arith, inside))) ∙ log
 
-  -- if all of it is there
+  -- if it is complete
   pub appended : (d c : Image) → IsKeptLog first.redo d.redo → Holds (files first) d → files c ≡ files d → c.redo ≡ written (4096 + end) bytes first.redo → Holds (renewed_files plan first) c × ((1 ≤ number_of c) × EndsWith (plan_of c) plan)
   appended d c kept holds same is =
       let made = written_record end bytes place.records place.slack (records_of first.redo) place.is place.ends place.zeros in
@@ -523,7 +523,7 @@ zero_first log place = ap (λ (l : List ℕ). nonzero l) place.is ∙ nonzero_ap
 pub place_zeros : (log : List ℕ) → nonzero log ≡ 0 → HasRecords 0 log
 place_zeros log none = record { number = 0; records = []; slack = log; is = refl; are = refl; ends = refl; zeros = none }
 
--- a log with no mark whose records were overwritten with zeros
+-- a log with a commit byte of 0 whose records were overwritten with zeros
 pub zeroed_file : (zeros old new : List ℕ) → new ≡ written 4096 zeros old → nonzero zeros ≡ 0 → 4096 + length zeros ≤ length old → nonzero (drop (length zeros) (records_of old)) ≡ 0 → is_signed old ≡ true → get_or old 0 0 ≡ 0 → IsLogFile 0 new
 zeroed_file zeros old new is all_zero inside rest signed unmarked =
     let on : 0 + length zeros ≡ length zeros = omega arith in
@@ -546,7 +546,7 @@ empty_file empty redo is made =
       place = place_zeros (records_of redo) (ap (λ (l : List ℕ). nonzero (records_of l)) log ∙ empty_records (length empty));
     }
 
--- files that a log with no records means
+-- files that a log without records represents
 pub holds_none : (both : List ℕ × List ℕ) (d : Image) → is_signed d.redo ≡ true → number_in (records_of d.redo) ≡ 0 → Holds both d → files d ≡ both
 holds_none both d signed none holds = ⊎_elim
     (λ marked. let log : is_log d.redo ≡ true = log_marked d.redo marked signed in
@@ -554,7 +554,7 @@ holds_none both d signed none holds = ⊎_elim
     (λ unmarked. holds_unmarked both d unmarked holds)
     (cases_eq (get_or d.redo 0 0) 1)
 
--- while the mark of a log that has no records is set
+-- while the commit byte of a log without records is being set
 module _ (first : Image) (file : IsLogFile 0 first.redo) where
   none_here : number_in (records_of first.redo) ≡ 0
   none_here = none_first (records_of first.redo) file.place
@@ -606,7 +606,7 @@ module _ (first : Image) (file : IsLogFile 0 first.redo) where
       (ap (λ (o : Image). files o) new ∙ holds_none (files first) d (signed_left d kept) (none_left d kept) holds))
       (torn_byte 1 d c (long_left d kept) within)
 
-  -- a crash leaves it with the mark or without it
+  -- a crash leaves the commit byte 1 or 0
   old_byte : (d : Image) → IsKeptLog first.redo d.redo → (get_or d.redo 0 0 ≡ 1) ⊎ (get_or d.redo 0 0 ≡ 0)
   old_byte d kept = ⊎_elim
       (λ same. ⊎_elim (λ empty. inr (same ∙ empty.1)) (λ one. inl (same ∙ one)) file.mark)
@@ -627,7 +627,7 @@ module _ (first : Image) (file : IsLogFile 0 first.redo) where
       }))
       (torn_byte 1 d c (long_left d kept) within)
 
--- the mark is set and not synced
+-- the commit byte is 1 and not synced
 pub marked_durable : (first third : Image) (before after : Image → Type 0) → IsLogFile 0 first.redo → IsDurable first before → third ≡ put Redo (1 ∷ drop 1 first.redo) first
     → Follows (Within Redo (Torn 0 (1 ∷ []))) before after → IsDurable third after
 marked_durable first third before after file durable is crash =
@@ -666,7 +666,7 @@ ready_empty seen may_leave end room count durable file unmarked long ends counts
     no_log : (redo : List ℕ) → get_or redo 0 0 ≡ 0 → is_log redo ≡ false
     no_log redo is = log_unmarked redo (λ one. absurd (omega (arith, is, one)))
 
--- a loop over the records of a log, of which n are left
+-- a loop over the records of a log, with n records remaining
 pub whole_none : (n : ℕ) (rest : List ℕ) → n ≡ 0 → ArePlans n rest
 whole_none n rest is = subst (λ k. ArePlans k rest) (sym is) tt
 

@@ -1,4 +1,4 @@
--- Steps that are made on a disk, one after another.
+-- Steps that are made on a disk, one after the other.
 use Rattle.std.proofs.Common.{◌≡◌, ◌⊎◌, inl, inr, ⊎_elim, ℕ, zero, suc, ◌+◌, ◌<◌, List, [], ◌∷◌, ◌++◌, length, take, drop, slice_index_or, refl, ◌∙◌, ap, subst, arith}
 use Rattle.sdbm_saves.specs.Acts.{Act, acted, seen_after, LeftBy, LeftAfter}
 use Rattle.sdbm_saves.specs.Disk.{Image, LeavesOnly}
@@ -49,7 +49,7 @@ module _ {D : Type 0} (moment : D → ℕ) (left_since : D → ℕ → Image →
   left_next acts act old mid new seen left next c now = left_snoc acts act (seen_by old) (may_leave old) c
       (subst (λ (o : Image). LeftBy act o (LeftAfter acts (seen_by old) (may_leave old)) c) seen (left_more act (seen_by mid) (may_leave mid) (LeftAfter acts (seen_by old) (may_leave old)) left c (next c now)))
 
--- a step of a list, the steps before it, and those after it
+-- a step of a list, with the steps before it and after it
 steps_split : (steps : List Step) (i : ℕ) (default : Step) → i < length steps → steps ≡ take i steps ++ slice_index_or steps i default ∷ drop (suc i) steps
 steps_split [] i default lt = absurd (omega (arith, lt))
 steps_split (x ∷ steps) zero default lt = refl

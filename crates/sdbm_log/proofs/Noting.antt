@@ -21,7 +21,7 @@ module _ (at : ℕ) (bytes : List ℕ) (from : 16 ≤ at) (to : at + length byte
       (omega (arith, to, length-drop 4096 a, length-drop 4096 b, torn.no_shorter, torn.no_longer))
       (λ i below. get_or-drop 4096 b i 0 ∙ torn.after (4096 + i) (omega (arith, to)) ∙ sym (get_or-drop 4096 a i 0))
 
--- an image with other notes means the same
+-- an image with different notes represents the same files
 module _ (d c : Image) (head : (i : ℕ) → i < 9 → get_or c.redo i 0 ≡ get_or d.redo i 0) (records : records_of c.redo ≡ records_of d.redo) where
   pub log_noted : is_log c.redo ≡ is_log d.redo
   log_noted = log_same d.redo c.redo head
@@ -54,7 +54,7 @@ module _ (d c : Image) (head : (i : ℕ) → i < 9 → get_or c.redo i 0 ≡ get
       (λ unmarked. unmarked_holds both c (λ one. unmarked (sym (head 0 (omega arith)) ∙ one)) (same ∙ holds_unmarked both d unmarked holds))
       (cases_eq (get_or d.redo 0 0) 1)
 
--- what a crash leaves while they are written
+-- a crash while notes are written
 pub noting : (both : List ℕ × List ℕ) (first d c : Image) (at : ℕ) (bytes : List ℕ) → is_signed first.redo ≡ true → IsKeptLog first.redo d.redo → 16 ≤ at → at + length bytes ≤ 4096 → Within Redo (Torn at bytes) d c → Holds both d → Holds both c
 noting both first d c at bytes signed kept from to within holds =
     let torn : Torn at bytes d.redo c.redo = within.stepped in

@@ -22,14 +22,14 @@ use Rattle.sdbm_log.proofs.Header.{unmarked_holds, log_mark, log_signed, plan_ho
 use Rattle.sdbm_log.proofs.LogRuns.{found_ready, durable_holds, rest_holds, keeping_run}
 use Rattle.sdbm_log.proofs.Logs.{files_none, files_some, known_some, committed_read, durable_none, place_zeros, ready_empty}
 
--- The files are recovered: the redo file has no mark and is on the disk, and the data files are these.
+-- The files are recovered: the commit byte of the redo file is not 1, the redo file is durable, and the data files are these.
 pub record IsClosed (redo : List ℕ) (both : List ℕ × List ℕ) (seen : Image) (may_leave : Image → Type 0) : Type 0 where
   pub rest : IsAtRest seen may_leave
   pub kept : IsKept Redo seen may_leave
   pub redo_is : seen.redo ≡ redo
   pub same : files seen ≡ both
 
--- the redo file once its mark is cleared, if it had one
+-- the redo file after its commit byte was cleared, if it was 1
 abbrev pub closed_redo : List ℕ → List ℕ
 closed_redo redo = if get_or redo 0 0 == 1 then 0 ∷ drop 1 redo else redo
 
@@ -52,7 +52,7 @@ module _ (first : Image) (can : CanRecover first) (s : Image) (m : Image → Typ
   can_s : CanRecover s
   can_s = subst (λ (o : Image). CanRecover o) (sym read) can
 
-  -- there is no mark
+  -- the commit byte is not 1
   recover_none : get_or first.redo 0 0 ≢ 1 → Does [] s m (λ c. Holds (files_of first) c) (IsClosed (closed_redo first.redo) (files_of first))
   recover_none unmarked =
       let holds : Holds (files first) first = unmarked_holds (files first) first unmarked refl in
@@ -67,7 +67,7 @@ module _ (first : Image) (can : CanRecover first) (s : Image) (m : Image → Typ
         same = ap (λ (o : Image). files o) read ∙ sym holds.0;
       })
 
-  -- what closing leaves
+  -- the result of closing
   closed : (redo : List ℕ) (both : List ℕ × List ℕ) (t : Image) (n : Image → Type 0) → redo ≡ first.redo → get_or first.redo 0 0 ≡ 1 → (last : Image) → last.redo ≡ redo → files last ≡ both
       → (t ≡ put Redo (0 ∷ drop 1 last.redo) last) × (IsAtRest t n × IsKept Redo t n) → IsClosed (closed_redo first.redo) both t n
   closed redo both t n redo_is marked last is same done = record {
@@ -77,7 +77,7 @@ module _ (first : Image) (can : CanRecover first) (s : Image) (m : Image → Typ
     same = ap (λ (o : Image). files o) done.0 ∙ same;
   }
 
-  -- a log that has records
+  -- a log with records
   recover_some : 1 ≤ number_of first → is_log first.redo ≡ true → Does (apply_acts (plan_of first) ++ close_acts) s m (λ c. Holds (files_of first) c) (IsClosed (closed_redo first.redo) (files_of first))
   recover_some some log =
       let plan : List ℕ = plan_of first in
@@ -94,7 +94,7 @@ module _ (first : Image) (can : CanRecover first) (s : Image) (m : Image → Typ
       (λ u k done. closed first.redo (files_of first) u k refl (log_mark first.redo log) t redo same done)
       (close_does t n is.0 (ap is_signed redo ∙ log_signed first.redo log)))
 
-  -- a log that has none
+  -- a log without records
   recover_empty : number_of first ≡ 0 → is_log first.redo ≡ true → Does close_acts s m (λ c. Holds (files_of first) c) (IsClosed (closed_redo first.redo) (files_of first))
   recover_empty none log =
       let durable : IsDurable first m = durable_none first m log none can only in
@@ -104,7 +104,7 @@ module _ (first : Image) (can : CanRecover first) (s : Image) (m : Image → Typ
       (λ t n done. closed first.redo (files_of first) t n refl (log_mark first.redo log) s (ap (λ (o : Image). o.redo) read) both done)
       (close_does s m (subst (λ (o : Image). IsDurable o m) (sym read) durable) (ap (λ (o : Image). is_signed o.redo) read ∙ log_signed first.redo log))
 
-  -- the marked plan of one save
+  -- the committed plan of a single save
   recover_marked : get_or first.redo 0 0 ≡ 1 → is_log first.redo ≡ false → Does (apply_acts (drop 1 first.redo) ++ close_acts) s m (λ c. Holds (files_of first) c) (IsClosed (closed_redo first.redo) (files_of first))
   recover_marked marked no_log =
       let plan : List ℕ = drop 1 first.redo in
@@ -144,7 +144,7 @@ module _ (first : Image) (can : CanRecover first) (s : Image) (m : Image → Typ
       (λ unmarked. subst (λ (l : List Act). Does l s m (λ c. Holds (files_of first) c) (IsClosed (closed_redo first.redo) (files_of first))) (sym (acts_unmarked first unmarked)) (recover_none unmarked))
       (cases_eq (get_or first.redo 0 0) 1)
 
--- a closed log that can be used again
+-- a closed log that can be reused
 module _ (redo : List ℕ) (both : List ℕ × List ℕ) (s : Image) (m : Image → Type 0) (is_closed : IsClosed (closed_redo redo) both s m) where
   zero_mark : get_or redo 0 0 ≤ 1 → get_or (closed_redo redo) 0 0 ≡ 0
   zero_mark low = ⊎_elim
@@ -211,7 +211,7 @@ open_does first may_leave can room last restart =
     (recover_does first can s m settled.0 settled.1)
     (λ t n closed. restart_does first.redo (files_of first) t n closed room last restart)))
 
--- the calls by the plan that was found
+-- the calls for the plan that was found
 one_number : (image : Image) (number : ℕ) → number ≡ number_of image → 1 ≤ number → redo_acts (number_of image) (plan_of image) ≡ apply_acts (plan_of image)
 one_number image zero is some = absurd (omega (arith, some))
 one_number image (suc k) is some = ap (λ n. redo_acts n (plan_of image)) (sym is)
@@ -248,7 +248,7 @@ redo_is_plan image plan can which = ⊎_elim
     (λ old. let ends : CanEnd image = subst (λ b. CanRecoverBy b image) old.0 can in subst (λ (l : List ℕ). IsPlan l) (sym old.1.1) (ends old.1.0).0)
     which
 
--- what is promised of opening and of closing
+-- the promises of opening and of closing
 pub opened_does : (image : Image) (room : ℕ) (acts : List Act) → CanRecover image → AreOpenCalls image room acts → (may_leave : Image → Type 0) → IsOpening acts 0 room 0 image may_leave
 opened_does image room acts can are may_leave = subst (λ (l : List Act). IsOpening l 0 room 0 image may_leave) (sym are.are) (open_does image may_leave can room are.last are.restart)
 
@@ -278,7 +278,7 @@ closed_run end room count seen may_leave ready = keeping_run (files seen) close_
     (λ s m is. rest_holds (files seen) s m is.0 is.1)
     (closed_does end room count seen (Found seen may_leave) (found_ready end room count seen may_leave ready))
 
--- all images that were read so are recovered by the same calls
+-- all images with the same bytes are recovered by the same calls
 module _ (found : LogFiles) (image : Image) (reads : Reads found image) where
   read_marked : get_or image.redo 0 0 ≡ 1 → image ≡ image_in found
   read_marked marked = image_by_files image (image_in found) (reads.both (ap (λ (l : List ℕ). get_or l 0 0) (sym reads.redo) ∙ marked)) reads.redo

@@ -1,4 +1,4 @@
--- Sets of the places of a data file, and what a plan knows of both.
+-- Sets of places of a data file, and the knowledge of a plan about each file.
 use Rattle.std.proofs.Common.{◌≡◌, ◌||◌, true, ℕ, zero, suc, List, [], ◌∷◌, length, get_or, nat_eq, refl, sym, ap, subst, arith, eq-eqb}
 use Rattle.std.specs.HashSet.{HashSet, contains, hash_set_len}
 use Rattle.std.specs.List.{list_any}
@@ -23,7 +23,7 @@ unlisted (p ∷ places) none = absurd (none p (ap (λ b. b || list_any (nat_eq p
 pub all_gone : {S : Type 0} (places : HashSet ℕ S) → ((at : ℕ) → contains nat_eq places at ≡ true → ⊥) → hash_set_len places ≡ 0
 all_gone places none = unlisted places.keys none
 
--- what a plan knows of both files it knows of each
+-- a plan that knows both files knows each of them
 pub pages_known : (plan : List ℕ) (both : List ℕ × List ℕ) → Knows plan both → KnowsFile plan Pages both.0
 pages_known plan both knows change one touches = subst (λ f. KnowsBlock plan change (data_in both f)) touches (knows.bytes change one)
 

@@ -66,7 +66,7 @@ module _ (end room : ℕ) (first : Image) (may_leave : Image → Type 0) (durabl
       (λ t n is. (is.0, is.1 ∙ same))
       (start_does s m len closed.1.0 some near))
 
--- A save is committed, and its plan is not done: the records end here, in this room, and have this number of changes.
+-- A save is committed, and its plan is not applied. The records end here, in this room, and have this number of changes.
 pub record IsWaiting (plan : List ℕ) (end room count : ℕ) (both : List ℕ × List ℕ) (seen : Image) (may_leave : Image → Type 0) : Type 0 where
   pub committed : IsCommitted plan seen may_leave
   pub file : IsLogFile end seen.redo
@@ -101,7 +101,7 @@ module _ (plan bytes : List ℕ) (bytes_are : bytes ≡ record_of plan) (is_plan
             same = is.same;
           }
 
-  -- does the plan, which shortens no file
+  -- applies a plan that shortens no file
   pub apply_growing : (end room count : ℕ) (first seen : Image) (may_leave : Image → Type 0) → IsWaiting plan end room count (files first) seen may_leave → IsGrowing plan
       → Does (apply_acts plan) seen may_leave (λ c. Holds (renewed_files plan first) c) (λ s m. IsReady end room count s m × (files s ≡ renewed_files plan first))
   apply_growing end room count first seen may_leave waiting growing =
@@ -124,7 +124,7 @@ module _ (plan bytes : List ℕ) (bytes_are : bytes ≡ record_of plan) (is_plan
       ))
       (apply_does plan is_plan seen may_leave waiting.committed)
 
-  -- does a plan that shortens a file, and empties the log
+  -- applies a plan that shortens a file, and empties the log
   pub apply_shrinking : (end room count : ℕ) (first seen : Image) (may_leave : Image → Type 0) → IsWaiting plan end room count (files first) seen may_leave
       → Does (apply_acts plan ++ (close_acts ++ clear_acts end)) seen may_leave (λ c. Holds (renewed_files plan first) c) (λ s m. IsReady 0 room 0 s m × (files s ≡ renewed_files plan first))
   apply_shrinking end room count first seen may_leave waiting =
@@ -138,7 +138,7 @@ module _ (plan bytes : List ℕ) (bytes_are : bytes ≡ record_of plan) (is_plan
       (λ t n done. (done.0, done.1 ∙ same))
       (clear_all end room s m is.0 (subst (λ (l : List ℕ). IsLogFile end l) (sym is.1.1) waiting.file) (ap (λ (l : List ℕ). length l) is.1.1 ∙ waiting.long) waiting.near))
 
-  -- what is promised of a save
+  -- the promises of a save
   pub growing_save : (commit : List Act) (end room count : ℕ) (seen : Image) (may_leave : Image → Type 0)
       → Does commit seen may_leave (λ c. Holds (files seen) c ⊎ Holds (renewed_files plan seen) c) (IsWaiting plan end room count (files seen)) → IsGrowing plan
       → IsSave plan commit (apply_acts plan) end room count seen may_leave
@@ -187,7 +187,7 @@ module _ (plan bytes : List ℕ) (bytes_are : bytes ≡ record_of plan) (is_plan
           (λ growing. can_follow (number_of s) count s plan refl ready.durable.now ready.grow known (each_growing plan growing) few)
           which
 
--- what is ready whatever a crash may leave is so if it may leave less
+-- a log that is ready for all images that a crash may leave is ready for fewer images
 pub ready_less : (end room count : ℕ) (seen : Image) (few many : Image → Type 0) → ((c : Image) → few c → many c) → IsReady end room count seen many → IsReady end room count seen few
 ready_less end room count seen few many more ready = record {
   durable = record { kept = λ c l. ready.durable.kept c (more c l); now = ready.durable.now; holds = λ c l. ready.durable.holds c (more c l) };
@@ -251,7 +251,7 @@ save_is_run log next plan commit apply is_plan short calls seen may_leave ready 
     (weaker_does commit seen (Found seen may_leave) _ (λ c. Holds (files_of seen) c ⊎ Holds both c) _ _ (λ c which. ⊎_elim (λ before. inl (subst (λ (p : List ℕ × List ℕ). Holds p c) (sym old) before)) (λ new. inr new) which) (λ s m q. q) is.commits)
     (weaker_does apply (seen_after commit seen) (LeftAfter commit seen (Found seen may_leave)) _ _ _ _ (λ c holds. inr holds) (λ s m q. durable_holds both s m q.0.durable q.1) is.applies)
 
--- the two parts of a save are runs of their own
+-- the two parts of a save are separate runs
 module _ (log next : Log) (plan : List ℕ) (commit apply : List Act) (is_plan : IsPlan plan) (short : length plan < 4000000000) (calls : AreSaveCalls log next plan commit apply) (seen : Image) (may_leave : Image → Type 0)
     (ready : IsReady log.end log.room log.count seen may_leave) (knows : Knows plan (files seen)) where
   abbrev both : List ℕ × List ℕ

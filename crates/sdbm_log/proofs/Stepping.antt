@@ -11,11 +11,11 @@ pub acts_append : (bytes : List ℕ) (xs ys : List Step) → acts_of bytes (xs +
 acts_append bytes [] ys = refl
 acts_append bytes (x ∷ xs) ys = ap (λ (l : List Act). act_of bytes x ∷ l) (acts_append bytes xs ys)
 
--- a change that stands in a buffer
+-- a change that is in a buffer
 pub change_in : (bytes change : List ℕ) (from : ℕ) → drop from bytes ≡ change → take (size_of change) (drop (from + 9) bytes) ≡ data_of change
 change_in bytes change from is = ap (λ (l : List ℕ). take (size_of change) l) (sym (drop-drop 9 from bytes) ∙ ap (λ (l : List ℕ). drop 9 l) is)
 
--- one change more, and one less that is left
+-- one more change is done, and one less remains
 pub next_change : (done all next : List Act) (n k : ℕ) (rest : List ℕ) → n ≡ suc k → done ++ change_acts n rest ≡ all → next ≡ done ++ write (file_of rest) (offset_of rest) (data_of rest) ∷ [] → next ++ change_acts k (rest_of rest) ≡ all
 next_change done all next n k rest one so_far is =
     let first : Act = write (file_of rest) (offset_of rest) (data_of rest) in
@@ -24,7 +24,7 @@ next_change done all next n k rest one so_far is =
     ∙ ap (λ m. done ++ change_acts m rest) (sym one)
     ∙ so_far
 
--- two lists, one after another
+-- two lists of calls, one after the other
 pub then_acts : (old first second last more : List Act) → second ≡ old ++ first → last ≡ second ++ more → last ≡ old ++ (first ++ more)
 then_acts old first second last more one two = two ∙ ap (λ (l : List Act). l ++ more) one ∙ append_assoc old first more
 

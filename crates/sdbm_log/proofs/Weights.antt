@@ -1,5 +1,5 @@
--- A record that is written over zeros is whole exactly if it has as many bytes that are not zero as its weight says, and the weight is spelled
--- in bytes that are not zero. So a record commits itself by one write and one sync, with no checksum that could match by chance.
+-- A record that is written over zeros is complete exactly if its number of bytes that are not zero is the one that its weight says. The
+-- weight itself has no zero bytes. So a record commits itself by one write and one sync, with no checksum that could match by chance.
 use Rattle.std.proofs.Common.{Bool, true, false, if◌then◌else◌, ◌==◌, ◌≡◌, ◌≢◌, ◌⊎◌, inl, inr, ⊎_elim, ℕ, zero, suc, ◌+◌, ◌-◌, ◌<◌, ◌≤◌, min, List, [], ◌∷◌, ◌++◌, length, take, drop, get_or, refl, sym, ◌∙◌, ap, arith, length-append, length-drop}
 use Rattle.std.proofs.lemmas.Bool.Decides.{nat_tests}
 use Rattle.std.proofs.lemmas.Bool.{cases_lt}
@@ -8,7 +8,7 @@ use Rattle.sdbm_log.specs.Log.{nonzero, digits, weight_at, body_of, record_of, i
 use Rattle.sdbm_saves.specs.Disk.{Torn}
 use Rattle.sdbm_log.proofs.Header.{test_is, test_not, both_true, nonzero_drop}
 
--- bytes that were written over zeros and cut short: each is a zero or the one that was written
+-- the result of an interrupted write over zeros: each byte is zero or the byte that was written
 abbrev pub OverZeros : List ℕ → List ℕ → Type 0
 OverZeros [] [] = Unit {0}
 OverZeros [] (c ∷ cs) = ⊥
@@ -79,7 +79,7 @@ weight_digits : (n : ℕ) (ys : List ℕ) → n < 4228250625 → weight_at (digi
 unfolding weight_at
 weight_digits n ys small = omega (arith, small)
 
--- a record that a crash has cut short is whole only if all of it is there
+-- an interrupted record is complete only if all its bytes were written
 whole_is : (body t slack : List ℕ) → nonzero body < 4228250625 → OverZeros (digits (nonzero body) ++ body) t → nonzero slack ≡ 0 → is_whole (t ++ slack) ≡ true → t ≡ digits (nonzero body) ++ body
 unfolding is_whole
 whole_is body [] slack small torn zeros whole = absurd torn
@@ -99,7 +99,7 @@ whole_is body (a ∷ b ∷ c ∷ d ∷ t) slack small torn zeros whole =
 four_no : (p : ℕ) (x : Bool) → p < 4 → (if p == 4 then x else false) ≡ false
 four_no p x less = grind (arith, nat_tests)
 
--- zeros are not a record, nor are bytes that begin with a zero
+-- zeros are not a record, nor are bytes that start with a zero
 pub zeros_no : (log : List ℕ) → nonzero log ≡ 0 → is_whole log ≡ false
 unfolding is_whole
 zeros_no log none = four_no (nonzero (take 4 log)) _ (omega (arith, nonzero_take 4 log, none))
@@ -108,7 +108,7 @@ pub zero_no : (rest : List ℕ) → is_whole (0 ∷ rest) ≡ false
 unfolding is_whole
 zero_no rest = four_no (nonzero (take 3 rest)) _ (omega (arith, nonzero_length (take 3 rest), length-take 3 rest))
 
--- a record that a crash has cut short may be torn, and so may zeros
+-- an interrupted record may be torn, and so may zeros
 torn_body : (body t z : List ℕ) → nonzero body < 4228250625 → OverZeros (digits (nonzero body) ++ body) t → nonzero z ≡ 0 → nonzero (take 4 (t ++ z)) ≡ 4 → nonzero (drop 4 (t ++ z)) ≤ weight_at (t ++ z)
 torn_body body [] z small torn zeros four = absurd torn
 torn_body body (a ∷ []) z small torn zeros four = absurd torn.1
@@ -163,7 +163,7 @@ weight_front xs ys long =
     let fourth = get_or_append_left xs ys 0 3 (omega (arith, long)) in
     omega (arith, first, second, third, fourth)
 
--- what follows a record does not change it
+-- bytes after a record do not change it
 module _ (xs ys : List ℕ) (whole : 8 + size_at xs ≤ length xs) where
   pub number_more : size_at (xs ++ ys) ≡ size_at xs
   number_more = ap (λ (l : List ℕ). weight_at l) (drop-append-le 4 xs ys (omega (arith, whole))) ∙ weight_front (drop 4 xs) ys (omega (arith, whole, length-drop 4 xs))
@@ -263,7 +263,7 @@ module _ (plan : List ℕ) (short : length plan < 4000000000) where
   pub record_is : (t slack : List ℕ) → OverZeros (record_of plan) t → nonzero slack ≡ 0 → is_whole (t ++ slack) ≡ true → t ≡ record_of plan
   record_is t slack torn zeros whole = whole_is (body_of plan) t slack small torn zeros whole
 
--- a log after a write over its zeros that is cut short
+-- a log after an interrupted write over its zeros
 module _ (end : ℕ) (bytes xs slack old new : List ℕ) (is : old ≡ xs ++ slack) (ends : end ≡ length xs) (zeros : nonzero slack ≡ 0) (inside : end + length bytes ≤ length old) (torn : Torn end bytes old new) where
   long : length new ≡ length old
   long = omega (arith, torn.no_shorter, torn.no_longer, inside)

@@ -20,7 +20,7 @@ unfolding words_bytes
 words_more [] word = refl
 words_more (w ∷ words) word = ap (λ (l : List ℕ). to_le_bytes w64 w ++ l) (words_more words word)
 
--- a word is read where it was written
+-- reading a word returns the word that was written
 word_of : (k : ℕ) (words rest : List ℕ) → k < length words → ((i : ℕ) → get_or words i 0 < 2 ^ 64) → word_at k (words_bytes words ++ rest) ≡ get_or words k 0
 unfolding words_bytes
 word_of k [] rest lt small = absurd (omega (arith, lt))
@@ -31,7 +31,7 @@ word_of (suc k) (w ∷ words) rest lt small =
     ap (λ (l : List ℕ). from_le_bytes w64 (take 8 l)) (ap (λ n. drop n all) sum ∙ sym (drop-drop (8 * k) 8 all))
     ∙ word_of k words rest (omega (arith, lt)) (λ i. small (suc i))
 
--- one word more is written
+-- one more word is written
 pub spelled_more : (i : ℕ) (words x old : List ℕ) → i < length words → 8 * i + 8 ≤ length old → x ≡ words_bytes (take i words) ++ drop (8 * i) old
     → written (8 * i) (to_le_bytes w64 (get_or words i 0)) x ≡ words_bytes (take (i + 1) words) ++ drop (8 * (i + 1)) old
 spelled_more i words x old lt inside is =
@@ -85,7 +85,7 @@ module _ (notes : Notes) (x rest : List ℕ) (is : x ≡ words_bytes (notes_word
       ∙ ap (λ (l : List ℕ). body ++ (check ++ l)) none
       ∙ ap (λ (l : List ℕ). body ++ l) (append-nil check)
 
--- notes are read where they were written
+-- reading the notes returns the notes that were written
 pub note_of : (bytes : List ℕ) (notes : Notes) → AreWords notes → notes_bytes notes ≡ bytes → (k : ℕ) → k < 14 → word_at k bytes ≡ get_or (notes_words notes) k 0
 note_of bytes notes are is k lt =
     ap (λ (l : List ℕ). word_at k l) (sym is)

@@ -1,9 +1,9 @@
--- Lists of calls on the three files, made in order, and what a crash leaves before, between and within them.
+-- Lists of calls on the three files, made in order, and the images that a crash leaves before, between and during them.
 use Rattle.std.specs.Prelude.{◌≤◌, ◌≡◌, ◌⊎◌, List, [], ◌∷◌, length}
 use Rattle.sdbm_saves.specs.Disk.{Image, content}
 use Rattle.sdbm_saves.specs.Acts.{Act, write, resize, sync, clear, acted, seen_after, LeftBy, LeftAfter}
 
--- A call may be made: a write begins within its file.
+-- A call may be made: a write starts within its file.
 abbrev pub CanCall : Act → Image → Type 0
 CanCall (write file at bytes) seen = at ≤ length (content file seen)
 CanCall (resize file len) seen = Unit {0}
@@ -14,22 +14,23 @@ abbrev pub CanDo : List Act → Image → Type 0
 CanDo [] seen = Unit {0}
 CanDo (act ∷ acts) seen = CanCall act seen × CanDo acts (acted act seen)
 
--- what a crash at some moment of these calls may leave: before one of them, within one, or after the last
+-- the images that a crash may leave before, during or after these calls
 abbrev pub AnyMoment : List Act → Image → (Image → Type 0) → Image → Type 0
 AnyMoment [] seen may_leave c = may_leave c
 AnyMoment (act ∷ acts) seen may_leave c = may_leave c ⊎ AnyMoment acts (acted act seen) (LeftBy act seen may_leave) c
 
--- These calls may be made in order, a crash at any moment of them leaves P, and what is read and what a crash may leave after them has Q.
+-- These calls may be made in order, a crash at any time during them leaves P, and the images that are read and left after them satisfy Q.
 pub record Does (acts : List Act) (seen : Image) (may_leave : Image → Type 0) (P : Image → Type 0) (Q : Image → (Image → Type 0) → Type 0) : Type 0 where
   pub can : CanDo acts seen
   pub any_moment : (c : Image) → AnyMoment acts seen may_leave c → P c
   pub after : Q (seen_after acts seen) (LeftAfter acts seen may_leave)
 
--- What is read after a process was killed within a call: the call was done in part, whatever a crash leaves of the files.
+-- The images that may be read after a process was killed during a call. The call was done in part. The result depends only on the image
+-- that was read before, not on the images that a crash may leave.
 abbrev pub Partly : Act → Image → Image → Type 0
 Partly act seen c = LeftBy act seen (λ d. d ≡ seen) c
 
--- what is read after a process was killed at some moment of these calls
+-- the images that may be read after a process was killed at some time during these calls
 abbrev pub Killed : List Act → Image → Image → Type 0
 Killed [] seen c = c ≡ seen
 Killed (act ∷ acts) seen c = (c ≡ seen) ⊎ (Partly act seen c ⊎ Killed acts (acted act seen) c)

@@ -1,24 +1,26 @@
--- Runs on the files of one database with a log, one after another. Each run may be made on another disk and by another process, and may be
--- interrupted at any moment. Several saves of one process are several runs. A save may be counted as one run, or as two: its commit, which saves
--- the files, and its other calls, which keep them. If the commit has returned and a later call is interrupted, the first run has returned and the
--- second is interrupted. So a save that is committed but not yet done in the data files needs no task of its own.
+-- Runs on the files of one database with a log, one after the other. Each run may use a different disk and a different process, and may be
+-- interrupted at any time. Several saves of one process are several runs. A save may be counted as one run, or as two: its commit, which
+-- saves the files, and its remaining calls, which do not change the saved files. If the commit has returned and a later call is
+-- interrupted, the first run has returned and the second is interrupted. So a save that is committed but not yet applied needs no separate
+-- task.
 use Rattle.std.specs.Prelude.{◌≡◌, ◌⊎◌, ℕ, suc, List, [], ◌∷◌}
 use Rattle.sdbm_saves.specs.Disk.{Image}
 use Rattle.sdbm_saves.specs.Acts.{Act, seen_after, LeftAfter}
 use Rattle.sdbm_log.specs.Doing.{AnyMoment, Does, Killed}
 use Rattle.sdbm_log.specs.Log.{files_of, CanRecover, Holds}
 
--- The task of a run. A run that opens, recovers, checkpoints or closes the database keeps its files. Another saves these files.
+-- The task of a run. A run that opens, recovers, checkpoints or closes the database does not change its files. A run that saves has these
+-- files as its result.
 pub data Task : Type 0 where
   keeps : Task
   saves : List ℕ × List ℕ → Task
 
--- The way a run ended: it returned, or it was interrupted at some moment, by a kill, by the loss of power or by a call that failed.
+-- The ending of a run: it returned, or it was interrupted at some time, by a kill, by a power failure or by a failed call.
 pub data Ending : Type 0 where
   returned : Ending
   interrupted : Ending
 
--- The power before the next run: it stayed on, or it was lost, during a run that was interrupted or after any run.
+-- The power before the next run: it stayed on, or it was lost during an interrupted run or after any run.
 pub data Power : Type 0 where
   stayed : Power
   lost : Power
@@ -31,15 +33,15 @@ pub record LogRun : Type 0 where
   pub power : Power
   pub next_seen : Image
 
--- An image that a run finds: the one that is read when it begins, or one that a crash may leave then.
+-- An image that a run finds: the image that is read at its start, or an image that a crash may leave then.
 abbrev pub Found : Image → (Image → Type 0) → Image → Type 0
 Found seen may_leave c = may_leave c ⊎ (c ≡ seen)
 
--- All that is read and all that a crash may leave means these files, and can be recovered.
+-- The image that is read and all images that a crash may leave represent these files and can be recovered.
 abbrev pub AllHold : List ℕ × List ℕ → Image → (Image → Type 0) → Type 0
 AllHold both seen may_leave = Holds both seen × ((c : Image) → may_leave c → Holds both c)
 
--- The promise of this crate's functions for a run that begins here. The run reads the files `files_of seen`.
+-- The promise of this crate's functions for a run that starts here. The run reads the files `files_of seen`.
 abbrev pub IsRun : Task → List Act → Image → (Image → Type 0) → Type 0
 IsRun keeps acts seen may_leave = Does acts seen (Found seen may_leave) (λ c. Found seen may_leave c ⊎ Holds (files_of seen) c) (AllHold (files_of seen))
 IsRun (saves both) acts seen may_leave = Does acts seen (Found seen may_leave) (λ c. Holds (files_of seen) c ⊎ Holds both c) (AllHold both)
@@ -49,19 +51,20 @@ abbrev pub ReadAfter : Ending → List Act → Image → Image → Type 0
 ReadAfter returned acts seen c = c ≡ seen_after acts seen
 ReadAfter interrupted acts seen c = Killed acts seen c
 
--- An image that a crash may leave of a run: after its last call if it returned, or else at any moment of its calls. All that the run found counts
--- as left before it.
+-- An image that a crash may leave of a run: after its last call if it returned, otherwise at any time during its calls. Every image that
+-- the run found counts as left before it.
 abbrev pub LeftByRun : Ending → List Act → Image → (Image → Type 0) → Image → Type 0
 LeftByRun returned acts seen may_leave c = LeftAfter acts seen (Found seen may_leave) c
 LeftByRun interrupted acts seen may_leave c = AnyMoment acts seen (Found seen may_leave) c
 
--- A run leaves this to the next one, which reads `next_seen`, while a crash may leave `next_leave`. If the power was lost, the next run reads what
--- a crash has left, and that is on the disk.
+-- The state that a run leaves to the next one, which reads `next_seen` while a crash may leave `next_leave`. If the power was lost, the
+-- next run reads an image that a crash has left, and that image is durable.
 abbrev pub Leaves : Power → Ending → List Act → Image → (Image → Type 0) → Image → (Image → Type 0) → Type 0
 Leaves stayed ending acts seen may_leave next_seen next_leave = ReadAfter ending acts seen next_seen × ((c : Image) → next_leave c → LeftByRun ending acts seen may_leave c)
 Leaves lost ending acts seen may_leave next_seen next_leave = LeftByRun ending acts seen may_leave next_seen × ((c : Image) → next_leave c → c ≡ next_seen)
 
--- These runs were made as promised, one after another. A crash may leave `may_leave 0` before the first run, and `may_leave n` after n of them.
+-- These runs were made as promised, one after the other. A crash may leave `may_leave 0` before the first run, and `may_leave n` after n
+-- runs.
 abbrev pub AreMade : List LogRun → Image → (ℕ → Image → Type 0) → Type 0
 AreMade [] seen may_leave = Unit {0}
 AreMade (run ∷ runs) seen may_leave =
@@ -72,19 +75,19 @@ abbrev pub IsOneOf : List ℕ × List ℕ → List (List ℕ × List ℕ) → Ty
 IsOneOf both [] = ⊥
 IsOneOf both (one ∷ more) = (both ≡ one) ⊎ IsOneOf both more
 
--- Each of these images means one of these files, and can be recovered.
+-- Each of these images represents one of these files and can be recovered.
 abbrev pub Mean : List (List ℕ × List ℕ) → (Image → Type 0) → Type 0
 Mean was images = (c : Image) → images c → IsOneOf (files_of c) was × CanRecover c
 
--- The files that may be found after a run that found one of `was`. A save that returned leaves the files that it saved. If it was interrupted, it
--- leaves those or the files that it read. A run that keeps the files leaves those that it read if it returned, and else one of `was`.
+-- The files that may be found after a run that found one of `was`. A save that returned leaves the saved files. An interrupted save leaves
+-- the saved files or those that it read. A run that saves nothing leaves the files that it read if it returned, otherwise one of `was`.
 abbrev pub After : Task → Ending → Image → List (List ℕ × List ℕ) → List (List ℕ × List ℕ)
 After keeps returned seen was = files_of seen ∷ []
 After keeps interrupted seen was = was
 After (saves both) returned seen was = both ∷ []
 After (saves both) interrupted seen was = both ∷ files_of seen ∷ []
 
--- After each of these runs, all that is found means one of the files that may be found after it, and can be recovered.
+-- After each of these runs, every image that is found represents one of the files that may be found then, and can be recovered.
 abbrev pub LeaveFiles : List LogRun → Image → (ℕ → Image → Type 0) → List (List ℕ × List ℕ) → Type 0
 LeaveFiles [] seen may_leave was = Unit {0}
 LeaveFiles (run ∷ runs) seen may_leave was =

@@ -1,13 +1,13 @@
--- The places of one data file in the changes of a plan, and what the plan has for them.
+-- The places of one data file that the changes of a plan cover, and the bytes that the plan has for them.
 use Rattle.std.specs.Prelude.{◌<◌, ◌≡◌, ◌⊎◌, ℕ, ◌+◌, List, get_or}
 use Rattle.sdbm_saves.specs.declared.disk.File.{File}
 use Rattle.sdbm_saves.specs.Redo.{file_of, offset_of, size_of, data_of, was_of, IsChangeOf, KnowsBlock}
 
--- a byte is the one that a change has at an index of its block, or the one that was there
+-- a byte is the new byte or the old byte of a change at an index
 abbrev pub HasOwn : List ℕ → ℕ → ℕ → Type 0
 HasOwn change i byte = (byte ≡ get_or (data_of change) i 0) ⊎ (byte ≡ get_or (was_of change) i 0)
 
--- a place is one of the block of a change
+-- a change covers a place
 pub record IsIn (change : List ℕ) (at : ℕ) : Type 0 where
   pub index : ℕ
   pub covered : index < size_of change
@@ -20,6 +20,6 @@ pub record Covers (plan : List ℕ) (file : File) (at : ℕ) : Type 0 where
   pub touches : file_of change ≡ file
   pub inside : IsIn change at
 
--- a plan knows one of the data files, but for its length
+-- a plan knows one of the data files, except for its length
 abbrev pub KnowsFile : List ℕ → File → List ℕ → Type 0
 KnowsFile plan file bytes = (change : List ℕ) → IsChangeOf plan change → file_of change ≡ file → KnowsBlock plan change bytes

@@ -1,23 +1,23 @@
--- The calls of a save in a log, of its checkpoint, and of opening it. Each list is done in order; if one of its calls fails, the files are
+-- The calls of a save in a log, of its checkpoint, and of opening it. Each list is made in order. If one of its calls fails, the files are
 -- recovered when they are opened again.
 use Rattle.std.specs.Prelude.{ℕ, zero, suc, ◌+◌, ◌-◌, List, [], ◌∷◌, ◌++◌, replicate}
 use Rattle.sdbm_saves.specs.declared.disk.File.TheVariants.{Pages, Directory, Redo}
 use Rattle.sdbm_saves.specs.Acts.{Act, write, resize, sync}
 use Rattle.sdbm_saves.specs.Redo.{file_of, offset_of, data_of, rest_of, new_length, count_of, changes_of}
 
--- the first record sets the mark
+-- the first record sets the commit byte to 1
 abbrev pub mark_acts : ℕ → List Act
 mark_acts zero = write Redo 0 (1 ∷ []) ∷ []
 mark_acts (suc end) = []
 
--- Commits a save: writes its record after those that end here, and syncs the log once.
+-- Commits a save: writes its record after the existing ones, which end here, and syncs the log once.
 abbrev pub record_acts : ℕ → List ℕ → List Act
 record_acts end record_bytes = write Redo (4096 + end) record_bytes ∷ sync Redo ∷ []
 
 abbrev pub commit_acts : ℕ → List ℕ → List Act
 commit_acts end record_bytes = mark_acts end ++ record_acts end record_bytes
 
--- Does a plan in both data files, and syncs nothing.
+-- Applies a plan to both data files without a sync.
 abbrev pub change_acts : ℕ → List ℕ → List Act
 change_acts zero changes = []
 change_acts (suc n) changes = write (file_of changes) (offset_of changes) (data_of changes) ∷ change_acts n (rest_of changes)
@@ -25,7 +25,7 @@ change_acts (suc n) changes = write (file_of changes) (offset_of changes) (data_
 abbrev pub apply_acts : List ℕ → List Act
 apply_acts plan = resize Pages (new_length Pages plan) ∷ resize Directory (new_length Directory plan) ∷ change_acts (count_of plan) (changes_of plan)
 
--- Ends a log: syncs both data files, and then clears the mark.
+-- Closes a log: syncs both data files, then clears the commit byte.
 abbrev pub close_acts : List Act
 close_acts = sync Pages ∷ sync Directory ∷ write Redo 0 (0 ∷ []) ∷ sync Redo ∷ []
 
@@ -37,6 +37,6 @@ clear_acts n = write Redo 4096 (replicate n 0) ∷ sync Redo ∷ []
 abbrev pub start_acts : ℕ → List Act
 start_acts len = resize Redo len ∷ write Redo 9 (replicate (len - 9) 0) ∷ write Redo 0 (0 ∷ 115 ∷ 100 ∷ 98 ∷ 109 ∷ 108 ∷ 111 ∷ 103 ∷ 49 ∷ []) ∷ sync Redo ∷ []
 
--- Syncs all three files: what is read after a kill need not be on the disk.
+-- Syncs all three files, because bytes that are read after a kill may not be durable.
 abbrev pub settle_acts : List Act
 settle_acts = sync Redo ∷ sync Pages ∷ sync Directory ∷ []

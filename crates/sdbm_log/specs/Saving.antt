@@ -1,4 +1,4 @@
--- Which calls a save makes, and which make a log ready when it is opened.
+-- The calls of a save, and the calls that make a log ready when it is opened.
 use Rattle.std.specs.Prelude.{Bool, true, false, if◌then◌else◌, ◌==◌, ◌≡◌, ◌≢◌, ◌⊎◌, ◌≤◌, ◌<◌, ℕ, zero, suc, ◌+◌, ◌^◌, List, [], ◌++◌, length, drop, get_or}
 use Rattle.sdbm_saves.specs.Disk.{Image}
 use Rattle.sdbm_saves.specs.Acts.{Act}
@@ -8,13 +8,13 @@ use Rattle.sdbm_log.specs.Protocol.{commit_acts, apply_acts, close_acts, clear_a
 use Rattle.sdbm_log.specs.declared.log.Log.{Log}
 use Rattle.sdbm_log.specs.declared.records.LogFiles.{LogFiles}
 
--- A log can take the record of a plan as it is: the plan shortens no file, and there is room for it.
+-- A log can take the record of a plan without being emptied: the plan shortens no file, and the record fits.
 pub record CanTake (log : Log) (plan : List ℕ) : Type 0 where
   pub growing : IsGrowing plan
   pub room : log.end + (8 + length plan) ≤ log.room
   pub few : log.count + count_of plan < 2 ^ 32
 
--- The log is as it was.
+-- The log is unchanged.
 pub record IsAsBefore (log next : Log) (plan : List ℕ) (acts : List Act) : Type 0 where
   pub nothing : acts ≡ []
   pub same : next ≡ log
@@ -28,7 +28,7 @@ pub record IsCleared (log next : Log) (plan : List ℕ) (acts : List Act) : Type
   pub end : next.end ≡ 0
   pub count : next.count ≡ 0
 
--- The log is closed, and made a longer one, since the record is longer than its room.
+-- The log is closed and replaced by a longer one, because the record is longer than its room.
 pub record IsStarted (log next : Log) (plan : List ℕ) (acts : List Act) : Type 0 where
   pub short : log.room < 8 + length plan
   pub started : acts ≡ close_acts ++ start_acts (4096 + next.room)
@@ -43,13 +43,13 @@ pub record MakesRoom (log next : Log) (plan : List ℕ) (acts : List Act) : Type
   pub fits : next.end + (8 + length plan) ≤ next.room
   pub few : next.count + count_of plan < 2 ^ 32
 
--- The calls of a save that come after its commit, and the log after them: if a file gets shorter, the log is emptied.
+-- The calls of a save after its commit, and the log after them. If a file gets shorter, the log is emptied.
 abbrev pub IsApplied : Log → Log → List ℕ → List Act → Type 0
 IsApplied old next plan acts =
     (IsGrowing plan × ((acts ≡ apply_acts plan) × (next ≡ record { end = old.end + (8 + length plan); room = old.room; count = old.count + count_of plan })))
     ⊎ ((IsGrowing plan → ⊥) × ((acts ≡ apply_acts plan ++ (close_acts ++ clear_acts (old.end + (8 + length plan)))) × (next ≡ record { end = 0; room = old.room; count = 0 })))
 
--- the calls of a save: those that commit it, and those that do it
+-- the calls of a save: those that commit it, and those that apply it
 pub record AreSaveCalls (log next : Log) (plan : List ℕ) (commit apply : List Act) : Type 0 where
   pub making : List Act
   pub mid : Log
@@ -61,22 +61,22 @@ pub record AreSaveCalls (log next : Log) (plan : List ℕ) (commit apply : List 
 abbrev pub image_in : LogFiles → Image
 image_in found = record { pages = found.pages.now; directory = found.directory.now; redo = found.redo.now }
 
--- What was read of an image: the redo file, and if that has its mark, both data files.
+-- The files that were read of an image: the redo file, and both data files if the commit byte is 1.
 pub record Reads (found : LogFiles) (image : Image) : Type 0 where
   pub redo : image.redo ≡ found.redo.now
   pub both : get_or found.redo.now 0 0 ≡ 1 → files image ≡ (found.pages.now, found.directory.now)
 
--- A plan makes the data files what the three files mean: it is all plans of a log, or the marked plan of one save.
+-- A plan turns the data files into those that the three files represent. It is all plans of a log, or the committed plan of a single save.
 abbrev pub IsRedoPlan : Image → List ℕ → Type 0
 IsRedoPlan image plan =
     ((is_log image.redo ≡ true) × ((1 ≤ number_of image) × (plan ≡ plan_of image)))
     ⊎ ((is_log image.redo ≡ false) × ((get_or image.redo 0 0 ≡ 1) × (plan ≡ drop 1 image.redo)))
 
--- The redo file has no plan that is to be done.
+-- The redo file has no plan to be applied.
 abbrev pub HasNoPlan : Image → Type 0
 HasNoPlan image = ((is_log image.redo ≡ true) × (number_of image ≡ 0)) ⊎ (get_or image.redo 0 0 ≢ 1)
 
--- The calls that recover the files: they do the plans of the log, or of the save that is marked, and clear the mark.
+-- The calls that recover the files: they apply the plans of the log, or of the committed save, and clear the commit byte.
 abbrev pub redo_acts : ℕ → List ℕ → List Act
 redo_acts zero plan = []
 redo_acts (suc n) plan = apply_acts plan
@@ -88,11 +88,11 @@ recover_by false image = apply_acts (drop 1 image.redo) ++ close_acts
 abbrev pub recover_acts : Image → List Act
 recover_acts image = if get_or image.redo 0 0 == 1 then recover_by (is_log image.redo) image else []
 
--- the calls that recover the files and do nothing else
+-- the calls that only recover the files
 abbrev pub AreRecoverCalls : Image → List Act → Type 0
 AreRecoverCalls image acts = acts ≡ settle_acts ++ recover_acts image
 
--- the redo file is a log that can be used again, and these calls empty it
+-- the redo file is a log that can be reused, and these calls empty it
 pub record IsReused (redo : List ℕ) (room : ℕ) (acts : List Act) : Type 0 where
   pub signed : is_signed redo ≡ true
   pub mark : get_or redo 0 0 ≤ 1
@@ -104,7 +104,7 @@ pub record IsReused (redo : List ℕ) (room : ℕ) (acts : List Act) : Type 0 wh
 abbrev pub IsRestart : List ℕ → ℕ → List Act → Type 0
 IsRestart redo room acts = IsReused redo room acts ⊎ ((acts ≡ start_acts (4096 + room)) × (4096 + room ≤ 4000000000))
 
--- the calls that open a log, and the room that it has then
+-- the calls that open a log, and its room afterwards
 pub record AreOpenCalls (image : Image) (room : ℕ) (acts : List Act) : Type 0 where
   pub last : List Act
   pub restart : IsRestart image.redo room last

@@ -1,4 +1,4 @@
--- Steps as calls, and what the lists of this crate promise.
+-- Steps as calls, and the promises of the lists of this crate.
 use Rattle.std.specs.Prelude.{◌≡◌, ◌⊎◌, ℕ, List, ◌∷◌, map, take, drop, replicate}
 use Rattle.sdbm_saves.specs.Disk.{Image}
 use Rattle.sdbm_saves.specs.Acts.{Act, write, resize, sync, seen_after, LeftAfter}
@@ -8,7 +8,7 @@ use Rattle.sdbm_log.specs.declared.steps.Step.TheVariants.{Write, Zeros, Resize,
 use Rattle.sdbm_log.specs.Log.{Holds, files_of, IsReady, IsAtRest}
 use Rattle.sdbm_log.specs.Doing.{Does}
 
--- the bytes that steps write stand in one buffer
+-- the bytes of writes are in one buffer
 abbrev pub act_of : List ℕ → Step → Act
 act_of bytes (Write file at from len) = write file at (take len (drop from bytes))
 act_of bytes (Zeros file at len) = write file at (replicate len 0)
@@ -18,28 +18,28 @@ act_of bytes (Sync file) = sync file
 abbrev pub acts_of : List ℕ → List Step → List Act
 acts_of bytes steps = map (act_of bytes) steps
 
--- what a buffer of steps begins with: the mark, and the first nine bytes of an empty log
+-- the first bytes of a buffer of steps: the commit byte, and the first nine bytes of an empty log
 abbrev pub with_head : List ℕ → List ℕ
 with_head rest = 1 ∷ 0 ∷ 115 ∷ 100 ∷ 98 ∷ 109 ∷ 108 ∷ 111 ∷ 103 ∷ 49 ∷ rest
 
--- A save: a crash within its first calls leaves the files as they were or with the plan done, and one after them leaves the plan done. After
--- its last calls both data files have the plan done, and the log can take the next save.
+-- A save. A crash during its first calls leaves the files with or without the plan applied, and a crash after them leaves the files with
+-- the plan applied. After its last calls both data files have the plan applied, and the log can take the next save.
 pub record IsSave (plan : List ℕ) (commit apply : List Act) (end room count : ℕ) (seen : Image) (may_leave : Image → Type 0) : Type 0 where
   pub commits : Does commit seen may_leave (λ c. Holds (files seen) c ⊎ Holds (renewed_files plan seen) c)
       (λ s m. Holds (renewed_files plan seen) s × ((c : Image) → m c → Holds (renewed_files plan seen) c))
   pub applies : Does apply (seen_after commit seen) (LeftAfter commit seen may_leave) (λ c. Holds (renewed_files plan seen) c)
       (λ s m. IsReady end room count s m × (files s ≡ renewed_files plan seen))
 
--- Opening a log: a crash at any moment leaves what it might have left before, or files that mean the same; after it the data files are what
--- the files meant, and the log can take a save.
+-- Opening a log. A crash at any time leaves what it might have left before, or files that represent the same data. Afterwards the data
+-- files are those that were represented before, and the log can take a save.
 abbrev pub IsOpening : List Act → ℕ → ℕ → ℕ → Image → (Image → Type 0) → Type 0
 IsOpening acts end room count seen may_leave =
     Does acts seen may_leave (λ c. may_leave c ⊎ Holds (files_of seen) c) (λ s m. IsReady end room count s m × (files s ≡ files_of seen))
 
--- Recovering the files: the same, and after it no save is under way.
+-- Recovering the files: like opening, but afterwards no save is under way.
 abbrev pub IsRecovering : List Act → Image → (Image → Type 0) → Type 0
 IsRecovering acts seen may_leave = Does acts seen may_leave (λ c. may_leave c ⊎ Holds (files_of seen) c) (λ s m. IsAtRest s m × (files s ≡ files_of seen))
 
--- Closing a log: a crash at any moment leaves the same files, and after it no save is under way.
+-- Closing a log. A crash at any time leaves the same files. Afterwards no save is under way.
 abbrev pub IsClosing : List Act → Image → (Image → Type 0) → Type 0
 IsClosing acts seen may_leave = Does acts seen may_leave (λ c. Holds (files seen) c) (λ s m. IsAtRest s m × (files s ≡ files seen))

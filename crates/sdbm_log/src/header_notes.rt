@@ -18,7 +18,7 @@ const WORDS: usize = 14;
 // "sdbmnot1" as a number.
 const SIGNATURE: u64 = 3563595725229155443;
 
-/// The notes in the header of a log. They may be lost or torn by a crash, so no promise rests on them.
+/// The notes in the header of a log. A crash may lose or tear them, so no contract depends on them.
 #[derive(Clone, Copy, PartialEq, Eq)]
 pub struct Notes {
     /// The number of saves.
@@ -27,34 +27,35 @@ pub struct Notes {
     pub applied: Option<Applied>,
 }
 
-/// A hint: all records of the log are done in both data files. It holds for one boot, since a loss of power can undo what was not synced.
+/// A hint that all records of the log are applied to both data files. It holds for one boot, because a power failure can undo changes that
+/// were not synced.
 #[derive(Clone, Copy, PartialEq, Eq)]
 pub struct Applied {
     /// The end of the records, counted from the end of the header.
     pub end: u64,
     /// The boot for which the hint holds.
     pub boot: BootId,
-    /// `.pag` after the last record was done.
+    /// `.pag` after the last record was applied.
     pub pages: FileState,
-    /// `.dir` after the last record was done.
+    /// `.dir` after the last record was applied.
     pub directory: FileState,
 }
 
-/// The boot id of a kernel: its 16 bytes as two numbers, the lowest byte first.
+/// The boot ID of a kernel: its 16 bytes as two little-endian numbers.
 #[derive(Clone, Copy, PartialEq, Eq)]
 pub struct BootId {
     /// The first 8 bytes.
     pub first: u64,
-    /// The other 8 bytes.
+    /// The last 8 bytes.
     pub second: u64,
 }
 
-/// The state of a data file, which tells whether it was changed or replaced.
+/// The state of a data file. It changes if the file is changed or replaced.
 #[derive(Clone, Copy, PartialEq, Eq)]
 pub struct FileState {
-    /// The number of its device.
+    /// The number of the device.
     pub device: u64,
-    /// Its number on the device.
+    /// The number of the inode on the device.
     pub inode: u64,
     /// Its length in bytes.
     pub len: u64,
@@ -85,7 +86,7 @@ impl Notes {
         }
     }
 
-    /// The notes of these bytes. `None` if they are not the bytes of any notes.
+    /// The notes that these bytes represent. `None` if they do not represent notes.
     pub fn from_bytes(bytes: &[u8]) -> Option<Notes>
         ensures some { IfSome result (λ notes. notes_bytes notes ≡ bytes.now) }
         ensures read { (notes : Notes) → AreWords notes → notes_bytes notes ≡ bytes.now → result ≡ Some notes }
@@ -123,7 +124,7 @@ fn applied_words(saves: u64, applied: &Applied) -> [u64; WORDS]
     ]
 }
 
-// Writes words over the first bytes of these.
+// Overwrites the first bytes with words.
 fn spell_words(words: &[u64], bytes: &mut [u8])
     requires { 8 * length words.now ≤ length bytes.old }
     ensures small { (i : ℕ) → get_or words.now i 0 < 2 ^ 64 }
@@ -134,7 +135,7 @@ fn spell_words(words: &[u64], bytes: &mut [u8])
     }
 }
 
-// The only notes that may have these bytes.
+// The only notes that can have these bytes.
 fn parse(bytes: &[u8]) -> Notes
     requires { length bytes.now ≡ 120 }
     ensures { (notes : Notes) → AreWords notes → notes_bytes notes ≡ bytes.now → result ≡ notes }
@@ -177,7 +178,7 @@ fn state(bytes: &[u8], at: usize) -> FileState
     }
 }
 
-// One of the words.
+// The word at this index.
 fn word(bytes: &[u8], index: usize) -> u64
     requires { 8 * index + 8 ≤ length bytes.now }
     ensures { result ≡ word_at index bytes.now }
@@ -188,16 +189,15 @@ fn word(bytes: &[u8], index: usize) -> u64
     u64::from_le_bytes(word)
 }
 
-// Whether two lists of bytes are the same.
 fn is_same(one: &[u8], other: &[u8]) -> bool
     ensures { IsTrue result ↔ one.now ≡ other.now }
 {
     one == other
 }
 
-/// Whether notes say that all records of a log are applied. `now` is the end of its records (`records_end`), the boot and the states of both
-/// data files as they are now. After the next save the records have another end, so the hint of the save before does not match. Write notes with
-/// no hint before the log is emptied: other records may end at the same place later.
+/// Returns whether notes say that all records of a log are applied. `now` has the end of its records (`records_end`), the current boot, and
+/// the current states of both data files. After the next save the records have a different end, so the hint of the earlier save does not
+/// match. Write notes without a hint before the log is emptied: later records may end at the same place.
 pub fn says_applied(notes: &Notes, now: &Applied) -> bool
     ensures { IsTrue result ↔ notes.now.applied ≡ Some now.now }
 {

@@ -1,4 +1,4 @@
-// Whether a plan of many changes knows the data files, in time that grows with the length of the plan.
+// Checks whether a plan of many changes knows the data files, in time that grows with the length of the plan.
 ghost use Rattle.std.specs.Prelude.{◌≡◌, ◌⊎◌, ◌<◌, ◌≤◌, ◌+◌, ◌↔◌, ℕ, List, length, get_or, true, nat_eq, IsTrue, OnOk, IfOk};
 ghost use Rattle.std.specs.HashSet.{contains};
 ghost use Rattle.sdbm_saves.specs.Redo.{file_of, offset_of, size_of, span_of, rest_of, IsPlan, IsChangeOf, IsBetween, Offers, HasByte, Knows};
@@ -12,8 +12,8 @@ use std::hash::{BuildHasherDefault, FoldHasher};
 // Offsets in one data file.
 type Places = HashSet<usize, BuildHasherDefault<FoldHasher>, Global>;
 
-// Whether a plan knows the files. `sdbm_saves::knows` is the same without memory, but looks through all changes for each byte that a change
-// itself does not have; a log that changes the same bytes over and over has many of them.
+// Returns whether a plan knows the files. The places whose byte a change itself does not have are collected in a set. A log that changes
+// the same bytes over and over has many of them, and a search through all changes for each of them would be slow.
 pub(crate) fn knows(alloc: Global, plan: &[u8], both: Contents<'_>) -> Result<bool, AllocError>
     requires { IsPlan plan.now }
     ensures { IfOk result (λ known. IsTrue known ↔ Knows plan.now (both.entry.pages.now, both.entry.directory.now)) }
@@ -30,14 +30,14 @@ pub(crate) fn knows(alloc: Global, plan: &[u8], both: Contents<'_>) -> Result<bo
     knows_file(alloc, plan, File::Directory, both.directory)
 }
 
-// Whether a length is one of two, or between them.
+// Returns whether a length is one of two, or between them.
 fn is_between(one: usize, other: usize, len: usize) -> bool
     ensures { IsTrue result ↔ IsBetween one other len }
 {
     one.min(other) <= len && len <= one.max(other)
 }
 
-// Whether a plan knows one of the files: if a change does not have the byte of a place that it covers, another change has it.
+// Returns whether a plan knows one of the files: if a change does not have the byte at a place that it covers, another change must have it.
 fn knows_file(alloc: Global, plan: &[u8], file: File, bytes: &[u8]) -> Result<bool, AllocError>
     requires { IsPlan plan.now }
     ensures { IfOk result (λ known. IsTrue known ↔ KnowsFile plan.now file bytes.now) }
@@ -47,7 +47,7 @@ fn knows_file(alloc: Global, plan: &[u8], file: File, bytes: &[u8]) -> Result<bo
     Ok(places.is_empty())
 }
 
-// The places of a file that are covered by a change that does not have their byte.
+// The places of a file that some change covers without having their byte.
 fn lacking(alloc: Global, plan: &[u8], file: File, bytes: &[u8]) -> Result<Places, AllocError>
     requires { IsPlan plan.now }
     ensures all { IfOk result (λ places. (change : List ℕ) → IsChangeOf plan.now change → file_of change ≡ file → (i : ℕ) → i < size_of change
@@ -153,7 +153,7 @@ fn strike_place(places: &mut Places, change: &[u8], index: usize, bytes: &[u8])
     places.remove(&at);
 }
 
-// Whether a change has this byte at this index of its block.
+// Returns whether a change has this byte, old or new, at this index.
 fn has(change: &[u8], index: usize, byte: u8) -> bool
     requires whole { span_of change.now ≤ length change.now }
     requires covered { index < size_of change.now }
@@ -177,7 +177,7 @@ fn file_of(change: &[u8]) -> File
     }
 }
 
-// The bytes after the first of some changes.
+// The bytes after the first change.
 fn rest_of(changes: &[u8]) -> &[u8]
     requires { span_of changes.now ≤ length changes.now }
     ensures { result.now ≡ rest_of changes.now }

@@ -1,15 +1,15 @@
-// The place of the next record in a log.
+// The position of the next record in a log.
 
-// The length of the header.
+// The length of the header, in bytes.
 pub(crate) const HEADER: usize = 4096;
 
-/// The place of the next record in a log. Opening a log returns it, and each save returns the next one.
+/// The position of the next record in a log. Opening a log returns it, and each save returns the next one.
 #[derive(Clone, Copy, Debug, PartialEq, Eq)]
 pub struct Log {
     /// The end of the records, counted from the end of the header.
     pub end: usize,
     /// The length of the redo file after the header.
     pub room: usize,
-    /// How many changes the plans of the records have.
+    /// The number of changes in the plans of all records.
     pub count: usize,
 }

@@ -1,4 +1,4 @@
-// Steps, made on a disk.
+// Makes steps on a disk.
 ghost use Rattle.std.specs.Prelude.{◌≡◌, ◌⊎◌, ◌≤◌, List, ℕ, length, take, drop, replicate, OnOk, IfOk};
 ghost use Rattle.sdbm_saves.specs.Acts.{acted, seen_after, LeftBy, LeftAfter};
 ghost use Rattle.sdbm_saves.specs.Disk.{Image, content, put, written, Torn, Within, Follows, Through, LeavesOnly, HasCause};
@@ -9,11 +9,11 @@ use crate::steps::Step;
 use sdbm_saves::{Disk, DiskError, File};
 use std::alloc::{AllocError, Global};
 
-/// Makes steps on a disk, in order. It takes memory for the zeros that are written.
+/// Makes steps on a disk, in order. Allocates the zeros that are written.
 ///
 /// # Errors
 ///
-/// The error of the first call that fails, after which no other is made, or `Memory`.
+/// The error of the first call that fails, after which no call is made, or `Memory`.
 pub fn make_steps<D: Disk>(
     alloc: Global,
     disk: &mut D,
@@ -25,10 +25,10 @@ pub fn make_steps<D: Disk>(
     ensures seen { OnOk result (D.seen disk.new ≡ seen_after (acts_of bytes.now steps.now) (D.seen disk.old)) }
     ensures left { OnOk result ((c : Image) → D.may_leave disk.new c → LeftAfter (acts_of bytes.now steps.now) (D.seen disk.old) (D.may_leave disk.old) c) }
 
-    // A crash at any moment of the call leaves what one within these calls leaves.
+    // A crash during the call leaves what a crash during these calls leaves.
     ensures any_moment { LeavesOnly D.moment D.left_since disk.old disk.new (AnyMoment (acts_of bytes.now steps.now) (D.seen disk.old) (D.may_leave disk.old)) }
 
-    // `Failed` comes only if the disk has failed.
+    // `Failed` is returned only if the disk has failed.
     ensures cause { HasCause (D.has_failed disk.old) (D.has_failed disk.new) result }
 {
     for index in 0..steps.len() {
@@ -64,7 +64,7 @@ fn make_step<D: Disk>(
     }
 }
 
-// Bytes of a buffer, as far as it has them.
+// Returns a part of a buffer, as far as the buffer has it.
 pub(crate) fn part(bytes: &[u8], from: usize, len: usize) -> &[u8]
     ensures { result.now ≡ take len (drop from bytes.now) }
 {

@@ -1,4 +1,4 @@
-// The steps that open a log and close it.
+// The steps that open, recover and close a log.
 ghost use Rattle.std.specs.Prelude.{true, ◌≡◌, ◌≤◌, ◌<◌, ◌+◌, ◌^◌, ◌++◌, ◌==◌, if◌then◌else◌, ℕ, List, [], length, get_or, IsTrue, OnOk, IfOk, IfErr, IfSome, IsNone};
 ghost use Rattle.sdbm_saves.specs.Disk.{Image};
 ghost use Rattle.sdbm_saves.specs.Acts.{Act};
@@ -21,7 +21,7 @@ use crate::steps::{
 use sdbm_saves::byte_at;
 use std::alloc::{AllocError, Global};
 
-// A log with more bytes than this is made anew.
+// A log with more bytes than this is not reused.
 const MOST_BYTES: usize = 1 << 28;
 
 /// The steps that open a log.
@@ -30,13 +30,14 @@ pub struct OpenSteps {
     /// The bytes that the steps write.
     pub bytes: Vec<u8>,
     pub steps: Vec<Step>,
-    /// The log after all of them.
+    /// The log after all steps.
     pub log: Log,
 }
 
-/// The steps that open a log of at least this much room: they sync what was read, recover the files if the redo file has its mark, and make
-/// the redo file an empty log. A log that was closed is used again; otherwise the redo file becomes one, and its bytes are written so that
-/// the disk has room for it. The data files are needed only if the redo file has its mark. If a step fails, make no more of them, and open the files again.
+/// The steps that open a log of at least `room` bytes. They sync the files that were read, recover them if the commit byte of the redo file
+/// is 1, and make the redo file an empty log. A closed log is reused. Otherwise the redo file becomes a log, and its bytes are written so
+/// that the disk has room for it. The bytes of the data files are needed only if the commit byte is 1. If a step fails, make no further
+/// step, and open the files again.
 ///
 /// # Errors
 ///
@@ -52,7 +53,7 @@ pub fn open_steps<C: Crashes>(
     ensures log { IfOk result (λ opened. (opened.log.end ≡ 0) × ((opened.log.count ≡ 0) × (room ≤ opened.log.room))) }
     ensures can_recover { IfOk result (λ opened. (image : Image) → Reads files.entry image → CanRecover image) }
 
-    // The promises of these calls, whatever a crash might have left before them.
+    // The promises of these calls, for all images that a crash might have left before.
     ensures opens { IfOk result (λ opened. (image : Image) (n : ℕ) → Reads files.entry image → IsOpening (acts_of opened.bytes.items opened.steps.items) opened.log.end opened.log.room opened.log.count image (Found image (C.may_leave n))) }
     ensures run { IfOk result (λ opened. (image : Image) (n : ℕ) → Reads files.entry image → IsRun keeps (acts_of opened.bytes.items opened.steps.items) image (C.may_leave n)) }
 
@@ -63,7 +64,7 @@ pub fn open_steps<C: Crashes>(
     Ok(steps_for(alloc, files, plan, room)?)
 }
 
-// The steps that open a log, with the plan that is to be done.
+// The steps that open a log, given the plan to be applied.
 fn steps_for(
     alloc: Global,
     files: LogFiles<'_>,
@@ -94,7 +95,7 @@ fn steps_for(
     })
 }
 
-// Adds the steps that recover the files, and to the buffer the plan that they do.
+// Adds the steps that recover the files, and appends the plan that they apply to the buffer.
 fn push_recover(
     steps: &mut Vec<Step>,
     bytes: &mut Vec<u8>,
@@ -115,7 +116,7 @@ fn push_recover(
     Ok(())
 }
 
-// Adds the steps that do a plan which the redo file has, and clear its mark.
+// Adds the steps that apply a plan of the redo file, and clear its commit byte.
 fn push_redo(steps: &mut Vec<Step>, plan: &[u8]) -> Result<(), AllocError>
     requires plan { IsPlan plan.now }
     requires short { length plan.now < 2 ^ 63 }
@@ -125,7 +126,7 @@ fn push_redo(steps: &mut Vec<Step>, plan: &[u8]) -> Result<(), AllocError>
     push_close(steps)
 }
 
-// Adds the steps that clear the mark of a log without records, if it is set.
+// Adds the steps that clear the commit byte of a log without records, if it is 1.
 fn push_mark(steps: &mut Vec<Step>, redo: &[u8]) -> Result<(), AllocError>
     ensures { OnOk result ((bytes : List ℕ) → acts_of bytes steps.new.items ≡ acts_of bytes steps.old.items ++ (if get_or redo.now 0 0 == 1 then close_acts else [])) }
 {
@@ -153,7 +154,7 @@ fn push_restart(steps: &mut Vec<Step>, redo: &[u8], room: usize) -> Result<usize
     Ok(redo.len() - HEADER)
 }
 
-// Whether a redo file is a log that can be used again: its header is whole, and it has at least this much room and not far too much.
+// Returns whether a redo file is a log that can be reused: its header is complete, and its room is at least `room` and not far too large.
 fn is_reusable(redo: &[u8], room: usize) -> bool
     requires small { room ≤ 1073741824 }
     ensures { IsTrue result → (is_signed redo.now ≡ true) × ((get_or redo.now 0 0 ≤ 1) × ((4096 + room ≤ length redo.now) × (length redo.now ≤ 4000000000))) }
@@ -164,8 +165,8 @@ fn is_reusable(redo: &[u8], room: usize) -> bool
     byte_at(redo, 0) <= 1 && is_signed(redo)
 }
 
-/// The steps that recover the files of an interrupted save: they sync what was read, do what the redo file holds in both data files, and clear
-/// its mark. The redo file means nothing after them.
+/// The steps that recover the files of an interrupted save. They sync the files that were read, apply the plans of the redo file to both
+/// data files, and clear its commit byte. Afterwards the redo file has no meaning.
 ///
 /// # Errors
 ///
@@ -174,7 +175,7 @@ pub fn recover_steps<C: Crashes>(alloc: Global, files: LogFiles<'_>) -> Result<R
     ensures calls { IfOk result (λ made. (image : Image) → Reads files.entry image → AreRecoverCalls image (acts_of made.bytes.items made.steps.items)) }
     ensures can_recover { IfOk result (λ made. (image : Image) → Reads files.entry image → CanRecover image) }
 
-    // The promises of these calls, whatever a crash might have left before them.
+    // The promises of these calls, for all images that a crash might have left before.
     ensures recovers { IfOk result (λ made. (image : Image) (n : ℕ) → Reads files.entry image → IsRecovering (acts_of made.bytes.items made.steps.items) image (Found image (C.may_leave n))) }
     ensures run { IfOk result (λ made. (image : Image) (n : ℕ) → Reads files.entry image → IsRun keeps (acts_of made.bytes.items made.steps.items) image (C.may_leave n)) }
 
@@ -185,7 +186,7 @@ pub fn recover_steps<C: Crashes>(alloc: Global, files: LogFiles<'_>) -> Result<R
     Ok(recover_for(alloc, files, plan)?)
 }
 
-// The steps that recover the files, with the plan that is to be done.
+// The steps that recover the files, given the plan to be applied.
 fn recover_for(
     alloc: Global,
     files: LogFiles<'_>,
@@ -204,15 +205,15 @@ fn recover_for(
     Ok(ReadSteps { bytes, steps })
 }
 
-/// The steps that close a log: they sync both data files, and then clear the mark. They write no bytes of a buffer.
+/// The steps that close a log: they sync both data files, then clear the commit byte. They write no bytes of a buffer.
 ///
 /// # Errors
 ///
-/// `AllocError` if memory runs out.
+/// `AllocError` if allocation fails.
 pub fn close_steps<C: Crashes>(alloc: Global) -> Result<Vec<Step>, AllocError>
     ensures calls { IfOk result (λ steps. (bytes : List ℕ) → acts_of bytes steps.items ≡ close_acts) }
 
-    // The promises of these calls, whatever a crash might have left before them.
+    // The promises of these calls, for all images that a crash might have left before.
     ensures closes { IfOk result (λ steps. (log : Log) (seen : Image) (n : ℕ) → IsReady log.end log.room log.count seen (C.may_leave n) → IsClosing (acts_of [] steps.items) seen (Found seen (C.may_leave n))) }
     ensures run { IfOk result (λ steps. (log : Log) (seen : Image) (n : ℕ) → IsReady log.end log.room log.count seen (C.may_leave n) → IsRun keeps (acts_of [] steps.items) seen (C.may_leave n)) }
 {

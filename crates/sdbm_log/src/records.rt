@@ -1,4 +1,4 @@
-// The records of a log, and their plans as one plan.
+// The records of a log, and their plans joined into one plan.
 ghost use Rattle.std.specs.Prelude.{◌≡◌, ◌-◌, ◌≤◌, ◌+◌, ◌++◌, ◌↔◌, ℕ, ◌∷◌, [], ◌<◌, ◌^◌, length, take, drop, get_or, true, false, IsTrue, OnOk, IfOk, IfSome, IsNone, IfErr};
 ghost use Rattle.sdbm_saves.specs.Redo.{number_at, count_of, IsPlan, Knows};
 ghost use Rattle.sdbm_saves.specs.Disk.{written};
@@ -22,9 +22,9 @@ const LOG1: usize = 828862316;
 pub enum LogFault {
     /// Out of memory.
     NoMemory,
-    /// The plans in the redo file are not whole, or are not those of these data files.
+    /// A plan in the redo file is incomplete, or the plans do not belong to these data files.
     Foreign,
-    /// A record in the log is damaged, and no crash does that.
+    /// A record in the log is damaged in a way that no crash can cause.
     Damaged,
 }
 
@@ -38,7 +38,7 @@ impl From<AllocError> for LogFault {
     }
 }
 
-/// Whether a redo file is a log that has records: byte 0 is 1, and "sdbmlog1" follows.
+/// Returns whether a redo file is a log with records: byte 0 is 1, and "sdbmlog1" follows.
 pub fn is_log(redo: &[u8]) -> bool
     ensures { result ≡ is_log redo.now }
 {
@@ -48,7 +48,7 @@ pub fn is_log(redo: &[u8]) -> bool
     is_signed(redo)
 }
 
-/// How many bytes of a redo file after the header are used: only zeros follow them.
+/// The number of bytes after the header of a redo file that are used. Only zeros follow them.
 pub(crate) fn used_room(redo: &[u8]) -> usize
     ensures inside { result ≤ length (records_of redo.now) }
     ensures rest { nonzero (drop result (records_of redo.now)) ≡ 0 }
@@ -63,7 +63,7 @@ pub(crate) fn used_room(redo: &[u8]) -> usize
     0
 }
 
-/// The end of the whole records of a log, counted from the end of the header. `Log` has the same.
+/// The end of the complete records of a log, counted from the end of the header. `Log` has the same value.
 pub fn records_end(redo: &[u8]) -> usize
     ensures is { result ≡ end_in (records_of redo.now) }
     ensures log { (end : ℕ) → HasRecords end (records_of redo.now) → result ≡ end }
@@ -73,7 +73,7 @@ pub fn records_end(redo: &[u8]) -> usize
     log.len() - rest.len()
 }
 
-// Whether the signature of a log follows byte 0.
+// Returns whether the signature of a log follows byte 0.
 pub(crate) fn is_signed(redo: &[u8]) -> bool
     ensures { result ≡ is_signed redo.now }
 {
@@ -83,7 +83,7 @@ pub(crate) fn is_signed(redo: &[u8]) -> bool
     number_in(redo, 5) == LOG1
 }
 
-// Four bytes as a number, the low one first. A byte past the end counts as zero.
+// Reads four bytes as a little-endian number. A byte past the end counts as zero.
 #[tactic(auto, unfolding(sdbm_saves::specs::Redo::number_at))]
 fn number_in(bytes: &[u8], at: usize) -> usize
     requires { at < 2 ^ 32 }
@@ -96,7 +96,7 @@ fn number_in(bytes: &[u8], at: usize) -> usize
         + 16777216 * usize::from(byte_at(bytes, at + 3))
 }
 
-/// The bytes of the three files, read at one moment under the lock.
+/// The bytes of the three files, read at the same time under the lock.
 #[derive(Clone, Copy)]
 pub struct LogFiles<'a> {
     /// The bytes of `.pag`.
@@ -107,13 +107,13 @@ pub struct LogFiles<'a> {
     pub redo: &'a [u8],
 }
 
-/// The plan that makes the data files what the three files mean: all plans of a log as one, or the marked plan of one save. `None` if nothing
-/// is to be done.
+/// The plan that turns the data files into those that the three files represent: all plans of a log joined into one, or the committed plan
+/// of a single save. `None` if there is nothing to apply.
 ///
 /// # Errors
 ///
-/// If the files cannot be recovered: `Foreign` if the redo file has no plan or its plan does not know the data files, and `Damaged` if a
-/// record is damaged. `NoMemory` if memory runs out.
+/// If the files cannot be recovered: `Foreign` if the redo file has no valid plan, or its plan does not know the data files, and `Damaged`
+/// if a record is damaged. `NoMemory` if allocation fails.
 pub fn plan_of(alloc: Global, files: LogFiles<'_>) -> Result<Option<Vec<u8>>, LogFault>
     ensures some { IfOk result (λ found_plan. IfSome found_plan (λ plan. IsRedoPlan (image_in files.entry) plan.items × CanRecover (image_in files.entry))) }
     ensures plan { IfOk result (λ found_plan. IfSome found_plan (λ plan. IsPlan plan.items)) }
@@ -127,7 +127,7 @@ pub fn plan_of(alloc: Global, files: LogFiles<'_>) -> Result<Option<Vec<u8>>, Lo
     plan_of_log(alloc, files)
 }
 
-// Does so if the redo file is not a log.
+// Like `plan_of`, if the redo file is not a log.
 fn old_plan(alloc: Global, files: LogFiles<'_>) -> Result<Option<Vec<u8>>, LogFault>
     requires { is_log files.redo.now ≡ false }
     ensures some { IfOk result (λ found_plan. IfSome found_plan (λ plan. IsRedoPlan (image_in files.entry) plan.items × CanRecover (image_in files.entry))) }
@@ -160,7 +160,7 @@ fn contents<'a>(files: LogFiles<'a>) -> Contents<'a>
     }
 }
 
-// Does so if it is a log.
+// Like `plan_of`, if the redo file is a log.
 fn plan_of_log(alloc: Global, files: LogFiles<'_>) -> Result<Option<Vec<u8>>, LogFault>
     requires { is_log files.redo.now ≡ true }
     ensures some { IfOk result (λ found_plan. IfSome found_plan (λ plan. IsRedoPlan (image_in files.entry) plan.items × CanRecover (image_in files.entry))) }
@@ -198,7 +198,7 @@ fn records_of(redo: &[u8]) -> &[u8]
     &redo[redo.len().min(HEADER)..]
 }
 
-// How many whole records a log begins with.
+// The number of complete records at the start of a log.
 fn wholes(log: &[u8]) -> usize
     ensures { result ≡ number_in log.now }
 {
@@ -212,7 +212,7 @@ fn wholes(log: &[u8]) -> usize
     log.len()
 }
 
-// The bytes after the first records of a log.
+// The bytes after the first `count` records of a log.
 fn after_records(count: usize, log: &[u8]) -> &[u8]
     ensures { result.now ≡ after_records count log.now }
 {
@@ -223,14 +223,15 @@ fn after_records(count: usize, log: &[u8]) -> &[u8]
     rest
 }
 
-// Whether these bytes may be a record that a crash has cut short.
+// Returns whether these bytes may be a record whose write a crash interrupted.
 fn may_be_torn(rest: &[u8]) -> bool
     ensures { IsTrue result ↔ MayBeTorn rest.now }
 {
     may_have_weight(rest) && may_have_size(rest)
 }
 
-// Whether no more bytes that are not zero follow the weight of a record than it says, if it is there.
+// Returns whether the number of nonzero bytes after the weight of a record is at most the weight. Returns `true` if the weight is
+// incomplete.
 fn may_have_weight(rest: &[u8]) -> bool
     ensures { IsTrue result ↔ (nonzero (take 4 rest.now) ≡ 4 → nonzero (drop 4 rest.now) ≤ weight_at rest.now) }
 {
@@ -243,7 +244,7 @@ fn may_have_weight(rest: &[u8]) -> bool
     nonzero(&rest[4..]) <= weight(rest)
 }
 
-// Whether zeros follow the plan of a record, if its length is there.
+// Returns whether only zeros follow the plan of a record. Returns `true` if the length of the plan is incomplete.
 fn may_have_size(rest: &[u8]) -> bool
     ensures { IsTrue result ↔ (nonzero (take 4 (drop 4 rest.now)) ≡ 4 → nonzero (drop (8 + size_at rest.now) rest.now) ≡ 0) }
 {
@@ -256,7 +257,7 @@ fn may_have_size(rest: &[u8]) -> bool
     nonzero(after_first(rest)) == 0
 }
 
-// Whether a log begins with a whole record.
+// Returns whether a log starts with a complete record.
 fn is_whole(log: &[u8]) -> bool
     ensures { result ≡ is_whole log.now }
 {
@@ -290,7 +291,7 @@ fn size(log: &[u8]) -> usize
     weight(&log[log.len().min(4)..])
 }
 
-// How many bytes are not zero.
+// The number of bytes that are not zero.
 fn nonzero(bytes: &[u8]) -> usize
     ensures is { result ≡ nonzero bytes.now }
     ensures few { result ≤ length bytes.now }
@@ -302,7 +303,7 @@ fn nonzero(bytes: &[u8]) -> usize
     count
 }
 
-// 1 for a byte that is not zero.
+// 1 for a byte that is not zero, otherwise 0.
 fn nonzero_byte(byte: u8) -> usize
     ensures is { result ≡ nonzero (byte ∷ []) }
     ensures small { result ≤ 1 }
@@ -310,7 +311,7 @@ fn nonzero_byte(byte: u8) -> usize
     if byte == 0 { 0 } else { 1 }
 }
 
-// The bytes after the first record of a log, of which a part may be missing.
+// The bytes after the first record of a log, which may be incomplete.
 fn after_first(log: &[u8]) -> &[u8]
     ensures { result.now ≡ later_records log.now }
 {
@@ -318,7 +319,7 @@ fn after_first(log: &[u8]) -> &[u8]
     &log[start..]
 }
 
-// Whether the first records of a log have plans.
+// Returns whether the first `count` records of a log have plans.
 fn are_plans(count: usize, log: &[u8]) -> bool
     ensures { IsTrue result ↔ ArePlans count log.now }
 {
@@ -332,7 +333,7 @@ fn are_plans(count: usize, log: &[u8]) -> bool
     true
 }
 
-// Whether the first record of a log has a plan.
+// Returns whether the first record of a log has a plan.
 fn has_plan(log: &[u8]) -> bool
     ensures { IsTrue result ↔ (8 + size_at log.now ≤ length log.now) × IsPlan (first_plan log.now) }
 {
@@ -360,7 +361,7 @@ fn later_records(log: &[u8]) -> &[u8]
     &log[8 + size..]
 }
 
-// The plans of the first records of a log as one.
+// The plans of the first `count` records of a log, joined into one plan.
 fn joined_plan<A: Allocator>(alloc: A, count: usize, log: &[u8]) -> Result<Vec<u8, A>, AllocError>
     requires some { 1 ≤ count }
     requires whole { ArePlans count log.now }
@@ -375,7 +376,7 @@ fn joined_plan<A: Allocator>(alloc: A, count: usize, log: &[u8]) -> Result<Vec<u
     Ok(plan)
 }
 
-// Appends a plan to others, as one with them.
+// Joins a plan with the next one.
 fn join<A: Allocator>(plan: &mut Vec<u8, A>, next: &[u8]) -> Result<(), AllocError>
     requires plan { 28 ≤ length plan.old.items }
     requires next { 28 ≤ length next.now }
@@ -386,7 +387,7 @@ fn join<A: Allocator>(plan: &mut Vec<u8, A>, next: &[u8]) -> Result<(), AllocErr
     Ok(())
 }
 
-// Makes the head of a plan that of both.
+// Updates the head of a plan for the joined plan.
 fn write_head<A: Allocator>(plan: &mut Vec<u8, A>, next: &[u8])
     requires plan { 28 ≤ length plan.old.items }
     requires next { 28 ≤ length next.now }
@@ -395,7 +396,7 @@ fn write_head<A: Allocator>(plan: &mut Vec<u8, A>, next: &[u8])
     join_heads(plan.as_mut_slice(), next);
 }
 
-// Writes the new lengths and the number of changes of both plans into the first one.
+// Writes the new lengths and the number of changes of the joined plan into the first plan.
 fn join_heads(plan: &mut [u8], next: &[u8])
     requires plan { 28 ≤ length plan.old }
     requires next { 28 ≤ length next.now }

@@ -1,4 +1,4 @@
-// The law over lists of runs.
+// The law over lists of runs, as contracts of functions that do nothing.
 ghost use Rattle.std.specs.Prelude.{◌≡◌, ◌<◌, ℕ, List, length};
 ghost use Rattle.sdbm_saves.specs.Acts.{Act};
 ghost use Rattle.sdbm_saves.specs.Redo.{files, IsPlan, Knows};
@@ -12,7 +12,7 @@ ghost use Rattle.sdbm_log.specs.LogRuns.{LogRun, Found, Mean, AreMade, LeaveFile
 
 use std::marker::Brand;
 
-/// The images that a crash may leave after n of a list of runs; 0 is before the first. No code can know them, so the law is proved for all
+/// The images that a crash may leave after n runs of a list; 0 is before the first run. No code can know them, so the law is proved for all
 /// sets of images.
 pub trait Crashes {
     ghost may_leave: { ℕ → Image → Type 0 };
@@ -25,20 +25,22 @@ impl Crashes for Brand {
 
 /// The law of a log. It is the contract of this function, which does nothing.
 ///
-/// Runs are made on the files of one database, one after another. Each may be made on another disk and by another process. A run may be
-/// interrupted at any moment, by a kill, by a call that fails or by the loss of power, also while it recovers the files. The power may also be
-/// lost between two runs. The law holds if the files before the first run can be recovered, and each run is as the functions of this crate
-/// promise (`IsRun`).
+/// The runs use the files of one database, one after the other. Each run may use a different disk and a different process. A run may be
+/// interrupted at any time, by a kill, by a failed call or by a power failure, even while it recovers the files. The power may also fail
+/// between two runs. The law holds if the files before the first run can be recovered, and each run satisfies the contracts of this crate
+/// (`IsRun`).
 ///
-/// All that is read after a run, and all that a crash may leave then, can be recovered. It means the files that the run saved, if it was a save
-/// that returned. If the save was interrupted, it means those or the files that the run read. After a run that saves nothing, it means the
-/// files that the run read, or if that run was interrupted, the same as before it. Several saves of one process are several runs.
+/// Every image that is read after a run, and every image that a crash may leave then, can be recovered. After a save that returned, it
+/// represents the saved files. After an interrupted save, it represents the saved files or the files that the run read. After a run that
+/// saves nothing, it represents the files that the run read, or if that run was interrupted, the same files as before it. Several saves of
+/// one process are several runs.
 pub fn all_runs<C: Crashes>()
     ensures { (runs : List LogRun) (seen : Image) (was : List (List ℕ × List ℕ)) → Mean was (Found seen (C.may_leave 0)) → AreMade runs seen C.may_leave → LeaveFiles runs seen C.may_leave was }
 {}
 
-/// What the lists of this crate promise, as the contract of this function, which does nothing: whoever makes the calls of a save, of an
-/// opening, of a recovery or of closing on files that are as the list wants them, and whatever a crash might have left of these before.
+/// The promises of the lists of this crate, as the contract of this function, which does nothing. They hold for every program that makes
+/// the calls of a save, of an opening, of a recovery or of closing on files that meet the requirements of the list, and for all images that
+/// a crash might have left of these files before.
 pub fn all_lists<C: Crashes>()
     ensures saves { (log next : Log) (plan : List ℕ) (commit apply : List Act) (seen : Image) (n : ℕ) → IsPlan plan → length plan < 4000000000 → AreSaveCalls log next plan commit apply
         → IsReady log.end log.room log.count seen (C.may_leave n) → Knows plan (files seen) → IsSave plan commit apply next.end next.room next.count seen (Found seen (C.may_leave n)) }

@@ -17,10 +17,10 @@ use crate::steps::{
 use sdbm_saves::number;
 use std::alloc::{AllocError, Global};
 
-// The plans of a log have fewer changes than this.
+// The plans of a log have fewer changes than this in total.
 const CHANGE_LIMIT: usize = 1 << 32;
 
-// A log that is made longer for a record gets whole pieces of this many bytes.
+// A log that is extended for a record gets a multiple of this many bytes.
 const PIECE: usize = 1 << 20;
 
 /// The steps of a save.
@@ -30,33 +30,33 @@ pub struct SaveSteps {
     pub bytes: Vec<u8>,
     /// Commits the save. If one of these steps fails, the save may be committed or not.
     pub commit: Vec<Step>,
-    /// Does the save in both data files. If one of these steps fails, the save stands.
+    /// Applies the save to both data files. If one of these steps fails, the save is still committed.
     pub apply: Vec<Step>,
-    /// The log after all of them.
+    /// The log after all steps.
     pub log: Log,
 }
 
-/// The steps of a save by a plan. A record after the others and one sync commit it; then it is done in both data files without a sync. If
-/// the log has no room for the record, or a file gets shorter, the log is emptied first; if a file gets shorter, afterwards too. If a step
-/// fails, make no more of them, and open the files again.
+/// The steps that save a plan. A record after the existing records and one sync commit the save. Then it is applied to both data files
+/// without a sync. If the log has no room for the record, or a file gets shorter, the log is emptied first. If a file gets shorter, the log
+/// is emptied afterwards too. If a step fails, make no further step, and open the files again.
 ///
 /// # Errors
 ///
-/// `AllocError` if memory runs out.
+/// `AllocError` if allocation fails.
 pub fn save_steps<C: Crashes>(alloc: Global, log: Log, plan: &[u8]) -> Result<SaveSteps, AllocError>
     requires plan { IsPlan plan.now }
     requires short { length plan.now < 3000000000 }
     requires near { log.end ≤ 4000000000 }
 
-    // The bytes are a head of ten, and then the record of the plan.
+    // The bytes are a head of ten bytes, then the record of the plan.
     ensures buffer { IfOk result (λ save. save.bytes.items ≡ with_head (record_of plan.now)) }
     ensures calls { IfOk result (λ save. AreSaveCalls log save.log plan.now (acts_of save.bytes.items save.commit.items) (acts_of save.bytes.items save.apply.items)) }
 
-    // The promises of these calls, whatever a crash might have left before them.
+    // The promises of these calls, for all images that a crash might have left before.
     ensures saves { IfOk result (λ save. (seen : Image) (n : ℕ) → IsReady log.end log.room log.count seen (C.may_leave n) → Knows plan.now (files seen)
         → IsSave plan.now (acts_of save.bytes.items save.commit.items) (acts_of save.bytes.items save.apply.items) save.log.end save.log.room save.log.count seen (Found seen (C.may_leave n))) }
 
-    // They are a run of the law, and also two: one that saves, and one that keeps the files.
+    // The calls are one run of the law, and also two runs: the first saves, and the second does not change the saved files.
     ensures run { IfOk result (λ save. (seen : Image) (n : ℕ) → IsReady log.end log.room log.count seen (C.may_leave n) → Knows plan.now (files seen)
         → IsRun (saves (renewed_files plan.now seen)) (acts_of save.bytes.items save.commit.items ++ acts_of save.bytes.items save.apply.items) seen (C.may_leave n)) }
     ensures commit_run { IfOk result (λ save. (seen : Image) (n : ℕ) → IsReady log.end log.room log.count seen (C.may_leave n) → Knows plan.now (files seen)
@@ -108,7 +108,7 @@ fn push_room(commit: &mut Vec<Step>, log: Log, plan: &[u8]) -> Result<Log, Alloc
     })
 }
 
-// Whether a log can take the record of a plan as it is.
+// Returns whether a log can take the record of a plan without being emptied.
 fn has_room(log: Log, plan: &[u8]) -> bool
     requires plan { 28 ≤ length plan.now }
     requires short { length plan.now < 3000000000 }
@@ -121,7 +121,7 @@ fn has_room(log: Log, plan: &[u8]) -> bool
     log.count < CHANGE_LIMIT && log.count + number(plan, 24) < CHANGE_LIMIT
 }
 
-// Whether no file is shorter after a plan.
+// Returns whether a plan shortens no file.
 fn is_growing(plan: &[u8]) -> bool
     requires { 28 ≤ length plan.now }
     ensures { IsTrue result ↔ IsGrowing plan.now }
@@ -129,7 +129,7 @@ fn is_growing(plan: &[u8]) -> bool
     number(plan, 16) <= number(plan, 8) && number(plan, 20) <= number(plan, 12)
 }
 
-// Adds the steps of a save after its commit, and returns the log after them. The plan stands in the buffer in its record.
+// Adds the steps of a save after its commit, and returns the log after them. The buffer has the plan in its record.
 fn push_rest(apply: &mut Vec<Step>, log: Log, plan: &[u8]) -> Result<Log, AllocError>
     requires plan { IsPlan plan.now }
     requires short { length plan.now < 3000000000 }

@@ -1,4 +1,4 @@
-// Steps: calls on the three files that somebody else makes.
+// Steps: calls on the three files, made by the caller.
 ghost use Rattle.std.specs.Prelude.{◌≡◌, ◌<◌, ◌≤◌, ◌+◌, ◌^◌, ◌++◌, ◌∷◌, ℕ, List, [], length, drop, OnOk};
 ghost use Rattle.sdbm_saves.specs.Redo.{file_of, offset_of, data_of, span_of, rest_of, count_of, changes_of, IsPlan};
 ghost use Rattle.sdbm_saves.specs.Acts.{write};
@@ -9,7 +9,7 @@ use crate::log::HEADER;
 use sdbm_saves::{File, number};
 use std::alloc::{AllocError, Global};
 
-/// A call on one of the three files. The bytes that a write needs stand in a buffer beside the steps.
+/// A call on one of the three files. The bytes of writes are in a separate buffer.
 #[derive(Clone, Copy, Debug, PartialEq, Eq)]
 pub enum Step {
     /// Writes `len` bytes of the buffer, from `from` on, at this offset.
@@ -25,7 +25,7 @@ pub enum Step {
         at: usize,
         len: usize,
     },
-    /// Cuts a file to a length, or makes it longer by zeros.
+    /// Truncates a file, or extends it with zeros.
     Resize {
         file: File,
         len: usize,
@@ -36,15 +36,15 @@ pub enum Step {
     },
 }
 
-// What a buffer of steps begins with: the mark, and the first nine bytes of an empty log.
+// The first bytes of a buffer of steps: the commit byte, and the first nine bytes of an empty log.
 pub(crate) const HEAD: [u8; 10] = *b"\x01\0sdbmlog1";
 
-// Where a record begins in a buffer of steps, and the plan in its record.
+// The offset of the record in a buffer of steps, and the offset of the plan in its record.
 pub(crate) const RECORD_AT: usize = 10;
 
 pub(crate) const RECORD_HEAD: usize = 8;
 
-// Adds the steps that settle what is read.
+// Adds the steps that sync the files that were read.
 pub(crate) fn push_settle(steps: &mut Vec<Step>) -> Result<(), AllocError>
     ensures { OnOk result ((bytes : List ℕ) → acts_of bytes steps.new.items ≡ acts_of bytes steps.old.items ++ settle_acts) }
 {
@@ -57,7 +57,7 @@ pub(crate) fn push_settle(steps: &mut Vec<Step>) -> Result<(), AllocError>
     ])
 }
 
-// Adds the steps that commit the record of a buffer after the others, which end here.
+// Adds the steps that commit the record in the buffer, after the existing records, which end at `end`.
 pub(crate) fn push_commit(steps: &mut Vec<Step>, end: usize, len: usize) -> Result<(), AllocError>
     requires { end ≤ 4000000000 }
     ensures { OnOk result ((record_bytes : List ℕ) → length record_bytes ≡ len
@@ -82,7 +82,7 @@ pub(crate) fn push_commit(steps: &mut Vec<Step>, end: usize, len: usize) -> Resu
     ])
 }
 
-// Adds the steps that do a plan, which stands in the buffer from `from` on.
+// Adds the steps that apply a plan, which is in the buffer from `from` on.
 pub(crate) fn push_apply(steps: &mut Vec<Step>, plan: &[u8], from: usize) -> Result<(), AllocError>
     requires plan { IsPlan plan.now }
     requires short { length plan.now < 2 ^ 63 }
@@ -122,7 +122,7 @@ fn push_changes(steps: &mut Vec<Step>, plan: &[u8], from: usize) -> Result<(), A
     Ok(())
 }
 
-// How many bytes a change has.
+// The size of a change in bytes.
 fn span_of(change: &[u8]) -> usize
     requires { span_of change.now ≤ length change.now }
     ensures { result ≡ span_of change.now }
@@ -139,7 +139,7 @@ fn rest_of(change: &[u8]) -> &[u8]
     &change[span_of(change)..]
 }
 
-// Adds the step that writes the change that these bytes begin with, which stand in the buffer from `from` on.
+// Adds the step that writes the first of some changes, which are in the buffer from `from` on.
 fn push_change(steps: &mut Vec<Step>, change: &[u8], from: usize) -> Result<(), AllocError>
     requires whole { span_of change.now ≤ length change.now }
     requires near { from ≤ 2 ^ 63 + 4096 }
@@ -158,7 +158,7 @@ fn push_change(steps: &mut Vec<Step>, change: &[u8], from: usize) -> Result<(), 
     }
 }
 
-// The file of the change that these bytes begin with.
+// The file of the first of some changes.
 fn file_of(change: &[u8]) -> File
     requires { 1 ≤ length change.now }
     ensures { result ≡ file_of change.now }
@@ -170,7 +170,7 @@ fn file_of(change: &[u8]) -> File
     }
 }
 
-// Adds the steps that end a log.
+// Adds the steps that close a log.
 pub(crate) fn push_close(steps: &mut Vec<Step>) -> Result<(), AllocError>
     ensures { OnOk result ((bytes : List ℕ) → acts_of bytes steps.new.items ≡ acts_of bytes steps.old.items ++ close_acts) }
 {
@@ -188,7 +188,7 @@ pub(crate) fn push_close(steps: &mut Vec<Step>) -> Result<(), AllocError>
     ])
 }
 
-// Adds the steps that overwrite the first bytes of the records of a closed log.
+// Adds the steps that overwrite the first bytes of the records of a closed log with zeros.
 pub(crate) fn push_clear(steps: &mut Vec<Step>, len: usize) -> Result<(), AllocError>
     ensures { OnOk result ((bytes : List ℕ) → acts_of bytes steps.new.items ≡ acts_of bytes steps.old.items ++ clear_acts len) }
 {

@@ -36,7 +36,7 @@ fn record(alloc: Global, at: usize, byte: u8) -> Result<Vec<u8>, AllocError> {
     Ok(bytes)
 }
 
-// The record of a second save after that of a first one. A crash has left the bytes of the second before `cut`, but not that at `hole`.
+// The records of two saves. A crash has left the bytes of the second record before `cut`, except the byte at `hole`.
 fn log(alloc: Global, cut: usize, hole: usize) -> Result<Vec<u8>, AllocError> {
     let mut log = record(alloc, 1, 7)?;
     let second = record(alloc, 2, 9)?;
@@ -50,7 +50,7 @@ fn log(alloc: Global, cut: usize, hole: usize) -> Result<Vec<u8>, AllocError> {
     Ok(log)
 }
 
-// Files with these bytes in the log, and the mark set.
+// Files with these bytes in the log, and a commit byte of 1.
 fn found(alloc: Global, pages: &[u8], log: &[u8]) -> Result<Found, AllocError> {
     let mut redo = Vec::from_slice(alloc, b"\x01sdbmlog1")?;
     redo.resize(4096, 0)?;
@@ -71,7 +71,7 @@ fn files_of(found: &Found) -> LogFiles<'_> {
     }
 }
 
-// Whether files with these bytes of `.pag` and of the log mean these pages.
+// Returns whether files with these bytes of `.pag` and of the log represent these pages.
 fn reads(alloc: Global, pages: &[u8], log: &[u8], meant: &[u8]) -> Result<bool, AllocError> {
     let found = found(alloc, pages, log)?;
     let Ok(plan) = plan_of(alloc, files_of(&found)) else {
@@ -93,7 +93,7 @@ fn a_log_with_no_records_means_the_files(rt: HostRuntime) -> Result<(), Fail> {
     Ok(())
 }
 
-// Whatever of both plans is done in the data files.
+// Any part of both plans is applied to the data files.
 #[test]
 fn records_mean_both_plans(rt: HostRuntime) -> Result<(), Fail> {
     let both = log(rt.alloc(), 99, 99)?;
@@ -119,13 +119,13 @@ fn a_torn_last_record_is_as_if_never_written(rt: HostRuntime) -> Result<(), Fail
     Ok(())
 }
 
-// What keeps files with these bytes of `.pag` and of the log from being recovered.
+// The fault in the recovery of files with these bytes of `.pag` and of the log.
 fn fault_of(alloc: Global, pages: &[u8], log: &[u8]) -> Result<Option<LogFault>, AllocError> {
     let found = found(alloc, pages, log)?;
     Ok(plan_of(alloc, files_of(&found)).err())
 }
 
-// The records of two saves. This byte of the first is lost.
+// The records of two saves. This byte of the first record is lost.
 fn damaged(alloc: Global, hole: usize) -> Result<Vec<u8>, AllocError> {
     let first = record(alloc, 1, 7)?;
     let mut damaged = Vec::new(alloc);
@@ -140,7 +140,7 @@ fn damaged(alloc: Global, hole: usize) -> Result<Vec<u8>, AllocError> {
     Ok(damaged)
 }
 
-// A byte of its weight, of its length, or the first one of its plan.
+// A byte of its weight, of its length, or the first byte of its plan.
 #[test]
 fn a_record_that_is_damaged_before_another_is_refused(rt: HostRuntime) -> Result<(), Fail> {
     for hole in 0..9 {
@@ -299,7 +299,7 @@ impl Memory {
         Ok(())
     }
 
-    // Makes the first of some steps.
+    // Makes the first steps of a list.
     fn make(
         &mut self,
         alloc: Global,
@@ -403,7 +403,7 @@ fn a_full_log_is_emptied(rt: HostRuntime) -> Result<(), Fail> {
     Ok(())
 }
 
-// Whatever steps of a second save were made, the next opening has the first save, and the second if its record is whole.
+// After any number of steps of a second save, the next opening finds the first save, and the second save if its record is complete.
 #[test]
 fn an_interrupted_save_is_recovered(rt: HostRuntime) -> Result<(), Fail> {
     for count in 0..9 {
@@ -424,7 +424,7 @@ fn an_interrupted_save_is_recovered(rt: HostRuntime) -> Result<(), Fail> {
     Ok(())
 }
 
-// A closed log has records that mean nothing; the next opening overwrites them.
+// The records of a closed log have no meaning. The next opening overwrites them.
 #[test]
 fn a_closed_log_is_used_again(rt: HostRuntime) -> Result<(), Fail> {
     let mut disk = Memory::new(rt.alloc(), &[0, 0, 0, 0])?;

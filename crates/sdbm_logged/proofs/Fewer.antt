@@ -1,4 +1,4 @@
--- What is so whatever a crash may leave is so if it may leave less; and lists of calls that were made on a disk.
+-- Properties of all images that a crash may leave still hold if fewer images may be left. Also lists of calls that were made on a disk.
 use Rattle.std.proofs.Common.{◌≡◌, ℕ, List, sym, subst}
 use Rattle.sdbm_saves.specs.Acts.{Act, seen_after, LeftAfter}
 use Rattle.sdbm_saves.specs.Disk.{Image, LeavesOnly}
@@ -24,7 +24,7 @@ ready_fewer end room count seen few many more ready = record {
 pub rest_fewer : (seen : Image) (few many : Image → Type 0) → ((c : Image) → few c → many c) → IsAtRest seen many → IsAtRest seen few
 rest_fewer seen few many more rest = record { unmarked = rest.unmarked; left_unmarked = λ c l. rest.left_unmarked c (more c l); kept = λ c l. rest.kept c (more c l) }
 
--- a list of which less may be left before
+-- a list of calls, if fewer images may be left before it
 pub does_fewer : (acts : List Act) (seen now : Image) (few many P : Image → Type 0) (Q : Image → (Image → Type 0) → Type 0) → now ≡ seen → ((c : Image) → few c → many c)
     → ((s : Image) (a b : Image → Type 0) → ((c : Image) → a c → b c) → Q s b → Q s a) → Does acts seen many P Q → Does acts now few P Q
 does_fewer acts seen now few many P Q same more keeps is = subst (λ (o : Image). Does acts o few P Q) (sym same) (record {
@@ -33,7 +33,7 @@ does_fewer acts seen now few many P Q same more keeps is = subst (λ (o : Image)
   after = keeps (seen_after acts seen) (LeftAfter acts seen few) (LeftAfter acts seen many) (λ c left. after_more acts seen few many more c left) is.after;
 })
 
--- a list that was made leaves what is promised of it
+-- a list of calls that were made has its promised outcome
 module _ {D : Type 0} (moment : D → ℕ) (left_since : D → ℕ → Image → Type 0) (may_leave : D → Image → Type 0) where
   pub made : (acts : List Act) (seen : Image) (old new : D) (P : Image → Type 0) (Q : Image → (Image → Type 0) → Type 0) → Does acts seen (may_leave old) P Q
       → LeavesOnly moment left_since old new (AnyMoment acts seen (may_leave old)) → LeavesOnly moment left_since old new P

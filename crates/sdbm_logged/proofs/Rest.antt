@@ -1,4 +1,4 @@
--- Databases at rest: what is read has no mark, and a crash leaves no mark and the same data files.
+-- Databases at rest: the commit byte (mark) that is read is not 1, and a crash leaves the same data files and no commit byte of 1.
 use Rattle.std.proofs.Common.{◌≡◌, ◌≢◌, ◌⊎◌, ⊎_elim, ◌≤◌, ℕ, List, length, get_or, refl, sym, ◌∙◌, ap, subst, arith, length-drop, length-append}
 use Rattle.sdbm_saves.specs.Disk.{Image, Only, Follows, LeavesOnly, Through}
 use Rattle.sdbm_saves.specs.Redo.{files, StaysUnmarked}
@@ -6,7 +6,7 @@ use Rattle.sdbm_log.specs.Log.{files_of, Holds, IsAtRest, IsReady, CanRecover}
 use Rattle.sdbm_saves.proofs.Moments.{weaker, leaves}
 use Rattle.sdbm_log.proofs.Header.{settled_holds, unmarked_holds}
 
--- what is on the disk as it is read
+-- files that are durable as read
 pub only_rests : (seen : Image) (may_leave : Image → Type 0) → get_or seen.redo 0 0 ≢ 1 → Only seen may_leave → IsAtRest seen may_leave
 only_rests seen may_leave unmarked only = record {
   unmarked = unmarked;
@@ -14,7 +14,7 @@ only_rests seen may_leave unmarked only = record {
   kept = λ c left. ap (λ (o : Image). files o) (only c left);
 }
 
--- after a step that brings no mark
+-- after a step that does not set the commit byte
 pub stays_rests : (old new : Image) (before after : Image → Type 0) → IsAtRest old before → files new ≡ files old → get_or new.redo 0 0 ≢ 1 → Follows StaysUnmarked before after → IsAtRest new after
 stays_rests old new before after rest same unmarked follows = record {
   unmarked = unmarked;
@@ -29,12 +29,12 @@ pub can_recover : (image : Image) → get_or image.redo 0 0 ≢ 1 → CanRecover
 can_recover image unmarked = (unmarked_holds (files image) image unmarked refl).1
 
 module _ {D : Type 0} (moment : D → ℕ) (left_since : D → ℕ → Image → Type 0) (may_leave : D → Image → Type 0) where
-  -- steps that bring no mark leave the same files at any moment
+  -- steps that do not set the commit byte leave the same files at any time
   pub stays_moments : (seen : Image) (old new : D) → IsAtRest seen (may_leave old) → Through moment left_since may_leave StaysUnmarked old new → LeavesOnly moment left_since old new (λ c. Holds (files seen) c)
   stays_moments seen old new rest through =
       leaves moment left_since may_leave StaysUnmarked old new _ (λ d c left stays. settled_holds seen (may_leave old) rest d c left stays) through
 
-  -- what was left of files at rest, or means the same
+  -- images that might have been left of files at rest, or that represent the same files
   pub rest_moments : (seen : Image) (old new : D) → IsAtRest seen (may_leave old) → LeavesOnly moment left_since old new (λ c. may_leave old c ⊎ Holds (files_of seen) c)
       → LeavesOnly moment left_since old new (λ c. Holds (files seen) c)
   rest_moments seen old new rest so =

@@ -1,4 +1,4 @@
-// A log is closed.
+// Closes a log.
 ghost use Rattle.std.specs.Prelude.{◌≡◌, OnOk};
 ghost use Rattle.sdbm_saves.specs.Disk.{LeavesOnly, HasCause};
 ghost use Rattle.sdbm_saves.specs.Redo.{files};
@@ -9,7 +9,7 @@ use sdbm_saves::{Disk, DiskError};
 use std::alloc::Global;
 use std::marker::Brand;
 
-/// Closes a log: syncs both data files, and then clears the mark. Its records mean nothing after that.
+/// Closes a log: syncs both data files, then clears the commit byte. Its records are invalid afterwards.
 ///
 /// # Errors
 ///
@@ -20,10 +20,10 @@ pub fn close_log<D: Disk>(alloc: Global, disk: &mut D, log: Log) -> Result<(), D
     ensures rest { OnOk result (IsAtRest (D.seen disk.new) (D.may_leave disk.new)) }
     ensures same { OnOk result (files (D.seen disk.new) ≡ files (D.seen disk.old)) }
 
-    // A crash at any moment leaves the same files.
+    // A crash during the call leaves the same files.
     ensures any_moment { LeavesOnly D.moment D.left_since disk.old disk.new (λ c. Holds (files (D.seen disk.old)) c) }
 
-    // `Failed` comes only if the disk has failed.
+    // `Failed` is returned only if the disk has failed.
     ensures cause { HasCause (D.has_failed disk.old) (D.has_failed disk.new) result }
 {
     let _log = log;

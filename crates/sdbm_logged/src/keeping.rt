@@ -27,7 +27,7 @@ pub struct DataBytes {
 }
 
 impl DataBytes {
-    /// The bytes, lent.
+    /// Borrows the bytes.
     pub fn contents(&self) -> Contents<'_>
         ensures pages { result.pages.now ≡ self.now.pages.items }
         ensures directory { result.directory.now ≡ self.now.directory.items }
@@ -38,11 +38,11 @@ impl DataBytes {
         }
     }
 
-    /// The bytes after a plan.
+    /// Returns the bytes after a plan.
     ///
     /// # Errors
     ///
-    /// `AllocError` if there is no memory for them.
+    /// `AllocError` if allocation fails.
     pub fn renewed(&self, alloc: Global, plan: &[u8]) -> Result<DataBytes, AllocError>
         requires plan { IsPlan plan.now }
         ensures pages { IfOk result (λ new. new.pages.items ≡ renewed Pages plan.now self.now.pages.items) }
@@ -53,7 +53,7 @@ impl DataBytes {
         Ok(DataBytes { pages, directory })
     }
 
-    // Does a plan in the bytes, which keep their lengths.
+    // Applies a plan that keeps the lengths of the files.
     fn renew(&mut self, plan: &[u8])
         requires plan { IsPlan plan.now }
         requires pages_long { length self.old.pages.items ≡ new_length Pages plan.now }
@@ -65,7 +65,7 @@ impl DataBytes {
         lay_in(self.directory.as_mut_slice(), File::Directory, plan);
     }
 
-    // Whether a plan gives the files the lengths that they have.
+    // Returns whether a plan keeps the lengths of the files.
     fn keeps_lengths(&self, plan: &[u8]) -> bool
         requires plan { IsPlan plan.now }
         ensures pages { IsTrue result → length self.now.pages.items ≡ new_length Pages plan.now }
@@ -75,18 +75,18 @@ impl DataBytes {
     }
 }
 
-/// What is known of a database between two saves: the place of the next record in its log, and the bytes of its data files.
+/// The state of a database between two saves: the position of the next record in its log, and the bytes of its data files.
 #[derive(Drop)]
 pub struct Keeper {
     pub log: Log,
     pub files: DataBytes,
 }
 
-/// What has become of a save in a log that stays open.
+/// The outcome of a save in a log that stays open.
 #[derive(Clone, Copy, Debug, PartialEq, Eq)]
 pub enum NextSave {
-    /// The log has no room for the record, or the files get other lengths, or may want new blocks of the disk. Nothing was done: close the log,
-    /// and open it anew.
+    /// The log has no room for the record, or the files get different lengths, or may need new blocks of the disk. Nothing was done: close
+    /// the log and open it again.
     Full,
     /// The save is durable, and the log can take the next one.
     Done,
@@ -94,8 +94,8 @@ pub enum NextSave {
     Pending(DiskError),
 }
 
-/// Saves by a plan that knows the files of a database at rest, whose redo file has these bytes, in a log of at least this much room, which
-/// stays open. Returns the log beside the outcome, and it can take the next record if that is `Done`.
+/// Saves a plan that knows the files of a database at rest. `redo` has the bytes of its redo file. The save opens a log of at least `room`
+/// bytes, which stays open. Returns the outcome and the log. The log can take the next record if the outcome is `Done`.
 ///
 /// # Errors
 ///
@@ -116,14 +116,14 @@ pub fn save_first<D: Disk>(
     ensures ready { IfOk result (λ both. both.0 ≡ saved.Done → IsReady both.1.end both.1.room both.1.count (D.seen disk.new) (D.may_leave disk.new)) }
     ensures done { IfOk result (λ both. both.0 ≡ saved.Done → files (D.seen disk.new) ≡ renewed_files plan.now (D.seen disk.old)) }
 
-    // Once it returns `Ok`, a crash leaves the files with the plan done.
+    // After `Ok`, a crash leaves the files with the plan applied.
     ensures durable { OnOk result ((c : Image) → D.may_leave disk.new c → Holds (renewed_files plan.now (D.seen disk.old)) c) }
 
-    // A crash at any moment leaves what it might have left before, or the files as they were read, or with the plan done.
+    // A crash during the call leaves what it might have left before, or the files that were read, with or without the plan applied.
     ensures any_moment { LeavesOnly D.moment D.left_since disk.old disk.new
         (λ c. D.may_leave disk.old c ⊎ (Holds (files (D.seen disk.old)) c ⊎ Holds (renewed_files plan.now (D.seen disk.old)) c)) }
 
-    // `Failed`, alone or in `Pending`, comes only if the disk has failed.
+    // `Failed`, alone or in `Pending`, is returned only if the disk has failed.
     ensures cause { HasCause (D.has_failed disk.old) (D.has_failed disk.new) result }
     ensures pending { IfOk result (λ both. both.0 ≡ saved.Pending Failed → D.has_failed disk.new) }
 {
@@ -132,7 +132,7 @@ pub fn save_first<D: Disk>(
     Ok((saved, log))
 }
 
-/// Saves by a plan that knows the data files, in a log that is open. It takes one sync.
+/// Saves a plan that knows the data files, in an open log. It needs one sync.
 ///
 /// # Errors
 ///
@@ -151,15 +151,15 @@ pub fn save_next<D: Disk>(
     ensures kept { IfOk result (λ how. how ≡ Done → IsKept keeper.new (D.seen disk.new) (D.may_leave disk.new)) }
     ensures done { IfOk result (λ how. how ≡ Done → bytes_of keeper.new.files ≡ renewed_files plan.now (D.seen disk.old)) }
 
-    // Once it returns `Done` or `Pending`, a crash leaves the files with the plan done.
+    // After `Done` or `Pending`, a crash leaves the files with the plan applied.
     ensures durable { IfOk result (λ how. how ≡ Done → (c : Image) → D.may_leave disk.new c → Holds (renewed_files plan.now (D.seen disk.old)) c) }
     ensures durable_pending { IfOk result (λ how. (fault : DiskError) → how ≡ Pending fault → (c : Image) → D.may_leave disk.new c → Holds (renewed_files plan.now (D.seen disk.old)) c) }
 
-    // A crash at any moment of the call leaves the files as they were, or with the plan done.
+    // A crash during the call leaves the files with or without the plan applied.
     ensures any_moment { LeavesOnly D.moment D.left_since disk.old disk.new
         (λ c. Holds (files (D.seen disk.old)) c ⊎ Holds (renewed_files plan.now (D.seen disk.old)) c) }
 
-    // `Failed`, alone or in `Pending`, comes only if the disk has failed.
+    // `Failed`, alone or in `Pending`, is returned only if the disk has failed.
     ensures cause { HasCause (D.has_failed disk.old) (D.has_failed disk.new) result }
     ensures pending { IfOk result (λ how. how ≡ Pending Failed → D.has_failed disk.new) }
 {
@@ -175,7 +175,7 @@ pub fn save_next<D: Disk>(
     }
 }
 
-// Whether a log can take the record of a plan with one sync, and the files want no new blocks for it.
+// Returns whether a log can take the record of a plan with one sync, and the files need no new blocks for it.
 fn can_take(log: Log, plan: &[u8]) -> bool
     requires plan { IsPlan plan.now }
     ensures { IsTrue result → length plan.now < 3000000000 }
@@ -214,7 +214,7 @@ impl<D: Disk> KeptDisk<D> {
         KeptDisk { disk, keeper }
     }
 
-    /// The bytes of the data files, lent.
+    /// Borrows the bytes of the data files.
     pub fn contents(&self) -> Contents<'_>
         ensures pages { result.pages.now ≡ self.now.1.files.pages.items }
         ensures directory { result.directory.now ≡ self.now.1.files.directory.items }

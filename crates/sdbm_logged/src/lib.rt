@@ -1,4 +1,4 @@
-//! Saves through a log, made on a disk: the steps of `sdbm_log`, one list after another.
+//! Makes the steps of `sdbm_log` on a disk: opens a log, saves in it, and closes it.
 #![tactic(auto)]
 
 mod closing;

@@ -1,4 +1,4 @@
-// A save by a log that is open for it alone.
+// A save in a log that is open for this save alone.
 ghost use Rattle.std.specs.Prelude.{◌≡◌, ◌≢◌, ◌⊎◌, ◌<◌, ◌≤◌, length, get_or, OnOk, IfOk};
 ghost use Rattle.sdbm_saves.specs.Disk.{Image, Through, LeavesOnly, HasCause};
 ghost use Rattle.sdbm_saves.specs.Redo.{files, renewed_files, IsPlan, Knows, StaysUnmarked};
@@ -16,24 +16,24 @@ use sdbm_log::{Log, LogFault, LogFiles};
 use sdbm_saves::{Disk, DiskError, File};
 use std::alloc::Global;
 
-// The length of the header of a log.
+// The length of the header of a log, in bytes.
 const HEADER: usize = 4096;
 
-// A new log has at least this much room, so that the next saves can use it again.
+// Minimum room of a new log in bytes, so that later saves can reuse it.
 const LEAST_ROOM: usize = 28_672;
 
-// A log with more room than this is removed after the save.
+// A log with more room than this, in bytes, is removed after the save.
 const MOST_ROOM: usize = 258_048;
 
 // A log for a longer record is made by the save itself.
 const LONGEST: usize = 1 << 30;
 
-/// Saves by a plan that knows the files of a database at rest, whose redo file has these bytes: opens a log, commits the plan, does it in both
-/// data files, and closes the log. If the plan may want new blocks of the disk, it tries before whether there is room.
+/// Saves a plan that knows the files of a database at rest. `redo` has the bytes of its redo file. The save opens a log, commits the plan,
+/// applies it to both data files, and closes the log. If the plan may need new blocks of the disk, the room is checked first.
 ///
-/// `Done` says that the database is at rest again. The redo file then stays as an empty log that the next save can use, unless it is long or
-/// others could not use it.
-/// `Pending` says that the save is durable, but something failed after the commit: open the files again, which does the rest.
+/// `Done` means that the database is at rest again. The redo file then stays as an empty log that the next save can reuse, unless it is
+/// long or other users could not use it. `Pending` means that the save is durable, but something failed after the commit: open the files
+/// again, which finishes the save.
 ///
 /// # Errors
 ///
@@ -53,14 +53,14 @@ pub fn save_once<D: Disk>(
     ensures rest { IfOk result (λ outcome. outcome ≡ Done → IsAtRest (D.seen disk.new) (D.may_leave disk.new)) }
     ensures done { IfOk result (λ outcome. outcome ≡ Done → files (D.seen disk.new) ≡ renewed_files plan.now (D.seen disk.old)) }
 
-    // Once it returns `Ok`, a crash leaves the files with the plan done.
+    // After `Ok`, a crash leaves the files with the plan applied.
     ensures durable { OnOk result ((c : Image) → D.may_leave disk.new c → Holds (renewed_files plan.now (D.seen disk.old)) c) }
 
-    // A crash at any moment leaves what it might have left before, or the files as they were read, or with the plan done.
+    // A crash during the call leaves what it might have left before, or the files that were read, with or without the plan applied.
     ensures any_moment { LeavesOnly D.moment D.left_since disk.old disk.new
         (λ c. D.may_leave disk.old c ⊎ (Holds (files (D.seen disk.old)) c ⊎ Holds (renewed_files plan.now (D.seen disk.old)) c)) }
 
-    // `Failed`, alone or in `Pending`, comes only if the disk has failed.
+    // `Failed`, alone or in `Pending`, is returned only if the disk has failed.
     ensures cause { HasCause (D.has_failed disk.old) (D.has_failed disk.new) result }
     ensures pending { IfOk result (λ outcome. outcome ≡ Pending Failed → D.has_failed disk.new) }
 {
@@ -71,8 +71,8 @@ pub fn save_once<D: Disk>(
     }
 }
 
-/// Opens a log for a save by this plan, with at least this much room, over the files of a database at rest whose redo file has these bytes. If
-/// the plan may want new blocks of the disk, it tries before whether there is room.
+/// Opens a log for a save of this plan, with at least `least` bytes of room. The files must be those of a database at rest, and `redo` the
+/// bytes of its redo file. If the plan may need new blocks of the disk, the room is checked first.
 ///
 /// # Errors
 ///
@@ -100,7 +100,7 @@ pub fn open_for<D: Disk>(
     open_rest(alloc, disk, left, room)
 }
 
-// Opens a log of at least this much room over files at rest.
+// Opens a log of at least `room` bytes over files at rest.
 fn open_rest<D: Disk>(
     alloc: Global,
     disk: &mut D,
@@ -130,7 +130,7 @@ fn open_rest<D: Disk>(
     }
 }
 
-// Closes the log of one save, and then clears its records, or removes it.
+// Closes the log of a single save, then clears its records or removes it.
 fn end_once<D: Disk>(alloc: Global, disk: &mut D, log: Log) -> Saved
     requires ready { IsReady log.end log.room log.count (D.seen disk.old) (D.may_leave disk.old) }
 
@@ -147,8 +147,8 @@ fn end_once<D: Disk>(alloc: Global, disk: &mut D, log: Log) -> Saved
     }
 }
 
-/// Closes a log: syncs both data files, and clears the mark. Then it clears the records, or removes the log if it is long or others could not
-/// use it.
+/// Closes a log: syncs both data files and clears the commit byte. Then clears the records, or removes the log if it is long or other users
+/// could not use it.
 ///
 /// # Errors
 ///
@@ -166,7 +166,7 @@ pub fn close_kept<D: Disk>(alloc: Global, disk: &mut D, log: Log) -> Result<(), 
     clear_records(alloc, disk, end, room)
 }
 
-// Clears the records of a closed log, which end here, or removes it if it is long or others could not use it.
+// Clears the records of a closed log, which end at `end`, or removes the log if it is long or other users could not use it.
 fn clear_records<D: Disk>(
     alloc: Global,
     disk: &mut D,
@@ -188,7 +188,6 @@ fn clear_records<D: Disk>(
     write_zeros(disk, room, zeros.as_slice())
 }
 
-// Removes the redo file.
 fn remove<D: Disk>(disk: &mut D) -> Result<(), DiskError>
     requires rest { IsAtRest (D.seen disk.old) (D.may_leave disk.old) }
 

@@ -1,4 +1,4 @@
-// A log is opened.
+// Opens a log.
 ghost use Rattle.std.specs.Prelude.{◌≡◌, ◌⊎◌, ◌≤◌, OnOk, IfOk, IfErr};
 ghost use Rattle.sdbm_saves.specs.Disk.{Image, LeavesOnly};
 ghost use Rattle.sdbm_saves.specs.Redo.{files};
@@ -14,13 +14,13 @@ use sdbm_saves::Disk;
 use std::alloc::Global;
 use std::marker::Brand;
 
-/// Opens the log of files that were read: syncs them, recovers them if the redo file has its mark, and makes the redo file an empty log of at
-/// least this much room. The data files are needed only if it has the mark.
+/// Opens the log of files that were read: syncs them, recovers them if the commit byte of the redo file is 1, and makes the redo file an
+/// empty log of at least `room` bytes. The bytes of the data files are needed only if the commit byte is 1.
 ///
 /// # Errors
 ///
-/// `Files` if the files cannot be recovered, or memory runs out for the steps; no call was made then. `Disk` if a call fails: open the files
-/// again.
+/// `Files` if the files cannot be recovered, or if allocation of the steps fails; no call was made then. `Disk` if a call fails: open the
+/// files again.
 pub fn open_log<D: Disk>(
     alloc: Global,
     disk: &mut D,
@@ -33,13 +33,13 @@ pub fn open_log<D: Disk>(
     ensures ready { IfOk result (λ log. IsReady log.end log.room log.count (D.seen disk.new) (D.may_leave disk.new)) }
     ensures same { OnOk result (files (D.seen disk.new) ≡ files_of (D.seen disk.old)) }
 
-    // A crash at any moment leaves what it might have left before, or files that mean the same and can be recovered.
+    // A crash during the call leaves what it might have left before, or files that represent the same data and can be recovered.
     ensures any_moment { LeavesOnly D.moment D.left_since disk.old disk.new (λ c. D.may_leave disk.old c ⊎ Holds (files_of (D.seen disk.old)) c) }
 
     ensures foreign { IfErr result (λ why. why ≡ fault.Files Foreign → CanRecover (image_in found.entry) → ⊥) }
     ensures damaged { IfErr result (λ why. why ≡ fault.Files Damaged → CanRecover (image_in found.entry) → ⊥) }
 
-    // `Failed` comes only if the disk has failed, and a disk that has failed stays so.
+    // `Failed` is returned only if the disk has failed. A failed disk stays failed.
     ensures cause { IfErr result (λ why. why ≡ fault.Disk Failed → D.has_failed disk.new) }
     ensures stays { D.has_failed disk.old → D.has_failed disk.new }
 {

@@ -1,4 +1,4 @@
-// Whether the disk has room for what a save does after its commit.
+// Checks before a save whether the disk has room for the work after its commit.
 ghost use Rattle.std.specs.Prelude.{◌≡◌, ◌≤◌, ◌*◌, ◌^◌, ◌↔◌, [], length, All, IsTrue, OnOk, IfOk};
 ghost use Rattle.sdbm_saves.specs.Disk.{Through, LeavesOnly, HasCause};
 ghost use Rattle.sdbm_saves.specs.Redo.{span_of, IsPlan, files, StaysUnmarked};
@@ -6,17 +6,17 @@ ghost use Rattle.sdbm_log.specs.Log.{Holds, IsAtRest};
 
 use sdbm_saves::{Disk, DiskError, File, file_of, number, rest_of, was_of};
 
-/// What a file system gives a file at once, in bytes. Where it gives less or more, the room that is tried is too small or too large.
+/// The allocation unit of a file system, in bytes. If the real unit differs, the room that is tried is too small or too large.
 const DISK_BLOCK: usize = 4096;
 
-/// More blocks than these are not tried: a redo file of more bytes is none that is read.
+/// Maximum number of blocks that are tried. A redo file with more bytes than that is never read.
 const MOST: usize = 658_000;
 
-// Tries before a save whether the disk has room for it: a save that is committed and then finds a full disk leaves its files half done for
-// programs that do not know the log. If the changes of the plan may want new blocks, a new redo file gets as many, and those of a log of this
-// length, each with a zero in it, and is removed. So it never has a mark, and the data files are not touched. Another program may take the
-// room in between. If no change wants a block nothing is done. Returns what the redo file has afterwards. The data files stay as they are,
-// whatever the disk says.
+// Checks before a save whether the disk has room for it. A save that is committed and then finds a full disk leaves its files half done for
+// programs that do not know the log. If the changes of the plan may need new blocks, a new redo file gets that number of blocks, and those
+// of a log of `len` bytes. A zero is written into each block, and the file is removed. So its commit byte is never 1, and the data files
+// are not touched. Another program may take the room in between. If no change needs a block, nothing is done. Returns the bytes of the redo
+// file afterwards. The data files stay unchanged even if the disk fails.
 pub(crate) fn try_room<'a, D: Disk>(
     disk: &mut D,
     redo: &'a [u8],
@@ -41,14 +41,14 @@ pub(crate) fn try_room<'a, D: Disk>(
     Ok(&[])
 }
 
-// Whether the changes of a plan may want new blocks of the disk.
+// Returns whether the changes of a plan may need new blocks of the disk.
 pub(crate) fn wants_blocks(plan: &[u8]) -> bool
     requires { IsPlan plan.now }
 {
     blocks_wanted(plan) > 0
 }
 
-// How many blocks the changes of a plan may want that the files have not.
+// The number of blocks that the changes of a plan may need and the files do not have.
 fn blocks_wanted(plan: &[u8]) -> usize
     requires { IsPlan plan.now }
 {
@@ -56,7 +56,7 @@ fn blocks_wanted(plan: &[u8]) -> usize
     pages.saturating_add(new_blocks(plan, File::Directory))
 }
 
-// Writes a zero into each of so many blocks of a new redo file, and takes it away.
+// Writes a zero into each block of a new redo file, and removes the file.
 fn try_blocks<D: Disk>(disk: &mut D, blocks: usize) -> Result<(), DiskError>
     requires some { 1 ≤ blocks }
 
@@ -72,7 +72,7 @@ fn try_blocks<D: Disk>(disk: &mut D, blocks: usize) -> Result<(), DiskError>
     disk.clear()
 }
 
-// Writes a zero into each of so many blocks of the redo file, which is that long.
+// Writes a zero into each block of the redo file, which has this number of blocks.
 fn fill<D: Disk>(disk: &mut D, blocks: usize) -> Result<(), DiskError>
     requires few { blocks ≤ 2 ^ 40 }
     requires long { length (D.seen disk.old).redo ≡ blocks * 4096 }
@@ -87,8 +87,8 @@ fn fill<D: Disk>(disk: &mut D, blocks: usize) -> Result<(), DiskError>
     Ok(())
 }
 
-// How many blocks the changes of one file may want that it has not. It is a guess: a page of zeros may be a hole or not. No clause says how
-// many they are, and no promise stands on it.
+// The number of blocks that the changes of one file may need and the file does not have. It is an estimate: a page of zeros may be a hole
+// or not. No contract specifies it or depends on it.
 fn new_blocks(plan: &[u8], file: File) -> usize
     requires { IsPlan plan.now }
 {
@@ -108,7 +108,7 @@ fn new_blocks(plan: &[u8], file: File) -> usize
     blocks
 }
 
-// Whether a change may want blocks that its file has not: past its end, or in what may be a hole.
+// Returns whether a change may need blocks that its file does not have: past its end, or in a possible hole.
 fn wants_room(plan: &[u8], change: &[u8]) -> bool
     requires header { 28 ≤ length plan.now }
     requires whole { span_of change.now ≤ length change.now }
@@ -120,7 +120,6 @@ fn wants_room(plan: &[u8], change: &[u8]) -> bool
     number(change, 1) + number(change, 5) > end || is_zero(was_of(change))
 }
 
-// Whether all these bytes are zero.
 fn is_zero(bytes: &[u8]) -> bool
     ensures { IsTrue result ↔ All (λ byte. byte ≡ 0) bytes.now }
 {

@@ -11,7 +11,7 @@ use sdbm_saves::{Disk, DiskError};
 use std::alloc::Global;
 use std::marker::Brand;
 
-/// A save is by a plan of fewer bytes than this.
+/// A plan must have fewer bytes than this.
 pub const PLAN_LIMIT: usize = 3_000_000_000;
 
 /// The outcome of a save that is committed.
@@ -23,7 +23,7 @@ pub enum Saved {
     Pending(DiskError),
 }
 
-/// Saves by a plan in an open log: commits it, which takes one sync, and does it in both data files.
+/// Saves a plan in an open log: commits it, which needs one sync, and applies it to both data files.
 ///
 /// # Errors
 ///
@@ -43,14 +43,14 @@ pub fn save_by<D: Disk>(
     ensures ready { IfOk result (λ outcome. outcome ≡ Done → IsReady log.new.end log.new.room log.new.count (D.seen disk.new) (D.may_leave disk.new)) }
     ensures done { IfOk result (λ outcome. outcome ≡ Done → files (D.seen disk.new) ≡ renewed_files plan.now (D.seen disk.old)) }
 
-    // Once it returns `Ok`, a crash leaves the files with the plan done.
+    // After `Ok`, a crash leaves the files with the plan applied.
     ensures durable { IfOk result (λ outcome. (c : Image) → D.may_leave disk.new c → Holds (renewed_files plan.now (D.seen disk.old)) c) }
 
-    // A crash at any moment of the call leaves the files as they were, or with the plan done.
+    // A crash during the call leaves the files with or without the plan applied.
     ensures any_moment { LeavesOnly D.moment D.left_since disk.old disk.new
         (λ c. Holds (files (D.seen disk.old)) c ⊎ Holds (renewed_files plan.now (D.seen disk.old)) c) }
 
-    // `Failed`, alone or in `Pending`, comes only if the disk has failed.
+    // `Failed`, alone or in `Pending`, is returned only if the disk has failed.
     ensures cause { HasCause (D.has_failed disk.old) (D.has_failed disk.new) result }
     ensures pending { IfOk result (λ outcome. outcome ≡ Pending Failed → D.has_failed disk.new) }
 {

@@ -1,11 +1,11 @@
-// What is read of a database at rest is kept.
+// Makes the files of a database at rest durable.
 ghost use Rattle.std.specs.Prelude.{◌≡◌, ◌≢◌, get_or, OnOk};
 ghost use Rattle.sdbm_saves.specs.Disk.{LeavesOnly, HasCause};
 ghost use Rattle.sdbm_log.specs.Log.{IsAtRest};
 
 use sdbm_saves::{Disk, DiskError, File};
 
-// Syncs all three files: after a kill what is read need not be on the disk.
+// Syncs all three files. After a kill, bytes that are read may not be durable.
 pub(crate) fn settle<D: Disk>(disk: &mut D) -> Result<(), DiskError>
     requires unmarked { get_or (D.seen disk.old).redo 0 0 ≢ 1 }
 

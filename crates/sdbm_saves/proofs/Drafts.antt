@@ -1,4 +1,4 @@
--- A plan that is made change by change.
+-- A plan that is built change by change.
 use Rattle.std.proofs.Common.{◌≡◌, ◌≢◌, ⊎_elim, ℕ, zero, suc, ◌+◌, ◌-◌, ◌<◌, ◌≤◌, ◌^◌, inr, min, List, ◌++◌, length, take, drop, get_or, refl, sym, ◌∙◌, ap, subst, arith, length-append, length-drop}
 use Rattle.std.proofs.lemmas.List.{get_or_append_left, get_or-take, get_or-drop, get_or_past, take_all, drop_all, drop-drop, take-append-le, drop-append-le, length-take-le, ext_get_or}
 use Rattle.std.proofs.lemmas.Bool.{cases_lt}
@@ -30,7 +30,7 @@ effect_same Redo Pages xs zs x offsets datas = refl
 effect_same Redo Directory xs zs x offsets datas = refl
 effect_same Redo Redo xs zs x offsets datas = refl
 
--- what follows a change does not touch it
+-- bytes after a change do not affect it
 module _ (xs ys : List ℕ) (whole : span_of xs ≤ length xs) where
   pub size_append : size_of (xs ++ ys) ≡ size_of xs
   size_append = number_append xs ys 5 (omega (arith, whole))
@@ -96,7 +96,7 @@ module _ (pages directory : ℕ) (before : List ℕ × List ℕ) where
       subst (λ (l : List ℕ). FitsIn pages directory before (rest_after k l)) (sym (rest_append xs ys (first_fits n xs are).whole))
       (fits_behind n (rest_of xs) ys (next n xs are) k (omega (arith, lt)))
 
-  -- one change more
+  -- one more change
   pub one_more : (n : ℕ) (xs ys : List ℕ) → AreChanges pages directory before n xs → FitsIn pages directory before ys → length ys ≡ span_of ys → AreChanges pages directory before (n + 1) (xs ++ ys)
   one_more n xs ys are fit long = record {
     fits = λ k lt. ⊎_elim
@@ -113,7 +113,7 @@ module _ (pages directory : ℕ) (before : List ℕ × List ℕ) where
       ∙ ap (λ (l : List ℕ). effect (file_of l) file l (replayed file n (xs ++ ys) x)) (rest_behind n xs ys are)
       ∙ ap (λ (l : List ℕ). effect (file_of ys) file ys l) (replayed_behind file n xs ys x are)
 
--- a change that was spelled
+-- a spelled change
 module _ (file : File) (at : ℕ) (bytes was : List ℕ) (near : at < 2 ^ 32) (short : length bytes < 2 ^ 32) where
   pub offset_spelled : offset_of (change_bytes file at bytes was) ≡ at
   unfolding number_at
@@ -141,7 +141,7 @@ file_spelled Pages at bytes was is_data = refl
 file_spelled Directory at bytes was is_data = refl
 file_spelled Redo at bytes was is_data = absurd (is_data refl)
 
--- a spelled change on its own file, and on another
+-- the effect of a spelled change on its own file and on the second file
 pub effect_own : (file : File) (at : ℕ) (bytes was x : List ℕ) → at < 2 ^ 32 → length bytes < 2 ^ 32 → file ≢ Redo → effect (file_of (change_bytes file at bytes was)) file (change_bytes file at bytes was) x ≡ written at bytes x
 effect_own Pages at bytes was x near short is_data = λ i. written (offset_spelled Pages at bytes was near short i) (data_spelled Pages at bytes was near short i) x
 effect_own Directory at bytes was x near short is_data = λ i. written (offset_spelled Directory at bytes was near short i) (data_spelled Directory at bytes was near short i) x
@@ -156,7 +156,7 @@ effect_other Directory Directory at bytes was x is_data other = absurd (other re
 effect_other Directory Redo at bytes was x is_data other = refl
 effect_other Redo g at bytes was x is_data other = absurd (is_data refl)
 
--- a byte of a file from an offset on, where those past its end count as zero
+-- a byte of a file, counted from an offset; bytes past its end are zeros
 pub part_read : (old : List ℕ) (at n i : ℕ) → i < n → get_or (part_of old at n) i 0 ≡ get_or old (at + i) 0
 part_read old at n i lt =
     read_resized n (drop (min at (length old)) old) i lt ∙ get_or-drop (min at (length old)) old i 0
@@ -165,7 +165,7 @@ part_read old at n i lt =
     (λ past. get_or_past old (min at (length old) + i) 0 (omega (arith, past)) ∙ sym (get_or_past old (at + i) 0 (omega (arith, past))))
     (cases_lt at (length old))
 
--- bytes that stand there already
+-- bytes that are already in the file
 pub written_same : (at : ℕ) (block x : List ℕ) → at + length block ≤ length x → ((i : ℕ) → i < length block → get_or block i 0 ≡ get_or x (at + i) 0) → x ≡ written at block x
 written_same at block x inside same = ext_get_or 0 x (written at block x) (sym (length-written at block x inside))
     (λ i below. ⊎_elim
@@ -220,7 +220,7 @@ module _ (pages directory : ℕ) (before : List ℕ × List ℕ) (count : ℕ) (
   length_planned Directory = sym directory_planned
   length_planned Redo = refl
 
-  -- whatever the files were for which these are changes
+  -- the old files may be any for which these are changes
   pub is_planned_by : (other : List ℕ × List ℕ) → AreChanges pages directory other count changes → IsPlan (plan_bytes pages directory (length before.0) (length before.1) count changes)
   is_planned_by other are = record {
     header = omega arith;
@@ -235,7 +235,7 @@ module _ (pages directory : ℕ) (before : List ℕ × List ℕ) (count : ℕ) (
   pub is_planned : AreChanges pages directory before count changes → IsPlan (plan_bytes pages directory (length before.0) (length before.1) count changes)
   is_planned are = is_planned_by before are
 
-  -- it knows the files that it was made for
+  -- the plan knows its old files
   pub knows_planned : AreChanges pages directory before count changes → Knows (plan_bytes pages directory (length before.0) (length before.1) count changes) before
   knows_planned are = record {
     pages = record { no_shorter = omega (arith, old_pages_planned); no_longer = omega (arith, old_pages_planned) };

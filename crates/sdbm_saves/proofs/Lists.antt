@@ -1,10 +1,10 @@
--- Bytes written into a file, read one by one.
+-- Bytes written into a file, byte by byte.
 use Rattle.std.proofs.Common.{◌≡◌, ⊎_elim, ℕ, ◌+◌, ◌-◌, ◌<◌, ◌≤◌, List, ◌++◌, length, take, drop, replicate, get_or, refl, sym, ◌∙◌, ap, arith, length-append, length-drop}
 use Rattle.std.proofs.lemmas.List.{ext_get_or, get_or-take, get_or-drop, get_or_past, get_or_append_left, get_or-append_right, get_or-replicate, length-take-le, length-replicate}
 use Rattle.std.proofs.lemmas.Bool.{cases_lt}
 use Rattle.sdbm_saves.specs.Disk.{written, resized}
 
--- the same but for n bytes from an offset on
+-- two lists are equal except for n bytes from an offset on
 pub record Elsewhere (at n : ℕ) (x y : List ℕ) : Type 0 where
   pub before : (i : ℕ) → i < at → get_or y i 0 ≡ get_or x i 0
   pub after : (i : ℕ) → at + n ≤ i → get_or y i 0 ≡ get_or x i 0
@@ -33,7 +33,7 @@ written_after at bytes old i inside le =
     ∙ get_or-drop (at + length bytes) old (i - at - length bytes) 0
     ∙ ap (λ (k : ℕ). get_or old k 0) same
 
--- what is written over does not matter
+-- the overwritten bytes do not matter
 pub absorbs : (at : ℕ) (bytes x y : List ℕ) → at + length bytes ≤ length x → length y ≡ length x → Elsewhere at (length bytes) x y → written at bytes y ≡ written at bytes x
 absorbs at bytes x y inside same_length same =
     let in_y : at + length bytes ≤ length y = omega (arith, inside, same_length) in
@@ -46,7 +46,7 @@ absorbs at bytes x y inside same_length same =
     (cases_lt i (at + length bytes)))
     (cases_lt i at))
 
--- other bytes written into both leave them the same elsewhere
+-- writing the same bytes into both keeps them equal elsewhere
 pub written_elsewhere : (at n a : ℕ) (bytes x y : List ℕ) → a + length bytes ≤ length x → length y ≡ length x → Elsewhere at n x y → Elsewhere at n (written a bytes x) (written a bytes y)
 written_elsewhere at n a bytes x y inside same_length same = record {
   before = λ i lt. each i (same.before i lt);

@@ -1,4 +1,4 @@
--- What a crash leaves of the mark, and what follows it.
+-- The commit byte (mark) and the bytes after it, when a crash happens.
 use Rattle.std.proofs.Common.{◌≡◌, ◌≢◌, ◌⊎◌, inl, ⊎_elim, ℕ, ◌≤◌, List, [], ◌∷◌, length, drop, get_or, refl, sym, ◌∙◌, ap, subst, arith}
 use Rattle.std.proofs.lemmas.Bool.Decides.{nat_tests}
 use Rattle.sdbm_saves.specs.declared.disk.File.{File}
@@ -25,17 +25,17 @@ stays_within step keeps d c within = record {
   mark = λ unmarked marked. ⊎_elim (λ same. unmarked (sym same ∙ marked)) (λ none. absurd (omega (arith, none, marked))) (keeps d.redo c.redo within.stepped);
 }
 
--- what a mark leaves after it
+-- writing the commit byte leaves the bytes after it unchanged
 pub behind_mark : (value : ℕ) (d c : Image) → 1 ≤ length d.redo → Within Redo (Torn 0 (value ∷ [])) d c → drop 1 c.redo ≡ drop 1 d.redo
 behind_mark value d c long within =
     let torn : Torn 0 (value ∷ []) d.redo c.redo = within.stepped in
     behind_first d.redo c.redo (omega (arith, long, torn.no_shorter, torn.no_longer)) (λ i le. torn.after i (omega (arith, le)))
 
--- a save with no mark is not to be ended
+-- if the commit byte is not 1, there is nothing to recover
 pub nothing_to_end : (c : Image) → mark_of c ≢ 1 → CanEnd c
 nothing_to_end c unmarked = λ marked. absurd (unmarked marked)
 
--- the plan after a mark knows the files that it knew
+-- the plan after the commit byte still knows the files
 pub knows_still : (plan : List ℕ) (c : Image) → IsPlan plan → drop 1 c.redo ≡ plan → Knows plan (files c) → CanEnd c
 knows_still plan c is_plan behind knows = λ marked. subst (λ (l : List ℕ). IsPlan l × Knows l (files c)) (sym behind) (is_plan, knows)
 
@@ -51,7 +51,7 @@ pub length_self : (n : ℕ) (x : List ℕ) → TornLength n x x
 length_self n x = record { same = λ i lt. refl; no_shorter = omega arith; no_longer = omega arith }
 
 module _ (plan : List ℕ) (first : Image) where
-  -- while a marked plan is done
+  -- while a committed plan is being applied
   pub half_done : first.redo ≡ 1 ∷ plan → (d c : Image) → d ≡ first → Alike plan d c → stands_for c ≡ renewed_files plan first
   half_done marked d c is alike =
       let redo_is : c.redo ≡ 1 ∷ plan = alike.redo ∙ ap (λ (o : Image). o.redo) is ∙ marked in
@@ -64,6 +64,6 @@ module _ (plan : List ℕ) (first : Image) where
       knows_still plan c is_plan (ap (λ (l : List ℕ). drop 1 l) (alike.redo ∙ ap (λ (o : Image). o.redo) is ∙ marked))
       (alike.known (subst (λ (o : Image). Knows plan (files o)) (sym is) knows))
 
--- an image by its data files and its redo file
+-- an image is determined by its data files and its redo file
 pub image_by_files : (c d : Image) → files c ≡ files d → c.redo ≡ d.redo → c ≡ d
 image_by_files c d same redo i = record { pages = (same i).0; directory = (same i).1; redo = redo i }

@@ -1,4 +1,4 @@
--- From one call of a disk to the next.
+-- Composing the outcomes of successive disk calls.
 use Rattle.std.proofs.Common.{inl, inr, ⊎_elim, ℕ, arith}
 use Rattle.sdbm_saves.specs.Disk.{Image, Follows, Elapses, LeavesOnly, Through}
 
@@ -7,7 +7,7 @@ module _ {D : Type 0} (moment : D → ℕ) (left_since : D → ℕ → Image →
   pub at_first : (old : D) (P : Image → Type 0) → ((c : Image) → left_since old (moment old) c → P c) → LeavesOnly moment left_since old old P
   at_first old P here = record { later = omega arith; each = here; before = λ t c le left. inl left }
 
-  -- one stretch and the next
+  -- two periods, one after the other
   pub then_on : (old mid new : D) (P : Image → Type 0) → LeavesOnly moment left_since old mid P → LeavesOnly moment left_since mid new P → LeavesOnly moment left_since old new P
   then_on old mid new P first next = record {
     later = omega (arith, first.later, next.later);
@@ -15,7 +15,7 @@ module _ {D : Type 0} (moment : D → ℕ) (left_since : D → ℕ → Image →
     before = λ t c le left. ⊎_elim (first.before t c le) (λ p. inr p) (next.before t c (omega (arith, le, first.later)) left);
   }
 
-  -- what has P has Q
+  -- each image that satisfies P satisfies Q
   pub weaker : (old new : D) (P Q : Image → Type 0) → ((c : Image) → P c → Q c) → LeavesOnly moment left_since old new P → LeavesOnly moment left_since old new Q
   weaker old new P Q implies so = record {
     later = so.later;
@@ -24,7 +24,7 @@ module _ {D : Type 0} (moment : D → ℕ) (left_since : D → ℕ → Image →
   }
 
   module _ (only_now : (disk : D) (c : Image) → left_since disk (moment disk) c → may_leave disk c) where
-    -- one call of the disk, whose step may be none
+    -- one disk call, whose step may do nothing
     pub one_call : (step : Image → Image → Type 0) (old new : D) → ((d : Image) → step d d) → Follows step (may_leave old) (may_leave new)
         → Elapses (moment old) (moment new) (left_since old) (left_since new) (may_leave new) → Through moment left_since may_leave step old new
     one_call step old new stays crash time = record {
@@ -47,14 +47,14 @@ module _ {D : Type 0} (moment : D → ℕ) (left_since : D → ℕ → Image →
       moments = at_first old _ (λ c left. (c, only_now old c left, stays c));
     }
 
-  -- other words for the step
+  -- a step that implies another step
   pub through_by : (step other : Image → Image → Type 0) (old new : D) → ((d c : Image) → step d c → other d c) → Through moment left_since may_leave step old new → Through moment left_since may_leave other old new
   through_by step other old new implies so = record {
     crash = λ c now. let from = so.crash c now in (from.0, from.1, implies from.0 c from.2);
     moments = weaker old new _ _ (λ c p. (p.0, p.1, implies p.0 c p.2)) so.moments;
   }
 
-  -- two stretches of steps that join
+  -- two periods with steps that compose
   pub joined : (step : Image → Image → Type 0) (old mid new : D) → ((a b c : Image) → step a b → step b c → step a c)
       → Through moment left_since may_leave step old mid → Through moment left_since may_leave step mid new → Through moment left_since may_leave step old new
   joined step old mid new joins first next = record {
@@ -65,6 +65,6 @@ module _ {D : Type 0} (moment : D → ℕ) (left_since : D → ℕ → Image →
       back : (c : Image) → (d : Image) × may_leave mid d × step d c → (d : Image) × may_leave old d × step d c
       back c from = let first_from = first.crash from.0 from.1 in (first_from.0, first_from.1, joins first_from.0 from.0 c first_from.2 from.2)
 
-  -- what the outcomes had, and keep by the steps
+  -- if P holds for the outcomes before and is kept by the steps, it holds after them
   pub leaves : (step : Image → Image → Type 0) (old new : D) (P : Image → Type 0) → ((d c : Image) → may_leave old d → step d c → P c) → Through moment left_since may_leave step old new → LeavesOnly moment left_since old new P
   leaves step old new P has so = weaker old new _ P (λ c from. has from.0 c from.1 from.2) so.moments

@@ -1,4 +1,4 @@
--- The pages of a database, one after another, as a draft writes them.
+-- The pages of a database, as a draft writes them in order.
 use Rattle.std.proofs.Common.{◌≡◌, ℕ, suc, ◌+◌, ◌*◌, ◌-◌, ◌/◌, ◌%◌, ◌<◌, ◌≤◌, List, ◌++◌, length, take, drop, get_or, sym, ◌∙◌, ap, subst, arith, length-append}
 use Rattle.std.proofs.lemmas.List.{ext_get_or, get_or_append_left, get_or-append_right}
 use Rattle.sdbm_addr.specs.declared.PageSize.{PageSize}
@@ -14,7 +14,7 @@ use Rattle.sdbm_saves.specs.Saves.{AreFilesFor}
 use Rattle.sdbm_saves.proofs.Lists.{length-resized, read_resized}
 use Rattle.sdbm_saves.proofs.Drafts.{length_part, part_reads}
 
--- pages that stand within so many
+-- the first n pages
 pub page_inside : (size : PageSize) (n count : ℕ) → n < count → n * page_bytes size + page_bytes size ≤ count * page_bytes size
 page_inside Small n count below = omega (arith, below)
 page_inside Wide n count below = omega (arith, below)
@@ -23,16 +23,16 @@ pub next_page : (size : PageSize) (n : ℕ) → n * page_bytes size + page_bytes
 next_page Small n = omega arith
 next_page Wide n = omega arith
 
--- how many blocks a page has
+-- the number of blocks in a page
 abbrev pub in_page : PageSize → ℕ
 in_page size = page_bytes size / 1024
 
--- a block stands on a page of so many
+-- a block belongs to one of the first n pages
 pub page_is : (size : PageSize) (index count : ℕ) → index < count * in_page size → index / in_page size < count
 page_is Small index count below = omega (arith, below)
 page_is Wide index count below = omega (arith, below)
 
--- where a block starts on its page, and in the file
+-- the offset of a block in its page and in the file
 pub starts_on : (size : PageSize) (index : ℕ) → index % in_page size * 1024 + 1024 ≤ page_bytes size
 starts_on Small index = omega arith
 starts_on Wide index = omega arith
@@ -46,7 +46,7 @@ pub blocks_are : (size : PageSize) (count : ℕ) → count * in_page size * 1024
 blocks_are Small count = omega arith
 blocks_are Wide count = omega arith
 
--- a page stands where the pages before it end
+-- a page starts at the end of the pages before it
 pub page_reads : (db : Database) → IsDatabase db → (n count i : ℕ) → n < count → i < length (bytes_of_page db.size (pairs_at db n))
     → get_or (bytes_of_page db.size (pairs_at db n)) i 0 ≡ get_or (first_pages db count) (n * page_bytes db.size + i) 0
 page_reads db ok n count i below inside =
@@ -105,7 +105,7 @@ module _ (db : Database) (ok : IsDatabase db) (index per : ℕ) (per_is : per �
       ∙ ap (λ (l : List ℕ). get_or l (part_start + i) 0) page_is
       ∙ ap (λ (k : ℕ). get_or (bytes_of_page db.size (pairs_at db (index / k))) (index % k * 1024 + i) 0) per_is
 
--- bytes that are those of a database's files
+-- bytes equal to those of a database's files
 pub are_files : (db : Database) → IsDatabase db → (count : ℕ) → IsPageCount db count → (pages directory own : List ℕ) → AreDirectoryBytes db.splits own
     → pages ≡ first_pages db count → directory ≡ own → AreFilesFor db pages directory
 are_files db ok count counted pages directory own spelled pages_are directory_is =
@@ -116,6 +116,6 @@ are_files db ok count counted pages directory own spelled pages_are directory_is
       spelled = SpellsDatabase-written db ok directory pages in_directory in_pages;
     }
 
--- a file that is as long as it was
+-- a file whose length is unchanged
 pub resized_own : (n : ℕ) (old : List ℕ) → n ≡ length old → resized n old ≡ old
 resized_own n old is = ext_get_or 0 (resized n old) old (length-resized n old ∙ is) (λ i below. read_resized n old i (omega (arith, below, length-resized n old)))

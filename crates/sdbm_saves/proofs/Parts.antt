@@ -1,4 +1,4 @@
--- The pages of a file of which one was read, and how a draft renews them.
+-- A file if only one page was read, and its pages after a draft.
 use Rattle.std.proofs.Common.{◌≡◌, ◌≢◌, ◌⊎◌, ⊎_elim, ℕ, zero, suc, max, ◌+◌, ◌*◌, ◌-◌, ◌/◌, ◌%◌, ◌<◌, ◌≤◌, ◌^◌, inl, inr, List, [], ◌∷◌, ◌++◌, length, replicate, get_or, refl, sym, ◌∙◌, ap, subst, arith, length-append}
 use Rattle.std.specs.Prelude.{Contains}
 use Rattle.std.proofs.lemmas.List.{ext_get_or, get_or_past, get_or_default, get_or_append_left, get_or-append_right, get_or-replicate, length-replicate}
@@ -25,7 +25,7 @@ use Rattle.sdbm_saves.proofs.Lists.{length-written, written_before, written_insi
 use Rattle.sdbm_saves.proofs.Puts.{file_put}
 use Rattle.sdbm_saves.proofs.PageDrafts.{page_inside, next_page, page_reads, are_files}
 
--- one of them, or none
+-- a number is in the list, or it is not
 pub one_or_none : (numbers : List ℕ) (n : ℕ) → Contains numbers n ⊎ (Contains numbers n → ⊥)
 one_or_none [] n = inr (λ one. absurd (omega (arith, one.1)))
 one_or_none (m ∷ numbers) n = ⊎_elim
@@ -44,14 +44,14 @@ module _ (size : PageSize) (n k : ℕ) (page old : List ℕ) (long : length page
   room : n * page_bytes size + length page ≤ length old
   room = omega (arith, long, inside)
 
-  -- the page that was written reads so
+  -- the page that was written has its bytes
   pub page_written : ReadsPage size (written (n * page_bytes size) page old) n page
   page_written i lt =
       let at = n * page_bytes size in
       let on : at + i - at ≡ i = omega arith in
       written_inside at page old (at + i) (omega (arith, room)) (omega arith) (omega (arith, lt, long)) ∙ ap (λ j. get_or page j 0) on
 
-  -- and each other stays
+  -- every different page is unchanged
   pub page_kept : k ≢ n → SamePage size k old (written (n * page_bytes size) page old)
   page_kept other i lt =
       let at = n * page_bytes size in
@@ -62,9 +62,9 @@ module _ (size : PageSize) (n k : ℕ) (page old : List ℕ) (long : length page
       written_after at page old here (omega (arith, room)) (omega (arith, long, page_inside size n k above)))
       (cases_lt k n)
 
--- what was read of a file
+-- the bytes that were read of a file
 module _ (old : Part) (numbers : List ℕ) (size : PageSize) (long : length old.page.now ≡ page_bytes size) where
-  -- a file that reads so: the page, and zeros before it
+  -- a file that reads the same: the page, and zeros before it
   abbrev pub sample : List ℕ
   sample = replicate (old.number * page_bytes size) 0 ++ old.page.now
 
@@ -92,7 +92,7 @@ module _ (old : Part) (numbers : List ℕ) (size : PageSize) (long : length old.
   pub sample_reads : ReadsSo old numbers size sample
   sample_reads = record { page = sample_own; others = λ n one differs. sample_other n differs }
 
--- the page that was read, and zeros on the other pages
+-- the page that was read, and zeros on the remaining pages
 pub were_read : (old : Part) (numbers : List ℕ) (size : PageSize) (z : ℕ) (pages pag : List ℕ) → z ≡ page_bytes size → ReadsSo old numbers size pag
     → ((j i : ℕ) → j < length numbers → i < z → get_or numbers j 0 ≡ old.number → get_or pages (j * z + i) 0 ≡ get_or old.page.now i 0)
     → ((j i : ℕ) → j < length numbers → i < z → get_or numbers j 0 ≢ old.number → get_or pages (j * z + i) 0 ≡ 0) → ReadPages size numbers pages pag
@@ -101,7 +101,7 @@ were_read old numbers size z pages pag z_is so own others j i below lt = sym (ap
     (λ differs. others j i below (omega (arith, lt, z_is)) differs ∙ sym (so.others (get_or numbers j 0) (Contains-get_or numbers j 0 below) differs i lt ∙ get_or_past [] i 0 (omega arith)))
     (cases_eq (get_or numbers j 0) old.number)
 
--- A file of so many bytes has the first of these pages, and each other as another file has it, or as the database has it.
+-- A file of `whole` bytes has the first n of these pages. Each different page is as in the old file, or as in the database.
 pub record IsRenewing (db : Database) (numbers : List ℕ) (index whole : ℕ) (old new : List ℕ) : Type 0 where
   pub long : length new ≡ whole
   pub each : (n : ℕ) → (n + 1) * page_bytes db.size ≤ whole → SamePage db.size n old new ⊎ (Contains numbers n × ReadsPage db.size new n (bytes_of_page db.size (pairs_at db n)))
@@ -124,7 +124,7 @@ renewed_all db numbers index whole old new all renewing = record {
   others = λ n none fits. ⊎_elim (λ same. same) (λ both. absurd (none both.0)) (renewing.each n fits);
 }
 
--- one page more
+-- one more page
 module _ (db : Database) (numbers : List ℕ) (index whole : ℕ) (old before : List ℕ) (n : ℕ) (page : List ℕ) (one : Contains numbers n) (is : get_or numbers index 0 ≡ n)
     (page_is : page ≡ bytes_of_page db.size (pairs_at db n)) (renewing : IsRenewing db numbers index whole old before) where
   stays : ((n + 1) * page_bytes db.size ≤ whole → ReadsPage db.size before n page) → IsRenewing db numbers (index + 1) whole old before
@@ -173,7 +173,7 @@ module _ (db : Database) (numbers : List ℕ) (index whole : ℕ) (old before : 
           (cases_eq (get_or numbers j 0) n);
     }
 
-  -- a page that the file has no room for
+  -- a page that does not fit in the file
   pub renewing_past : whole < (n + 1) * page_bytes db.size → IsRenewing db numbers (index + 1) whole old before
   renewing_past out = stays (λ fits. absurd (omega (arith, fits, out)))
 
@@ -189,7 +189,7 @@ module _ (db : Database) (numbers : List ℕ) (index whole : ℕ) (old before : 
       (renewing.each n fits) in
       subst (λ (l : List ℕ). IsRenewing db numbers (index + 1) whole old l) (sym (puts room each ∙ ap (λ k. written k page before) a_is)) (is_written long fits)
 
--- the place of a byte in the pages
+-- the position of a byte in the pages
 in_page : (size : PageSize) (count i : ℕ) → i < count * page_bytes size → (i / page_bytes size < count) × ((i / page_bytes size * page_bytes size + i % page_bytes size ≡ i) × (i % page_bytes size < page_bytes size))
 in_page Small count i below = (omega (arith, below), (omega arith, omega arith))
 in_page Wide count i below = (omega (arith, below), (omega arith, omega arith))
@@ -218,7 +218,7 @@ pub longer_whole : (size : PageSize) (len count whole : ℕ) → len % page_byte
 longer_whole Small len count whole is whole_is = omega (arith, is, whole_is)
 longer_whole Wide len count whole is whole_is = omega (arith, is, whole_is)
 
--- a file whose pages are those of a database is the one that is written for it
+-- a file with the pages of a database is the file that is written for it
 pub all_made : (db : Database) → IsDatabase db → (whole count : ℕ) (new : List ℕ) → length new ≡ whole → whole ≡ count * page_bytes db.size
     → ((n : ℕ) → (n + 1) * page_bytes db.size ≤ whole → ReadsPage db.size new n (bytes_of_page db.size (pairs_at db n))) → new ≡ first_pages db count
 all_made db ok whole count new long whole_is own = ext_get_or 0 new (first_pages db count) (long ∙ whole_is ∙ sym (length-first_pages db ok count)) each
@@ -234,9 +234,9 @@ all_made db ok whole count new long whole_is own = ext_get_or 0 new (first_pages
         ∙ page_reads db ok n count r place.0 (omega (arith, place.1.1, long_page db ok n))
         ∙ ap (λ k. get_or (first_pages db count) k 0) place.1.0
 
--- a database of which one is the known part
+-- a database that is known in part
 module _ (old : Part) (numbers : List ℕ) (known db : Database) (pag : List ℕ) (part : IsPartOf old numbers known db pag) where
-  -- the file with the known pages is that of the database
+  -- the file with the known pages is the database's file
   pub pages_made : (whole count : ℕ) (new : List ℕ) → whole ≡ count * page_bytes known.size → HasPages known numbers whole pag new → new ≡ first_pages db count
   pages_made whole count new whole_is made =
       all_made db part.database whole count new made.long (whole_is ∙ ap (λ size. count * page_bytes size) (sym part.size))
@@ -250,7 +250,7 @@ module _ (old : Part) (numbers : List ℕ) (known db : Database) (pag : List ℕ
           (λ none. λ i lt. made.others n none fits i lt ∙ part.rest n none i lt ∙ ap (λ size. get_or (bytes_of_page size (pairs_at db n)) i 0) (sym part.size))
           (one_or_none numbers n)
 
-  -- and it has as many pages as are written
+  -- the number of its pages is the number that is written
   pub pages_counted : (n whole count : ℕ) → ((k : ℕ) → pairs_at known k ≢ [] → Contains numbers k) → IsPageCount known n → whole ≡ max old.len (n * page_bytes known.size) → whole ≡ count * page_bytes known.size → IsPageCount db count
   pages_counted n whole count covers counted whole_is count_is = record {
     past = λ k le. ⊎_elim
@@ -267,7 +267,7 @@ module _ (old : Part) (numbers : List ℕ) (known db : Database) (pag : List ℕ
         (cases_lt old.len (n * page_bytes known.size));
   }
 
-  -- so both files are those of the database
+  -- so both files are the database's files
   pub part_files : (n whole : ℕ) → ((k : ℕ) → pairs_at known k ≢ [] → Contains numbers k) → IsPageCount known n → old.len % page_bytes known.size ≡ 0 → whole ≡ max old.len (n * page_bytes known.size)
       → (own : List ℕ) → AreDirectoryBytes known.splits own → (new : List ℕ) → HasPages known numbers whole pag new → (pages directory : List ℕ) → pages ≡ new → directory ≡ own → AreFilesFor db pages directory
   part_files n whole covers counted old_whole whole_is own spelled new made pages directory pages_are directory_is =
@@ -277,7 +277,7 @@ module _ (old : Part) (numbers : List ℕ) (known db : Database) (pag : List ℕ
       (subst (λ splits. AreDirectoryBytes splits own) (sym part.splits) spelled)
       (pages_are ∙ pages_made whole count new count_is made) directory_is
 
-  -- and where one of them is long, so is a file of the database
+  -- if one of them is too long, so is a file of the database
   pub part_long : (n whole : ℕ) → ((k : ℕ) → pairs_at known k ≢ [] → Contains numbers k) → IsPageCount known n → old.len % page_bytes known.size ≡ 0 → whole ≡ max old.len (n * page_bytes known.size)
       → (own : List ℕ) → AreDirectoryBytes known.splits own → (2 ^ 32 ≤ whole) ⊎ (2 ^ 32 ≤ length own) → HasLongFile db
   part_long n whole covers counted old_whole whole_is own spelled long =
@@ -294,7 +294,7 @@ module _ (old : Part) (numbers : List ℕ) (known db : Database) (pag : List ℕ
         long = ⊎_elim (λ le. inl (omega (arith, le, pages_are))) (λ le. inr le) long;
       }
 
--- a file that was read where it was marked is renewed to that of the database
+-- a file that is read on its marked pages becomes the file of the database
 pub marked_made : (old : Marked) (db : Database) (pag : List ℕ) → IsDatabase db → IsMarkedIn old db pag → (whole count : ℕ) (new : List ℕ) → whole ≡ count * page_bytes db.size → HasPages db old.numbers.now whole pag new
     → new ≡ first_pages db count
 marked_made old db pag ok marked whole count new whole_is made = all_made db ok whole count new made.long whole_is (λ n fits. ⊎_elim
@@ -324,7 +324,7 @@ putting_all db numbers index pages directory both few before many further all pu
   others = putting.others;
 }
 
--- a page of the list more
+-- one more page of the list
 module _ (db : Database) (ok : IsDatabase db) (numbers : List ℕ) (index pages directory : ℕ) (both : List ℕ × List ℕ) (few : ℕ) (before : List ℕ) (many : ℕ) (after : List ℕ) (n : ℕ) (is : get_or numbers index 0 ≡ n) (below : index < length numbers)
     (putting : IsPutting db numbers index pages directory both few before many after) where
   abbrev page : List ℕ
@@ -348,13 +348,13 @@ module _ (db : Database) (ok : IsDatabase db) (numbers : List ℕ) (index pages 
     others = λ g other x. put.others g other x ∙ putting.others g other x;
   }
 
--- the changes that make both files those with the pages of a database and with these bytes of the directory
+-- the changes that make both files those of the database, with these directory bytes
 pub record IsDrafted (db : Database) (numbers own : List ℕ) (pages directory : ℕ) (both : List ℕ × List ℕ) (many : ℕ) (after : List ℕ) : Type 0 where
   pub changes : AreChanges pages directory both many after
   pub file : HasPages db numbers pages both.0 (replayed Pages many after (resized pages both.0))
   pub bits : replayed Directory many after (resized (length own) both.1) ≡ own
 
--- the directory is drafted first, and then the pages
+-- the directory is drafted first, then the pages
 pub drafted : (db : Database) (numbers own : List ℕ) (pages directory : ℕ) (both : List ℕ × List ℕ) (none : List ℕ) (p d n : ℕ) (before : List ℕ) (q e m : ℕ) (after : List ℕ) → none ≡ [] → p ≡ pages → d ≡ directory → q ≡ p → e ≡ d
     → (ReadsAt 0 both.1 (length own) both.1 → AreChanges pages directory both 0 none → HasPut pages directory both Directory 0 both.1 own 0 none n before)
     → (((x : List ℕ) → replayed Pages n before x ≡ x) → AreChanges p d both n before → HasPutPages db numbers p d both n before m after)

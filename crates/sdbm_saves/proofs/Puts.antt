@@ -1,4 +1,4 @@
--- Bytes that a draft puts into a file, one part after the other.
+-- Bytes that a draft puts into a file, part by part.
 use Rattle.std.proofs.Common.{◌≡◌, ◌≢◌, ⊎_elim, inl, inr, ℕ, ◌+◌, ◌-◌, ◌<◌, ◌≤◌, ◌^◌, min, List, [], ◌++◌, length, take, drop, get_or, refl, sym, ◌∙◌, ap, subst, arith, length-append}
 use Rattle.std.proofs.Math.Seq.{take-add}
 use Rattle.std.proofs.lemmas.List.{ext_get_or, get_or_append_left, get_or-append_right, get_or-take, get_or-drop, get_or_past, length-take, length-take-le, take_all, drop_all, append-nil}
@@ -11,7 +11,7 @@ use Rattle.sdbm_saves.specs.Drafts.{change_bytes, part_of, length_in, FitsIn, Ar
 use Rattle.sdbm_saves.proofs.Lists.{length-written, written_before, written_inside, written_after, length-resized, read_resized}
 use Rattle.sdbm_saves.proofs.Drafts.{part_read, length_part, block_reads, written_same, one_more, replayed_one_more, offset_spelled, size_spelled, was_spelled, length_spelled, file_spelled, effect_own, effect_other}
 
--- bytes written after others are both written at once
+-- two adjacent writes are one write
 module _ (at : ℕ) (front back x : List ℕ) (room : at + length (front ++ back) ≤ length x) where
   both_long : length (front ++ back) ≡ length front + length back
   both_long = length-append front back
@@ -65,7 +65,7 @@ put_none pages directory both file at old new n xs none are = record {
   others = λ g other x. refl;
 }
 
--- a part more is put
+-- puts one more part
 pub put_more : (pages directory : ℕ) (both : List ℕ × List ℕ) (file : File) (at : ℕ) (old front known back : List ℕ) (n : ℕ) (xs : List ℕ) (m : ℕ) (ys : List ℕ) (p : ℕ) (zs : List ℕ)
     → ((i : ℕ) → i < length back → get_or known i 0 ≡ get_or old (length front + i) 0)
     → HasPut pages directory both file at old front n xs m ys → HasPut pages directory both file (at + length front) known back m ys p zs
@@ -99,7 +99,7 @@ put_more pages directory both file at old front known back n xs m ys p zs known_
         ∙ ap (λ (l : List ℕ). written (at + length front) back l) middle_is
         ∙ written_twice at front back before room
 
--- a change that was spelled, with what stood there, fits
+-- a spelled change with its old bytes fits
 pub change_fits : (pages directory : ℕ) (both : List ℕ × List ℕ) (file : File) (at : ℕ) (block was : List ℕ) → at < 2 ^ 32 → length block < 2 ^ 32 → length was ≡ length block → file ≢ Redo
     → at + length block ≤ length_in pages directory file → ReadsAt at was (length block) (data_in both file) → FitsIn pages directory both (change_bytes file at block was)
 change_fits pages directory both file at block was near short same is_data inside reads =
@@ -117,7 +117,7 @@ change_fits pages directory both file at block was near short same is_data insid
           ∙ ap (λ n. get_or (data_in both (file_of change)) (n + i) 0) (sym offset_is);
     }
 
--- it puts its bytes
+-- a change puts its bytes
 pub put_one : (pages directory : ℕ) (both : List ℕ × List ℕ) (file : File) (at : ℕ) (known block was : List ℕ) (n : ℕ) (xs : List ℕ) → at < 2 ^ 32 → length block < 2 ^ 32 → length was ≡ length block → file ≢ Redo
     → at + length block ≤ length_in pages directory file → ReadsAt at was (length block) (data_in both file) → AreChanges pages directory both n xs
     → HasPut pages directory both file at known block n xs (n + 1) (xs ++ change_bytes file at block was)
@@ -130,7 +130,7 @@ put_one pages directory both file at known block was n xs near short same is_dat
       others = λ g other x. replayed_one_more pages directory both g n xs change x are ∙ effect_other file g at block was (replayed g n xs x) is_data other;
     }
 
--- bytes that stand there already are put without a change
+-- bytes that are already in the file are put without a change
 pub put_same : (pages directory : ℕ) (both : List ℕ × List ℕ) (file : File) (at : ℕ) (known block : List ℕ) (n : ℕ) (xs : List ℕ)
     → ((i : ℕ) → i < length block → get_or block i 0 ≡ get_or known i 0) → AreChanges pages directory both n xs → HasPut pages directory both file at known block n xs n xs
 put_same pages directory both file at known block n xs same are = record {
@@ -139,7 +139,7 @@ put_same pages directory both file at known block n xs same are = record {
   others = λ g other x. refl;
 }
 
--- a block is put by one change of a part of it, if the rest stands there already
+-- a block is put by one change of the part that differs
 module _ (pages directory : ℕ) (both : List ℕ × List ℕ) (file : File) (at : ℕ) (known block : List ℕ) (start end : ℕ) (n : ℕ) (xs : List ℕ)
     (order : start ≤ end) (inside : end ≤ length block) (near : at + length block < 2 ^ 32) (is_data : file ≢ Redo) (fits : at + length block ≤ length_in pages directory file)
     (reads : ReadsAt at known (length block) (data_in both file))
@@ -203,7 +203,7 @@ module _ (pages directory : ℕ) (both : List ℕ × List ℕ) (file : File) (at
           ∙ sym (take-add end rest block)
           ∙ take_all (end + rest) block (omega (arith, inside))
 
--- a part of bytes that may be fewer reads as they do
+-- fewer bytes, padded with zeros, read the same
 pub part_known : (old : List ℕ) (at end start stop i : ℕ) → start ≡ min at (length old) → stop ≡ min end (length old) → i < end - at → get_or (take (stop - start) (drop start old)) i 0 ≡ get_or old (at + i) 0
 part_known old at end start stop i start_is stop_is lt = ⊎_elim
     (λ inside.
@@ -214,7 +214,7 @@ part_known old at end start stop i start_is stop_is lt = ⊎_elim
     ∙ sym (get_or_past old (at + i) 0 (omega (arith, past, start_is, stop_is, lt))))
     (cases_lt i (stop - start))
 
--- a file whose bytes are all put is those bytes
+-- a file is these bytes if all of them are put
 pub file_put : (pages directory : ℕ) (both : List ℕ × List ℕ) (file : File) (old new : List ℕ) (n : ℕ) (xs : List ℕ) (m : ℕ) (ys : List ℕ) → ((x : List ℕ) → replayed file n xs x ≡ x) → HasPut pages directory both file 0 old new n xs m ys
     → replayed file m ys (resized (length new) old) ≡ new
 file_put pages directory both file old new n xs m ys untouched put =

@@ -1,4 +1,4 @@
--- A record of calls, one call after the other.
+-- Records of calls, call by call.
 use Rattle.std.proofs.Common.{◌≡◌, inl, inr, ⊎_elim, ℕ, ◌+◌, ◌≤◌, List, [], ◌∷◌, ◌++◌, length, take, refl, sym, ◌∙◌, ap, subst, arith, length-append}
 use Rattle.std.specs.Prelude.{Result, Ok, Err, OnOk, MatchResult}
 use Rattle.std.proofs.lemmas.List.{take_all, take-append-le}
@@ -17,7 +17,7 @@ pub left_more : (acts : List Act) (act : Act) (image : Image) (before : Image �
 left_more [] act image before c = refl
 left_more (one ∷ acts) act image before c = left_more acts act (acted one image) (LeftBy one image before) c
 
--- one call more
+-- one more call
 module _ (acts more : List Act) (act : Act) (image : Image) (before : Image → Type 0) (is : more ≡ acts ++ act ∷ []) where
   pub sees : seen_after more image ≡ acted act (seen_after acts image)
   sees = ap (λ (l : List Act). seen_after l image) is ∙ seen_more acts act image
@@ -56,7 +56,7 @@ same_time acts more image before is =
     subst (λ (l : List Act). Elapses (length acts) (length l) (λ t c. LeftSince acts image before t c) (λ t c. LeftSince l image before t c) (λ c. LeftAfter l image before c)) (sym is)
     (record { later = omega arith; nothing_else = λ t c le since. inl since; keeps = λ t c le since. since })
 
--- a sync, which stands in the record where it was done
+-- a sync, which is recorded only after it succeeded
 module _ (acts more : List Act) (file : File) (image : Image) (before : Image → Type 0) {T E : Type 0} where
   pub synced_seen : (r : Result T E) → MatchResult r (λ _. more ≡ acts ++ sync file ∷ []) (λ _. more ≡ acts) → seen_after more image ≡ seen_after acts image
   synced_seen (Ok x) is = sees acts more (sync file) image before is
@@ -75,7 +75,7 @@ module _ (acts more : List Act) (file : File) (image : Image) (before : Image �
   synced_elapses (Ok x) is = elapses acts more (sync file) image before is
   synced_elapses (Err e) is = same_time acts more image before is
 
--- a call that stands in the record unless no memory was left
+-- a call, which is recorded unless it ran out of memory
 module _ (acts more : List Act) (act : Act) (image : Image) (before : Image → Type 0) {T : Type 0} where
   pub noted_seen : (r : Result T DiskError) → Notes act acts more r → OnOk r (seen_after more image ≡ acted act (seen_after acts image))
   noted_seen (Ok x) is = sees acts more act image before is

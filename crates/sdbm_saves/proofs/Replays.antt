@@ -1,4 +1,4 @@
--- What is half done of a plan does not matter to the whole of it.
+-- Replaying a plan that is partly done has the same result.
 use Rattle.std.proofs.Common.{◌≡◌, inl, ⊎_elim, ℕ, zero, suc, ◌+◌, ◌-◌, ◌<◌, ◌≤◌, max, List, length, drop, get_or, refl, sym, ◌∙◌, ap, subst, arith, length-drop}
 use Rattle.std.proofs.lemmas.List.{length-take-le}
 use Rattle.std.proofs.lemmas.Bool.{cases_lt}
@@ -40,12 +40,12 @@ module _ (plan change : List ℕ) (whole : span_of change ≤ length change) whe
   sized : (at : ℕ) (x y : List ℕ) → Elsewhere at (size_of change) x y → Elsewhere at (length (data_of change)) x y
   sized at x y same = subst (λ n. Elsewhere at n x y) (sym (length-data change whole)) same
 
-  -- a change hides what stood in its range
+  -- a change overwrites all bytes in its range
   effect_absorbs : (g : ℕ) (x y : List ℕ) → offset_of change + size_of change ≤ new_length (data_file g) plan → length x ≡ new_length (data_file g) plan → length y ≡ length x → Elsewhere (offset_of change) (size_of change) x y → effect (data_file g) (data_file g) change y ≡ effect (data_file g) (data_file g) change x
   effect_absorbs zero x y inside is len same = absorbs (offset_of change) (data_of change) x y (data_inside change (new_length Pages plan) x whole inside is) len (sized (offset_of change) x y same)
   effect_absorbs (suc g) x y inside is len same = absorbs (offset_of change) (data_of change) x y (data_inside change (new_length Directory plan) x whole inside is) len (sized (offset_of change) x y same)
 
--- what differs in the range of one of the changes is the same after all of them
+-- bytes that differ in the range of a change are the same after all changes
 replayed_absorbs : (file : File) (plan : List ℕ) (n : ℕ) (changes x y : List ℕ) → ((k : ℕ) → k < n → Fits plan (rest_after k changes)) → length x ≡ new_length file plan → length y ≡ length x
     → (i : ℕ) → i < n → file_of (rest_after i changes) ≡ file → Elsewhere (offset_of (rest_after i changes)) (size_of (rest_after i changes)) x y → replayed file n changes y ≡ replayed file n changes x
 replayed_absorbs file plan zero changes x y fits is len i lt touches same = absurd (omega (arith, lt))
@@ -68,7 +68,7 @@ length-replayed file plan (suc n) changes x fits is =
     let first : Fits plan changes = fits 0 (omega arith) in
     length-replayed file plan n (rest_of changes) (effect (file_of changes) file changes x) (λ k below. fits (suc k) (omega (arith, below))) (length-effect plan changes first.whole (file_of changes) file x first.inside is ∙ is)
 
--- one change more
+-- one more change
 pub replayed_more : (file : File) (n : ℕ) (changes x : List ℕ) → replayed file (suc n) changes x ≡ effect (file_of (rest_after n changes)) file (rest_after n changes) (replayed file n changes x)
 replayed_more file zero changes x = refl
 replayed_more file (suc n) changes x = replayed_more file n (rest_of changes) (effect (file_of changes) file changes x)
@@ -94,14 +94,14 @@ module _ (plan : List ℕ) where
   elsewhere_torn : (at n : ℕ) (bytes x y : List ℕ) → length bytes ≡ n → Torn at bytes x y → Elsewhere at n x y
   elsewhere_torn at n bytes x y long torn = record { before = torn.before; after = λ i le. torn.after i (omega (arith, le, long)) }
 
-  -- What a step of a file keeps: what the plan makes of it, that its length is between the old one and the new one, and that the plan has
-  -- its bytes.
+  -- The invariant of a step of a file: the result of the plan is the same, the length is between the old and the new one, and the plan
+  -- knows the bytes.
   record Keeps (g : ℕ) (x y : List ℕ) : Type 0 where
     same : renewed (data_file g) plan y ≡ renewed (data_file g) plan x
     long : IsBetween (old_length (data_file g) plan) (new_length (data_file g) plan) (length x) → IsBetween (old_length (data_file g) plan) (new_length (data_file g) plan) (length y)
     bytes : (at : ℕ) → at < new_length (data_file g) plan → HasByte plan (data_file g) at (get_or x at 0) → HasByte plan (data_file g) at (get_or y at 0)
 
-  -- bytes of one file that the plan has, after a step of that file and of the other
+  -- the plan still knows the bytes of one file after a step of either file
   kept_bytes : IsPlan plan → (x y other : List ℕ) → Keeps zero x y → (change : List ℕ) → IsChangeOf plan change → (n : ℕ) → get_or change 0 0 ≡ n
       → (i : ℕ) → i < size_of change → HasByte plan (data_file n) (offset_of change + i) (get_or (data_in (x, other) (data_file n)) (offset_of change + i) 0)
       → HasByte plan (data_file n) (offset_of change + i) (get_or (data_in (y, other) (data_file n)) (offset_of change + i) 0)
@@ -149,12 +149,12 @@ module _ (plan : List ℕ) where
             (knows_directory is_plan d.directory c.directory d.pages (record { same = kept.same; long = kept.long; bytes = kept.bytes }) knows);
       }
 
-  -- a length between, after a write within the new length that is cut short
+  -- a write within the new length, interrupted by a crash, leaves a length between
   between_torn : (one other at n : ℕ) (x y : List ℕ) → at + n ≤ other → length x ≤ length y → length y ≤ max (length x) (at + n) → IsBetween one other (length x) → IsBetween one other (length y)
   between_torn one other at n x y inside no_shorter no_longer between =
       record { no_shorter = omega (arith, no_shorter, between.no_shorter); no_longer = omega (arith, no_longer, inside, between.no_longer) }
 
-  -- a byte of a file after a change of it that is cut short
+  -- a byte of a file after an interrupted change
   torn_byte : (change : List ℕ) → span_of change ≤ length change → IsChangeOf plan change → (x y : List ℕ) → Torn (offset_of change) (data_of change) x y
       → (at : ℕ) → HasByte plan (file_of change) at (get_or x at 0) → HasByte plan (file_of change) at (get_or y at 0)
   torn_byte change whole one x y torn at has = ⊎_elim
@@ -177,7 +177,7 @@ module _ (plan : List ℕ) where
       same : get_or y at 0 ≡ get_or x at 0 → HasByte plan (file_of change) at (get_or y at 0)
       same is = subst (λ b. HasByte plan (file_of change) at b) (sym is) has
 
-  -- a change that is cut short
+  -- an interrupted change
   pub alike_torn : IsPlan plan → (i : ℕ) → i < count_of plan → (d c : Image) → Within (file_of (rest_after i (changes_of plan))) (Torn (offset_of (rest_after i (changes_of plan))) (data_of (rest_after i (changes_of plan)))) d c → Alike plan d c
   alike_torn is_plan i lt d c within =
       let change = rest_after i (changes_of plan) in
@@ -194,7 +194,7 @@ module _ (plan : List ℕ) where
   between_length one n x y torn between =
       record { no_shorter = omega (arith, torn.no_shorter, between.no_shorter); no_longer = omega (arith, torn.no_longer, between.no_longer) }
 
-  -- a new length that is cut short
+  -- an interrupted change of the length
   pub alike_resized : IsPlan plan → (g : ℕ) (d c : Image) → Within (data_file g) (TornLength (new_length (data_file g) plan)) d c → Alike plan d c
   alike_resized is_plan g d c within =
       alike_within is_plan g _
@@ -204,7 +204,7 @@ module _ (plan : List ℕ) where
         bytes = λ at below has. subst (λ b. HasByte plan (data_file g) at b) (sym (torn.same at below)) has;
       }) d c within
 
--- the same by `+ 1`, which code counts by
+-- the same with `+ 1`, as code counts
 pub rest_next : (n : ℕ) (changes : List ℕ) → rest_after (n + 1) changes ≡ rest_of (rest_after n changes)
 rest_next n changes = let is : n + 1 ≡ suc n = omega arith in ap (λ k. rest_after k changes) is ∙ rest_more n changes
 
@@ -215,7 +215,7 @@ image_step : (g : ℕ) (change : List ℕ) (image : Image) → put (data_file g)
 image_step zero change image = refl
 image_step (suc g) change image = refl
 
--- one change more of both files
+-- one more change, for both files
 pub image_next : (plan : List ℕ) (n : ℕ) (image : Image) (change : List ℕ) → change ≡ rest_after n (changes_of plan)
     → put (file_of change) (written (offset_of change) (data_of change) (content (file_of change) (replayed_image n plan image))) (replayed_image n plan image) ≡ replayed_image (n + 1) plan image
 image_next plan n image change is =
@@ -230,7 +230,7 @@ pub image_sized : (plan : List ℕ) → IsPlan plan → (n : ℕ) → n ≤ coun
 image_sized plan is_plan n le image sized zero = length-replayed Pages plan n (changes_of plan) image.pages (λ k lt. is_plan.fits k (omega (arith, lt, le))) (sized 0)
 image_sized plan is_plan n le image sized (suc g) = length-replayed Directory plan n (changes_of plan) image.directory (λ k lt. is_plan.fits k (omega (arith, lt, le))) (sized 1)
 
--- the same of bytes that are known to stand there
+-- the same for bytes that are equal to the change
 pub alike_change : (plan : List ℕ) → IsPlan plan → (i : ℕ) → i < count_of plan → (change : List ℕ) → change ≡ rest_after i (changes_of plan) → (d c : Image) → Within (file_of change) (Torn (offset_of change) (data_of change)) d c → Alike plan d c
 alike_change plan is_plan i lt change is d c within =
     alike_torn plan is_plan i lt d c (subst (λ (k : List ℕ). Within (file_of k) (Torn (offset_of k) (data_of k)) d c) is within)
@@ -238,7 +238,7 @@ alike_change plan is_plan i lt change is d c within =
 pub alike_length : (plan : List ℕ) → IsPlan plan → (g n : ℕ) → n ≡ new_length (data_file g) plan → (d c : Image) → Within (data_file g) (TornLength n) d c → Alike plan d c
 alike_length plan is_plan g n is d c within = alike_resized plan is_plan g d c (subst (λ k. Within (data_file g) (TornLength k) d c) is within)
 
--- the changes after n of them, and after m more
+-- the changes after n + m of them
 pub after_split : (n m : ℕ) (xs : List ℕ) → rest_after (n + m) xs ≡ rest_after m (rest_after n xs)
 after_split zero m xs = let is : 0 + m ≡ m = omega arith in ap (λ k. rest_after k xs) is
 after_split (suc n) m xs = let is : suc n + m ≡ suc (n + m) = omega arith in ap (λ k. rest_after k xs) is ∙ after_split n m (rest_of xs)

@@ -1,4 +1,4 @@
--- What a record of calls says of the files that they were made on.
+-- The files after a record of calls, and after a crash.
 use Rattle.std.specs.Prelude.{◌≡◌, ◌≤◌, ℕ, List, [], ◌∷◌, ◌++◌, length, take, Result, Ok, Err}
 use Rattle.std.proofs.Common.{sym, subst, arith}
 use Rattle.std.proofs.lemmas.List.{take_all}
@@ -8,20 +8,20 @@ use Rattle.sdbm_saves.specs.declared.disk.File.{File}
 use Rattle.sdbm_saves.specs.declared.disk.File.TheVariants.{Redo}
 use Rattle.sdbm_saves.specs.Disk.{Image, content, put, written, resized, Torn, TornLength, Gone, Within}
 
--- a call of a disk that was begun, or for a sync, that was done
+-- a call that was begun; a sync is recorded only after it succeeded
 pub data Act : Type 0 where
   write : File → ℕ → List ℕ → Act
   resize : File → ℕ → Act
   sync : File → Act
   clear : Act
 
--- What stands in a record of calls after one of them: the call, unless no memory was left for it. Where the disk has failed it was begun.
+-- The record after a call. The call is added unless the call ran out of memory. If the disk failed, the call was begun, so it is added.
 abbrev pub Notes : {T : Type 0} → Act → List Act → List Act → Result T DiskError → Type 0
 Notes act old new (Ok x) = new ≡ old ++ act ∷ []
 Notes act old new (Err Failed) = new ≡ old ++ act ∷ []
 Notes act old new (Err Memory) = new ≡ old
 
--- what reads return after a call
+-- the files as read after a call
 abbrev pub acted : Act → Image → Image
 acted (write file at bytes) image = put file (written at bytes (content file image)) image
 acted (resize file len) image = put file (resized len (content file image)) image
@@ -32,7 +32,7 @@ abbrev pub seen_after : List Act → Image → Image
 seen_after [] image = image
 seen_after (act ∷ acts) image = seen_after acts (acted act image)
 
--- what a crash may leave after a call, where it might leave this before
+-- what a crash may leave after a call, given what it might leave before
 abbrev pub LeftBy : Act → Image → (Image → Type 0) → Image → Type 0
 LeftBy (write file at bytes) image before c = (d : Image) × before d × Within file (Torn at bytes) d c
 LeftBy (resize file len) image before c = (d : Image) × before d × Within file (TornLength len) d c
@@ -43,7 +43,7 @@ abbrev pub LeftAfter : List Act → Image → (Image → Type 0) → Image → T
 LeftAfter [] image before c = before c
 LeftAfter (act ∷ acts) image before c = LeftAfter acts (acted act image) (LeftBy act image before) c
 
--- what a crash might have left after so many of the calls, or more
+-- what a crash might have left at the time after the first t calls, or later
 pub record LeftSince (acts : List Act) (image : Image) (before : Image → Type 0) (t : ℕ) (c : Image) : Type 0 where
   pub moment : ℕ
   pub later : t ≤ moment

@@ -1,4 +1,4 @@
--- A log of calls, as what was called.
+-- A `CallLog` as a list of calls.
 use Rattle.std.specs.Prelude.{List, map}
 use Rattle.sdbm_saves.specs.declared.call_log.Call.{Call}
 use Rattle.sdbm_saves.specs.declared.call_log.Call.TheVariants.{Write, Resize, Sync, Clear}

@@ -1,4 +1,4 @@
--- What the calls of a disk do to its three files, and what a crash may leave of them.
+-- The effect of disk calls on the three files, and the images that a crash may leave.
 use Rattle.std.specs.Prelude.{◌<◌, ◌≡◌, ◌⊎◌, ℕ, ◌+◌, ◌≤◌, min, max, List, [], ◌++◌, length, take, drop, replicate, get_or, Result, IsErrOf}
 use Rattle.sdbm_saves.specs.declared.disk.File.{File}
 use Rattle.sdbm_saves.specs.declared.disk.File.TheVariants.{Pages, Directory, Redo}
@@ -16,22 +16,22 @@ content Pages image = image.pages
 content Directory image = image.directory
 content Redo image = image.redo
 
--- the image with other bytes in one file
+-- replaces the bytes of one file
 abbrev pub put : File → List ℕ → Image → Image
 put Pages bytes image = record { pages = bytes; directory = image.directory; redo = image.redo }
 put Directory bytes image = record { pages = image.pages; directory = bytes; redo = image.redo }
 put Redo bytes image = record { pages = image.pages; directory = image.directory; redo = bytes }
 
--- these bytes at this offset, and the rest as it was
+-- overwrites these bytes at an offset
 abbrev pub written : ℕ → List ℕ → List ℕ → List ℕ
 written at bytes old = take at old ++ (bytes ++ drop (at + length bytes) old)
 
--- cut to this length, or made longer by zeros
+-- truncates to n bytes, or extends with zeros
 abbrev pub resized : ℕ → List ℕ → List ℕ
 resized n old = take n (old ++ replicate n 0)
 
--- After a write that a crash cuts short: each byte of the range is the old one or the one that was written, and the rest is the same.
--- What lies past the end counts as zero, so a gap between the old end and the range is of zeros.
+-- A write interrupted by a crash: each byte in the range is old or new, the rest is unchanged. Bytes past the end count as zero, so a gap
+-- between the old end and the range is filled with zeros.
 pub record Torn (at : ℕ) (bytes old new : List ℕ) : Type 0 where
   pub before : (i : ℕ) → i < at → get_or new i 0 ≡ get_or old i 0
   pub within : (i : ℕ) → i < length bytes → (get_or new (at + i) 0 ≡ get_or old (at + i) 0) ⊎ (get_or new (at + i) 0 ≡ get_or bytes i 0)
@@ -39,23 +39,23 @@ pub record Torn (at : ℕ) (bytes old new : List ℕ) : Type 0 where
   pub no_shorter : length old ≤ length new
   pub no_longer : length new ≤ max (length old) (at + length bytes)
 
--- After a change of the length that a crash cuts short: some length between, and below the new one the same bytes or zeros. Whatever
--- stands after the new length.
+-- A change of length interrupted by a crash: the length is between the old and the new one. Bytes below the new length are unchanged or
+-- zeros, bytes after it are unspecified.
 pub record TornLength (n : ℕ) (old new : List ℕ) : Type 0 where
   pub same : (i : ℕ) → i < n → get_or new i 0 ≡ get_or old i 0
   pub no_shorter : min n (length old) ≤ length new
   pub no_longer : length new ≤ max n (length old)
 
--- after a file was taken away by a call that a crash cuts short: it is there or gone
+-- a removal interrupted by a crash: the file still exists or is empty
 abbrev pub Gone : List ℕ → List ℕ → Type 0
 Gone old new = (new ≡ old) ⊎ (new ≡ [])
 
--- a step of one file, while the others stay
+-- a step changes one file and leaves the two other files unchanged
 pub record Within (file : File) (step : List ℕ → List ℕ → Type 0) (old new : Image) : Type 0 where
   pub stepped : step (content file old) (content file new)
   pub others : new ≡ put file (content file new) old
 
--- each new outcome of a crash is an old outcome after a step
+-- each image that a crash may now leave results by this step from an image that a crash might leave before
 abbrev pub Follows : (Image → Image → Type 0) → (Image → Type 0) → (Image → Type 0) → Type 0
 Follows step old new = (c : Image) → new c → (d : Image) × old d × step d c
 
@@ -63,29 +63,29 @@ Follows step old new = (c : Image) → new c → (d : Image) × old d × step d 
 abbrev pub Only : Image → (Image → Type 0) → Type 0
 Only image outcomes = (c : Image) → outcomes c → c ≡ image
 
--- whatever else a crash leaves, this file is as it is seen
+-- in every outcome of a crash this file has its visible bytes
 abbrev pub IsKept : File → Image → (Image → Type 0) → Type 0
 IsKept file image outcomes = (c : Image) → outcomes c → content file c ≡ content file image
 
--- Time goes on: a crash since t might have left what it might have left before, or what it may leave now.
+-- Time passes: a crash since t might have left what it might have left before, or what it may leave now.
 pub record Elapses (before now : ℕ) (past since : ℕ → Image → Type 0) (may_leave : Image → Type 0) : Type 0 where
   pub later : before ≤ now
   pub nothing_else : (t : ℕ) (c : Image) → t ≤ before → since t c → past t c ⊎ may_leave c
   pub keeps : (t : ℕ) (c : Image) → t ≤ before → past t c → since t c
 
--- a crash at any moment since old leaves an image that has P
+-- a crash at any time since old leaves an image that satisfies P
 pub record LeavesOnly {D : Type 0} (moment : D → ℕ) (left_since : D → ℕ → Image → Type 0) (old new : D) (P : Image → Type 0) : Type 0 where
   pub later : moment old ≤ moment new
   pub each : (c : Image) → left_since new (moment old) c → P c
   -- for a run that began earlier
   pub before : (t : ℕ) (c : Image) → t ≤ moment old → left_since new t c → left_since old t c ⊎ P c
 
--- a crash at any moment of this call, and one after it, leaves what it might have left before, or that after a step
+-- a crash during or after this call leaves what it might have left before, or the result of a step from that
 pub record Through {D : Type 0} (moment : D → ℕ) (left_since : D → ℕ → Image → Type 0) (may_leave : D → Image → Type 0) (step : Image → Image → Type 0) (old new : D) : Type 0 where
   pub crash : Follows step (may_leave old) (may_leave new)
   pub moments : LeavesOnly moment left_since old new (λ c. (d : Image) × may_leave old d × step d c)
 
--- A disk that has failed stays so, and `Failed` is told only where it has.
+-- A failed disk stays failed, and `Failed` is returned only if the disk has failed.
 pub record HasCause {T : Type 0} (before now : Type 0) (result : Result T DiskError) : Type 0 where
   pub stays : before → now
   pub failed : IsErrOf result Failed → now

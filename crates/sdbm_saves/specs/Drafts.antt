@@ -1,11 +1,11 @@
--- The bytes of a plan that is made change by change. `Redo` says what they mean.
+-- The bytes of a plan built from changes. `Redo` defines what they mean.
 use Rattle.std.specs.Prelude.{◌≡◌, ◌≢◌, ◌⊎◌, ◌<◌, ◌≤◌, ℕ, ◌+◌, ◌/◌, ◌%◌, List, [], ◌∷◌, ◌++◌, length, drop, get_or, min}
 use Rattle.sdbm_saves.specs.declared.disk.File.{File}
 use Rattle.sdbm_saves.specs.declared.disk.File.TheVariants.{Pages, Directory, Redo}
 use Rattle.sdbm_saves.specs.Disk.{written, resized}
 use Rattle.sdbm_saves.specs.Redo.{file_of, offset_of, size_of, was_of, span_of, rest_after, replayed, data_in, signature}
 
--- a number below 2^32 as four bytes, the low one first
+-- a number below 2^32 as four bytes, little-endian
 abbrev pub spelled : ℕ → List ℕ
 spelled n = n % 256 ∷ n / 256 % 256 ∷ n / 65536 % 256 ∷ n / 16777216 % 256 ∷ []
 
@@ -14,15 +14,15 @@ file_code Pages = 0
 file_code Directory = 1
 file_code Redo = 1
 
--- so many bytes of a file from an offset on, where those past its end count as zero
+-- n bytes of a file from an offset on; bytes past its end are zeros
 abbrev pub part_of : List ℕ → ℕ → ℕ → List ℕ
 part_of old at n = resized n (drop (min at (length old)) old)
 
--- a change of a file: these bytes at this offset, and those that stood there
+-- a change of a file: the offset, the new bytes, and the old bytes
 abbrev pub change_bytes : File → ℕ → List ℕ → List ℕ → List ℕ
 change_bytes file at bytes was = file_code file ∷ (spelled at ++ (spelled (length bytes) ++ (bytes ++ was)))
 
--- the plan of such changes: the new lengths of the pages and of the directory, their old lengths, and so many changes
+-- a plan: the new lengths of the pages and the directory, their old lengths, the number of changes, and the changes
 abbrev pub plan_bytes : ℕ → ℕ → ℕ → ℕ → ℕ → List ℕ → List ℕ
 plan_bytes pages directory old_pages old_directory count changes =
     signature ++ (spelled pages ++ (spelled directory ++ (spelled old_pages ++ (spelled old_directory ++ (spelled count ++ changes)))))
@@ -32,35 +32,35 @@ length_in pages directory Pages = pages
 length_in pages directory Directory = directory
 length_in pages directory Redo = 0
 
--- the change stands whole in these bytes, and within its file, and has what stood there before
+-- the change is complete, within its file, and has its old bytes
 pub record FitsIn (pages directory : ℕ) (before : List ℕ × List ℕ) (change : List ℕ) : Type 0 where
   pub whole : span_of change ≤ length change
   pub inside : offset_of change + size_of change ≤ length_in pages directory (file_of change)
   pub was : (i : ℕ) → i < size_of change → get_or (was_of change) i 0 ≡ get_or (data_in before (file_of change)) (offset_of change + i) 0
 
--- the bytes are so many changes of files that had these bytes and are to have these lengths, and no more
+-- the bytes are exactly this number of changes from files with these bytes to files with these lengths
 pub record AreChanges (pages directory : ℕ) (before : List ℕ × List ℕ) (count : ℕ) (changes : List ℕ) : Type 0 where
   pub fits : (k : ℕ) → k < count → FitsIn pages directory before (rest_after k changes)
   pub ends : rest_after count changes ≡ []
 
--- bytes are written at an offset of a file that has there, one by one, the old bytes or these
+-- writes the new bytes at an offset of a file, provided each byte there is the old one or the new one
 abbrev pub Puts : ℕ → List ℕ → List ℕ → List ℕ → List ℕ → Type 0
 Puts at old new before after =
     at + length new ≤ length before
     → ((i : ℕ) → i < length new → (get_or before (at + i) 0 ≡ get_or old i 0) ⊎ (get_or before (at + i) 0 ≡ get_or new i 0))
     → after ≡ written at new before
 
--- a file reads so from an offset on, as far as so many bytes; a byte past the end of either counts as zero
+-- the first `size` bytes of a file from an offset on are these; a byte past the end of either counts as zero
 abbrev pub ReadsAt : ℕ → List ℕ → ℕ → List ℕ → Type 0
 ReadsAt at old size file = (i : ℕ) → i < size → get_or old i 0 ≡ get_or file (at + i) 0
 
--- more changes, which put these bytes at an offset of a file in place of the old ones, and know those
+-- more changes, which replace the old bytes at an offset of a file by the new ones, and know the old ones
 pub record HasPut (pages directory : ℕ) (both : List ℕ × List ℕ) (file : File) (at : ℕ) (old new : List ℕ) (few : ℕ) (before : List ℕ) (many : ℕ) (after : List ℕ) : Type 0 where
   pub changes : AreChanges pages directory both many after
   pub put : (x : List ℕ) → Puts at old new (replayed file few before x) (replayed file many after x)
   pub others : (g : File) → g ≢ file → (x : List ℕ) → replayed g many after x ≡ replayed g few before x
 
--- the bytes of a block outside a part of it are those that stood there, as far as so many of its first bytes go
+-- the first `upto` bytes of a block are unchanged outside a part of it
 pub record AreOutside (known block : List ℕ) (start end upto : ℕ) : Type 0 where
   pub before : (i : ℕ) → i < start → get_or block i 0 ≡ get_or known i 0
   pub after : (i : ℕ) → end ≤ i → i < upto → i < length block → get_or block i 0 ≡ get_or known i 0

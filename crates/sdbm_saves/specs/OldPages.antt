@@ -1,4 +1,4 @@
--- The old bytes of `.pag`, as a save has them.
+-- The old bytes of `.pag` in a save.
 use Rattle.std.specs.Prelude.{ℕ, List}
 use Rattle.sdbm_saves.specs.declared.reading.OldPages.{OldPages}
 use Rattle.sdbm_saves.specs.declared.reading.OldPages.TheVariants.{Read, Kept}

@@ -15,7 +15,7 @@ image_of found = record { pages = found.pages.items; directory = found.directory
 abbrev pub read_image : FoundRead → Image
 read_image found = record { pages = found.files.pages.now.bytes; directory = found.files.directory.now; redo = found.redo.now }
 
--- the pages of which one was read, where the others are zeros
+-- the pages if one was read and the remaining ones count as zeros
 abbrev pub part_pages : Part → PageSize → List ℕ
 part_pages part size = resized part.len (replicate (part.number * page_bytes size) 0 ++ part.page.now)
 

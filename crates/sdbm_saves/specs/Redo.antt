@@ -1,9 +1,9 @@
--- What a redo file stands for. It is a mark of one byte (1 where the save is committed) and the plan of the save: eight bytes that
--- every plan begins with, the new lengths of the pages and of the directory, their old lengths, the number of the changes, and the
--- changes, with nothing after them. A change is a file (0 for the pages, else the directory), an offset, a length, the bytes, and
--- those that stood there, where a byte past the end of a file counts as zero. A number is four bytes, the low one first.
--- A redo log that is marked by one write and done again as often as it takes, with the image of each block before and after it: Gray and
--- Reuter, Transaction Processing (1993), chapters 9 and 10.
+-- The format and meaning of a redo file. It is a commit byte (mark), which is 1 if the save is committed, and the plan of the save. A plan
+-- is an eight-byte signature, the new lengths of the pages and the directory, their old lengths, the number of changes, and the changes,
+-- with nothing after them. A change is a file (0 for the pages, otherwise the directory), an offset, a length, the new bytes, and the old
+-- bytes; bytes past the end of a file count as zero. A number is four bytes, little-endian. This is a redo log that is committed by one
+-- write and may be replayed any number of times, with each block before and after: Gray and Reuter, Transaction Processing (1993), chapters
+-- 9 and 10.
 use Rattle.std.specs.Prelude.{◌<◌, ◌≡◌, ◌≢◌, ◌⊎◌, ℕ, zero, suc, ◌+◌, ◌*◌, ◌≤◌, List, [], ◌∷◌, length, take, drop, get_or, if◌then◌else◌, ◌==◌, min, max}
 use Rattle.sdbm_saves.specs.declared.disk.File.{File}
 use Rattle.sdbm_saves.specs.declared.disk.File.TheVariants.{Pages, Directory, Redo}
@@ -12,12 +12,12 @@ use Rattle.sdbm_saves.specs.Disk.{Image, written, resized}
 unfoldable pub number_at : List ℕ → ℕ → ℕ
 number_at bytes at = get_or bytes at 0 + 256 * get_or bytes (at + 1) 0 + 65536 * get_or bytes (at + 2) 0 + 16777216 * get_or bytes (at + 3) 0
 
--- the file of a number
+-- the file with this code
 abbrev pub data_file : ℕ → File
 data_file zero = Pages
 data_file (suc n) = Directory
 
--- the parts of the change that these bytes begin with
+-- the parts of the first change in these bytes
 abbrev pub file_of : List ℕ → File
 file_of change = data_file (get_or change 0 0)
 
@@ -30,29 +30,29 @@ size_of change = number_at change 5
 abbrev pub data_of : List ℕ → List ℕ
 data_of change = take (size_of change) (drop 9 change)
 
--- the bytes that stood there
+-- the old bytes
 abbrev pub was_of : List ℕ → List ℕ
 was_of change = take (size_of change) (drop (9 + size_of change) change)
 
--- how many bytes a change has
+-- the size of a change in bytes
 abbrev pub span_of : List ℕ → ℕ
 span_of change = 9 + (size_of change + size_of change)
 
 abbrev pub rest_of : List ℕ → List ℕ
 rest_of change = drop (span_of change) change
 
--- what follows so many changes
+-- the bytes after the first n changes
 abbrev pub rest_after : ℕ → List ℕ → List ℕ
 rest_after zero changes = changes
 rest_after (suc n) changes = rest_after n (rest_of changes)
 
--- what a change of one file does to the bytes of another
+-- applies a change of one file to the bytes of a file
 abbrev pub effect : File → File → List ℕ → List ℕ → List ℕ
 effect Pages Pages change old = written (offset_of change) (data_of change) old
 effect Directory Directory change old = written (offset_of change) (data_of change) old
 effect touched file change old = old
 
--- the bytes of a file after so many changes
+-- the bytes of a file after the first n changes
 abbrev pub replayed : File → ℕ → List ℕ → List ℕ → List ℕ
 replayed file zero changes old = old
 replayed file (suc n) changes old = replayed file n (rest_of changes) (effect (file_of changes) file changes old)
@@ -77,14 +77,14 @@ changes_of plan = drop 28 plan
 abbrev pub renewed : File → List ℕ → List ℕ → List ℕ
 renewed file plan old = replayed file (count_of plan) (changes_of plan) (resized (new_length file plan) old)
 
--- the image with some of the changes done, and with the whole plan done
+-- the image after the first n changes, and after the whole plan
 abbrev pub replayed_image : ℕ → List ℕ → Image → Image
 replayed_image n plan image = record { pages = replayed Pages n (changes_of plan) image.pages; directory = replayed Directory n (changes_of plan) image.directory; redo = image.redo }
 
 abbrev pub renewed_image : List ℕ → Image → Image
 renewed_image plan image = record { pages = renewed Pages plan image.pages; directory = renewed Directory plan image.directory; redo = image.redo }
 
--- the change stands whole in these bytes, and within its file
+-- the change is complete and within its file
 pub record Fits (plan change : List ℕ) : Type 0 where
   pub whole : span_of change ≤ length change
   pub inside : offset_of change + size_of change ≤ new_length (file_of change) plan
@@ -109,17 +109,17 @@ renewed_files plan image = (renewed Pages plan image.pages, renewed Directory pl
 abbrev pub mark_of : Image → ℕ
 mark_of image = get_or image.redo 0 0
 
--- the files that an image stands for, whatever a crash made of it
+-- the files that an image represents, in any state that a crash may leave
 abbrev pub stands_for : Image → List ℕ × List ℕ
 stands_for image = if mark_of image == 1 then renewed_files (drop 1 image.redo) image else files image
 
--- one of the changes of a plan, with what follows it
+-- a change of the plan, followed by the rest of the plan
 pub record IsChangeOf (plan change : List ℕ) : Type 0 where
   pub index : ℕ
   pub counted : index < count_of plan
   pub is : change ≡ rest_after index (changes_of plan)
 
--- A change has this byte for a place of a file: it covers the place, and the byte is the change's or the one that stood there.
+-- A change determines this byte for an offset of a file: it covers the offset, and the byte is its new byte or its old byte there.
 pub record Offers (change : List ℕ) (file : File) (at byte : ℕ) : Type 0 where
   pub touches : file_of change ≡ file
   pub index : ℕ
@@ -127,13 +127,13 @@ pub record Offers (change : List ℕ) (file : File) (at byte : ℕ) : Type 0 whe
   pub place : offset_of change + index ≡ at
   pub is : (byte ≡ get_or (data_of change) index 0) ⊎ (byte ≡ get_or (was_of change) index 0)
 
--- some change of a plan has this byte for a place of a file
+-- some change of a plan determines this byte for an offset of a file
 pub record HasByte (plan : List ℕ) (file : File) (at byte : ℕ) : Type 0 where
   pub change : List ℕ
   pub one : IsChangeOf plan change
   pub offers : Offers change file at byte
 
--- a length is one of two, or between them
+-- a length is one of two lengths or between them
 pub record IsBetween (one other len : ℕ) : Type 0 where
   pub no_shorter : min one other ≤ len
   pub no_longer : len ≤ max one other
@@ -143,29 +143,29 @@ data_in both Pages = both.0
 data_in both Directory = both.1
 data_in both Redo = []
 
--- each byte of a file in the block of a change is one that a plan has for it
+-- each byte of a file in the range of a change is one that the plan determines for it
 abbrev pub KnowsBlock : List ℕ → List ℕ → List ℕ → Type 0
 KnowsBlock plan change bytes = (i : ℕ) → i < size_of change → HasByte plan (file_of change) (offset_of change + i) (get_or bytes (offset_of change + i) 0)
 
--- A plan knows the files, the pages and the directory: it was made for files like these, of which some of it may have been done. Each byte
--- of a block that it plans is the old one or the new one, and each length the old one, the new one, or between.
+-- A plan knows the data files: it was made for files like these, and some of it may already be done. Each byte in the range of a change is
+-- old or new, and each length is old, new, or between.
 pub record Knows (plan : List ℕ) (both : List ℕ × List ℕ) : Type 0 where
   pub pages : IsBetween (old_length Pages plan) (new_length Pages plan) (length both.0)
   pub directory : IsBetween (old_length Directory plan) (new_length Directory plan) (length both.1)
   pub bytes : (change : List ℕ) → IsChangeOf plan change → KnowsBlock plan change (data_in both (file_of change))
 
--- A save that was cut off after its mark can be ended: after the mark there is a whole plan, which knows the files. Where there is no
--- mark nothing is to be ended.
+-- An interrupted save can be recovered: if the commit byte is 1, a complete plan follows, and the plan knows the files. If the commit byte
+-- is not 1, there is nothing to recover.
 abbrev pub CanEnd : Image → Type 0
 CanEnd image = mark_of image ≡ 1 → IsPlan (drop 1 image.redo) × Knows (drop 1 image.redo) (files image)
 
--- two images with the same redo file that the plan makes the same, and of which it knows the second where it knows the first
+-- two images with the same redo file and the same result of the plan; if the plan knows the first image, it knows the second
 pub record Alike (plan : List ℕ) (old new : Image) : Type 0 where
   pub redo : new.redo ≡ old.redo
   pub same : renewed_files plan new ≡ renewed_files plan old
   pub known : Knows plan (files old) → Knows plan (files new)
 
--- a plan whose last changes are those of another, and whose new lengths are the same
+-- a plan that ends with the changes of another plan and has the same new lengths
 pub record EndsWith (whole plan : List ℕ) : Type 0 where
   pub is_plan : IsPlan whole
   pub before : ℕ
@@ -177,7 +177,7 @@ pub record EndsWith (whole plan : List ℕ) : Type 0 where
 abbrev pub AlikeFor : List ℕ → Image → Image → Type 0
 AlikeFor plan old new = (whole : List ℕ) → EndsWith whole plan → Alike whole old new
 
--- the data files stay, and no mark comes
+-- the data files are unchanged, and the commit byte does not become 1
 pub record StaysUnmarked (old new : Image) : Type 0 where
   pub files : files new ≡ files old
   pub mark : mark_of old ≢ 1 → mark_of new ≢ 1

@@ -1,28 +1,28 @@
--- What a save makes of the files of a database.
+-- The result of a save in the files of a database.
 use Rattle.std.specs.Prelude.{◌⊎◌, ◌≤◌, ◌^◌, ℕ, List, length}
 use Rattle.sdbm_addr.specs.Database.{Database}
 use Rattle.sdbm_addr.specs.Files.{AreFiles, SpellsDatabase}
 use Rattle.sdbm_saves.specs.declared.disk.File.TheVariants.{Pages, Directory}
 use Rattle.sdbm_saves.specs.Redo.{renewed, IsPlan, Knows}
 
--- these are the bytes of `.pag` and of `.dir` that are written for a database, and they spell it
+-- the bytes of `.pag` and `.dir` that are written for a database, and that spell it
 pub record AreFilesFor (db : Database) (pages directory : List ℕ) : Type 0 where
   pub written : AreFiles db directory pages
   pub spelled : SpellsDatabase db directory pages
 
--- a plan that makes the old files those of a database, and knows them
+-- a plan that makes the old files those of a database, and knows the old files
 pub record IsSaving (db : Database) (plan old_pages old_directory : List ℕ) : Type 0 where
   pub whole : IsPlan plan
   pub knows : Knows plan (old_pages, old_directory)
   pub files : AreFilesFor db (renewed Pages plan old_pages) (renewed Directory plan old_directory)
 
--- a file that is written for a database has 2^32 bytes or more
+-- a file that is written for the database has 2^32 bytes or more
 pub record HasLongFile (db : Database) : Type 0 where
   pub pages : List ℕ
   pub directory : List ℕ
   pub written : AreFiles db directory pages
   pub long : (2 ^ 32 ≤ length pages) ⊎ (2 ^ 32 ≤ length directory)
 
--- a file of a database has 2^32 bytes or more, or an old one has
+-- a file that is written for the database, or an old file, has 2^32 bytes or more
 abbrev pub IsTooLong : Database → List ℕ → List ℕ → Type 0
 IsTooLong db old_pages old_directory = HasLongFile db ⊎ ((2 ^ 32 ≤ length old_pages) ⊎ (2 ^ 32 ≤ length old_directory))

@@ -1,4 +1,4 @@
-// What a plan changes of a file, by blocks.
+// Compares the old and new bytes of a file block by block and drafts the changes.
 ghost use Rattle.std.specs.Prelude.{◌≡◌, ◌≢◌, ◌<◌, ◌≤◌, ◌^◌, ◌+◌, ◌/◌, ◌↔◌, ℕ, List, length, get_or, IsTrue, OnOk};
 ghost use Rattle.sdbm_saves.specs.declared.disk.File.TheVariants.{Redo};
 ghost use Rattle.sdbm_saves.specs.Redo.{data_in};
@@ -10,8 +10,8 @@ use crate::spans::changed_span;
 use sdbm_files::BLOCK;
 use std::alloc::{AllocError, Allocator};
 
-// The changes that make the bytes of a file from an offset on the new ones, block by block: each block that does not read so. The old bytes
-// that stood there may be fewer, and zeros follow them.
+// Adds a change for each block of `new` that differs from the old bytes at `from`. `old` may be shorter than `new`: the missing bytes are
+// zeros.
 pub(crate) fn draft_bytes<A: Allocator + Copy>(
     alloc: A,
     draft: &mut Draft<A>,
@@ -48,8 +48,8 @@ pub(crate) fn draft_bytes<A: Allocator + Copy>(
     Ok(())
 }
 
-// The change that makes one block of a file the new one, if it does not read so: of the part in which they differ. Its first bytes are known,
-// and the others are zeros.
+// Adds one change if the block at `at` differs from `known`. The change covers only the part that differs. `known` may be shorter than the
+// block: the missing bytes are zeros.
 pub(crate) fn draft_block<A: Allocator>(
     alloc: A,
     draft: &mut Draft<A>,
@@ -84,7 +84,7 @@ pub(crate) fn draft_block<A: Allocator>(
     Ok(())
 }
 
-// Whether a file reads so from an offset on. A byte past its end counts as zero.
+// Returns whether `old` from `at` on equals `block`. A byte past the end of `old` counts as zero.
 pub(crate) fn reads_as(old: &[u8], at: usize, block: &[u8]) -> bool
     requires { at + length block.now < 2 ^ 63 }
     ensures { IsTrue result ↔ ((i : ℕ) → i < length block.now → get_or block.now i 0 ≡ get_or old.now (at + i) 0) }
@@ -96,14 +96,13 @@ pub(crate) fn reads_as(old: &[u8], at: usize, block: &[u8]) -> bool
     is_padded(&old[start..], block)
 }
 
-// Whether two lists of bytes are the same.
 fn is_same(one: &[u8], other: &[u8]) -> bool
     ensures { IsTrue result ↔ one.now ≡ other.now }
 {
     one == other
 }
 
-// Whether these bytes and zeros after them are a block.
+// Returns whether `block` is `kept` padded with zeros.
 fn is_padded(kept: &[u8], block: &[u8]) -> bool
     ensures { IsTrue result ↔ ((i : ℕ) → i < length block.now → get_or block.now i 0 ≡ get_or kept.now i 0) }
 {

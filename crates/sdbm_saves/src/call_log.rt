@@ -1,4 +1,4 @@
-// A log of calls that a system's files keep.
+// A log of the calls on a system's files.
 ghost use Rattle.std.specs.Prelude.{◌≡◌, ◌++◌, ◌∷◌, [], length, OnOk, IfOk, OnErr};
 ghost use Rattle.sdbm_saves.specs.Acts.{write, resize, sync, clear};
 
@@ -6,10 +6,10 @@ use crate::File;
 use std::alloc::{AllocError, Global};
 use std::mem;
 
-/// The calls of a save before its mark and with it, and of a recovery without a plan.
+/// Room for the calls of a save up to and including its commit byte, or of a recovery without a plan.
 const FIRST_CALLS: usize = 16;
 
-// A call that was begun, or for a sync, that was done.
+// A call that was begun. A sync is logged only after it succeeded.
 #[derive(Drop)]
 pub enum Call {
     Write {
@@ -27,8 +27,8 @@ pub enum Call {
     Clear,
 }
 
-/// A log of calls for a `Host` to keep. The room for the first of them is there from the start, and for one write of one byte, so
-/// that a save does not run out of memory between what it prints and its mark.
+/// A log of calls for a `Host`. Room for the first calls, and for a write of one byte, is allocated at the start. So a save does not run
+/// out of memory between what it prints and its commit byte.
 #[derive(Drop)]
 pub struct CallLog {
     alloc: Global,
@@ -43,7 +43,7 @@ impl CallLog {
     ///
     /// # Errors
     ///
-    /// `AllocError` where memory runs out.
+    /// `AllocError` if allocation fails.
     pub fn new(alloc: Global) -> Result<CallLog, AllocError>
         ensures { IfOk result (λ log. acts log ≡ []) }
     {
@@ -54,11 +54,11 @@ impl CallLog {
         })
     }
 
-    /// Notes a write.
+    /// Logs a write.
     ///
     /// # Errors
     ///
-    /// `AllocError` where memory runs out. The log is as it was.
+    /// `AllocError` if allocation fails. The log is unchanged.
     pub fn note_write(&mut self, file: File, at: usize, bytes: &[u8]) -> Result<(), AllocError>
         ensures ok { OnOk result (acts self.new ≡ acts self.old ++ write file at bytes.now ∷ []) }
         ensures err { OnErr result (acts self.new ≡ acts self.old) }
@@ -67,11 +67,11 @@ impl CallLog {
         self.note(Call::Write { file, at, bytes })
     }
 
-    /// Notes a new length.
+    /// Logs a new length.
     ///
     /// # Errors
     ///
-    /// `AllocError` where memory runs out. The log is as it was.
+    /// `AllocError` if allocation fails. The log is unchanged.
     pub fn note_resize(&mut self, file: File, len: usize) -> Result<(), AllocError>
         ensures ok { OnOk result (acts self.new ≡ acts self.old ++ resize file len ∷ []) }
         ensures err { OnErr result (acts self.new ≡ acts self.old) }
@@ -79,11 +79,11 @@ impl CallLog {
         self.note(Call::Resize { file, len })
     }
 
-    /// Notes a sync.
+    /// Logs a sync.
     ///
     /// # Errors
     ///
-    /// `AllocError` where memory runs out. The log is as it was.
+    /// `AllocError` if allocation fails. The log is unchanged.
     pub fn note_sync(&mut self, file: File) -> Result<(), AllocError>
         ensures ok { OnOk result (acts self.new ≡ acts self.old ++ sync file ∷ []) }
         ensures err { OnErr result (acts self.new ≡ acts self.old) }
@@ -91,11 +91,11 @@ impl CallLog {
         self.note(Call::Sync { file })
     }
 
-    /// Notes that the redo file was taken away.
+    /// Logs the removal of the redo file.
     ///
     /// # Errors
     ///
-    /// `AllocError` where memory runs out. The log is as it was.
+    /// `AllocError` if allocation fails. The log is unchanged.
     pub fn note_clear(&mut self) -> Result<(), AllocError>
         ensures ok { OnOk result (acts self.new ≡ acts self.old ++ clear ∷ []) }
         ensures err { OnErr result (acts self.new ≡ acts self.old) }
@@ -114,7 +114,7 @@ impl CallLog {
     }
 }
 
-// A copy of bytes, which takes no memory where there is one byte and room for it.
+// Copies the bytes. A single byte is copied into `room` without an allocation, if `room` is not used up.
 fn copy_of(alloc: Global, room: &mut Vec<u8>, bytes: &[u8]) -> Result<Vec<u8>, AllocError>
     ensures { IfOk result (λ copy. copy.items ≡ bytes.now) }
 {

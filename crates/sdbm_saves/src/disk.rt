@@ -1,4 +1,4 @@
-// Three files of a database, as a save sees them: what a read of them returns, and what a crash may leave of them.
+// The three files of a database as a save sees them: what a read returns and what a crash may leave.
 ghost use Rattle.std.specs.Prelude.{◌≡◌, ◌≤◌, ℕ, length, [], OnOk};
 ghost use Rattle.sdbm_saves.specs.declared.disk.DiskError.TheVariants.{Memory};
 ghost use Rattle.sdbm_saves.specs.declared.disk.File.TheVariants.{Redo};
@@ -6,23 +6,23 @@ ghost use Rattle.sdbm_saves.specs.Disk.{Image, content, put, written, resized, I
 
 use std::alloc::AllocError;
 
-/// One of the three files.
+/// A file of a database.
 #[derive(Clone, Copy, Debug, PartialEq, Eq)]
 pub enum File {
     /// `.pag`, the pages.
     Pages,
     /// `.dir`, the directory.
     Directory,
-    /// `.redo`, the mark and the plan of a save.
+    /// `.redo`, the commit byte (mark) and the plan of a save.
     Redo,
 }
 
-/// Why a call of a disk, or what is made of its calls, was not done.
+/// Why a disk call, or an operation built from such calls, failed.
 #[derive(Clone, Copy, Debug, PartialEq, Eq)]
 pub enum DiskError {
-    /// No memory was left. Only a part may have been done.
+    /// Out of memory. Some of the work may have been done.
     Memory,
-    /// The disk has failed. Only a part may have been done, and what a read of the files returns is not known.
+    /// The disk failed. Some of the work may have been done, and the result of later reads is unknown.
     Failed,
 }
 
@@ -34,29 +34,29 @@ impl From<AllocError> for DiskError {
     }
 }
 
-/// A device with the three files, on which a crash may happen at any moment.
+/// A device with the three files. A crash may happen at any time.
 ///
-/// `seen` is what reads return. `may_leave` says of an image whether a crash at this moment may leave it: writes reach the
-/// disk in any order and in part, but for what was synced. `left_since` says the same of all moments from one on, those
-/// within calls too.
+/// `seen` is what reads return. `may_leave` holds for each image that a crash now may leave: writes reach the disk in any order and in
+/// part, except those that were synced. `left_since` holds for each image that a crash at any time since a given one might have left,
+/// including during calls.
 pub trait Disk {
-    /// What reads return.
+    /// The image that reads return.
     ghost seen: { Self → Image };
 
-    /// What a crash at this moment may leave.
+    /// The images that a crash now may leave.
     ghost may_leave: { Self → Image → Type 0 };
 
-    /// The moment, as a number that does not fall.
+    /// The time, as a number that never decreases.
     ghost moment: { Self → ℕ };
 
-    /// What a crash at some moment from that one on might have left, during a call or between two.
+    /// The images that a crash at that time or later might have left, during a call or between two calls.
     ghost left_since: { Self → ℕ → Image → Type 0 };
 
     /// The disk has failed.
     ghost has_failed: { Self → Type 0 };
 
-    /// Writes over what is there, and past the end. Until a sync of this file, a crash may leave each byte of the range as it was or as
-    /// it was written.
+    /// Overwrites bytes and may write past the end. Until this file is synced, a crash may leave the old or the new value of each byte in
+    /// the range.
     fn write_at(&mut self, file: File, at: usize, bytes: &[u8]) -> Result<(), DiskError>
         requires { at ≤ length (content file (seen self.old)) }
         ensures written { OnOk result (seen self.new ≡ put file (written at bytes.now (content file (seen self.old))) (seen self.old)) }
@@ -64,15 +64,15 @@ pub trait Disk {
         ensures time { Elapses (moment self.old) (moment self.new) (left_since self.old) (left_since self.new) (may_leave self.new) }
         ensures cause { HasCause (has_failed self.old) (has_failed self.new) result };
 
-    /// Cuts a file to a length, or makes it longer by zeros. Until a sync of this file, a crash may leave some length between, and
-    /// any bytes past the new one.
+    /// Truncates the file, or extends it with zeros. Until this file is synced, a crash may leave a length between the old and the new one,
+    /// and any bytes past the new one.
     fn resize(&mut self, file: File, len: usize) -> Result<(), DiskError>
         ensures resized { OnOk result (seen self.new ≡ put file (resized len (content file (seen self.old))) (seen self.old)) }
         ensures crash { Follows (Within file (TornLength len)) (may_leave self.old) (may_leave self.new) }
         ensures time { Elapses (moment self.old) (moment self.new) (left_since self.old) (left_since self.new) (may_leave self.new) }
         ensures cause { HasCause (has_failed self.old) (has_failed self.new) result };
 
-    /// After it, a crash leaves of this file what a read returns. It says nothing of the others.
+    /// Syncs this file: from now on a crash leaves what a read returns. The call says nothing about the two other files.
     fn sync(&mut self, file: File) -> Result<(), DiskError>
         ensures durable { OnOk result (IsKept file (seen self.old) (may_leave self.new)) }
         ensures seen { seen self.new ≡ seen self.old }
@@ -80,19 +80,19 @@ pub trait Disk {
         ensures time { Elapses (moment self.old) (moment self.new) (left_since self.old) (left_since self.new) (may_leave self.new) }
         ensures cause { HasCause (has_failed self.old) (has_failed self.new) result };
 
-    /// Takes the redo file away, which then has no bytes. Until it is synced, a crash may leave it as it was.
+    /// Removes the redo file, which then reads as empty. Until it is synced, a crash may leave the old redo file.
     fn clear(&mut self) -> Result<(), DiskError>
         ensures cleared { OnOk result (seen self.new ≡ put Redo [] (seen self.old)) }
         ensures crash { Follows (Within Redo Gone) (may_leave self.old) (may_leave self.new) }
         ensures time { Elapses (moment self.old) (moment self.new) (left_since self.old) (left_since self.new) (may_leave self.new) }
         ensures cause { HasCause (has_failed self.old) (has_failed self.new) result };
 
-    /// Whether the redo file may stay when it has no records: all who may change the data files can use it.
+    /// Returns whether an empty redo file may stay: all users who may change the data files can use it.
     fn keeps_redo(&self) -> bool;
 
-    /// This moment is one of those since an earlier one.
+    /// The current time counts as a time since any earlier one.
     ghost counts_now: { (disk : Self) (t : ℕ) (c : Image) → t ≤ moment disk → may_leave disk c → left_since disk t c };
 
-    /// Since this moment there is no other.
+    /// A crash since now leaves only what a crash now may leave.
     ghost only_now: { (disk : Self) (c : Image) → left_since disk (moment disk) c → may_leave disk c };
 }

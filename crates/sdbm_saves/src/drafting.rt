@@ -1,4 +1,4 @@
-// The changes of a plan, gathered one after the other.
+// Collects the changes of a plan one by one.
 ghost use Rattle.std.specs.Prelude.{◌≡◌, ◌<◌, ◌≤◌, ◌^◌, ◌+◌, ◌++◌, length, IfOk, OnOk};
 ghost use Rattle.sdbm_saves.specs.Drafts.{spelled, part_of, change_bytes, plan_bytes};
 
@@ -6,7 +6,7 @@ use crate::File;
 use crate::plan::{SIGNATURE, resized};
 use std::alloc::{AllocError, Allocator};
 
-/// A plan that is being made: the new lengths of both files, the changes so far, and how many they are.
+/// A plan under construction: the new lengths of both files, the changes so far, and their number.
 #[derive(Drop)]
 pub(crate) struct Draft<A: Allocator> {
     pub(crate) pages: usize,
@@ -15,7 +15,7 @@ pub(crate) struct Draft<A: Allocator> {
     pub(crate) count: usize,
 }
 
-/// A number as four bytes, the low one first; of a larger one than 2^32 - 1, its remainder.
+/// A number as four bytes, little-endian. The number is taken modulo 2^32.
 pub fn spelled(number: usize) -> [u8; 4]
     ensures { result ≡ spelled number }
 {
@@ -27,7 +27,7 @@ pub fn spelled(number: usize) -> [u8; 4]
     ]
 }
 
-// So many bytes of a file from an offset on, where those past its end count as zero.
+// Returns `size` bytes of `old` from `at` on. Bytes past its end are zeros.
 pub(crate) fn part_of<A: Allocator>(
     alloc: A,
     old: &[u8],
@@ -39,8 +39,7 @@ pub(crate) fn part_of<A: Allocator>(
     resized(alloc, &old[at.min(old.len())..], size)
 }
 
-// Puts a change after the others, with what stood there. Where memory runs out, a part of it may stand there, and the draft is of no
-// use.
+// Appends a change with the bytes it overwrites. On error, discard the draft: it may contain a part of the change.
 pub(crate) fn push<A: Allocator>(
     draft: &mut Draft<A>,
     file: File,
@@ -70,7 +69,7 @@ pub(crate) fn push<A: Allocator>(
     Ok(())
 }
 
-// The plan that a draft has come to, for files with these lengths.
+// Builds the plan from the draft, for old files with these lengths.
 pub(crate) fn assemble<A: Allocator>(
     alloc: A,
     draft: &Draft<A>,

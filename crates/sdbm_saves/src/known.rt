@@ -1,4 +1,4 @@
-// The bytes of the data files, and those that a plan has of them.
+// Bytes of the data files, and the old bytes in a plan.
 ghost use Rattle.std.specs.Prelude.{◌≡◌, ◌≤◌, ◌+◌, length, get_or};
 ghost use Rattle.sdbm_saves.specs.Redo.{size_of, was_of, span_of};
 
@@ -11,7 +11,7 @@ pub fn byte_at(file: &[u8], at: usize) -> u8
     if at < file.len() { file[at] } else { 0 }
 }
 
-/// The bytes that stood in the place of the change that these bytes begin with.
+/// The old bytes of the first change in `change`.
 pub fn was_of(change: &[u8]) -> &[u8]
     requires { span_of change.now ≤ length change.now }
     ensures is { result.now ≡ was_of change.now }

@@ -1,5 +1,5 @@
-//! The plan of a save: which bytes of the data files it changes, with the old ones and the new ones. `Disk` says what a crash may leave of
-//! the files. A crate above commits plans in a log (a redo log: Gray and Reuter, Transaction Processing 1993, chapter 9).
+//! Plans of saves. A plan has the changes of the data files, each with the old and the new bytes. `Disk` specifies what a crash may leave
+//! of the files. A crate above commits plans in a log (a redo log: Gray and Reuter, Transaction Processing 1993, chapter 9).
 #![tactic(auto)]
 
 mod blocks;

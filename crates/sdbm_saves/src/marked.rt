@@ -1,4 +1,4 @@
-// The plan of a save that has read the pages that may have changed, and no others.
+// Plans a save from the pages that may have changed.
 ghost use Rattle.std.specs.Prelude.{◌≡◌, ◌<◌, ◌^◌, ◌*◌, ◌⊎◌, ℕ, List, length, IfOk, IfErr, IfSome, IsNone};
 ghost use Rattle.sdbm_saves.specs.declared.planning.SavePlanFault.TheVariants.{TooLong};
 ghost use Rattle.sdbm_saves.specs.Saves.{AreFilesFor, IsSaving, IsTooLong};
@@ -13,27 +13,27 @@ use crate::{File, SavePlanFault};
 use sdbm_files::Image;
 use std::alloc::Allocator;
 
-/// What is read of the files of a database for a save, where it is known which pages may have changed since they were read or saved.
+/// The bytes read for a save if the pages that may have changed since the last read or save are known.
 #[derive(Clone, Copy)]
 pub struct Marked<'a> {
     /// The bytes of `.dir`.
     pub directory: &'a [u8],
-    /// How many bytes `.pag` has.
+    /// The length of `.pag` in bytes.
     pub len: usize,
-    /// The numbers of the pages that may have changed.
+    /// Numbers of the pages that may have changed.
     pub numbers: &'a [u32],
-    /// The bytes of these pages in the file, one page after the other; a byte past its end counts as zero.
+    /// The bytes of these pages in the file, concatenated. A byte past the end of the file counts as zero.
     pub pages: &'a [u8],
 }
 
-/// The plan that makes the files those of a database which differs from them on these pages alone. It costs what these pages and the
-/// directory cost. Where the numbers ascend it is that of `plan_read`. `None` where the files are those of the database already. It takes
-/// memory for the plan, and for a block.
+/// Plans a save for a database that differs from its files only on these pages and in the directory. Time is proportional to these pages
+/// and the directory. If the numbers ascend, the plan equals that of `plan_read`. Returns `None` if the files are already those of the
+/// database. Allocates the plan and one block.
 ///
 /// # Errors
 ///
-/// `TooLong` where a file has 2^32 bytes or more, or would have, and where there are more numbers than such a file has pages.
-/// `NoMemory` where memory runs out.
+/// `TooLong` if a file has, or would have, 2^32 bytes or more, or if there are more numbers than such a file has pages. `NoMemory` if
+/// allocation fails.
 pub fn plan_marked<A: Allocator + Copy>(
     alloc: A,
     old: Marked<'_>,

@@ -1,4 +1,4 @@
-// Files as they were read, of which clauses alone have the bytes.
+// The files of a run, as read, in ghost state only.
 ghost use Rattle.std.specs.Prelude.{◌≡◌};
 ghost use Rattle.sdbm_saves.specs.Disk.{Image};
 ghost use Rattle.sdbm_saves.specs.Recording.{coded_image, image_of};
@@ -7,7 +7,7 @@ ghost use base.Fml.{ftrue};
 use crate::Found;
 use std::marker::Model;
 
-/// The three files as they were read, as clauses see them. It has no bytes and owns nothing.
+/// The three files, as read, for contracts only. It has no bytes and owns nothing.
 pub struct Noted {
     pub ghost image: { Image } by { coded_image },
 }
@@ -17,7 +17,7 @@ impl Model for Noted {
 }
 
 impl Noted {
-    /// What was read.
+    /// The ghost image of `found`.
     pub fn of(found: &Found) -> Noted
         ensures { result.image ≡ image_of found.now }
     {

@@ -1,4 +1,4 @@
-// A plan done in memory.
+// Applies a plan in memory.
 ghost use Rattle.std.specs.Prelude.{◌≡◌, ◌≢◌, ◌≤◌, ◌+◌, length, IfOk};
 ghost use Rattle.sdbm_saves.specs.Disk.{resized, written};
 ghost use Rattle.sdbm_saves.specs.Redo.{file_of, offset_of, size_of, span_of, effect, new_length, renewed, IsPlan};
@@ -8,11 +8,11 @@ use crate::File;
 use crate::plan::{file_of, number, resized, rest_of};
 use std::alloc::{AllocError, Allocator};
 
-/// The bytes of a data file with a plan done in them, in memory.
+/// Returns the bytes of a data file with the plan applied.
 ///
 /// # Errors
 ///
-/// `AllocError` if memory runs out.
+/// `AllocError` if allocation fails.
 pub fn lay_over<A: Allocator>(
     alloc: A,
     plan: &[u8],
@@ -32,7 +32,7 @@ pub fn lay_over<A: Allocator>(
     Ok(laid)
 }
 
-/// Does a plan in the bytes of a data file, in memory, if they are as many as the plan gives the file.
+/// Applies the plan to the bytes of a data file. `laid` must already have the length that the plan gives the file.
 pub fn lay_in(laid: &mut [u8], file: File, plan: &[u8])
     requires plan { IsPlan plan.now }
     requires data { file ≢ Redo }
@@ -47,7 +47,7 @@ pub fn lay_in(laid: &mut [u8], file: File, plan: &[u8])
     }
 }
 
-// Does a change, where it is one of this file.
+// Applies a change if it is for this file.
 fn lay_change(laid: &mut [u8], file: File, change: &[u8])
     requires data { file ≢ Redo }
     requires whole { span_of change.now ≤ length change.now }
@@ -62,7 +62,7 @@ fn lay_change(laid: &mut [u8], file: File, change: &[u8])
     }
 }
 
-/// Writes bytes over those at this offset.
+/// Overwrites bytes at an offset.
 pub fn write_in(file: &mut [u8], at: usize, bytes: &[u8])
     requires { at + length bytes.now ≤ length file.old }
     ensures { file.new ≡ written at bytes.now file.old }

@@ -1,4 +1,4 @@
-// The plan of a save that has read one page of the pages, and not the rest.
+// Plans a save from one page that was read.
 ghost use Rattle.std.specs.Prelude.{◌≡◌, ◌≢◌, ◌<◌, ◌≤◌, ◌^◌, ◌+◌, ◌*◌, ◌%◌, ◌↔◌, ◌⊎◌, ℕ, List, [], length, get_or, Contains, IsTrue, IfOk, IfErr, IfSome, IsNone, OnOk};
 ghost use Rattle.sdbm_saves.specs.declared.disk.File.TheVariants.{Pages};
 ghost use Rattle.sdbm_saves.specs.declared.planning.SavePlanFault.TheVariants.{TooLong};
@@ -17,16 +17,15 @@ use crate::{File, SavePlanFault};
 use sdbm_files::Image;
 use std::alloc::{AllocError, Allocator};
 
-/// A file of fewer than 2^32 bytes has no more pages than this.
+/// A file of fewer than 2^32 bytes has at most this many pages.
 pub(crate) const MOST: usize = 4194304;
 
-/// What a run has read of the files of a database that reads one page: the bytes of `.dir`, how many `.pag` has, and the page with
-/// a number, where a byte past the end of the file counts as zero.
+/// The bytes read of a database's files if only one page was read. A byte of the page past the end of the file counts as zero.
 #[derive(Clone, Copy)]
 pub struct Part<'a> {
     /// The bytes of `.dir`.
     pub directory: &'a [u8],
-    /// How many bytes `.pag` has.
+    /// The length of `.pag` in bytes.
     pub len: usize,
     /// The number of the page that was read.
     pub number: u32,
@@ -34,15 +33,15 @@ pub struct Part<'a> {
     pub page: &'a [u8],
 }
 
-/// The plan that saves a database of which only that page was read. It writes those of the pages with these numbers that are not as they
-/// were: the page that was read, and pages that were all zeros. A page with another number stays as it is. Of the directory it writes the
-/// blocks of 1,024 bytes that differ. `.pag` gets as long as it has to be, and no shorter than it was. Beside each change it has the bytes
-/// that stood there, so that it knows the old files. `None` where nothing changes. It takes memory for the plan, and for these pages.
+/// Plans a save from that page alone. The plan writes the pages with these numbers that changed; each was the page that was read, or all
+/// zeros. Pages with other numbers stay unchanged. The plan writes the blocks of 1,024 bytes of the directory that differ. `.pag` grows if
+/// necessary and never shrinks. Each change has its old bytes next to the new ones, so the plan knows the old files. Returns `None` if
+/// nothing changes. Allocates the plan and these pages.
 ///
 /// # Errors
 ///
-/// `TooLong` where a file has 2^32 bytes or more, or would have, and where there are more numbers than such a file has pages.
-/// `NoMemory` where memory runs out.
+/// `TooLong` if a file has, or would have, 2^32 bytes or more, or if there are more numbers than such a file has pages. `NoMemory` if
+/// allocation fails.
 pub fn plan_part<A: Allocator + Copy>(
     alloc: A,
     old: Part<'_>,
@@ -88,14 +87,13 @@ pub fn plan_part<A: Allocator + Copy>(
     Ok(Some(assemble(alloc, &draft, old.len, old.directory.len())?))
 }
 
-// Whether both files have these lengths.
 fn is_long(old: Part<'_>, pages: usize, directory: usize) -> bool
     ensures { IsTrue result ↔ (pages ≡ old.entry.len) × (directory ≡ length old.entry.directory.now) }
 {
     old.len == pages && old.directory.len() == directory
 }
 
-// The bytes that stood on the pages with these numbers: the page that was read, and zeros.
+// Returns the old bytes of the pages with these numbers: the page that was read, or zeros.
 fn pages_before<A: Allocator + Copy>(
     alloc: A,
     old: Part<'_>,
@@ -115,7 +113,7 @@ fn pages_before<A: Allocator + Copy>(
     Ok(pages)
 }
 
-// The page that stood at a number: the one that was read, or zeros.
+// Returns the old page with this number: the page that was read, or zeros.
 fn page_before<'a>(old: Part<'a>, number: u32, zeros: &'a [u8]) -> &'a [u8]
     ensures own { number ≡ old.entry.number → result.now ≡ old.entry.page.now }
     ensures other { number ≢ old.entry.number → result.now ≡ zeros.entry.now }
@@ -126,8 +124,8 @@ fn page_before<'a>(old: Part<'a>, number: u32, zeros: &'a [u8]) -> &'a [u8]
     zeros
 }
 
-// The changes that make the pages with these numbers those of a database, after those of a draft that does not touch the pages. A page that
-// the new file has no room for is passed over.
+// Adds the changes that write the pages with these numbers. The draft must not yet change any page. Pages that do not fit in the new file
+// are skipped.
 pub(crate) fn draft_parts<A: Allocator + Copy>(
     alloc: A,
     draft: &mut Draft<A>,

@@ -1,4 +1,4 @@
-// The plan of a save, after the mark of a redo file. See specs/Redo.antt for its bytes.
+// The plan of a save: the bytes of a redo file after the commit byte. specs/Redo.antt defines the format.
 ghost use Rattle.std.specs.Prelude.{◌≡◌, ◌≢◌, ◌*◌, ◌<◌, ◌≤◌, ◌^◌, ◌+◌, ◌↔◌, length, take, drop, get_or, IsTrue, IfSome, IsNone, IfOk};
 ghost use Rattle.sdbm_saves.specs.Disk.{resized};
 ghost use Rattle.sdbm_saves.specs.Redo.{number_at, file_of, span_of, rest_of, signature, Fits, IsPlan};
@@ -8,10 +8,10 @@ use std::alloc::{AllocError, Allocator};
 
 pub(crate) const MARKED: u8 = 1;
 
-/// What every plan begins with.
+/// The first bytes of every plan.
 pub(crate) const SIGNATURE: [u8; 8] = *b"sdbmred2";
 
-/// Four bytes as a number, the low one first.
+/// Reads four bytes as a little-endian number.
 #[tactic(auto, unfolding(crate::specs::Redo::number_at))]
 pub fn number(bytes: &[u8], at: usize) -> usize
     requires { at + 4 ≤ length bytes.now }
@@ -24,7 +24,7 @@ pub fn number(bytes: &[u8], at: usize) -> usize
         + 16777216 * usize::from(bytes[at + 3])
 }
 
-/// The file of the change that these bytes begin with.
+/// The file of the first change in `change`.
 pub fn file_of(change: &[u8]) -> File
     requires { 1 ≤ length change.now }
     ensures { result ≡ file_of change.now }
@@ -36,7 +36,7 @@ pub fn file_of(change: &[u8]) -> File
     }
 }
 
-/// What follows the change that these bytes begin with.
+/// Returns the bytes after the first change in `change`.
 pub fn rest_of(change: &[u8]) -> &[u8]
     requires { span_of change.now ≤ length change.now }
     ensures { result.now ≡ rest_of change.now }
@@ -45,7 +45,7 @@ pub fn rest_of(change: &[u8]) -> &[u8]
     &change[9 + (size + size)..]
 }
 
-// Whether a change stands whole in these bytes, and within its file.
+// Returns whether the first change in `change` is complete and within its file.
 fn fits(plan: &[u8], change: &[u8]) -> bool
     requires { 28 ≤ length plan.now }
     ensures { IsTrue result ↔ Fits plan.now change.now }
@@ -62,7 +62,6 @@ fn fits(plan: &[u8], change: &[u8]) -> bool
     9 + (size + size) <= change.len() && number(change, 1) + size <= limit
 }
 
-// Whether the bytes begin as every plan does.
 fn is_signed(plan: &[u8]) -> bool
     requires { 28 ≤ length plan.now }
     ensures { IsTrue result ↔ take 8 plan.now ≡ signature }
@@ -70,8 +69,8 @@ fn is_signed(plan: &[u8]) -> bool
     plan[..8] == SIGNATURE[..]
 }
 
-/// Whether the bytes are a plan: it begins as every plan does, each of its changes stands whole in them, and within the new length of
-/// its file, and nothing follows the last.
+/// Returns whether the bytes are a plan: it has the signature, every change is complete and within the new length of its file, and nothing
+/// follows the last change.
 pub fn is_plan(plan: &[u8]) -> bool
     ensures { IsTrue result ↔ IsPlan plan.now }
 {
@@ -89,8 +88,8 @@ pub fn is_plan(plan: &[u8]) -> bool
     rest.is_empty()
 }
 
-/// The plan of a redo file that is marked: the bytes after its first one, where that is 1. `None` where there is no redo
-/// file, or a save was cut off before it was committed.
+/// Returns the plan of a committed redo file: the bytes after the commit byte, if it is 1. Returns `None` if there is no redo file, or if a
+/// save was interrupted before its commit.
 pub fn plan_in(redo: &[u8]) -> Option<&[u8]>
     ensures some { IfSome result (λ plan. (get_or redo.now 0 0 ≡ 1) × (plan.now ≡ drop 1 redo.now)) }
     ensures none { IsNone result → get_or redo.now 0 0 ≢ 1 }
@@ -101,7 +100,7 @@ pub fn plan_in(redo: &[u8]) -> Option<&[u8]>
     }
 }
 
-// The bytes cut to a length, or made longer by zeros.
+// Truncates the bytes, or extends them with zeros.
 pub(crate) fn resized<A: Allocator>(
     alloc: A,
     old: &[u8],

@@ -1,18 +1,18 @@
-// Why there is no plan of a save.
+// Why a save cannot be planned.
 ghost use Rattle.std.specs.Prelude.{◌≡◌};
 ghost use Rattle.sdbm_saves.specs.declared.planning.SavePlanFault.TheVariants.{NoMemory};
 
 use std::alloc::AllocError;
 
-/// A file has fewer bytes than this, so that its offsets stand in four bytes.
+/// Files are shorter than this, so an offset fits in four bytes.
 pub(crate) const LIMIT: usize = 4294967296;
 
-/// Why there is no plan.
+/// Why a save cannot be planned.
 #[derive(Clone, Copy, Debug, PartialEq, Eq)]
 pub enum SavePlanFault {
-    /// A file has 2^32 bytes or more, or would have, or the pages are more than such a file has.
+    /// A file has, or would have, 2^32 bytes or more, or there are more pages than such a file has.
     TooLong,
-    /// No memory is left.
+    /// Out of memory.
     NoMemory,
 }
 

@@ -1,4 +1,4 @@
-// The plan of a save whose files were read whole.
+// Plans a save from files that were read completely.
 ghost use Rattle.std.specs.Prelude.{◌≡◌, ◌<◌, ◌≤◌, ◌^◌, ◌+◌, ◌*◌, ◌↔◌, ℕ, List, length, IsTrue, IfOk, IfErr, IfSome, IsNone, OnOk};
 ghost use Rattle.sdbm_saves.specs.declared.disk.File.TheVariants.{Pages};
 ghost use Rattle.sdbm_saves.specs.declared.planning.SavePlanFault.TheVariants.{TooLong};
@@ -17,7 +17,7 @@ use crate::{Contents, File, SavePlanFault};
 use sdbm_files::{BLOCK, Image, ReadPages};
 use std::alloc::{AllocError, Allocator};
 
-/// Both data files of a database as they were read.
+/// Both data files of a database, as read.
 #[derive(Clone, Copy)]
 pub struct ReadFiles<'a, A: Allocator> {
     /// The pages of `.pag`.
@@ -26,14 +26,14 @@ pub struct ReadFiles<'a, A: Allocator> {
     pub directory: &'a [u8],
 }
 
-/// The plan that makes the old files those of a database: those that `Image::write` writes for it. It has the blocks of 1,024 bytes in which
-/// they differ, those of the directory first, where a byte past the end of a file counts as zero; so a page of zeros is not written into a
-/// hole. Beside each it has the bytes that stood there, so that it knows the old files. `None` where the old files are those of the database
-/// already. It takes memory for the plan, and for a block.
+/// Plans a save that makes the old files those that `Image::write` writes for the database. The plan has the blocks of 1,024 bytes that
+/// differ, those of the directory first. A byte past the end of a file counts as zero, so a page of zeros is not written into a hole. Each
+/// change has its old bytes next to the new ones, so the plan knows the old files. Returns `None` if the old files are already those of the
+/// database. Allocates the plan and one block.
 ///
 /// # Errors
 ///
-/// `TooLong` where an old file, or one of the database, has 2^32 bytes or more, and `NoMemory`.
+/// `TooLong` if an old or a new file has 2^32 bytes or more. `NoMemory` if allocation fails.
 pub fn plan_read<A: Allocator + Copy>(
     alloc: A,
     old: ReadFiles<'_, A>,
@@ -46,11 +46,11 @@ pub fn plan_read<A: Allocator + Copy>(
     plan_pages(alloc, OldPages::Read(old.pages), old.directory, image)
 }
 
-/// The same plan, if the bytes of both old files are in memory.
+/// Like `plan_read`, for old files whose bytes are in memory.
 ///
 /// # Errors
 ///
-/// As `plan_read`.
+/// The same as `plan_read`.
 pub fn plan_kept<A: Allocator + Copy>(
     alloc: A,
     old: Contents<'_>,
@@ -63,7 +63,7 @@ pub fn plan_kept<A: Allocator + Copy>(
     plan_pages(alloc, OldPages::Kept(old.pages), old.directory, image)
 }
 
-// The old bytes of `.pag`: read piece by piece, or all of them in memory.
+// The old bytes of `.pag`: read piece by piece, or completely in memory.
 #[derive(Clone, Copy)]
 enum OldPages<'a, A: Allocator> {
     Read(&'a ReadPages<A>),
@@ -80,7 +80,7 @@ impl<'a, A: Allocator + Copy> OldPages<'a, A> {
         }
     }
 
-    // A block, as `ReadPages::block` has it.
+    // Like `ReadPages::block`.
     fn block(self, index: usize) -> &'a [u8]
         requires { index ≤ 2 ^ 22 }
         ensures { IsBlock (bytes_in self.entry) index result.now }
@@ -92,7 +92,7 @@ impl<'a, A: Allocator + Copy> OldPages<'a, A> {
     }
 }
 
-// The same of bytes in memory.
+// Like `OldPages::block`, for bytes in memory.
 fn block_in(bytes: &[u8], index: usize) -> &[u8]
     requires { index ≤ 2 ^ 22 }
     ensures { IsBlock bytes.now index result.now }
@@ -101,7 +101,7 @@ fn block_in(bytes: &[u8], index: usize) -> &[u8]
     &tail[..tail.len().min(BLOCK)]
 }
 
-// The plan of both.
+// Plans the save for either kind of old pages.
 fn plan_pages<A: Allocator + Copy>(
     alloc: A,
     old: OldPages<'_, A>,
@@ -142,7 +142,6 @@ fn plan_pages<A: Allocator + Copy>(
     Ok(Some(assemble(alloc, &draft, old.len(), old_directory.len())?))
 }
 
-// Whether both files have these lengths.
 fn are_long<A: Allocator + Copy>(
     old: OldPages<'_, A>,
     old_directory: &[u8],
@@ -154,7 +153,7 @@ fn are_long<A: Allocator + Copy>(
     old.len() == pages && old_directory.len() == directory
 }
 
-// The changes that make the pages those of a database, so many.
+// Adds the changes that write the first `count` pages of the database.
 fn draft_pages<A: Allocator + Copy>(
     alloc: A,
     draft: &mut Draft<A>,

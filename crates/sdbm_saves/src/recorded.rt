@@ -1,5 +1,5 @@
-// A disk that is three files of a system. What their calls do is trusted, so there is a record of them, and what the files hold
-// and what a crash may leave of them is told by the record.
+// A disk made of three system files. The effect of system calls is trusted: a record of the calls determines what the files contain and
+// what a crash may leave.
 ghost use Rattle.std.specs.Prelude.{◌≡◌, ◌++◌, ◌∷◌, List, [], length, ◌↔◌, IsTrue, IsErrOf, MatchResult};
 ghost use Rattle.sdbm_saves.specs.declared.disk.DiskError.TheVariants.{Failed};
 ghost use Rattle.sdbm_saves.specs.Disk.{Image};
@@ -11,7 +11,7 @@ use sdbm_addr::PageSize;
 use std::alloc::Global;
 use std::marker::PhantomData;
 
-/// The bytes of the three files as they were read.
+/// The bytes of the three files, as read.
 #[derive(Drop)]
 pub struct Found {
     /// The bytes of `.pag`.
@@ -22,28 +22,28 @@ pub struct Found {
     pub redo: Vec<u8>,
 }
 
-/// The three files as a run has read them that reads one page.
+/// The files as read by a run that reads only one page.
 #[derive(Clone, Copy)]
 pub struct FoundPart<'a> {
-    /// The bytes of `.dir`, the length of `.pag`, and the page.
+    /// The bytes of `.dir`, the length of `.pag`, and the page that was read.
     pub part: Part<'a>,
-    /// How large the pages are.
+    /// The page size.
     pub size: PageSize,
     /// The bytes of the redo file.
     pub redo: &'a [u8],
 }
 
-/// The three files as they were read piece by piece.
+/// The three files, as read piece by piece.
 #[derive(Clone, Copy)]
 pub struct FoundRead<'a> {
-    /// The pages of `.pag`, and the bytes of `.dir`.
+    /// The pages of `.pag` and the bytes of `.dir`.
     pub files: ReadFiles<'a, Global>,
     /// The bytes of the redo file.
     pub redo: &'a [u8],
 }
 
-/// What a run has read of the three files. What it has not read of the pages is taken to be zeros: a plan that knows such files knows all
-/// that were read so (`plan_part`).
+/// The three files, as far as a run read them. Pages that it did not read count as zeros: a plan that knows the image with zeros knows
+/// every file that would have read the same (`plan_part`).
 pub trait Before {
     ghost image: { Self → Image };
 }
@@ -70,47 +70,46 @@ impl Before for FoundPart<'_> {
     ghost image = { part_image };
 }
 
-/// The calls of a system on the three files, with a record of those that were begun, and of the syncs that were done. No contract
-/// says what a call does to a file, so it is trusted: each does what the call of `Disk` with its name says. `CallLog` keeps such a
-/// record.
+/// The system's calls on the three files, with a record of the calls that were begun and the syncs that succeeded. No contract says what a
+/// call does to a file. The trusted assumption is that each call does what the `Disk` method of the same name specifies. `CallLog`
+/// implements such a record.
 pub trait Host {
-    /// The record, in order.
+    /// The calls, oldest first.
     ghost calls: { Self → List Act };
 
-    /// Writes these bytes at this offset.
+    /// Writes the bytes at an offset.
     fn write_at(&mut self, file: File, at: usize, bytes: &[u8]) -> Result<(), DiskError>
         ensures { Notes (write file at bytes.now) (calls self.old) (calls self.new) result };
 
-    /// Cuts a file to a length, or makes it longer by zeros.
+    /// Truncates the file, or extends it with zeros.
     fn resize(&mut self, file: File, len: usize) -> Result<(), DiskError>
         ensures { Notes (resize file len) (calls self.old) (calls self.new) result };
 
-    /// Keeps what is in a file, and its name, whatever happens from now on.
+    /// Makes the file's contents and its name durable.
     fn sync(&mut self, file: File) -> Result<(), DiskError>
         ensures { MatchResult result (λ _. calls self.new ≡ calls self.old ++ sync file ∷ []) (λ _. calls self.new ≡ calls self.old) };
 
-    /// Takes the redo file away.
+    /// Removes the redo file.
     fn clear(&mut self) -> Result<(), DiskError>
         ensures { Notes clear (calls self.old) (calls self.new) result };
 
-    /// Whether the redo file may stay when it has no records.
+    /// Returns whether an empty redo file may stay.
     fn keeps_redo(&self) -> bool;
 }
 
-/// What a crash might have left of the files before a run opened them. No code can know it, so a function over every `Past` is proved
-/// whatever it was.
+/// The images that a crash might have left before a run opened the files. No code can know it, so functions are proved for every `Past`.
 pub trait Past {
     ghost may_leave: { Image → Type 0 };
 }
 
-/// For a program to name: at this type nothing is known of what a crash might have left.
+/// The `Past` that programs use. It makes no assumption about what a crash might have left.
 pub struct Unknown;
 
 impl Past for Unknown {
     ghost may_leave = { λ c. c ≡ c };
 }
 
-/// A disk over a system's files. After a call at which the system has failed it makes no more.
+/// A disk of system files. After a call has returned `Failed`, it makes no more calls.
 #[derive(Drop)]
 pub struct Recorded<H: Host, P: Past, F: Before> {
     host: H,
@@ -120,7 +119,7 @@ pub struct Recorded<H: Host, P: Past, F: Before> {
 }
 
 impl<H: Host, P: Past, F: Before> Recorded<H, P, F> {
-    /// A disk over three files that were read, of which a crash might have left what `P` says. They need not be on the disk.
+    /// Makes a disk of the three files that were read. `P` says what a crash might have left of them. The bytes need not be durable.
     pub fn new(host: H, found: F) -> Self
         requires { H.calls host ≡ [] }
         ensures seen { (⟦<Recorded<H, P, F> as Disk>⟧).seen result ≡ F.image found }
@@ -135,7 +134,6 @@ impl<H: Host, P: Past, F: Before> Recorded<H, P, F> {
     }
 }
 
-// Whether the system has failed.
 fn has_failed(outcome: &Result<(), DiskError>) -> bool
     ensures { IsTrue result ↔ IsErrOf outcome.now Failed }
 {

@@ -1,21 +1,22 @@
-// Where the bytes of a block differ from those that stood there.
+// Finds the part of a block that differs from its old bytes.
 ghost use Rattle.std.specs.Prelude.{◌≡◌, ◌<◌, ◌≤◌, ◌^◌, ◌+◌, ◌*◌, ◌↔◌, ℕ, length, get_or, All, IsTrue};
 ghost use Rattle.sdbm_saves.specs.Drafts.{AreOutside};
 
 use crate::blocks::reads_as;
 
-// A change begins and ends at a multiple of so many bytes of its block, so that it knows what stood around the bytes that differ.
+// Changes begin and end at a multiple of this number of bytes in a block, so a change also has old bytes around those that differ.
 const PART: usize = 128;
 
-/// The bytes of a block from one place to another.
+/// A range of bytes in a block.
 #[derive(Clone, Copy)]
 pub(crate) struct Span {
     pub(crate) start: usize,
     pub(crate) end: usize,
 }
 
-/// The part of a block that a change has to write: from the first bytes that differ to the last. If only zeros stood there it is the whole
-/// block. So a change whose old bytes are zeros is one of a block that was all zeros, which may be a hole. Bytes past the known ones are zeros.
+/// The part of a block that a change has to write: from the first part that differs to the last. If the old bytes of that part are all
+/// zeros, it is the whole block. So if a change has only zeros as old bytes, its whole block was zeros and may be a hole. Bytes past
+/// `known` are zeros.
 pub(crate) fn changed_span(known: &[u8], block: &[u8]) -> Span
     requires short { length block.now < 2 ^ 32 }
     ensures outside { AreOutside known.now block.now result.start result.end (length block.now) }
@@ -31,7 +32,7 @@ pub(crate) fn changed_span(known: &[u8], block: &[u8]) -> Span
     span
 }
 
-// From the first part that differs to the last.
+// The span from the first part that differs to the last.
 fn differing_span(known: &[u8], block: &[u8]) -> Span
     requires short { length block.now < 2 ^ 32 }
     ensures { AreOutside known.now block.now result.start result.end (length block.now) }
@@ -43,7 +44,7 @@ fn differing_span(known: &[u8], block: &[u8]) -> Span
     span
 }
 
-// The same with one more part.
+// Extends the span by the part at `at`, if that part differs.
 fn with_part(known: &[u8], block: &[u8], span: Span, at: usize) -> Span
     requires inside { at < length block.now }
     requires short { length block.now < 2 ^ 32 }
@@ -66,7 +67,7 @@ fn with_part(known: &[u8], block: &[u8], span: Span, at: usize) -> Span
     }
 }
 
-// Whether all known bytes of a span are zeros.
+// Returns whether all known bytes of the span are zeros.
 fn is_zero_in(known: &[u8], span: Span) -> bool
     requires order { span.start ≤ span.end }
 {

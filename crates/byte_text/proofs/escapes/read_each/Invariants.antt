@@ -4,7 +4,7 @@ use Rattle.byte_text.specs.Text.{joined}
 use Rattle.byte_text.specs.declared.escapes.Reading.TheVariants.{Plain}
 use Rattle.byte_text.proofs.escapes.read_each.Given as goal
 
--- the bytes so far, and those of what is left
+-- the bytes so far, and the bytes of the remaining text
 abbrev pub invariant-loop-c : goal.invariant-loop-c
 invariant-loop-c g l = record {
   added : List ℕ;

@@ -1,6 +1,6 @@
 use Rattle.std.proofs.Common.{◌≡◌, ◌≤◌, length}
 use Rattle.dbm_files.proofs.files.read_piece.Given as goal
 
--- so many bytes were read
+-- `count` bytes were read
 abbrev pub invariant-loop : goal.invariant-loop
 invariant-loop g l = record { count : l.count ≤ length l.room; room : length l.room ≡ length l.fn.room }

@@ -7,7 +7,7 @@ use Rattle.sdbm_saves.proofs.Moments.{nothing_yet, one_call, joined}
 use Rattle.sdbm_saves.proofs.Marks.{stays_self, stays_joins, stays_within}
 use Rattle.sdbm_logged.proofs.room.fill.Goals as goal
 
--- a zero at some place brings no mark
+-- writing a zero does not make the commit byte 1
 zeroed : (at : ℕ) (x y : List ℕ) → Torn at (0 ∷ []) x y → (get_or y 0 0 ≡ get_or x 0 0) ⊎ (get_or y 0 0 ≡ 0)
 zeroed zero x y torn = torn.within 0 (omega arith)
 zeroed (suc n) x y torn = inl (torn.before 0 (omega arith))

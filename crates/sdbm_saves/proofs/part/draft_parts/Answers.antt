@@ -29,7 +29,7 @@ loop-index-init g c = let draft = c.args.draft.now in record {
   directory = refl;
 }
 
--- the page that is drafted has the length of one
+-- the drafted page has the page size
 long : (g : given.Over) (c : goal.After-draft_bytes-arg-then-at-size-1 g) → length c.page_bytes-page.result.now ≡ page_bytes c.args.image.now.size
 long g c = ap (λ (l : List ℕ). length l) c.page_bytes-page.ensures ∙ long_page c.args.image.now c.requires.database (get_or c.args.numbers.now c.loop-index.index 0)
 
@@ -45,7 +45,7 @@ draft_bytes-requires-clause-few g c = omega (arith, few_blocks c.args.image.now.
 pub draft_bytes-requires-clause-fits : goal.draft_bytes-requires-clause-fits
 draft_bytes-requires-clause-fits g c = omega (arith, long g c, size_is g c, c.if-at-size.true)
 
--- where a page of the list stands among the bytes that were read
+-- the position of a page in the bytes that were read
 listed : (size : PageSize) (numbers pages pag : List ℕ) (index z : ℕ) → z ≡ page_bytes size → index < length numbers → length pages ≡ length numbers * page_bytes size → ReadPages size numbers pages pag
     → (i : ℕ) → i < page_bytes size → get_or (take (index * z + z - index * z) (drop (index * z) pages)) i 0 ≡ get_or pag (get_or numbers index 0 * page_bytes size + i) 0
 listed size numbers pages pag index z z_is below long reads i lt =

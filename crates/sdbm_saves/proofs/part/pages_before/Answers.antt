@@ -5,7 +5,7 @@ use Rattle.std.proofs.lemmas.Nat.{mul-add-lt}
 use Rattle.sdbm_saves.proofs.Lists.{length-resized, read_resized}
 use Rattle.sdbm_saves.proofs.part.pages_before.Goals as goal
 
--- a page more after so many
+-- one more page
 module _ (index size : ℕ) (pages page : List ℕ) (long : length pages ≡ index * size) (page_long : length page ≡ size) where
   longer : length (pages ++ page) ≡ (index + 1) * size
   longer = length-append pages page ∙ ap (λ k. k + length page) long ∙ ap (λ k. index * size + k) page_long ∙ next index size

@@ -51,7 +51,7 @@ returns-then-is_long-clause-none g c = λ is db pag part.
     ∙ ap (λ (n : ℕ). replayed Directory n draft.changes.items (resized (length own) c.args.old.directory.now)) none
     ∙ done.bits)
 
--- the draft is small enough for a plan, for old pages of the length that was told
+-- the draft is small enough for a plan, with old pages of the given length
 module _ (g : given.Over) (c : goal.After-drop-draft-2 g) where
   pages_small : c.draft_parts.new.draft.pages < 2 ^ 32
   pages_small = omega (arith, c.in_ok-draft_parts.ensures.pages, c.in_ok-draft_bytes.ensures.pages, c.if-pages-ge-LIMIT.false)

@@ -15,7 +15,7 @@ use Rattle.sdbm_saves.proofs.Puts.{put_none, put_more}
 use Rattle.sdbm_saves.proofs.reading.draft_pages.Given as given
 use Rattle.sdbm_saves.proofs.reading.draft_pages.Goals as goal
 
--- how many blocks a page has
+-- the number of blocks in a page
 size_is : (size own : PageSize) (b : ℕ) → b ≡ page_bytes own → own ≡ size → b / 1024 ≡ in_page size
 size_is size own b is same = ap (λ (k : ℕ). k / 1024) (is ∙ ap page_bytes same)
 

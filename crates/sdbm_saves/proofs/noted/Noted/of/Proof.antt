@@ -1,4 +1,4 @@
--- `of` makes a value of no bytes, whose ghost field is the image of the files behind the reference.
+-- `of` makes a value without bytes. Its ghost field is the image of the borrowed files.
 use Rattle.std.proofs.Common.{[], ◌∷◌, refl}
 use mir.Val.{Val, vstruct, vnil}
 use base.Fml.{Fml}

@@ -24,12 +24,12 @@
 #
 # Options follow the mode:
 #
-#     wide => 1            pages of 8,192 bytes
-#     any_size => 1        with wide: opens files even if they look like those of small pages
-#     unsigned_keys => 1   keys hash by unsigned bytes
-#     timeout => SECONDS   the longest wait for a process that has the database tied for writing; without it there is no limit
-#     no_wait => 1         tries once
-#     limit => BYTES       the greatest length of BASE.pag, by default 1 GiB, which is also the most
+#   wide => 1            pages of 8,192 bytes
+#   any_size => 1        with wide: opens files even if they look like those of small pages
+#   unsigned_keys => 1   keys hash by unsigned bytes
+#   timeout => SECONDS   the longest wait for a process that has the database tied for writing; without it there is no limit
+#   no_wait => 1         tries once
+#   limit => BYTES       the greatest length of BASE.pag, by default 1 GiB, which is also the most
 #
 # If the wait is over `tie` dies and names the other process. A change that would make BASE.pag longer than the limit dies and is not made;
 # existing pages stay. Set a limit if strangers choose your keys: they can make BASE.pag as long as the limit.

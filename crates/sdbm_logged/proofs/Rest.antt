@@ -2,7 +2,7 @@
 use Rattle.std.proofs.Common.{◌≡◌, ◌≢◌, ◌⊎◌, ⊎_elim, ◌≤◌, ℕ, List, length, get_or, refl, sym, ◌∙◌, ap, subst, arith, length-drop, length-append}
 use Rattle.sdbm_saves.specs.Disk.{Image, Only, Follows, LeavesOnly, Through}
 use Rattle.sdbm_saves.specs.Redo.{files, StaysUnmarked}
-use Rattle.sdbm_log.specs.Log.{files_of, Holds, IsAtRest, IsReady, CanRecover}
+use Rattle.sdbm_log.specs.Log.{files_of, Holds, IsAtRest, IsReady}
 use Rattle.sdbm_saves.proofs.Moments.{weaker, leaves}
 use Rattle.sdbm_log.proofs.Header.{settled_holds, unmarked_holds}
 
@@ -24,9 +24,6 @@ stays_rests old new before after rest same unmarked follows = record {
 
 pub rest_holds : (seen : Image) (may_leave : Image → Type 0) → IsAtRest seen may_leave → (c : Image) → may_leave c → Holds (files seen) c
 rest_holds seen may_leave rest c left = unmarked_holds (files seen) c (rest.left_unmarked c left) (rest.kept c left)
-
-pub can_recover : (image : Image) → get_or image.redo 0 0 ≢ 1 → CanRecover image
-can_recover image unmarked = (unmarked_holds (files image) image unmarked refl).1
 
 module _ {D : Type 0} (moment : D → ℕ) (left_since : D → ℕ → Image → Type 0) (may_leave : D → Image → Type 0) where
   -- steps that do not set the commit byte leave the same files at any time

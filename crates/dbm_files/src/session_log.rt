@@ -1,5 +1,5 @@
 //! Saves of a session. Its log stays open from one save to the next.
-ghost use Rattle.std.specs.Prelude.{◌≡◌, ◌≢◌, ◌<◌, [], length, get_or};
+ghost use Rattle.std.specs.Prelude.{◌≡◌, ◌≢◌, ◌<◌, [], length, get_or, IfOk, IfSome};
 ghost use Rattle.sdbm_saves.specs.CallLog.{acts};
 ghost use Rattle.sdbm_saves.specs.Redo.{renewed, IsPlan, Knows};
 ghost use Rattle.sdbm_saves.specs.declared.disk.File.TheVariants.{Pages, Directory};
@@ -9,20 +9,24 @@ use crate::files::{LockedFiles, read_again};
 use crate::host::{RealFiles, forget_redo};
 use crate::saving::Saved;
 use crate::states::DataStates;
-use crate::writing::{find_redo, save_held};
-use dbm_places::{FilesFault, RunPlace, SeenFiles};
+use crate::writing::{find_redo, must_be_unwritten, save_held};
+use dbm_places::{FileBytes, FilesFault, RunPlace, SeenFiles};
 use sdbm_files::Image;
 use sdbm_logged::{
-    DataBytes, Keeper, KeptDisk, NextSave, PLAN_LIMIT, Saved as Outcome, close_kept, save_first,
-    save_next,
+    DataBytes, Keeper, KeptDisk, LoggedDisk, NextSave, PLAN_LIMIT, Saved as Outcome, close_kept,
+    save_first, save_next,
 };
-use sdbm_saves::{CallLog, Found, Noted, ReadFiles, Recorded, Unknown, plan_kept};
+use sdbm_saves::{
+    CallLog, FoundRead, Noted, ReadFiles, Recorded, Unknown, number, plan_kept, plan_nothing,
+    plan_read,
+};
 use std::alloc::Global;
 use std::fs::File;
+use std::mem;
 use std::rt::Files;
 
-// The log stays open if `.pag` has at most this many bytes, because the session keeps both files in memory meanwhile.
-const MOST_KEPT: u64 = 16_777_216;
+// The session keeps the bytes of both files in memory if `.pag` has at most this many. Then the log takes one save after another.
+const MOST_KEPT: usize = 16_777_216;
 
 // The size of a session's log in bytes, for some hundred small saves.
 const ROOM: usize = 258_048;
@@ -30,30 +34,67 @@ const ROOM: usize = 258_048;
 // The disk of a session, which holds the files open.
 type SessionDisk<'a, R> = Recorded<RealFiles<'a, R>, Unknown, Noted>;
 
+// The log of a session between two saves.
+#[derive(Drop)]
+enum SessionLog<'a, R: Files<File = File>> {
+    // No log is open, because it could not be opened or a save has failed.
+    Closed,
+    // The log takes the next save.
+    Kept(KeptDisk<SessionDisk<'a, R>>),
+    // The log of a large database stays open only for its mark, and is closed before the next save.
+    Marked(LoggedDisk<SessionDisk<'a, R>>),
+}
+
+impl<'a, R: Files<File = File>> SessionLog<'a, R> {
+    fn take(&mut self) -> Self {
+        mem::replace(self, SessionLog::Closed)
+    }
+}
+
 /// The state of a session between two saves.
 #[derive(Drop)]
 pub struct SessionSaves<'a, R: Files<File = File>> {
-    // The log and its open files. `None` before the first save, and whenever no log is open.
-    log: Option<KeptDisk<SessionDisk<'a, R>>>,
+    log: SessionLog<'a, R>,
     // The data files as the session last read or saved them.
     states: DataStates,
 }
 
-impl<'a, R: Files<File = File>> SessionSaves<'a, R> {
-    /// The state of a session that has read its files and saved nothing. Releases BASE.lock.
-    pub fn begin(held: &LockedFiles) -> Self {
-        held.locks.leave_files();
+impl<'a, R: Files<File = File> + AllocGlobal> SessionSaves<'a, R> {
+    /// The state of a session that has read its files and saved nothing. Opens a log with its mark, so that older versions of this program
+    /// do not write the files meanwhile. If that fails, or a data file is missing, the session continues without a mark until its first
+    /// save. Releases BASE.lock.
+    pub fn begin(rt: &'a R, place: RunPlace<'_>, held: &'a LockedFiles) -> Self {
+        let mut log = SessionLog::Closed;
+        match mark_log(rt, place, held, &mut log) {
+            Ok(Saved::Pending) => held.locks.leave_unfinished(),
+            _ => held.locks.leave_files(),
+        }
         SessionSaves {
-            log: None,
+            log,
             states: held.states,
         }
     }
 }
 
+// Opens a log with its mark, unless a data file is missing or another program has written one.
+fn mark_log<'a, R: Files<File = File> + AllocGlobal>(
+    rt: &'a R,
+    place: RunPlace<'_>,
+    held: &'a LockedFiles,
+    log: &mut SessionLog<'a, R>,
+) -> Result<Saved, FilesFault> {
+    if held.seen.lacks_file() {
+        return Ok(Saved::Unchanged);
+    }
+    let read = read_again(rt, place, held, &held.seen)?;
+    must_be_unwritten(rt, &held.place.names, held.states)?;
+    save_opening(rt, held, &read, None, log)
+}
+
 /// Saves a database in a session, under BASE.lock. Releases BASE.lock once the save is committed. The first save opens a log. Each later
 /// save needs one sync while the log stays open. If the log is full, or the files may need new blocks of the disk, the log is closed, and
-/// the files are read again and saved in a new log. If the database is large, or the disk has no room for a log that stays open, the save
-/// uses a log for this save alone.
+/// the files are read again and saved in a new log. If the database is large, each save does this. If the disk has no room for a log that
+/// stays open, the save uses a log for this save alone.
 ///
 /// # Errors
 /// `Changed` if another program has written a data file since the session read or saved it; nothing is saved then. Those of `save_held` and
@@ -73,7 +114,7 @@ pub fn save_session<'a, R: Files<File = File> + AllocGlobal>(
         let _ = close_log(rt.alloc(), saves.log.take());
         return Err(FilesFault::Changed);
     }
-    if found != saves.states || image.pag_len() > MOST_KEPT {
+    if found != saves.states || image.pag_len() > MOST_KEPT as u64 {
         close_log(rt.alloc(), saves.log.take())?;
     }
     let saved = save_locked(rt, place, held, seen, &mut saves.log, image);
@@ -86,29 +127,25 @@ pub fn save_session<'a, R: Files<File = File> + AllocGlobal>(
     saved
 }
 
-// Saves under BASE.lock, in the log if it is open.
+// Saves under BASE.lock, in the log if it takes another save.
 fn save_locked<'a, R: Files<File = File> + AllocGlobal>(
     rt: &'a R,
     place: RunPlace<'_>,
     held: &'a LockedFiles,
     seen: &SeenFiles,
-    log: &mut Option<KeptDisk<SessionDisk<'a, R>>>,
+    log: &mut SessionLog<'a, R>,
     image: &Image<Global>,
 ) -> Result<Saved, FilesFault> {
-    if image.pag_len() > MOST_KEPT {
-        return save_alone(rt, place, held, seen, image);
-    }
-    if let Some(kept) = log.take()
-        && let Some(saved) = save_more(rt.alloc(), kept, image, log)?
-    {
-        return Ok(saved);
+    match log.take() {
+        SessionLog::Kept(kept) => {
+            if let Some(saved) = save_more(rt.alloc(), kept, image, log)? {
+                return Ok(saved);
+            }
+        }
+        other => close_log(rt.alloc(), other)?,
     }
     let read = read_again(rt, place, held, seen)?;
-    let old = DataBytes {
-        pages: read.pages.to_vec(rt.alloc())?,
-        directory: read.directory,
-    };
-    match save_opening(rt, held, &read.seen, old, image, log) {
+    match save_opening(rt, held, &read, Some(image), log) {
         Err(FilesFault::WriteFile) => save_alone(rt, place, held, seen, image),
         saved => saved,
     }
@@ -124,7 +161,7 @@ pub fn close_session<R: Files<File = File> + AllocGlobal>(
     held: &LockedFiles,
     saves: &mut SessionSaves<'_, R>,
 ) -> Result<(), FilesFault> {
-    if saves.log.is_none() {
+    if let SessionLog::Closed = saves.log {
         return Ok(());
     }
     held.locks.enter_files()?;
@@ -134,13 +171,19 @@ pub fn close_session<R: Files<File = File> + AllocGlobal>(
 
 fn close_log<R: Files<File = File>>(
     alloc: Global,
-    log: Option<KeptDisk<SessionDisk<'_, R>>>,
+    log: SessionLog<'_, R>,
 ) -> Result<(), FilesFault> {
-    let Some(kept) = log else {
-        return Ok(());
-    };
-    let (mut disk, keeper) = kept.into_parts();
-    Ok(close_kept(alloc, &mut disk, keeper.log)?)
+    match log {
+        SessionLog::Closed => Ok(()),
+        SessionLog::Kept(kept) => {
+            let (mut disk, keeper) = kept.into_parts();
+            Ok(close_kept(alloc, &mut disk, keeper.log)?)
+        }
+        SessionLog::Marked(marked) => {
+            let (mut disk, log) = marked.into_parts();
+            Ok(close_kept(alloc, &mut disk, log)?)
+        }
+    }
 }
 
 // Saves a database as a command does, in a log for this save alone.
@@ -164,16 +207,16 @@ fn save_more<'a, R: Files<File = File>>(
     alloc: Global,
     kept: KeptDisk<SessionDisk<'a, R>>,
     image: &Image<Global>,
-    log: &mut Option<KeptDisk<SessionDisk<'a, R>>>,
+    log: &mut SessionLog<'a, R>,
 ) -> Result<Option<Saved>, FilesFault> {
     match plan_kept(alloc, kept.contents(), image) {
         Ok(Some(plan)) => save_planned(alloc, kept, plan.as_slice(), log),
         Ok(None) => {
-            *log = Some(kept);
+            *log = SessionLog::Kept(kept);
             Ok(Some(Saved::Unchanged))
         }
         Err(fault) => {
-            *log = Some(kept);
+            *log = SessionLog::Kept(kept);
             Err(fault.into())
         }
     }
@@ -184,7 +227,7 @@ fn save_planned<'a, R: Files<File = File>>(
     alloc: Global,
     kept: KeptDisk<SessionDisk<'a, R>>,
     plan: &[u8],
-    log: &mut Option<KeptDisk<SessionDisk<'a, R>>>,
+    log: &mut SessionLog<'a, R>,
 ) -> Result<Option<Saved>, FilesFault>
     requires plan { IsPlan plan.now }
     requires knows { Knows plan.now (bytes_of kept.1.files) }
@@ -197,68 +240,111 @@ fn save_planned<'a, R: Files<File = File>>(
         }
         NextSave::Pending(_) => Ok(Some(Saved::Pending)),
         NextSave::Done => {
-            *log = Some(KeptDisk::new(disk, keeper));
+            *log = SessionLog::Kept(KeptDisk::new(disk, keeper));
             Ok(Some(Saved::Whole))
         }
     }
 }
 
-// Saves in a new log, which stays open. If nothing was committed, the redo file is removed.
+// Saves in a new log, which stays open. Without a database the save changes nothing, and only gives the log its mark. If nothing was
+// committed, the redo file is removed.
 fn save_opening<'a, R: Files<File = File> + AllocGlobal>(
     rt: &'a R,
     held: &'a LockedFiles,
-    seen: &SeenFiles,
-    old: DataBytes,
-    image: &Image<Global>,
-    log: &mut Option<KeptDisk<SessionDisk<'a, R>>>,
+    read: &FileBytes,
+    image: Option<&Image<Global>>,
+    log: &mut SessionLog<'a, R>,
 ) -> Result<Saved, FilesFault> {
     let names = &held.place.names;
-    let Some(plan) = plan_kept(rt.alloc(), old.contents(), image)? else {
-        return Ok(Saved::Unchanged);
+    let old = ReadFiles {
+        pages: &read.pages,
+        directory: read.directory.as_slice(),
     };
+    let plan = plan_opening(rt.alloc(), old, image)?;
     if plan.len() >= PLAN_LIMIT {
         return Err(FilesFault::FileTooLong);
     }
-    let new = old.renewed(rt.alloc(), plan.as_slice())?;
+    let new = kept_bytes(rt.alloc(), old, plan.as_slice())?;
     let redo = find_redo(rt, names)?;
-    let files = RealFiles::new(rt, names, *seen, redo.is_stale, CallLog::new(rt.alloc())?);
-    let found = Found {
-        pages: old.pages,
-        directory: old.directory,
-        redo: redo.bytes,
+    let files = RealFiles::new(rt, names, read.seen, redo.is_stale, CallLog::new(rt.alloc())?);
+    let found = FoundRead {
+        files: old,
+        redo: redo.bytes.as_slice(),
     };
     let saved = save_found(rt.alloc(), files, found, plan.as_slice(), new);
     if saved.is_err() {
         forget_redo(rt, names);
     }
-    match saved? {
-        Some(kept) => {
-            *log = Some(kept);
-            Ok(Saved::Whole)
-        }
-        None => Ok(Saved::Pending),
+    *log = saved?;
+    match log {
+        SessionLog::Closed => Ok(Saved::Pending),
+        _ => Ok(Saved::Whole),
     }
 }
 
-// Saves files by a plan, in a new log. Returns `None` if something failed after the commit.
+// The plan of the first save in a log.
+fn plan_opening(
+    alloc: Global,
+    old: ReadFiles<'_, Global>,
+    image: Option<&Image<Global>>,
+) -> Result<Vec<u8>, FilesFault>
+    ensures plan { IfOk result (λ plan. IsPlan plan.items) }
+    ensures knows { IfOk result (λ plan. Knows plan.items (old.entry.pages.now.bytes, old.entry.directory.now)) }
+{
+    if let Some(image) = image
+        && let Some(plan) = plan_read(alloc, old, image)?
+    {
+        return Ok(plan);
+    }
+    Ok(plan_nothing(alloc, old)?)
+}
+
+// The bytes of both files after a plan. `None` if `.pag` is too long to keep them in memory.
+fn kept_bytes(
+    alloc: Global,
+    old: ReadFiles<'_, Global>,
+    plan: &[u8],
+) -> Result<Option<DataBytes>, FilesFault>
+    requires plan { IsPlan plan.now }
+    ensures pages { IfOk result (λ kept. IfSome kept (λ new. new.pages.items ≡ renewed Pages plan.now old.entry.pages.now.bytes)) }
+    ensures directory { IfOk result (λ kept. IfSome kept (λ new. new.directory.items ≡ renewed Directory plan.now old.entry.directory.now)) }
+{
+    if old.pages.len() > MOST_KEPT || number(plan, 8) > MOST_KEPT {
+        return Ok(None);
+    }
+    let mut directory = Vec::new(alloc);
+    directory.extend_from_slice(old.directory)?;
+    let bytes = DataBytes {
+        pages: old.pages.to_vec(alloc)?,
+        directory,
+    };
+    Ok(Some(bytes.renewed(alloc, plan)?))
+}
+
+// Saves files by a plan, in a new log, which stays open. With the bytes of the new files, the log takes the next save. Returns `Closed` if
+// something failed after the commit.
 fn save_found<'a, R: Files<File = File>>(
     alloc: Global,
     files: RealFiles<'a, R>,
-    found: Found,
+    found: FoundRead<'_>,
     plan: &[u8],
-    new: DataBytes,
-) -> Result<Option<KeptDisk<SessionDisk<'a, R>>>, FilesFault>
+    new: Option<DataBytes>,
+) -> Result<SessionLog<'a, R>, FilesFault>
     requires fresh { acts files.log ≡ [] }
-    requires unmarked { get_or found.redo.items 0 0 ≢ 1 }
+    requires unmarked { get_or found.redo.now 0 0 ≢ 1 }
     requires short { length plan.now < 3000000000 }
     requires plan { IsPlan plan.now }
-    requires knows { Knows plan.now (found.pages.items, found.directory.items) }
-    requires pages { new.pages.items ≡ renewed Pages plan.now found.pages.items }
-    requires directory { new.directory.items ≡ renewed Directory plan.now found.directory.items }
+    requires knows { Knows plan.now (found.files.pages.now.bytes, found.files.directory.now) }
+    requires pages { IfSome new (λ new. new.pages.items ≡ renewed Pages plan.now found.files.pages.now.bytes) }
+    requires directory { IfSome new (λ new. new.directory.items ≡ renewed Directory plan.now found.files.directory.now) }
 {
-    let mut disk = Recorded::<RealFiles<'a, R>, Unknown, Noted>::new(files, Noted::of(&found));
-    match save_first(alloc, &mut disk, found.redo.as_slice(), plan, ROOM)? {
-        (Outcome::Done, log) => Ok(Some(KeptDisk::new(disk, Keeper { log, files: new }))),
-        (Outcome::Pending(_), _) => Ok(None),
+    let noted = Noted::of_read(&found);
+    let mut disk = Recorded::<RealFiles<'a, R>, Unknown, Noted>::new(files, noted);
+    match save_first(alloc, &mut disk, found.redo, plan, ROOM)? {
+        (Outcome::Pending(_), _) => Ok(SessionLog::Closed),
+        (Outcome::Done, log) => match new {
+            Some(files) => Ok(SessionLog::Kept(KeptDisk::new(disk, Keeper { log, files }))),
+            None => Ok(SessionLog::Marked(LoggedDisk::new(disk, log))),
+        },
     }
 }

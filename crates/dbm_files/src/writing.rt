@@ -149,7 +149,7 @@ pub fn save_part<R: Files<File = File> + AllocGlobal, W: Write>(
 }
 
 // Returns `Changed` if another program has written a data file since it was read.
-fn must_be_unwritten<R: Files<File = File>>(
+pub(crate) fn must_be_unwritten<R: Files<File = File>>(
     rt: &R,
     names: &Names,
     states: DataStates,

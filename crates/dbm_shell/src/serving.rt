@@ -39,7 +39,7 @@ pub fn serve_session<R: Runtime<File = File> + Clock + AllocGlobal, I: Read>(
         return Err(ServeFault::WriteFile);
     };
     let image = opened(rt.alloc(), session, bytes)?;
-    let saves = SessionSaves::begin(&held);
+    let saves = SessionSaves::begin(rt, place, &held);
     let options = Options {
         notation: &notation,
         every,

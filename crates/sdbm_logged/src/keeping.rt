@@ -187,6 +187,43 @@ fn can_take(log: Log, plan: &[u8]) -> bool
     len <= log.room && log.end <= log.room - len
 }
 
+/// A disk whose log stays open. It does not have the bytes of the data files.
+#[derive(Drop)]
+pub struct LoggedDisk<D: Disk> {
+    disk: D,
+    log: Log,
+}
+
+impl<D: Disk> Model for LoggedDisk<D> {
+    ghost use Rattle.sdbm_log.specs.declared.log.Log.{Log};
+    ghost use Rattle.sdbm_log.specs.Log.{IsReady};
+
+    ghost Value = { D × Log };
+
+    ghost view = { λ a. (a.disk, a.log) };
+
+    ghost invariant = { λ a. IsReady a.log.end a.log.room a.log.count (D.seen a.disk) (D.may_leave a.disk) };
+}
+
+impl<D: Disk> LoggedDisk<D> {
+    /// A disk and its open log.
+    pub fn new(disk: D, log: Log) -> LoggedDisk<D>
+        requires { IsReady log.end log.room log.count (D.seen disk) (D.may_leave disk) }
+        ensures { result ≡ (disk, log) }
+    {
+        LoggedDisk { disk, log }
+    }
+
+    /// The disk and its log.
+    pub fn into_parts(self) -> (D, Log)
+        ensures ready { IsReady result.1.end result.1.room result.1.count (D.seen result.0) (D.may_leave result.0) }
+        ensures parts { result ≡ self }
+    {
+        let LoggedDisk { disk, log } = self;
+        (disk, log)
+    }
+}
+
 /// A disk whose log stays open from one save to the next.
 #[derive(Drop)]
 pub struct KeptDisk<D: Disk> {

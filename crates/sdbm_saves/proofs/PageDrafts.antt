@@ -1,5 +1,5 @@
 -- The pages of a database, as a draft writes them in order.
-use Rattle.std.proofs.Common.{◌≡◌, ℕ, suc, ◌+◌, ◌*◌, ◌-◌, ◌/◌, ◌%◌, ◌<◌, ◌≤◌, List, ◌++◌, length, take, drop, get_or, sym, ◌∙◌, ap, subst, arith, length-append}
+use Rattle.std.proofs.Common.{◌≡◌, ℕ, suc, ◌+◌, ◌*◌, ◌-◌, ◌/◌, ◌%◌, ◌<◌, ◌≤◌, ◌^◌, List, [], ◌++◌, length, take, drop, get_or, refl, absurd, sym, ◌∙◌, ap, subst, arith, length-append}
 use Rattle.std.proofs.lemmas.List.{ext_get_or, get_or_append_left, get_or-append_right}
 use Rattle.sdbm_addr.specs.declared.PageSize.{PageSize}
 use Rattle.sdbm_addr.specs.declared.PageSize.TheVariants.{Small, Wide}
@@ -10,9 +10,11 @@ use Rattle.sdbm_addr.specs.DirectoryFile.{AreDirectoryBytes}
 use Rattle.sdbm_addr.specs.Files.{first_pages, ArePagBytes, IsPageCount}
 use Rattle.sdbm_files.proofs.WriteLemmas.{first_pages-split, length-first_pages, long_page, SpellsDatabase-written}
 use Rattle.sdbm_saves.specs.Disk.{resized}
-use Rattle.sdbm_saves.specs.Saves.{AreFilesFor}
+use Rattle.sdbm_saves.specs.declared.disk.File.TheVariants.{Pages, Directory}
+use Rattle.sdbm_saves.specs.Drafts.{plan_bytes, AreChanges}
+use Rattle.sdbm_saves.specs.Saves.{AreFilesFor, ChangesNothing}
 use Rattle.sdbm_saves.proofs.Lists.{length-resized, read_resized}
-use Rattle.sdbm_saves.proofs.Drafts.{length_part, part_reads}
+use Rattle.sdbm_saves.proofs.Drafts.{length_part, part_reads, is_planned, knows_planned, renewed_planned}
 
 -- the first n pages
 pub page_inside : (size : PageSize) (n count : ℕ) → n < count → n * page_bytes size + page_bytes size ≤ count * page_bytes size
@@ -119,3 +121,15 @@ are_files db ok count counted pages directory own spelled pages_are directory_is
 -- a file whose length is unchanged
 pub resized_own : (n : ℕ) (old : List ℕ) → n ≡ length old → resized n old ≡ old
 resized_own n old is = ext_get_or 0 (resized n old) old (length-resized n old ∙ is) (λ i below. read_resized n old i (omega (arith, below, length-resized n old)))
+
+-- a plan without changes
+pub changes_nothing : (both : List ℕ × List ℕ) → length both.0 < 2 ^ 32 → length both.1 < 2 ^ 32
+    → ChangesNothing (plan_bytes (length both.0) (length both.1) (length both.0) (length both.1) 0 []) both.0 both.1
+changes_nothing both pages directory =
+    let none : AreChanges (length both.0) (length both.1) both 0 [] = record { fits = λ k lt. absurd (omega (arith, lt)); ends = refl } in
+    record {
+      whole = is_planned (length both.0) (length both.1) both 0 [] pages directory (omega arith) pages directory none;
+      knows = knows_planned (length both.0) (length both.1) both 0 [] pages directory (omega arith) pages directory none;
+      pages = renewed_planned (length both.0) (length both.1) both 0 [] pages directory (omega arith) pages directory Pages (length both.0) both.0 refl ∙ resized_own (length both.0) both.0 refl;
+      directory = renewed_planned (length both.0) (length both.1) both 0 [] pages directory (omega arith) pages directory Directory (length both.1) both.1 refl ∙ resized_own (length both.1) both.1 refl;
+    }

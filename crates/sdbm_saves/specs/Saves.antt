@@ -1,5 +1,5 @@
 -- The result of a save in the files of a database.
-use Rattle.std.specs.Prelude.{◌⊎◌, ◌≤◌, ◌^◌, ℕ, List, length}
+use Rattle.std.specs.Prelude.{◌≡◌, ◌⊎◌, ◌≤◌, ◌^◌, ℕ, List, length}
 use Rattle.sdbm_addr.specs.Database.{Database}
 use Rattle.sdbm_addr.specs.Files.{AreFiles, SpellsDatabase}
 use Rattle.sdbm_saves.specs.declared.disk.File.TheVariants.{Pages, Directory}
@@ -15,6 +15,13 @@ pub record IsSaving (db : Database) (plan old_pages old_directory : List ℕ) : 
   pub whole : IsPlan plan
   pub knows : Knows plan (old_pages, old_directory)
   pub files : AreFilesFor db (renewed Pages plan old_pages) (renewed Directory plan old_directory)
+
+-- a plan that knows these files and changes neither
+pub record ChangesNothing (plan pages directory : List ℕ) : Type 0 where
+  pub whole : IsPlan plan
+  pub knows : Knows plan (pages, directory)
+  pub pages : renewed Pages plan pages ≡ pages
+  pub directory : renewed Directory plan directory ≡ directory
 
 -- a file that is written for the database has 2^32 bytes or more
 pub record HasLongFile (db : Database) : Type 0 where

@@ -27,5 +27,5 @@ pub use overlay::{lay_in, lay_over, write_in};
 pub use part::{Part, plan_part};
 pub use plan::{file_of, is_plan, number, plan_in, rest_of};
 pub use planning::SavePlanFault;
-pub use reading::{ReadFiles, plan_kept, plan_read};
+pub use reading::{ReadFiles, plan_kept, plan_nothing, plan_read};
 pub use recorded::{Before, Found, FoundPart, FoundRead, Host, Past, Recorded, Unknown};

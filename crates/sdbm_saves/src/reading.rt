@@ -1,9 +1,9 @@
 // Plans a save from files that were read completely.
-ghost use Rattle.std.specs.Prelude.{◌≡◌, ◌<◌, ◌≤◌, ◌^◌, ◌+◌, ◌*◌, ◌↔◌, ℕ, List, length, IsTrue, IfOk, IfErr, IfSome, IsNone, OnOk};
+ghost use Rattle.std.specs.Prelude.{◌≡◌, ◌<◌, ◌≤◌, ◌^◌, ◌+◌, ◌*◌, ◌↔◌, ◌⊎◌, ℕ, List, length, IsTrue, IfOk, IfErr, IfSome, IsNone, OnOk};
 ghost use Rattle.sdbm_saves.specs.declared.disk.File.TheVariants.{Pages};
 ghost use Rattle.sdbm_saves.specs.declared.planning.SavePlanFault.TheVariants.{TooLong};
 ghost use Rattle.sdbm_saves.specs.Drafts.{AreChanges, HasPut};
-ghost use Rattle.sdbm_saves.specs.Saves.{AreFilesFor, IsSaving, IsTooLong};
+ghost use Rattle.sdbm_saves.specs.Saves.{AreFilesFor, ChangesNothing, IsSaving, IsTooLong};
 ghost use Rattle.sdbm_addr.specs.Pairs.{page_bytes};
 ghost use Rattle.sdbm_addr.specs.Database.{IsDatabase};
 ghost use Rattle.sdbm_addr.specs.Files.{first_pages};
@@ -61,6 +61,31 @@ pub fn plan_kept<A: Allocator + Copy>(
     ensures too_long { IfErr result (λ fault. fault ≡ TooLong → IsTooLong image.now old.entry.pages.now old.entry.directory.now) }
 {
     plan_pages(alloc, OldPages::Kept(old.pages), old.directory, image)
+}
+
+/// A plan that changes neither file. Its record gives a log its mark before the first save.
+///
+/// # Errors
+///
+/// `TooLong` if a file has 2^32 bytes or more. `NoMemory` if allocation fails.
+pub fn plan_nothing<A: Allocator + Copy>(
+    alloc: A,
+    old: ReadFiles<'_, A>,
+) -> Result<Vec<u8, A>, SavePlanFault>
+    ensures plan { IfOk result (λ plan. ChangesNothing plan.items old.entry.pages.now.bytes old.entry.directory.now) }
+    ensures too_long { IfErr result (λ fault. fault ≡ TooLong → (2 ^ 32 ≤ length old.entry.pages.now.bytes) ⊎ (2 ^ 32 ≤ length old.entry.directory.now)) }
+{
+    let (pages, directory) = (old.pages.len(), old.directory.len());
+    if pages >= LIMIT || directory >= LIMIT {
+        return Err(SavePlanFault::TooLong);
+    }
+    let draft = Draft {
+        pages,
+        directory,
+        changes: Vec::new(alloc),
+        count: 0,
+    };
+    Ok(assemble(alloc, &draft, pages, directory)?)
 }
 
 // The old bytes of `.pag`: read piece by piece, or completely in memory.

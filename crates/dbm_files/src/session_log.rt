@@ -338,7 +338,7 @@ fn save_found<'a, R: Files<File = File>>(
     requires pages { IfSome new (λ new. new.pages.items ≡ renewed Pages plan.now found.files.pages.now.bytes) }
     requires directory { IfSome new (λ new. new.directory.items ≡ renewed Directory plan.now found.files.directory.now) }
 {
-    let noted = Noted::of_read(&found);
+    let noted = Noted::of_read(found.files.pages, found.files.directory, found.redo);
     let mut disk = Recorded::<RealFiles<'a, R>, Unknown, Noted>::new(files, noted);
     match save_first(alloc, &mut disk, found.redo, plan, ROOM)? {
         (Outcome::Pending(_), _) => Ok(SessionLog::Closed),

@@ -22,8 +22,7 @@ use Rattle.sdbm_saves.specs.Parts.{ReadsPage, IsReadSo, IsPartOf}
 use Rattle.sdbm_saves.specs.declared.part.Part.{Part}
 use Rattle.store_moves.specs.Leads.{MayChange, changed_by}
 use Rattle.store_moves.proofs.Parts.{IsAlikeAt, IsChangedAlike, pairs_alike, pairs_beside}
-use Rattle.dbm_quick.specs.Parts.{IsOpenedPart, EndsWithPairs}
-use Rattle.dbm_quick.specs.Quick.{AreWhole}
+use Rattle.store_parts.specs.Parts.{AreWhole, EndsWithPairs, IsOpenedPart}
 
 -- ---- pages and numbers
 

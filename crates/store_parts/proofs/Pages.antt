@@ -1,5 +1,5 @@
 -- Existing pages, and page numbers.
-use Rattle.std.proofs.Common.{◌≡◌, ◌≢◌, ℕ, List, [], Bor, Bool, true, false, Option, Some, None, IfSome, is_some, unwrap_or, sym, ap, ◌∙◌, ◌∷◌, refl, suc, zero, length, ◌+◌, ◌<◌, arith, Contains}
+use Rattle.std.proofs.Common.{◌≡◌, ◌≢◌, ℕ, List, [], Bor, true, false, Option, Some, None, IfSome, is_some, unwrap_or, sym, ap, ◌∙◌, ◌∷◌, refl, suc, arith, Contains}
 use Rattle.std.specs.Option.{option_map}
 use Rattle.std.specs.FinMap as map
 use Rattle.sdbm_addr.specs.declared.KeyBytes.{KeyBytes}

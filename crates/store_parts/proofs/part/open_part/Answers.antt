@@ -1,4 +1,4 @@
-use Rattle.std.proofs.Common.{◌≡◌, rules}
+use Rattle.std.proofs.Common.{rules}
 use Rattle.store_parts.proofs.part.open_part.Goals as goal
 
 pub returns : goal.returns

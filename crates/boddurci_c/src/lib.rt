@@ -545,7 +545,12 @@ fn form_of(unsigned_keys: u32, wide: u32) -> (KeyBytes, PageSize)
 
 /// The number of the page to which a key leads by the bytes of `.dir`, which may be invalid: `boddurci_open_page` checks it.
 #[unsafe(no_mangle)]
-pub extern "C" fn boddurci_page_of(_alloc: Global, key: &[u8], dir: &[u8], unsigned_keys: u32) -> u32 {
+pub extern "C" fn boddurci_page_of(
+    _alloc: Global,
+    key: &[u8],
+    dir: &[u8],
+    unsigned_keys: u32,
+) -> u32 {
     let (kind, _) = form_of(unsigned_keys, 0);
     page_of(dir, kind, key)
 }

@@ -266,7 +266,13 @@ fn save_opening<'a, R: Files<File = File> + AllocGlobal>(
     }
     let new = kept_bytes(rt.alloc(), old, plan.as_slice())?;
     let redo = find_redo(rt, names)?;
-    let files = RealFiles::new(rt, names, read.seen, redo.is_stale, CallLog::new(rt.alloc())?);
+    let files = RealFiles::new(
+        rt,
+        names,
+        read.seen,
+        redo.is_stale,
+        CallLog::new(rt.alloc())?,
+    );
     let found = FoundRead {
         files: old,
         redo: redo.bytes.as_slice(),

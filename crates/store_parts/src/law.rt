@@ -15,5 +15,4 @@ ghost use Rattle.store_parts.specs.Parts.{AreWhole, IsSameOnWhole, IsServed};
 pub fn same_on_whole()
     ensures { (part : Part) (kind : KeyBytes) (size : PageSize) (entry : Entry Global) (before after : Database) (numbers : List ℕ) (plan : Option (Vec ℕ)) → IsServed part kind size entry before after numbers plan
         → (db : Database) (pag : List ℕ) → db.kind ≡ kind → db.size ≡ size → AreWhole part numbers db pag → IsSameOnWhole part entry plan db pag }
-{
-}
+{}

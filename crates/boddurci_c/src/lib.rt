@@ -569,7 +569,7 @@ pub extern "C" fn boddurci_open_page(
     number: u32,
     page: &[u8],
 ) -> u32
-    ensures { Turns key.now (part_for dir pag_length number page) slot.old.held result slot.new.held ⊎ Denies LacksPages slot.old.held result slot.new.held }
+    ensures { Turns key.now (part_for dir.entry pag_length number page.entry) slot.old.held result slot.new.held ⊎ Denies LacksPages slot.old.held result slot.new.held }
 {
     let Some(mut db) = slot.take(alloc) else {
         return Status::Closed.code();
@@ -602,7 +602,7 @@ pub extern "C" fn boddurci_plan_page(
     room: &mut [u8],
     len: &mut usize,
 ) -> u32
-    ensures { PlansPageOf (part_for dir pag_length number page) slot.old.held result slot.new.held numbers.old numbers.new count.new room.old room.new len.new
+    ensures { PlansPageOf (part_for dir.entry pag_length number page.entry) slot.old.held result slot.new.held numbers.old numbers.new count.new room.old room.new len.new
         ⊎ (Denies LacksPlan slot.old.held result slot.new.held × ((numbers.new ≡ numbers.old) × ((count.new ≡ count.old) × ((room.new ≡ room.old) × (len.new ≡ len.old))))) }
 {
     let Some(db) = slot.take(alloc) else {

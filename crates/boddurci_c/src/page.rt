@@ -1,7 +1,7 @@
 //! A database of which only the page of one key was read.
 ghost use Rattle.std.specs.Prelude.{◌≡◌, ◌⊎◌, ◌%◌, length, true};
 ghost use Rattle.sdbm_addr.specs.Pairs.{page_bytes};
-ghost use Rattle.boddurci_c.specs.Page.{TurnsTo, PlansPage};
+ghost use Rattle.boddurci_c.specs.Page.{TurnsTo, PlansPage, bytes_of_plan};
 ghost use Rattle.boddurci_handles.specs.declared.status.Status.TheVariants.{Done, Stale};
 
 use crate::rooms::copy_out;
@@ -62,11 +62,17 @@ pub fn plan_page(
         return Status::Stale;
     };
     let first = copy_out(written.as_slice(), numbers, count);
-    let bytes = match &plan {
+    both_done(first, copy_out(bytes_in(&plan), room, len))
+}
+
+// The bytes of a plan, or none.
+fn bytes_in(plan: &Option<Vec<u8>>) -> &[u8]
+    ensures { result.now ≡ bytes_of_plan plan.now }
+{
+    match plan {
         Some(plan) => plan.as_slice(),
         None => &[],
-    };
-    both_done(first, copy_out(bytes, room, len))
+    }
 }
 
 // The first status, or the second one if the first is `Done`.

@@ -1,7 +1,6 @@
 /* Data files that another program changes while a base is open, from C: the changes for which a save of boddurci_files.h is refused, and
  * saves that insist. tests/c_library builds and runs it. The argument is a folder. */
-#define _POSIX_C_SOURCE 200809L
-#define _DEFAULT_SOURCE
+#define _GNU_SOURCE
 #include "boddurci_files.h"
 #include <fcntl.h>
 #include <pthread.h>
@@ -11,6 +10,7 @@
 #include <string.h>
 #include <sys/resource.h>
 #include <sys/stat.h>
+#include <sys/syscall.h>
 #include <unistd.h>
 
 enum { PAIRS = 1000, TICK = 20000 /* microseconds, longer than a tick of the clock */ };
@@ -239,11 +239,14 @@ static void test_bytes_beside(void)
 
 /* Replaces the function of the C library, for the library too: another program writes this file meanwhile. */
 static const char *written_in_sync;
+static int omits_syncs;
 
 int fdatasync(int file)
 {
     const char *name = written_in_sync;
     written_in_sync = NULL;
+    if (omits_syncs)
+        return 0;
     if (name != NULL)
         put_byte(name, 1020, (char)(byte_at(name, 1020) ^ 1));
     return fsync(file);
@@ -267,6 +270,32 @@ static void test_during(void)
     boddurci_close_files(base);
     base = opened("during", 0);
     EXPECT(count_of(base) == PAIRS);
+    boddurci_close_files(base);
+}
+
+/* Replaces the function of the C library, for the library too: it counts the looks at files. */
+static unsigned looks;
+
+int statx(int folder, const char *restrict name, int how, unsigned mask, struct statx *restrict found)
+{
+    looks++;
+    return (int)syscall(SYS_statx, folder, name, how, mask, found);
+}
+
+/* A save within the tick of the one before looks once at each of five names, and once at each data file that it writes. */
+static void test_looks(void)
+{
+    unsigned least = 100;
+    boddurci_base *base = opened("looks", 0);
+    omits_syncs = 1;
+    for (int i = 0; i < PAIRS; i++) {
+        store_one(base, i);
+        looks = 0;
+        EXPECT(boddurci_save(base, &fault) == BODDURCI_DONE);
+        least = looks < least ? looks : least;
+    }
+    EXPECT(least <= 7);
+    omits_syncs = 0;
     boddurci_close_files(base);
 }
 
@@ -414,6 +443,7 @@ int main(int argc, char **argv)
     boddurci_close_files(base);
     test_written_beside();
     test_bytes_beside();
+    test_looks();
     test_during();
     test_not_changed();
     test_insisting_in_vain();

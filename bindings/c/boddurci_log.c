@@ -254,6 +254,7 @@ static uint32_t do_open(struct boddurci_logged *logged, struct boddurci_bytes re
     if (is_written && boddurci_do_steps(disk, steps->at, steps->count, steps->bytes) == 0) {
         logged->is_open = 1;
         logged->is_given_up = 0;
+        logged->redo = boddurci_inode_of(disk->files[BODDURCI_REDO]);
         return BODDURCI_DONE;
     }
     give_up(logged);
@@ -300,7 +301,7 @@ uint32_t boddurci_logged_recover(struct boddurci_logged *logged, int *is_ended, 
     boddurci_fault second;
     struct boddurci_disk *disk = &logged->disk;
     *is_ended = 0;
-    if (logged->is_open && boddurci_is_named(disk->place, BODDURCI_REDO, disk->files[BODDURCI_REDO]))
+    if (logged->is_open && boddurci_leads_to(disk->place, BODDURCI_REDO, logged->redo))
         return BODDURCI_DONE;
     logged->is_open = 0;
     boddurci_disk_drop(disk, BODDURCI_REDO);

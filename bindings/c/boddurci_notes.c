@@ -152,6 +152,8 @@ enum boddurci_change boddurci_look_again(const struct boddurci_notes *notes, con
                                          const struct boddurci_note found[2], enum boddurci_file *which)
 {
     struct boddurci_note again[2];
+    if (notes->is_quick)
+        return BODDURCI_SAME;
     look_at_both(notes, disk, 1, again);
     return change_of_both(found, again, never, notes->is_local, which);
 }
@@ -183,4 +185,24 @@ void boddurci_note_written(struct boddurci_notes *notes, const struct boddurci_d
         return;
     notes->tick = tick;
     notes->has_our_clock = notes->is_local && is_near(notes->files[BODDURCI_PAGES].written, tick);
+}
+
+/* Both files exist, and other files cannot have their inodes, so only the lengths may differ from the notes. */
+static int note_lengths(struct boddurci_notes *notes, const uint64_t lengths[2])
+{
+    int has_directory = notes->files[BODDURCI_DIRECTORY].is_there;
+    if (!notes->files[BODDURCI_PAGES].is_there || (!has_directory && lengths[BODDURCI_DIRECTORY] != 0))
+        return 0;
+    notes->files[BODDURCI_PAGES].length = (off_t)lengths[BODDURCI_PAGES];
+    if (has_directory)
+        notes->files[BODDURCI_DIRECTORY].length = (off_t)lengths[BODDURCI_DIRECTORY];
+    return 1;
+}
+
+void boddurci_note_saved(struct boddurci_notes *notes, const struct boddurci_disk *disk, const uint64_t lengths[2])
+{
+    if (notes->has_our_clock && is_same_time(clock_of(TICKING), notes->tick) && note_lengths(notes, lengths))
+        notes->latest = clock_of(CLOCK_REALTIME);
+    else
+        boddurci_note_written(notes, disk);
 }

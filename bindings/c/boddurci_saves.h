@@ -69,6 +69,13 @@ uint32_t boddurci_read_all(int opened, enum boddurci_file file, struct boddurci_
 
 /* ---- boddurci_place.c: the folder of a database, and its files */
 
+/* The inode of an open file, which stays the same as long as the file is open. */
+struct boddurci_inode {
+    int is_known;
+    dev_t device;
+    ino_t number;
+};
+
 /* The file to which a name has led. It stays open: the system may give the inode of a removed file to a new one once nobody has it open. */
 struct boddurci_seen {
     int is_there;
@@ -84,6 +91,7 @@ struct boddurci_place {
     char *names[BODDURCI_FILES];  /* of the files, in the folder */
     struct boddurci_seen seen[2]; /* the data files that existed when they were last opened */
     int opened[BODDURCI_FILES];   /* the file of a lock, or -1 */
+    struct boddurci_inode inodes[BODDURCI_FILES]; /* of the locks, once they are taken */
     int is_early[BODDURCI_FILES]; /* this process has made the lock while .pag was missing */
     int keeps_files;              /* BASE.lock stays locked between the calls of the base */
     struct boddurci_place *held;  /* the next in the list of places whose locks this process has */
@@ -126,8 +134,12 @@ struct stat;
 int boddurci_look(int folder, const char *name, int how, struct stat *found);
 int boddurci_look_at(int opened, struct stat *found);
 
-/* Whether the name of a file leads to the open file. */
+/* Gets the inode of an open file. If that fails it is not known. */
+struct boddurci_inode boddurci_inode_of(int opened);
+
+/* Whether the name of a file leads to the open file; whether it leads to an inode that is known. */
 int boddurci_is_named(const struct boddurci_place *place, enum boddurci_file file, int opened);
+int boddurci_leads_to(const struct boddurci_place *place, enum boddurci_file file, struct boddurci_inode inode);
 
 /* The permissions of .pag, or `otherwise` if it is missing. */
 mode_t boddurci_mode_of_pages(const struct boddurci_place *place, mode_t otherwise);
@@ -235,6 +247,7 @@ struct boddurci_disk {
     sigset_t mask;           /* the signal mask of the thread before */
     int is_signal_held;      /* the mask was changed */
     int was_signalled;       /* the signal was pending before */
+    int is_too_long;         /* a call failed with EFBIG since, so it may have raised the signal */
     int has_reserved;        /* a save has allocated blocks of a data file, which may change its times */
 };
 
@@ -288,6 +301,9 @@ int boddurci_do_in_memory(struct boddurci_bytes files[2], const struct boddurci_
 int boddurci_is_within_limits(const struct boddurci_steps *steps);
 int boddurci_may_write(struct boddurci_disk *disk, const struct boddurci_steps *steps);
 
+/* Sets the lengths of both data files before or after a plan, which is in `bytes` after BODDURCI_PLAN_AT bytes. */
+void boddurci_lengths_of(const uint8_t *bytes, int is_after, uint64_t lengths[2]);
+
 /* Ensures before the commit of a save that there is room for the steps after it: allocates the blocks of the data files, and tries in the
  * redo file whether the disk has room for those that it cannot allocate. The second call frees the blocks past the ends of the data files,
  * and preserves errno. */
@@ -303,6 +319,7 @@ struct boddurci_logged {
     struct boddurci_disk disk;
     struct boddurci_notes *notes;
     boddurci_log next; /* if it is open, the place of the next record */
+    struct boddurci_inode redo; /* if it is open, that of the redo file */
     int is_open;
     int is_doubtful;   /* a call on the redo file failed, and it could not be removed: make a new one if it has no mark */
     int is_given_up;   /* a call failed, and nobody has recovered the files since: the data files may lack a save, or have half of it */
@@ -371,16 +388,19 @@ void boddurci_note_system(struct boddurci_notes *notes, const struct boddurci_pl
 enum boddurci_change boddurci_look_before(struct boddurci_notes *notes, const struct boddurci_disk *disk, int may_be_quick,
                                           struct boddurci_note found[2], enum boddurci_file *which);
 
-/* Looks again, at the open files, and returns how they differ from that look. */
+/* Looks again, at the open files, and returns how they differ from that look. After a quick look it does not look: a write within the tick of
+ * a save may not be seen, and the save sets the lengths itself. */
 enum boddurci_change boddurci_look_again(const struct boddurci_notes *notes, const struct boddurci_disk *disk,
                                          const struct boddurci_note found[2], enum boddurci_file *which);
 
 /* Looks once a save is committed, before it writes the data files, unless the tick is that of the last look or the save has taken room. */
 void boddurci_look_meanwhile(struct boddurci_notes *notes, const struct boddurci_disk *disk);
 
-/* Notes the files of the last look; notes the files that the base has written. */
+/* Notes the files of the last look; notes the files that the base has written; notes them after a save that has left these lengths, within
+ * the tick of the last look without a look. */
 void boddurci_note_found(struct boddurci_notes *notes, const struct boddurci_note found[2]);
 void boddurci_note_written(struct boddurci_notes *notes, const struct boddurci_disk *disk);
+void boddurci_note_saved(struct boddurci_notes *notes, const struct boddurci_disk *disk, const uint64_t lengths[2]);
 
 /* ---- boddurci_group.c: threads that save a base at the same time */
 

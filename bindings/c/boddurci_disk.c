@@ -134,9 +134,10 @@ int boddurci_disk_write(struct boddurci_disk *disk, enum boddurci_file file, uin
     return 0;
 }
 
+/* Zeros are written in small pieces: a page cache with large folios takes longer for each later write of a few bytes, and for its sync. */
 int boddurci_disk_zero(struct boddurci_disk *disk, enum boddurci_file file, uint64_t at, uint64_t size)
 {
-    static uint8_t zeros[262144];
+    static uint8_t zeros[16384];
     for (uint64_t done = 0, next; done < size; done += next) {
         next = size - done < sizeof zeros ? size - done : sizeof zeros;
         if (boddurci_disk_write(disk, file, at + done, zeros, (size_t)next) != 0)

@@ -320,7 +320,9 @@ struct boddurci_logged {
     struct boddurci_notes *notes;
     boddurci_log next; /* if it is open, the place of the next record */
     struct boddurci_inode redo; /* if it is open, that of the redo file */
+    int64_t emptied;   /* the time when it was last empty, in nanoseconds */
     int is_open;
+    int is_grown;      /* it has, or has tried to get, more room than usual */
     int is_doubtful;   /* a call on the redo file failed, and it could not be removed: make a new one if it has no mark */
     int is_given_up;   /* a call failed, and nobody has recovered the files since: the data files may lack a save, or have half of it */
 };

@@ -282,19 +282,46 @@ int statx(int folder, const char *restrict name, int how, unsigned mask, struct 
     return (int)syscall(SYS_statx, folder, name, how, mask, found);
 }
 
-/* A save within the tick of the one before looks once at each of five names, and once at each data file that it writes. */
-static void test_looks(void)
+/* Saves until a save looks at few files, since it is within the tick of the one before: it looks at the folder by another call, and twice at
+ * each data file. */
+static void save_quickly(boddurci_base *base)
 {
     unsigned least = 100;
-    boddurci_base *base = opened("looks", 0);
-    omits_syncs = 1;
-    for (int i = 0; i < PAIRS; i++) {
+    for (int i = 0; i < PAIRS && least > 4; i++) {
         store_one(base, i);
         looks = 0;
         EXPECT(boddurci_save(base, &fault) == BODDURCI_DONE);
         least = looks < least ? looks : least;
     }
-    EXPECT(least <= 7);
+    EXPECT(least <= 4);
+}
+
+/* A file that loses its name right after a quick save is missed by the next one, also if the name leads to another file then. Other names in
+ * the folder do not matter. */
+static void test_names(void)
+{
+    static const char *const names[] = {"looks.pag", "looks.dir", "looks.lock", "looks.writer"};
+    boddurci_base *base = opened("looks", 0);
+    for (int i = 0; i < PAIRS; i++)
+        store_one(base, i);
+    EXPECT(boddurci_save(base, &fault) == BODDURCI_DONE && usleep(2 * TICK) == 0);
+    omits_syncs = 1;
+    for (int is_copied = 0; is_copied < 2; is_copied++)
+        for (int i = 0; i < 4; i++) {
+            save_quickly(base);
+            store_one(base, i);
+            EXPECT(rename(names[i], "away") == 0);
+            if (is_copied)
+                write_text(names[i], "", 0);
+            EXPECT(boddurci_save(base, &fault) == BODDURCI_MOVED);
+            EXPECT(rename("away", names[i]) == 0 && boddurci_save(base, &fault) == BODDURCI_DONE && usleep(2 * TICK) == 0);
+        }
+    save_quickly(base);
+    write_text("other", "", 0);
+    store_one(base, 5);
+    EXPECT(boddurci_save(base, &fault) == BODDURCI_DONE && unlink("other") == 0 && unlink("looks.redo") == 0);
+    store_one(base, 6);
+    EXPECT(boddurci_save(base, &fault) == BODDURCI_DONE && is_marked("looks.redo"));
     omits_syncs = 0;
     boddurci_close_files(base);
 }
@@ -443,7 +470,7 @@ int main(int argc, char **argv)
     boddurci_close_files(base);
     test_written_beside();
     test_bytes_beside();
-    test_looks();
+    test_names();
     test_during();
     test_not_changed();
     test_insisting_in_vain();

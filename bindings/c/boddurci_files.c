@@ -160,7 +160,7 @@ static uint32_t read_files(boddurci_base *base, struct parts *parts, boddurci_fa
     if (base->flags & BODDURCI_READ_ONLY)
         return base->flags & BODDURCI_EMPTY ? BODDURCI_DONE : read_over(&base->place, must_exist, parts, fault);
     boddurci_hold_signal(disk);
-    uint32_t status = boddurci_logged_recover(&base->logged, &is_ended, fault);
+    uint32_t status = boddurci_logged_recover(&base->logged, 0, &is_ended, fault);
     boddurci_give_signal(disk);
     if (base->flags & BODDURCI_EMPTY)
         see_files(&base->place);
@@ -560,6 +560,7 @@ static uint32_t read_listed(boddurci_base *base, struct reading *reading, const 
 /* One save. */
 struct saving {
     int insists;                   /* it overwrites the changes of another program */
+    int are_names_same;            /* all names lead to the files of the last save */
     int compares;                  /* the pages that the base has not changed must equal those of the file */
     enum boddurci_change change;   /* how the files differ from the notes */
     enum boddurci_file which;      /* and which file */
@@ -798,7 +799,7 @@ static uint32_t are_named(const boddurci_base *base, const struct boddurci_note 
 static uint32_t recover(boddurci_base *base, struct saving *saving, boddurci_fault *fault)
 {
     int is_ended = 0;
-    uint32_t status = boddurci_logged_recover(&base->logged, &is_ended, fault);
+    uint32_t status = boddurci_logged_recover(&base->logged, saving->are_names_same, &is_ended, fault);
     int is_same = saving->change == BODDURCI_SAME && base->doubt == BODDURCI_SAME && base->change[0] == 0;
     base->is_noted = base->is_noted && is_same && !is_ended;
     if (is_ended) {
@@ -815,10 +816,15 @@ static uint32_t recover(boddurci_base *base, struct saving *saving, boddurci_fau
 /* Compares the files with the notes, and prepares them for a save. */
 static uint32_t prepare(boddurci_base *base, struct saving *saving, boddurci_fault *fault)
 {
-    uint32_t status = boddurci_are_held(&base->place, fault);
+    struct timespec folder = {0, 0};
+    saving->are_names_same = base->is_noted && boddurci_are_names_same(&base->notes, &base->place);
+    if (!saving->are_names_same)
+        folder = boddurci_time_of_folder(&base->place);
+    uint32_t status = saving->are_names_same ? BODDURCI_DONE : boddurci_are_held(&base->place, fault);
     if (status != BODDURCI_DONE)
         return status;
-    saving->change = boddurci_look_before(&base->notes, &base->logged.disk, base->is_noted, saving->found, &saving->which);
+    saving->change = boddurci_look_before(&base->notes, &base->logged.disk, base->is_noted, saving->are_names_same, saving->found,
+                                          &saving->which);
     status = are_named(base, saving->found, fault);
     if (status == BODDURCI_DONE)
         status = must_be_ours(base, saving, fault);
@@ -826,6 +832,8 @@ static uint32_t prepare(boddurci_base *base, struct saving *saving, boddurci_fau
         status = recover(base, saving, fault);
     if (status == BODDURCI_DONE && saving->found[BODDURCI_PAGES].length > (off_t)boddurci_most_bytes(BODDURCI_PAGES))
         status = boddurci_fail(fault, BODDURCI_TOO_LONG, 0, boddurci_files_text(BODDURCI_TOO_LONG));
+    if (status == BODDURCI_DONE && !saving->are_names_same)
+        boddurci_note_names(&base->notes, &base->place, folder, saving->found);
     return status;
 }
 

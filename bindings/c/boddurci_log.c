@@ -312,12 +312,12 @@ static uint32_t open_log(struct boddurci_logged *logged, boddurci_fault *fault)
     return status;
 }
 
-uint32_t boddurci_logged_recover(struct boddurci_logged *logged, int *is_ended, boddurci_fault *fault)
+uint32_t boddurci_logged_recover(struct boddurci_logged *logged, int are_names_same, int *is_ended, boddurci_fault *fault)
 {
     boddurci_fault second;
     struct boddurci_disk *disk = &logged->disk;
     *is_ended = 0;
-    if (logged->is_open && boddurci_leads_to(disk->place, BODDURCI_REDO, logged->redo))
+    if (logged->is_open && (are_names_same || boddurci_leads_to(disk->place, BODDURCI_REDO, logged->redo)))
         return BODDURCI_DONE;
     logged->is_open = 0;
     boddurci_disk_drop(disk, BODDURCI_REDO);

@@ -329,9 +329,9 @@ struct boddurci_logged {
 
 void boddurci_logged_of(struct boddurci_logged *logged, struct boddurci_place *place, struct boddurci_notes *notes);
 
-/* If the log is closed and the redo file has its mark, recovers the data files, opens the log if there is room for it, and sets
- * *is_ended. */
-uint32_t boddurci_logged_recover(struct boddurci_logged *logged, int *is_ended, boddurci_fault *fault);
+/* If the log is closed and the redo file has its mark, recovers the data files, opens the log if there is room for it, and sets *is_ended. A
+ * log is closed too if the redo file has lost its name; the caller may know that it has not. */
+uint32_t boddurci_logged_recover(struct boddurci_logged *logged, int are_names_same, int *is_ended, boddurci_fault *fault);
 
 /* Saves by a plan, which is in `bytes` after BODDURCI_PLAN_AT bytes; opens the log first if it is closed. After a fault nothing has
  * changed, or if BASE.redo itself failed, the save may be committed or not: the next save or opening finds out. If a step after the commit
@@ -367,6 +367,8 @@ struct boddurci_notes {
     struct boddurci_note files[2];
     struct timespec tick;   /* of the clock, when the times were last read */
     struct timespec latest; /* when the base last wrote later within that tick; else 0 */
+    struct timespec named;  /* of the clock, when a save last looked at all names in the folder */
+    struct timespec folder; /* the time of change of the folder at that look, if a later change of a name has another one; else 0 */
     int is_local;           /* this system sets the times of the files while it writes them */
     int has_our_clock;      /* it sets them by the clock that this process reads */
     int is_quick;           /* the look before this save copied the times */
@@ -385,9 +387,21 @@ enum boddurci_change {
 void boddurci_note_opened(struct boddurci_notes *notes, const struct boddurci_disk *disk);
 void boddurci_note_system(struct boddurci_notes *notes, const struct boddurci_place *place);
 
+/* Gets the time of change of the folder: each new, removed or renamed name in it changes that. Returns 0 if it is unknown. */
+struct timespec boddurci_time_of_folder(const struct boddurci_place *place);
+
+/* Notes the names after a save has looked at all of them, given the time of the folder before and the data files that were found. */
+void boddurci_note_names(struct boddurci_notes *notes, const struct boddurci_place *place, struct timespec folder,
+                         const struct boddurci_note found[2]);
+
+/* Whether all names lead to the files of that look, by one look at the folder. It knows that only within the tick of that look, since a
+ * mount does not change the folder. */
+int boddurci_are_names_same(const struct boddurci_notes *notes, const struct boddurci_place *place);
+
 /* Looks at the files under the names before a save, and returns how they differ from the notes, and which file. If they are the same it
- * notes them. Within the tick of the last look it may be a quick look, which does not read the times. */
-enum boddurci_change boddurci_look_before(struct boddurci_notes *notes, const struct boddurci_disk *disk, int may_be_quick,
+ * notes them. Within the tick of the last look it may be a quick look, which does not read the times, and which looks at the open files if
+ * the names are the same. */
+enum boddurci_change boddurci_look_before(struct boddurci_notes *notes, const struct boddurci_disk *disk, int may_be_quick, int are_names_same,
                                           struct boddurci_note found[2], enum boddurci_file *which);
 
 /* Looks again, at the open files, and returns how they differ from that look. After a quick look it does not look: a write within the tick of

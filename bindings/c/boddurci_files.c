@@ -9,7 +9,6 @@
 #include <stdio.h>
 #include <stdlib.h>
 #include <string.h>
-#include <sys/mman.h>
 #include <sys/stat.h>
 #include <time.h>
 #include <unistd.h>
@@ -30,41 +29,9 @@ struct boddurci_base {
     struct boddurci_group saves; /* of the files; a call that needs both waits for its turn to save before it takes the mutex */
 };
 
-/* ---- the process */
-
-/* The process of the memory: 0 in a child, in which the system has cleared this page at the fork. NULL if the system cannot do that. */
-static pid_t *own_process;
-static pthread_once_t own_once = PTHREAD_ONCE_INIT;
-
-static void make_own(void)
-{
-#ifdef MADV_WIPEONFORK
-    enum { SIZE = 4096 };
-    void *page = mmap(NULL, SIZE, PROT_READ | PROT_WRITE, MAP_PRIVATE | MAP_ANONYMOUS, -1, 0);
-    if (page == MAP_FAILED)
-        return;
-    if (madvise(page, SIZE, MADV_WIPEONFORK) == 0)
-        own_process = page;
-    else
-        munmap(page, SIZE);
-#endif
-}
-
-/* Returns the number of this process, for a base that is opened. */
-static pid_t note_process(void)
-{
-    pid_t process = getpid();
-    pthread_once(&own_once, make_own);
-    if (own_process != NULL)
-        __atomic_store_n(own_process, process, __ATOMIC_RELAXED);
-    return process;
-}
-
-/* Each call tests this, so it makes no system call except in a child. */
 static int is_of_another(const boddurci_base *base)
 {
-    pid_t process = own_process != NULL ? __atomic_load_n(own_process, __ATOMIC_RELAXED) : 0;
-    return base->process != (process != 0 ? process : getpid());
+    return base->process != boddurci_this_process();
 }
 
 /* ---- reading */
@@ -270,7 +237,7 @@ static boddurci_base *new_base(uint32_t flags)
     if (base == NULL)
         return NULL;
     base->flags = flags;
-    base->process = note_process();
+    base->process = boddurci_note_process();
     boddurci_no_place(&base->place);
     boddurci_logged_of(&base->logged, &base->place, &base->notes);
     if (pthread_mutex_init(&base->mutex, NULL) == 0) {

@@ -14,7 +14,7 @@
  * each opening for writing reads it. */
 static const size_t ROOM = 1 << 20, LEAST_ROOM = 1 << 16, MOST_UNUSED = 1 << 24;
 
-/* A log that is full within SOON seconds after it was empty is made anew with this room: to empty it syncs both data files. */
+/* A log that saves fill within SOON nanoseconds is made anew with this room: to empty a log takes a sync of both data files. */
 static const size_t GROWN_ROOM = 1 << 22;
 static const int64_t SOON = 1000000000;
 
@@ -346,12 +346,14 @@ static int only_append(const struct boddurci_steps *steps)
     return 1;
 }
 
-/* Whether the log is to be made anew with more room before a save: the save would empty it, and it was empty a moment ago. If the save makes
- * a file shorter, it empties any log. */
+/* Whether the log is to be made anew with more room before a save: the save would empty it, and it was empty a moment ago. A long save, or one
+ * that makes a file shorter, empties any log. */
 static int has_to_grow(const struct boddurci_logged *logged, const struct boddurci_steps *steps)
 {
+    enum { FEW = 4 };
     uint64_t before[2], after[2];
-    if (logged->is_grown || logged->next.room >= GROWN_ROOM || only_append(steps) || now() - logged->emptied >= SOON)
+    int may_grow = !logged->is_grown && logged->next.room < GROWN_ROOM && steps->length <= logged->next.room / FEW;
+    if (!may_grow || only_append(steps) || now() - logged->emptied >= SOON)
         return 0;
     boddurci_lengths_of(steps->bytes, 0, before);
     boddurci_lengths_of(steps->bytes, 1, after);

@@ -187,6 +187,7 @@ enum boddurci_change boddurci_look_again(const struct boddurci_notes *notes, con
                                          const struct boddurci_note found[2], enum boddurci_file *which)
 {
     struct boddurci_note again[2];
+    *which = BODDURCI_PAGES;
     if (notes->is_quick)
         return BODDURCI_SAME;
     look_at_both(notes, disk, 1, again);

@@ -418,6 +418,13 @@ void boddurci_note_found(struct boddurci_notes *notes, const struct boddurci_not
 void boddurci_note_written(struct boddurci_notes *notes, const struct boddurci_disk *disk);
 void boddurci_note_saved(struct boddurci_notes *notes, const struct boddurci_disk *disk, const uint64_t lengths[2]);
 
+/* ---- boddurci_owner.c: the process of a base */
+
+/* Returns the number of this process. The first call is for the opening of a base; after it the second makes no system call, except in a
+ * child. */
+pid_t boddurci_note_process(void);
+pid_t boddurci_this_process(void);
+
 /* ---- boddurci_group.c: threads that save a base at the same time */
 
 struct boddurci_call;

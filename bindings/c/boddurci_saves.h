@@ -437,7 +437,7 @@ struct boddurci_group {
     struct boddurci_call **last; /* the place for the next call */
     int is_saving;               /* a thread saves, or has been given the turn to */
     int waiting;                 /* the number of calls in the list; atomic */
-    int served[2];               /* the number of calls of the last save, and of the one before */
+    int served;                  /* the number of calls of the last save */
     int others;                  /* the number of calls that waited when the last save ended, and that it served */
     int skips;                   /* the number of saves that are not to wait for others, after a wait in vain */
     int64_t took;                /* how long the last save took, in nanoseconds; atomic */

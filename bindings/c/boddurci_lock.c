@@ -398,6 +398,8 @@ static uint32_t take_both(struct boddurci_place *place, int64_t milliseconds, bo
         outcome = HAS_FAILED;
     }
     if (outcome == TAKEN) {
+        for (enum boddurci_file lock = BODDURCI_LOCK; lock <= BODDURCI_WRITER; lock++)
+            place->inodes[lock] = boddurci_inode_of(place->opened[lock]);
         flock(place->opened[BODDURCI_WRITER], LOCK_SH);
         note_held(place);
         return BODDURCI_DONE;
@@ -456,9 +458,9 @@ void boddurci_keep_files(struct boddurci_place *place)
 
 uint32_t boddurci_are_held(const struct boddurci_place *place, boddurci_fault *fault)
 {
-    if (place->opened[BODDURCI_LOCK] < 0 || !is_named(place, BODDURCI_LOCK))
+    if (place->opened[BODDURCI_LOCK] < 0 || !boddurci_leads_to(place, BODDURCI_LOCK, place->inodes[BODDURCI_LOCK]))
         return boddurci_fail(fault, BODDURCI_MOVED, 0, "BASE.lock is another file than is held, and nothing was written");
-    if (place->opened[BODDURCI_WRITER] < 0 || !is_named(place, BODDURCI_WRITER))
+    if (place->opened[BODDURCI_WRITER] < 0 || !boddurci_leads_to(place, BODDURCI_WRITER, place->inodes[BODDURCI_WRITER]))
         return boddurci_fail(fault, BODDURCI_MOVED, 0, "BASE.writer is another file than is held, and nothing was written");
     return BODDURCI_DONE;
 }

@@ -474,6 +474,13 @@ void boddurci_give_locks(struct boddurci_place *place, int is_own)
     }
 }
 
+void boddurci_settle_locks(struct boddurci_place *place)
+{
+    for (enum boddurci_file lock = BODDURCI_LOCK; lock <= BODDURCI_WRITER; lock++)
+        if (place->is_early[lock] && place->seen[BODDURCI_PAGES].is_there)
+            place->is_early[lock] = boddurci_be_like_pages(place, lock, place->opened[lock]) != 0;
+}
+
 /* ---- entering */
 
 /* Whether the name leads to the same base as before the wait. */
@@ -503,4 +510,45 @@ uint32_t boddurci_enter(struct boddurci_place *place, const char *name, int read
         status = leads_there(base, fault);
     free(led);
     return status;
+}
+
+/* ---- calls of a shared base */
+
+uint32_t boddurci_find(struct boddurci_place *place, const char *name, boddurci_fault *fault)
+{
+    char *led;
+    if (!is_name(name))
+        return boddurci_fail(fault, BODDURCI_BAD_NAME, 0, "the name is empty, . or .., or ends in one of these after a /");
+    uint32_t status = resolve(name, &led, fault);
+    if (status == BODDURCI_DONE)
+        status = boddurci_place_of(place, led != NULL ? led : name, fault);
+    pthread_once(&held_once, guard_forks);
+    free(led);
+    return status;
+}
+
+uint32_t boddurci_take_call(struct boddurci_place *place, int reads, int64_t milliseconds, boddurci_fault *fault)
+{
+    int64_t end = end_of(milliseconds);
+    uint32_t status = BODDURCI_INTERRUPTED;
+    while (status == BODDURCI_INTERRUPTED) {
+        int64_t left = end < 0 ? -1 : end > now() ? end - now() : 0;
+        boddurci_no_fault(fault);
+        status = reads ? share_lock(place, end, fault) : take_both(place, left, fault);
+    }
+    return status;
+}
+
+void boddurci_give_call(struct boddurci_place *place)
+{
+    forget_held(place);
+    for (enum boddurci_file lock = BODDURCI_WRITER; lock >= BODDURCI_LOCK; lock--)
+        if (place->opened[lock] >= 0)
+            flock(place->opened[lock], LOCK_UN);
+}
+
+void boddurci_drop_locks(struct boddurci_place *place)
+{
+    for (enum boddurci_file lock = BODDURCI_WRITER; lock >= BODDURCI_LOCK; lock--)
+        close_lock(place, lock);
 }

@@ -245,12 +245,20 @@ static uint32_t read_files(struct boddurci_logged *logged, struct boddurci_bytes
     return status;
 }
 
+/* Clears the note of a shared base, before the log is emptied. */
+static int clear_note(struct boddurci_disk *disk)
+{
+    disk->last = BODDURCI_REDO;
+    return disk->files[BODDURCI_REDO] < 0 ? 0 : boddurci_clear_note(disk->files[BODDURCI_REDO]);
+}
+
 /* Makes the steps that open the log. First it writes a marked redo file again, with the bytes that were read: if an earlier sync of it
  * failed, the bytes on the disk may differ, and the next sync would not write them. */
 static uint32_t do_open(struct boddurci_logged *logged, struct boddurci_bytes redo, const struct boddurci_steps *steps, boddurci_fault *fault)
 {
     struct boddurci_disk *disk = &logged->disk;
-    int is_written = redo.length == 0 || boddurci_disk_write(disk, BODDURCI_REDO, 0, redo.at, redo.length) == 0;
+    boddurci_clear_note_in(&redo);
+    int is_written = redo.length != 0 ? boddurci_disk_write(disk, BODDURCI_REDO, 0, redo.at, redo.length) == 0 : clear_note(disk) == 0;
     if (is_written && boddurci_do_steps(disk, steps->at, steps->count, steps->bytes) == 0) {
         logged->is_open = 1;
         logged->is_given_up = 0;
@@ -332,9 +340,10 @@ static int only_append(const struct boddurci_steps *steps)
 /* Commits a save. Readers may read the data files meanwhile, but not the log while it is emptied. */
 static int commit(struct boddurci_logged *logged, const struct boddurci_steps *steps)
 {
-    if (!only_append(steps) && boddurci_take_files(logged->disk.place) != 0)
+    int appends = only_append(steps);
+    if (!appends && boddurci_take_files(logged->disk.place) != 0)
         return -1;
-    if (boddurci_do_steps(&logged->disk, steps->at, steps->committed, steps->bytes) == 0)
+    if ((appends || clear_note(&logged->disk) == 0) && boddurci_do_steps(&logged->disk, steps->at, steps->committed, steps->bytes) == 0)
         return 0;
     give_up(logged);
     return -1;
@@ -446,6 +455,8 @@ static int close_log(struct boddurci_logged *logged)
         errno = ENOMEM;
         return -1;
     }
+    if (clear_note(&logged->disk) != 0)
+        return -1;
     return boddurci_do_steps(&logged->disk, steps, words / WORDS, (const uint8_t *)steps);
 }
 

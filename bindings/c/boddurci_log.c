@@ -303,6 +303,21 @@ static uint32_t open_log(struct boddurci_logged *logged, boddurci_fault *fault)
     return try_open(logged, LEAST_ROOM, fault);
 }
 
+/* If a note of a shared base says that all records are applied, closes the log: the data files may have later changes of programs that do
+ * not know it. */
+static uint32_t close_applied(struct boddurci_logged *logged, int *is_ended, boddurci_fault *fault)
+{
+    struct boddurci_disk *disk = &logged->disk;
+    uint32_t status = open_redo(disk, fault);
+    if (status != BODDURCI_DONE || !boddurci_is_applied(disk->place, disk->files[BODDURCI_REDO], &logged->next))
+        return status;
+    if (boddurci_take_files(disk->place) != 0)
+        return boddurci_fail_by_system(fault, "BASE.lock cannot be locked");
+    logged->is_open = 1;
+    logged->is_given_up = *is_ended = 0;
+    return boddurci_logged_renew(logged, fault);
+}
+
 uint32_t boddurci_logged_recover(struct boddurci_logged *logged, int *is_ended, boddurci_fault *fault)
 {
     boddurci_fault second;
@@ -315,6 +330,9 @@ uint32_t boddurci_logged_recover(struct boddurci_logged *logged, int *is_ended, 
     uint32_t status = look_only(disk->place, is_ended, fault);
     if (status == BODDURCI_DONE && !*is_ended)
         logged->is_given_up = 0;
+    if (status != BODDURCI_DONE || !*is_ended)
+        return status;
+    status = close_applied(logged, is_ended, fault);
     if (status != BODDURCI_DONE || !*is_ended)
         return status;
     status = open_log(logged, fault);
@@ -527,8 +545,11 @@ static uint32_t read_done(struct boddurci_place *place, int redo, struct boddurc
 uint32_t boddurci_read_marked(struct boddurci_place *place, int *is_marked, struct boddurci_bytes files[2], boddurci_fault *fault)
 {
     struct boddurci_bytes all[3] = {{NULL, 0, 0}, {NULL, 0, 0}, {NULL, 0, 0}};
+    boddurci_log log;
     int opened = -1;
     uint32_t status = look(place, &opened, is_marked, fault);
+    if (status == BODDURCI_DONE && *is_marked)
+        *is_marked = !boddurci_is_applied(place, opened, &log);
     if (status == BODDURCI_DONE && *is_marked)
         status = read_done(place, opened, all, fault);
     if (opened >= 0)

@@ -341,7 +341,8 @@ uint32_t boddurci_logged_renew(struct boddurci_logged *logged, boddurci_fault *f
 /* Closes the log and the files. If that fails the next opening recovers the base. It makes no step if a lock is lost. */
 void boddurci_logged_end(struct boddurci_logged *logged);
 
-/* Sets whether the redo file has its mark; if so, reads both data files with its saves applied. Free the bytes in any case. */
+/* Sets whether the redo file has its mark, and records that the data files may lack; if so, reads both data files with its saves applied.
+ * Free the bytes in any case. */
 uint32_t boddurci_read_marked(struct boddurci_place *place, int *is_marked, struct boddurci_bytes files[2], boddurci_fault *fault);
 
 /* ---- boddurci_notes.c: the state of the data files, and changes of it by other programs */
@@ -444,8 +445,15 @@ enum boddurci_applied {
 /* Reads the header of an open redo file, and the note if the result is APPLIED. */
 enum boddurci_applied boddurci_find_note(int redo, const struct boddurci_boot *boot, struct boddurci_log_note *note);
 
+/* Returns the state of the file under a name in a folder, or of an open one (AT_EMPTY_PATH). A reader does not ask for the times: after that
+ * some file systems write new ones at the next write. */
+struct boddurci_note boddurci_state_of(int folder, const char *name, int how, int has_times);
+
 /* How the data files differ from those of a note: SAME; WRITTEN, by a program that does not know the log; or OTHERS. */
 enum boddurci_change boddurci_change_since(const struct boddurci_log_note *note, const struct boddurci_note files[2]);
+
+/* Whether a note says that all records of an open redo file are applied to the data files under the names. Then it sets the end of the log. */
+int boddurci_is_applied(const struct boddurci_place *place, int redo, boddurci_log *log);
 
 /* Writes a note, without a sync; clears the note of an open redo file, or in its bytes. A note must be cleared before the log is emptied:
  * later records may end at the same place. */

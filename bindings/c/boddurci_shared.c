@@ -2,6 +2,7 @@
 #define _GNU_SOURCE
 #include "boddurci_saves.h"
 #include <errno.h>
+#include <fcntl.h>
 #include <pthread.h>
 #include <stdio.h>
 #include <stdlib.h>
@@ -333,25 +334,44 @@ static uint32_t fetch_recovered(boddurci_shared *shared, struct boddurci_command
     return call_whole(shared, command, end, fault);
 }
 
-/* Fetches under BASE.lock. Without that lock the fetch is made again if the lock exists by now: the first writer may have made it
- * meanwhile. If a log must be recovered, a save may be waiting for BASE.lock instead: boddurci_take_shared lets it go first. */
+/* A fetch that may have to be made again. */
+struct fetching {
+    boddurci_shared *shared;
+    struct boddurci_command *command;
+    int64_t end;
+    int must_recover, is_whole;
+};
+
+/* Fetches under BASE.lock, if that exists. If a save waits for it and `yields` is not 0, that save goes first. */
+static uint32_t fetch_once(struct fetching *it, int yields, boddurci_fault *fault)
+{
+    struct boddurci_place *place = &it->shared->place;
+    uint32_t status = yields ? boddurci_take_shared(place, left_of(it->end), fault) : boddurci_take_call(place, 1, left_of(it->end), fault);
+    if (status != BODDURCI_DONE)
+        return status;
+    status = boddurci_fetch_page(it->shared, it->command, &it->must_recover, &it->is_whole, fault);
+    boddurci_give_call(place);
+    return status;
+}
+
+static int has_lock(const struct boddurci_place *place)
+{
+    return faccessat(place->folder, place->names[BODDURCI_LOCK], F_OK, 0) == 0;
+}
+
+/* Without BASE.lock the fetch is made again if the lock exists by now: the first writer may have made it meanwhile. A log that must be
+ * recovered may be that of a service whose save waits for the files, so that save goes first. */
 static uint32_t fetch(boddurci_shared *shared, struct boddurci_command *command, int64_t end, boddurci_fault *fault)
 {
-    int must_recover = 0, is_whole = 0, had_lock = 1;
-    struct boddurci_place *place = &shared->place;
-    uint32_t status = BODDURCI_DONE;
-    for (int tries = 0; tries == 0 || (tries == 1 && (must_recover || !had_lock)); tries++) {
-        status = must_recover ? boddurci_take_shared(place, left_of(end), fault) : boddurci_take_call(place, 1, left_of(end), fault);
-        if (status != BODDURCI_DONE)
-            return status;
-        had_lock = place->opened[BODDURCI_LOCK] >= 0;
-        if (tries == 0 || had_lock || must_recover)
-            status = boddurci_fetch_page(shared, command, &must_recover, &is_whole, fault);
-        boddurci_give_call(place);
-    }
-    if (status == BODDURCI_DONE && must_recover)
+    struct fetching it = {shared, command, end, 0, 0};
+    uint32_t status = fetch_once(&it, 0, fault);
+    if (shared->place.opened[BODDURCI_LOCK] < 0 && status != BODDURCI_LOCKED && has_lock(&shared->place))
+        status = fetch_once(&it, 0, fault);
+    if (status == BODDURCI_DONE && it.must_recover)
+        status = fetch_once(&it, 1, fault);
+    if (status == BODDURCI_DONE && it.must_recover)
         return fetch_recovered(shared, command, end, fault);
-    return status == BODDURCI_DONE && is_whole ? call_whole(shared, command, end, fault) : status;
+    return status == BODDURCI_DONE && it.is_whole ? call_whole(shared, command, end, fault) : status;
 }
 
 /* Makes a call, as one step. */

@@ -60,6 +60,22 @@ static uint64_t check_of(const uint8_t *bytes)
 
 /* ---- states of the data files */
 
+struct boddurci_note boddurci_state_of(int folder, const char *name, int how, int has_times)
+{
+    struct stat is;
+    struct boddurci_note state;
+    memset(&state, 0, sizeof state);
+    if ((has_times ? fstatat(folder, name, &is, how) : boddurci_look(folder, name, how, &is)) != 0)
+        return state;
+    state.is_there = 1;
+    state.device = is.st_dev;
+    state.number = is.st_ino;
+    state.length = is.st_size;
+    if (has_times)
+        state.written = is.st_mtim, state.changed = is.st_ctim;
+    return state;
+}
+
 static uint64_t nanoseconds(struct timespec time)
 {
     return (uint64_t)time.tv_sec * 1000000000u + (uint64_t)time.tv_nsec;
@@ -138,6 +154,20 @@ enum boddurci_change boddurci_change_since(const struct boddurci_log_note *note,
             change = BODDURCI_WRITTEN;
     }
     return change;
+}
+
+int boddurci_is_applied(const struct boddurci_place *place, int redo, boddurci_log *log)
+{
+    struct boddurci_boot boot;
+    struct boddurci_log_note note;
+    struct boddurci_note files[2];
+    boddurci_boot_of_system(&boot);
+    if (boddurci_find_note(redo, &boot, &note) != BODDURCI_APPLIED)
+        return 0;
+    for (enum boddurci_file file = BODDURCI_PAGES; file <= BODDURCI_DIRECTORY; file++)
+        files[file] = boddurci_state_of(place->folder, place->names[file], 0, 0);
+    *log = note.log;
+    return boddurci_change_since(&note, files) != BODDURCI_OTHERS;
 }
 
 int boddurci_put_note(int redo, const struct boddurci_boot *boot, const boddurci_log *log, const struct boddurci_note files[2])

@@ -34,24 +34,6 @@ static int read_at(int file, uint64_t at, uint8_t *room, size_t size)
     return 0;
 }
 
-/* Reads the state of a file: of the one under a name, or of an open one. A fetch does not ask for the times: after that some file systems
- * write new ones at the next write. */
-static struct boddurci_note state_of(int folder, const char *name, int how, int has_times)
-{
-    struct stat is;
-    struct boddurci_note state;
-    memset(&state, 0, sizeof state);
-    if ((has_times ? fstatat(folder, name, &is, how) : boddurci_look(folder, name, how, &is)) != 0)
-        return state;
-    state.is_there = 1;
-    state.device = is.st_dev;
-    state.number = is.st_ino;
-    state.length = is.st_size;
-    if (has_times)
-        state.written = is.st_mtim, state.changed = is.st_ctim;
-    return state;
-}
-
 static void drop(int *file)
 {
     if (*file >= 0)
@@ -106,7 +88,7 @@ static uint32_t find_files(boddurci_shared *shared, int has_times, boddurci_faul
     uint32_t status = BODDURCI_DONE;
     for (int tries = 0; status == BODDURCI_DONE; tries++) {
         for (enum boddurci_file file = BODDURCI_PAGES; file <= BODDURCI_DIRECTORY; file++)
-            shared->notes.files[file] = state_of(place->folder, place->names[file], 0, has_times);
+            shared->notes.files[file] = boddurci_state_of(place->folder, place->names[file], 0, has_times);
         if (are_named(shared))
             break;
         status = tries < TRIES ? open_data(shared, fault) : boddurci_fail(fault, BODDURCI_MOVED, 0, "BASE.pag or BASE.dir comes and goes");
@@ -195,7 +177,7 @@ static void leave_log(boddurci_shared *shared)
         return;
     }
     for (enum boddurci_file file = BODDURCI_PAGES; file <= BODDURCI_DIRECTORY; file++)
-        files[file] = state_of(logged->disk.files[file], "", AT_EMPTY_PATH, 1);
+        files[file] = boddurci_state_of(logged->disk.files[file], "", AT_EMPTY_PATH, 1);
     (void)!boddurci_put_note(logged->disk.files[BODDURCI_REDO], &shared->boot, &logged->next, files);
 }
 

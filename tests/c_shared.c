@@ -603,18 +603,20 @@ static void test_orphans(void)
     if (parent == 0) {
         store(shared, "a", "c");
         if (fork() == 0) {
+            char none;
             close(ends[1]);
-            pause();
+            (void)!read(ends[0], &none, 1);
+            _exit(0);
         }
         for (;;)
             (void)!store(shared, "a", "d");
     }
-    close(ends[1]);
     nanosleep(&(struct timespec){0, 100000000}, NULL);
     kill(parent, SIGKILL);
     EXPECT(waitpid(parent, &status, 0) == parent && store(shared, "a", "e") == BODDURCI_DONE && has(shared, "a", "e"));
     boddurci_close_shared(shared);
     close(ends[0]);
+    close(ends[1]);
 }
 
 static boddurci_shared *waiting;

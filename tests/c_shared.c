@@ -5,7 +5,8 @@
  *     change BASE                  makes the changes on standard input, and prints a line after each
  *     fetch BASE KEY               prints the value of a key
  *     list BASE                    prints all pairs, as a reader
- *     hold BASE MILLISECONDS       has the base open for writing for a time, and saves a pair */
+ *     hold BASE MILLISECONDS       has the base open for writing for a time, and saves a pair
+ *     close BASE                   opens the base for writing, and closes it */
 #define _GNU_SOURCE
 #include "boddurci_files.h"
 #include <errno.h>
@@ -850,6 +851,11 @@ int main(int count_of_words, char **words)
         return fetch(words[2], words[3]);
     if (strcmp(what, "list") == 0)
         return list(words[2]);
+    if (strcmp(what, "close") == 0) {
+        boddurci_base *service = boddurci_open_files(words[2], 0, &fault);
+        boddurci_close_files(service);
+        return service != NULL ? 0 : 2;
+    }
     if (strcmp(what, "hold") == 0 && count_of_words > 3)
         return hold(words[2], atol(words[3]));
     return 4;

@@ -22,7 +22,8 @@
  * after the loss of power it may see old or mixed pages until this library or dbm has opened the base for writing once.
  *
  * One process at a time has a base open for writing, with this library or the program dbm: it holds a flock on BASE.writer. Other processes
- * wait for it as long as they request, and then get LOCKED; the text names the process if the system reports it.
+ * wait for it as long as they request, and then get LOCKED; the text names the process if the system reports it. Several processes may change
+ * one database by shared bases (boddurci_open_shared, at the end of this header), which hold the locks only during a call.
  *
  * An opening with BODDURCI_READ_ONLY does not wait for that process, and reads its last save. Readers and writers share the files by a
  * flock on BASE.lock: a writer holds it while it opens the base, for each save and to close, a reader while it reads. So a save waits for

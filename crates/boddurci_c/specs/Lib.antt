@@ -7,3 +7,4 @@ pub mod Plans
 pub mod Tickets
 pub mod Readings
 pub mod Stocks
+pub mod Page

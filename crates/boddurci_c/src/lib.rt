@@ -13,12 +13,14 @@ ghost use Rattle.boddurci_c.specs.Texts.{Assembles, Garbles};
 ghost use Rattle.boddurci_c.specs.Turns.{Begins, GoesOn};
 ghost use Rattle.boddurci_handles.specs.declared.opened.Db.{Db};
 ghost use Rattle.boddurci_c.specs.Plans.{Plans, DeniesPlan};
+ghost use Rattle.boddurci_c.specs.Page.{part_for, LacksPages, LacksPlan, PlansPageOf, Turns};
 ghost use Rattle.boddurci_c.specs.Tickets.{Asks, AsksNot, Works, WorksNot, FinishesOn, WhyNot, Finishes, FinishesNot};
 ghost use Rattle.sdbm_files.specs.Opened.{IsOpenFault, SpellsNoDatabase};
 
 mod db;
 mod logs;
 mod opening;
+mod page;
 mod plans;
 mod rooms;
 mod sizes;
@@ -31,16 +33,18 @@ use boddurci_handles::{Db, Handle, Job, Reading, Status, Ticket, read_piece};
 use db::{ask, delete, end_of, fetch, files, run, store};
 pub use logs::{boddurci_log_close, boddurci_log_open, boddurci_log_read, boddurci_log_save};
 use opening::{open, open_reading, pages_in};
+use page::{plan_page, turn_to};
 use plans::plan;
 use prog_registry::{ProgId, RegFault, Registry};
 use rooms::{copy_both, copy_out, tell};
 use sdbm_addr::{KeyBytes, Mode, PageSize};
 use sdbm_files::{MemSink, OpenFault};
-use sdbm_saves::Marked;
+use sdbm_saves::{Marked, Part};
 use sizes::{look, look_at_reading};
 use std::alloc::Global;
 use stocks::stock_image;
 use store_cmd::Reply;
+use store_parts::page_of;
 use texts::image_of;
 use turns::{Cursor, turn};
 use units::unit_of;
@@ -537,6 +541,82 @@ fn form_of(unsigned_keys: u32, wide: u32) -> (KeyBytes, PageSize)
         (_, 0) => (KeyBytes::Unsigned, PageSize::Small),
         (_, _) => (KeyBytes::Unsigned, PageSize::Wide),
     }
+}
+
+/// The number of the page to which a key leads by the bytes of `.dir`, which may be invalid: `boddurci_open_page` checks it.
+#[unsafe(no_mangle)]
+pub extern "C" fn boddurci_page_of(
+    _alloc: Global,
+    key: &[u8],
+    dir: &[u8],
+    unsigned_keys: u32,
+) -> u32 {
+    let (kind, _) = form_of(unsigned_keys, 0);
+    page_of(dir, kind, key)
+}
+
+/// Replaces the database of an open handle by that of the page of a key, for one command on that key. Its programs and its limit stay. The
+/// caller passes the bytes of `.dir`, the length of `.pag`, and the number and the bytes of the page; a byte past the end of the file
+/// counts as zero. The command has the same reply as on the whole database (`store_parts::same_on_whole`). Returns `BadFiles` if that page
+/// is not enough, or if memory ran out.
+#[unsafe(no_mangle)]
+pub extern "C" fn boddurci_open_page(
+    alloc: Global,
+    slot: &mut Handle,
+    key: &[u8],
+    dir: &[u8],
+    pag_length: usize,
+    number: u32,
+    page: &[u8],
+) -> u32
+    ensures { Turns key.now (part_for dir.entry pag_length number page.entry) slot.old.held result slot.new.held ⊎ Denies LacksPages slot.old.held result slot.new.held }
+{
+    let Some(mut db) = slot.take(alloc) else {
+        return Status::Closed.code();
+    };
+    let part = Part {
+        directory: dir,
+        len: pag_length,
+        number,
+        page,
+    };
+    let status = turn_to(alloc, &mut *db, key, part);
+    slot.put(db);
+    status.code()
+}
+
+/// Writes the plan that saves the database of a page after its command, if it fits in `room`, and sets its length; the length is 0 if the
+/// files do not change. Writes the numbers of the pages that the plan may write to `numbers`, and sets their number: in the file, all of
+/// these except the page itself have to be zeros. The caller passes the part that it passed to `boddurci_open_page`. Returns `Stale` if
+/// that page is not enough, or if memory ran out.
+#[unsafe(no_mangle)]
+pub extern "C" fn boddurci_plan_page(
+    alloc: Global,
+    slot: &mut Handle,
+    dir: &[u8],
+    pag_length: usize,
+    number: u32,
+    page: &[u8],
+    numbers: &mut [u32],
+    count: &mut usize,
+    room: &mut [u8],
+    len: &mut usize,
+) -> u32
+    ensures { PlansPageOf (part_for dir.entry pag_length number page.entry) slot.old.held result slot.new.held numbers.old numbers.new count.new room.old room.new len.new
+        ⊎ (Denies LacksPlan slot.old.held result slot.new.held × ((numbers.new ≡ numbers.old) × ((count.new ≡ count.old) × ((room.new ≡ room.old) × (len.new ≡ len.old))))) }
+{
+    let Some(db) = slot.take(alloc) else {
+        return Status::Closed.code();
+    };
+    let part = Part {
+        directory: dir,
+        len: pag_length,
+        number,
+        page,
+    };
+    let status = plan_page(alloc, &*db, part, numbers, count, room, len);
+    slot.put(db);
+    status.code()
 }
 
 /// Sets a number to 1 if files to be opened with wide pages look like those of a database with small pages, otherwise to 0.

@@ -266,7 +266,13 @@ fn save_opening<'a, R: Files<File = File> + AllocGlobal>(
     }
     let new = kept_bytes(rt.alloc(), old, plan.as_slice())?;
     let redo = find_redo(rt, names)?;
-    let files = RealFiles::new(rt, names, read.seen, redo.is_stale, CallLog::new(rt.alloc())?);
+    let files = RealFiles::new(
+        rt,
+        names,
+        read.seen,
+        redo.is_stale,
+        CallLog::new(rt.alloc())?,
+    );
     let found = FoundRead {
         files: old,
         redo: redo.bytes.as_slice(),
@@ -338,7 +344,7 @@ fn save_found<'a, R: Files<File = File>>(
     requires pages { IfSome new (λ new. new.pages.items ≡ renewed Pages plan.now found.files.pages.now.bytes) }
     requires directory { IfSome new (λ new. new.directory.items ≡ renewed Directory plan.now found.files.directory.now) }
 {
-    let noted = Noted::of_read(&found);
+    let noted = Noted::of_read(found.files.pages, found.files.directory, found.redo);
     let mut disk = Recorded::<RealFiles<'a, R>, Unknown, Noted>::new(files, noted);
     match save_first(alloc, &mut disk, found.redo, plan, ROOM)? {
         (Outcome::Pending(_), _) => Ok(SessionLog::Closed),

@@ -22,7 +22,7 @@ use Rattle.dbm_runs.specs.Running.{RunsImage}
 use Rattle.dbm_quick.specs.declared.asked.Asked.{Asked}
 use Rattle.dbm_quick.specs.declared.asked.Asked.TheVariants as asked
 use Rattle.dbm_quick.specs.Asked.{Answers, IsKeyed, key_in}
-use Rattle.dbm_quick.proofs.PartOf.{changed_kind, changed_size}
+use Rattle.store_parts.proofs.PartOf.{changed_kind, changed_size}
 
 -- the same report, with another database
 abbrev pub report_on : Report → Option Database → Report

@@ -1,4 +1,2 @@
-pub mod Pages
-pub mod PartOf
 pub mod Alike
 pub mod Whole

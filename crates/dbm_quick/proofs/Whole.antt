@@ -1,5 +1,5 @@
 -- The result, on the whole files, of a command on the page of its key.
-use Rattle.std.proofs.Common.{◌≡◌, ◌≢◌, ◌⊎◌, inl, inr, ℕ, List, [], Option, Some, None, Bool, true, false, IfSome, IsNone, refl, sym, ap, ◌∙◌, subst, Contains}
+use Rattle.std.proofs.Common.{◌≡◌, ◌≢◌, ◌⊎◌, inl, inr, ℕ, List, [], Option, Some, None, Bool, true, false, refl, sym, ap, ◌∙◌, subst, Contains}
 use Rattle.std.specs.Global.{Vec}
 use Rattle.std.specs.declared.alloc.Global.{Global}
 use Rattle.sdbm_addr.specs.declared.KeyBytes.{KeyBytes}
@@ -17,10 +17,11 @@ use Rattle.dbm_pairs.specs.Fetch.{FetchShows}
 use Rattle.dbm_quick.specs.declared.asked.Asked.{Asked}
 use Rattle.dbm_quick.specs.declared.asked.Asked.TheVariants as asked
 use Rattle.dbm_quick.specs.Asked.{Answers, IsKeyed, key_in}
-use Rattle.dbm_quick.specs.Parts.{IsOpenedPart, IsPlannedPart}
-use Rattle.dbm_quick.specs.Quick.{AreWhole, ComesTo, IsQuick, SavesAs}
+use Rattle.store_parts.specs.Parts.{AreWhole, IsOpenedPart, IsPlannedPart}
+use Rattle.dbm_quick.specs.Quick.{ComesTo, IsQuick}
 use Rattle.dbm_quick.proofs.Alike.{IsReportedAlike, report_on, alike_answers}
-use Rattle.dbm_quick.proofs.PartOf.{alike_of, part_of}
+use Rattle.store_parts.proofs.PartOf.{alike_of, part_of}
+use Rattle.store_parts.proofs.Saved.{saves_by, some_of}
 
 shows_none : (raw : Bool) (n : Notation Global) (db : Database) (command : Command Global) (report : Report) → FetchShows raw n db command report → report.database ≡ None
 shows_none false n db command report (mid, (told, none)) = none
@@ -32,14 +33,6 @@ size_after n (asked.Fetch command raw) db report told after is = absurd (let cla
 size_after n (asked.Change command) db report (mid, (told, some)) after is = let both : Some mid ≡ Some after = sym some ∙ is in let same : mid ≡ after = cc in ap (λ (d : Database). d.size) (sym same) ∙ told.size
 size_after n (asked.Run words program expect) db report (inl (p, (of, (mid, (told, some))))) after is = let both : Some mid ≡ Some after = sym some ∙ is in let same : mid ≡ after = cc in ap (λ (d : Database). d.size) (sym same) ∙ told.size
 size_after n (asked.Run words program expect) db report (inr (fault, (denies, refuses))) after is = let both : Some db ≡ Some after = sym refuses.written ∙ is in let same : db ≡ after = cc in ap (λ (d : Database). d.size) (sym same)
-
-saves_by : (after : Database) (pag dir : List ℕ) (plan : Option (Vec ℕ)) → IfSome plan (λ p. IsSaving after p.items pag dir) → (IsNone plan → AreFilesFor after pag dir) → SavesAs (Some after) plan pag dir
-saves_by after pag dir None some none = none refl
-saves_by after pag dir (Some p) some none = some
-
-some_of : (P Q : Vec ℕ → Type 0) (plan : Option (Vec ℕ)) → ((p : Vec ℕ) → P p → Q p) → IfSome plan P → IfSome plan Q
-some_of P Q None f h = tt
-some_of P Q (Some p) f h = f p h
 
 module _ (n : Notation Global) (asked : Asked) (keyed : IsKeyed asked) (part : Part) (kind : KeyBytes) (size : PageSize) (image : Database) (key : List ℕ) (key_is : key ≡ key_in asked) (opened : IsOpenedPart key part kind size image) (report : Report) (told : Answers n asked image report) where
   module _ (numbers : List ℕ) (db : Database) (pag : List ℕ) (kinds : db.kind ≡ kind) (sizes : db.size ≡ size) (whole : AreWhole part numbers db pag) where

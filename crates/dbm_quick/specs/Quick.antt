@@ -1,31 +1,17 @@
 -- A command that needs only the page of its key, and its result on the whole database.
-use Rattle.std.specs.Prelude.{◌≡◌, ℕ, List, Option, Some, None}
-use Rattle.std.specs.Global.{Vec}
+use Rattle.std.specs.Prelude.{◌≡◌, ℕ, List, Option}
 use Rattle.std.specs.declared.alloc.Global.{Global}
 use Rattle.sdbm_addr.specs.declared.KeyBytes.{KeyBytes}
 use Rattle.sdbm_addr.specs.declared.PageSize.{PageSize}
 use Rattle.sdbm_addr.specs.Database.{Database}
-use Rattle.sdbm_addr.specs.Files.{SpellsDatabase}
-use Rattle.sdbm_saves.specs.Saves.{AreFilesFor, IsSaving}
-use Rattle.sdbm_saves.specs.Parts.{IsReadSo}
+use Rattle.sdbm_saves.specs.Saves.{AreFilesFor}
 use Rattle.sdbm_saves.specs.declared.part.Part.{Part}
+use Rattle.store_parts.specs.Parts.{AreWhole, SavesAs}
 use Rattle.dbm_script.specs.declared.notations.Notation.{Notation}
 use Rattle.dbm_reports.specs.declared.report.Report.{Report}
 use Rattle.dbm_quick.specs.declared.asked.Asked.{Asked}
 use Rattle.dbm_quick.specs.declared.quick.Quick.{Quick}
 use Rattle.dbm_quick.specs.Asked.{Answers}
-
--- the whole files of a database, with a part that was read
-pub record AreWhole (part : Part) (numbers : List ℕ) (db : Database) (pag : List ℕ) : Type 0 where
-  pub spells : SpellsDatabase db part.directory.now pag
-  pub read : IsReadSo part numbers db.size pag
-
--- A plan turns the files into those of the database that has to be saved; without a plan they already are. If no database has to be saved
--- there is no plan.
-abbrev pub SavesAs : Option Database → Option (Vec ℕ) → List ℕ → List ℕ → Type 0
-SavesAs None plan pag dir = plan ≡ None
-SavesAs (Some after) None pag dir = AreFilesFor after pag dir
-SavesAs (Some after) (Some plan) pag dir = IsSaving after plan.items pag dir
 
 -- the report: its text, its status, and the database that has to be saved
 abbrev pub report_with : Quick → Option Database → Report

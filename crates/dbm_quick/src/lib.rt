@@ -6,4 +6,4 @@ mod asked;
 mod quick;
 
 pub use asked::{Asked, asked_by_delete, asked_by_fetch, asked_by_run, asked_by_store};
-pub use quick::{Quick, has_own_pairs, page_of, work};
+pub use quick::{Quick, work};

@@ -14,8 +14,7 @@ use dbm_files::{LockedFiles, PlannedPart, Saved, UnreadPages, save_part};
 use dbm_places::FileBytes;
 use dbm_programs::refusal_of;
 use dbm_quick::{
-    Asked, Quick, asked_by_delete, asked_by_fetch, asked_by_run, asked_by_store, has_own_pairs,
-    page_of, work,
+    Asked, Quick, asked_by_delete, asked_by_fetch, asked_by_run, asked_by_store, work,
 };
 use dbm_reports::{ReportFault, key_bytes_of, notation_by, page_size_of};
 use dbm_script::Notation;
@@ -27,6 +26,7 @@ use std::alloc::Global;
 use std::fs::File;
 use std::io::{self, Read};
 use std::rt::{Files, Runtime};
+use store_parts::{has_own_pairs, page_of};
 
 /// Returns `true` if a request may be served so.
 pub fn may_be_quick(ask: &Ask<'_>) -> bool {

@@ -1,5 +1,5 @@
 -- The pages of a database, as a draft writes them in order.
-use Rattle.std.proofs.Common.{◌≡◌, ℕ, suc, ◌+◌, ◌*◌, ◌-◌, ◌/◌, ◌%◌, ◌<◌, ◌≤◌, ◌^◌, List, [], ◌++◌, length, take, drop, get_or, refl, absurd, sym, ◌∙◌, ap, subst, arith, length-append}
+use Rattle.std.proofs.Common.{◌≡◌, ℕ, suc, ◌+◌, ◌*◌, ◌-◌, ◌/◌, ◌%◌, ◌<◌, ◌≤◌, ◌^◌, List, [], ◌++◌, length, take, drop, get_or, refl, sym, ◌∙◌, ap, subst, arith, length-append}
 use Rattle.std.proofs.lemmas.List.{ext_get_or, get_or_append_left, get_or-append_right}
 use Rattle.sdbm_addr.specs.declared.PageSize.{PageSize}
 use Rattle.sdbm_addr.specs.declared.PageSize.TheVariants.{Small, Wide}
@@ -130,6 +130,6 @@ changes_nothing both pages directory =
     record {
       whole = is_planned (length both.0) (length both.1) both 0 [] pages directory (omega arith) pages directory none;
       knows = knows_planned (length both.0) (length both.1) both 0 [] pages directory (omega arith) pages directory none;
-      pages = renewed_planned (length both.0) (length both.1) both 0 [] pages directory (omega arith) pages directory Pages (length both.0) both.0 refl ∙ resized_own (length both.0) both.0 refl;
-      directory = renewed_planned (length both.0) (length both.1) both 0 [] pages directory (omega arith) pages directory Directory (length both.1) both.1 refl ∙ resized_own (length both.1) both.1 refl;
+      same_pages = renewed_planned (length both.0) (length both.1) both 0 [] pages directory (omega arith) pages directory Pages (length both.0) both.0 refl ∙ resized_own (length both.0) both.0 refl;
+      same_directory = renewed_planned (length both.0) (length both.1) both 0 [] pages directory (omega arith) pages directory Directory (length both.1) both.1 refl ∙ resized_own (length both.1) both.1 refl;
     }

@@ -20,8 +20,8 @@ pub record IsSaving (db : Database) (plan old_pages old_directory : List ℕ) : 
 pub record ChangesNothing (plan pages directory : List ℕ) : Type 0 where
   pub whole : IsPlan plan
   pub knows : Knows plan (pages, directory)
-  pub pages : renewed Pages plan pages ≡ pages
-  pub directory : renewed Directory plan directory ≡ directory
+  pub same_pages : renewed Pages plan pages ≡ pages
+  pub same_directory : renewed Directory plan directory ≡ directory
 
 -- a file that is written for the database has 2^32 bytes or more
 pub record HasLongFile (db : Database) : Type 0 where

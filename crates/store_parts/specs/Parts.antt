@@ -1,9 +1,11 @@
 -- A database with only one page read, before a command and after it.
-use Rattle.std.specs.Prelude.{◌≡◌, ◌≢◌, ◌<◌, ◌+◌, ◌-◌, ◌/◌, ℕ, List, [], Option, Contains, IfSome, IsNone}
+use Rattle.std.specs.Prelude.{◌≡◌, ◌≢◌, ◌+◌, ◌/◌, ℕ, List, [], Option, Some, None, Contains, IfSome, IsNone}
 use Rattle.std.specs.Global.{Vec}
+use Rattle.std.specs.declared.alloc.Global.{Global}
 use Rattle.sdbm_addr.specs.declared.KeyBytes.{KeyBytes}
 use Rattle.sdbm_addr.specs.declared.PageSize.{PageSize}
 use Rattle.sdbm_addr.specs.DirectoryFile.{SpellsDirectory}
+use Rattle.sdbm_addr.specs.Files.{SpellsDatabase}
 use Rattle.sdbm_addr.specs.Layout.{Spells}
 use Rattle.sdbm_addr.specs.Pairs.{page_bytes}
 use Rattle.sdbm_addr.specs.Database.{Database, IsDatabase, pairs_at}
@@ -12,7 +14,10 @@ use Rattle.sdbm_saves.specs.Redo.{IsPlan, Knows}
 use Rattle.sdbm_saves.specs.Saves.{AreFilesFor, IsSaving}
 use Rattle.sdbm_saves.specs.Parts.{IsPartOf, IsReadSo}
 use Rattle.sdbm_saves.specs.declared.part.Part.{Part}
+use Rattle.store_cmd.specs.declared.Entry.{Entry}
+use Rattle.store_moves.specs.Acts.{Acts}
 use Rattle.store_moves.specs.Leads.{IsPlaceOf}
+use Rattle.store_moves.specs.Works.{key_of, HasKey}
 
 -- the database of the page that was read
 pub record IsOpenedPage (part : Part) (kind : KeyBytes) (size : PageSize) (db : Database) : Type 0 where
@@ -42,3 +47,29 @@ pub record IsPlannedPart (part : Part) (db : Database) (numbers : List ℕ) (pla
   pub saves : IfSome plan (λ p. (whole : Database) (pag : List ℕ) → IsPartOf part numbers db whole pag → IsSaving whole p.items pag part.directory.now)
   pub none : IsNone plan → (whole : Database) (pag : List ℕ) → IsPartOf part numbers db whole pag → AreFilesFor whole pag part.directory.now
   pub knows : IfSome plan (λ p. IsPlan p.items × ((pag : List ℕ) → IsReadSo part numbers db.size pag → Knows p.items (pag, part.directory.now)))
+
+-- the whole files of a database, with a part that was read
+pub record AreWhole (part : Part) (numbers : List ℕ) (db : Database) (pag : List ℕ) : Type 0 where
+  pub spells : SpellsDatabase db part.directory.now pag
+  pub read : IsReadSo part numbers db.size pag
+
+-- A plan turns the files into those of the database that has to be saved; without a plan they already are. If no database has to be saved
+-- there is no plan.
+abbrev pub SavesAs : Option Database → Option (Vec ℕ) → List ℕ → List ℕ → Type 0
+SavesAs None plan pag dir = plan ≡ None
+SavesAs (Some after) None pag dir = AreFilesFor after pag dir
+SavesAs (Some after) (Some plan) pag dir = IsSaving after plan.items pag dir
+
+-- A command about a key was answered on the database of the page that was read, and the save of that database was planned.
+pub record IsServed (part : Part) (kind : KeyBytes) (size : PageSize) (entry : Entry Global) (before after : Database) (numbers : List ℕ) (plan : Option (Vec ℕ)) : Type 0 where
+  pub keyed : HasKey entry.command
+  pub opened : IsOpenedPart (key_of entry.command) part kind size before
+  pub acts : Acts before entry after
+  pub planned : IsPlannedPart part after numbers plan
+
+-- On the whole database the command has the same reply. On files that a save has left, the plan turns them into those of the whole database
+-- after the command.
+pub record IsSameOnWhole (part : Part) (entry : Entry Global) (plan : Option (Vec ℕ)) (db : Database) (pag : List ℕ) : Type 0 where
+  pub after : Database
+  pub acts : Acts db entry after
+  pub saves : AreFilesFor db pag part.directory.now → SavesAs (Some after) plan pag part.directory.now

@@ -1,29 +1,26 @@
 -- The whole of a database after a change of the one page that was read.
-use Rattle.std.proofs.Common.{◌≡◌, ◌≢◌, ℕ, ◌+◌, ◌*◌, ◌-◌, ◌/◌, ◌%◌, ◌<◌, ◌≤◌, List, [], ◌∷◌, length, get_or, replicate, Bool, true, false, Option, Some, None, refl, sym, ap, ◌∙◌, subst, arith, eqb, Contains, nat_lt}
+use Rattle.std.proofs.Common.{◌≡◌, ◌≢◌, ℕ, ◌+◌, ◌*◌, ◌-◌, ◌/◌, ◌<◌, ◌≤◌, List, [], ◌∷◌, length, get_or, replicate, Bool, true, false, Option, Some, None, refl, sym, ap, ◌∙◌, subst, arith, eqb, Contains, nat_lt}
 use Rattle.std.proofs.lemmas.List.{ext_get_or, get_or_past, get_or-replicate, length-replicate}
 use Rattle.std.proofs.lemmas.Bool.{eqb-true, eq-eqb, ltb-true, ltb-false}
-use Rattle.sdbm_addr.specs.declared.KeyBytes.{KeyBytes}
 use Rattle.sdbm_addr.specs.declared.PageSize.{PageSize}
 use Rattle.sdbm_addr.specs.declared.PageSize.TheVariants.{Small, Wide}
 use Rattle.sdbm_addr.specs.Directory.{Splits}
-use Rattle.sdbm_addr.specs.DirectoryFile.{SpellsDirectory}
 use Rattle.sdbm_addr.specs.Layout.{Spells, bytes_of_page, free_bytes}
 use Rattle.sdbm_addr.specs.Pairs.{Pair, page_bytes, IsPage}
 use Rattle.sdbm_addr.specs.Database.{Database, IsDatabase, pairs_at}
-use Rattle.sdbm_addr.specs.Files.{page_at, first_pages, SpellsDatabase, ArePagBytes}
+use Rattle.sdbm_addr.specs.Files.{page_at, SpellsDatabase, ArePagBytes}
 use Rattle.sdbm_dir.proofs.FileLemmas.{SpellsDirectory-unique}
 use Rattle.sdbm_page.proofs.Spelled.{spelled_once}
 use Rattle.sdbm_split.specs.Planned.{PageChange}
 use Rattle.sdbm_files.specs.Installed.{marked}
 use Rattle.sdbm_files.proofs.PagesInBytes.{page_reads}
-use Rattle.sdbm_files.proofs.WriteLemmas.{empty_page, long_page, length-first_pages, page_of_first}
+use Rattle.sdbm_files.proofs.WriteLemmas.{empty_page, length-first_pages, page_of_first}
 use Rattle.sdbm_saves.specs.Saves.{AreFilesFor}
 use Rattle.sdbm_saves.specs.Parts.{ReadsPage, IsReadSo, IsPartOf}
 use Rattle.sdbm_saves.specs.declared.part.Part.{Part}
 use Rattle.store_moves.specs.Leads.{MayChange, changed_by}
 use Rattle.store_moves.proofs.Parts.{IsAlikeAt, IsChangedAlike, pairs_alike, pairs_beside}
-use Rattle.dbm_quick.specs.Parts.{IsOpenedPart, EndsWithPairs}
-use Rattle.dbm_quick.specs.Quick.{AreWhole}
+use Rattle.store_parts.specs.Parts.{AreWhole, EndsWithPairs, IsOpenedPart}
 
 -- ---- pages and numbers
 

@@ -1,5 +1,5 @@
 -- Existing pages, and page numbers.
-use Rattle.std.proofs.Common.{◌≡◌, ◌≢◌, ℕ, List, [], Bor, Bool, true, false, Option, Some, None, IfSome, is_some, unwrap_or, sym, ap, ◌∙◌, ◌∷◌, refl, suc, zero, length, ◌+◌, ◌<◌, arith, Contains}
+use Rattle.std.proofs.Common.{◌≡◌, ◌≢◌, ℕ, List, [], Bor, true, false, Option, Some, None, IfSome, is_some, unwrap_or, sym, ap, ◌∙◌, ◌∷◌, refl, suc, arith, Contains}
 use Rattle.std.specs.Option.{option_map}
 use Rattle.std.specs.FinMap as map
 use Rattle.sdbm_addr.specs.declared.KeyBytes.{KeyBytes}
@@ -9,7 +9,7 @@ use Rattle.sdbm_addr.specs.Layout.{Spells}
 use Rattle.sdbm_addr.specs.Pairs.{Pair, Content}
 use Rattle.sdbm_addr.specs.Database.{Database, IsDatabase, pairs_at}
 use Rattle.sdbm_saves.specs.declared.part.Part.{Part}
-use Rattle.dbm_quick.specs.Parts.{IsOpenedPage}
+use Rattle.store_parts.specs.Parts.{IsOpenedPage}
 
 -- an existing page has pairs
 pub pairs_there : (db : Database) → IsDatabase db → (n : ℕ) (page : Option (Bor Content)) → option_map (λ (p : Bor Content). p.now.pairs) page ≡ map.get db.pages n → is_some page ≡ true → pairs_at db n ≢ []

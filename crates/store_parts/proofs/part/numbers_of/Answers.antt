@@ -1,6 +1,6 @@
 use Rattle.std.proofs.Common.{◌≡◌, ◌∷◌, ℕ, List, Contains, sym, subst, rules}
-use Rattle.dbm_quick.proofs.Pages.{behind_first}
-use Rattle.dbm_quick.proofs.quick.numbers_of.Goals as goal
+use Rattle.store_parts.proofs.Pages.{behind_first}
+use Rattle.store_parts.proofs.part.numbers_of.Goals as goal
 
 pub returns-then-has_pairs-clause-first : goal.returns-then-has_pairs-clause-first
 returns-then-has_pairs-clause-first c = c.in_ok-numbers.ensures.covers c.args.number (c.has_pairs.ensures c.if-has_pairs.true)

@@ -1,5 +1,5 @@
-use Rattle.dbm_quick.proofs.Pages.{opened_as}
-use Rattle.dbm_quick.proofs.quick.opened_page.Goals as goal
+use Rattle.store_parts.proofs.Pages.{opened_as}
+use Rattle.store_parts.proofs.part.opened_page.Goals as goal
 
 pub returns : goal.returns
 returns c =

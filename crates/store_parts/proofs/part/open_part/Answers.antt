@@ -1,5 +1,5 @@
-use Rattle.std.proofs.Common.{◌≡◌, rules}
-use Rattle.dbm_quick.proofs.quick.open_part.Goals as goal
+use Rattle.std.proofs.Common.{rules}
+use Rattle.store_parts.proofs.part.open_part.Goals as goal
 
 pub returns : goal.returns
 returns c = record {

@@ -3,7 +3,7 @@ use Rattle.sdbm_addr.specs.Database.{Database}
 use Rattle.sdbm_saves.specs.Redo.{IsPlan, Knows}
 use Rattle.sdbm_saves.specs.Saves.{AreFilesFor, IsSaving}
 use Rattle.sdbm_saves.specs.Parts.{IsPartOf, IsReadSo}
-use Rattle.dbm_quick.proofs.quick.plan_after.Goals as goal
+use Rattle.store_parts.proofs.part.plan_after.Goals as goal
 
 pub returns : goal.returns
 returns c =

@@ -1,0 +1,87 @@
+//! A database of which only the page of one key was read.
+ghost use Rattle.std.specs.Prelude.{◌≡◌, ◌⊎◌, ◌%◌, length, true};
+ghost use Rattle.sdbm_addr.specs.Pairs.{page_bytes};
+ghost use Rattle.boddurci_c.specs.Page.{TurnsTo, PlansPage, bytes_of_plan};
+ghost use Rattle.boddurci_handles.specs.declared.status.Status.TheVariants.{Done, Stale};
+
+use crate::rooms::copy_out;
+use boddurci_handles::{Base, Db, Status};
+use sdbm_addr::PageSize;
+use sdbm_saves::Part;
+use std::alloc::Global;
+use store_parts::{open_part, plan_after};
+
+// Returns true if the page has the page size, and the file has whole pages.
+fn has_whole_pages(part: Part<'_>, size: PageSize) -> bool
+    ensures page { result ≡ true → length part.entry.page.now ≡ page_bytes size }
+    ensures whole { result ≡ true → part.entry.len % page_bytes size ≡ 0 }
+{
+    if part.page.len() != size.bytes() {
+        return false;
+    }
+    part.len % size.bytes() == 0
+}
+
+/// Replaces the database of a handle by that of the page of a key. Programs and limit stay. Returns `BadFiles` if the page is not enough, or
+/// if memory ran out; the database then stays.
+pub fn turn_to(alloc: Global, db: &mut Db, key: &[u8], part: Part<'_>) -> Status
+    ensures { TurnsTo key.now part.entry db.old result db.new }
+{
+    let (kind, size) = (db.image.key_bytes(), db.image.page_size());
+    if !has_whole_pages(part, size) {
+        return Status::BadFiles;
+    }
+    let Some(image) = open_part(alloc, key, part, kind, size) else {
+        return Status::BadFiles;
+    };
+    let base = Base::of(&image);
+    db.marks.cut(0);
+    db.base = base;
+    db.image = image;
+    Status::Done
+}
+
+/// Writes the plan of the page's database to `room`, and the numbers of the pages that it may write to `numbers`, if they fit. Sets both
+/// lengths. Returns `Stale` if the page is not enough, or if memory ran out; everything then stays.
+pub fn plan_page(
+    alloc: Global,
+    db: &Db,
+    part: Part<'_>,
+    numbers: &mut [u32],
+    count: &mut usize,
+    room: &mut [u8],
+    len: &mut usize,
+) -> Status
+    ensures { PlansPage part.entry db.now numbers.old numbers.new count.new room.old room.new len.new result
+        ⊎ ((result ≡ Stale) × ((numbers.new ≡ numbers.old) × ((count.new ≡ count.old) × ((room.new ≡ room.old) × (len.new ≡ len.old))))) }
+{
+    if !has_whole_pages(part, db.image.page_size()) {
+        return Status::Stale;
+    }
+    let Some((written, plan)) = plan_after(alloc, part, &db.image) else {
+        return Status::Stale;
+    };
+    let first = copy_out(written.as_slice(), numbers, count);
+    both_done(first, copy_out(bytes_in(&plan), room, len))
+}
+
+// The bytes of a plan, or none.
+fn bytes_in(plan: &Option<Vec<u8>>) -> &[u8]
+    ensures { result.now ≡ bytes_of_plan plan.now }
+{
+    match plan {
+        Some(plan) => plan.as_slice(),
+        None => &[],
+    }
+}
+
+// The first status, or the second one if the first is `Done`.
+fn both_done(first: Status, second: Status) -> Status
+    ensures done { result ≡ Done → (first ≡ Done) × (second ≡ Done) }
+    ensures says { (result ≡ first) ⊎ (result ≡ second) }
+{
+    match first {
+        Status::Done => second,
+        other => other,
+    }
+}

@@ -1,0 +1,11 @@
+//! A database of which only the page of one key was read. A command on that key has the same reply there as on the whole database, and the
+//! plan of its save serves the whole files.
+#![tactic(auto)]
+
+mod law;
+mod part;
+mod place;
+
+pub use law::same_on_whole;
+pub use part::{open_part, plan_after};
+pub use place::{has_own_pairs, page_of};

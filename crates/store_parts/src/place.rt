@@ -1,0 +1,53 @@
+//! The page to which a key leads, by the bytes of a directory that may be invalid.
+ghost use Rattle.std.specs.Prelude.{◌≡◌, length};
+ghost use Rattle.sdbm_addr.specs.Pairs.{page_bytes};
+
+use sdbm_addr::{KeyBytes, PageSize, hash, mask};
+use sdbm_page::Page;
+use std::alloc::Global;
+
+/// The number of the page to which a key leads by the bits of a directory, which may be any bytes. Its time is linear in the depth of the
+/// place, not in the number of bytes. `open_part` checks that the bytes are a directory and that the key leads there.
+pub fn page_of(directory: &[u8], kind: KeyBytes, key: &[u8]) -> u32 {
+    let hash = hash(key, kind);
+    let mut bit = 0usize;
+    for depth in 0..31 {
+        if !is_set(directory, bit) {
+            return hash & mask(depth);
+        }
+        let side = if (hash >> depth) & 1 == 1 { 2 } else { 1 };
+        bit = bit.wrapping_mul(2).wrapping_add(side);
+    }
+    hash & mask(31)
+}
+
+// Returns `true` if a bit of some bytes is set. Bits past the end are not set.
+fn is_set(bytes: &[u8], bit: usize) -> bool {
+    match bytes.get(bit / 8) {
+        Some(byte) => (*byte >> (bit % 8)) & 1 == 1,
+        None => false,
+    }
+}
+
+/// Returns `true` if a page has pairs, and all of its keys lead to it by the bits of a directory. This detects a directory that is lost, or
+/// that of another database. Returns `false` if allocation fails.
+pub fn has_own_pairs(
+    alloc: Global,
+    directory: &[u8],
+    kind: KeyBytes,
+    size: PageSize,
+    number: u32,
+    page: &[u8],
+) -> bool
+    requires { length page.now ≡ page_bytes size }
+{
+    let Ok(page) = Page::from_bytes(alloc, page, size) else {
+        return false;
+    };
+    for i in 0..page.len() {
+        if page_of(directory, kind, page.key(i)) != number {
+            return false;
+        }
+    }
+    !page.is_empty()
+}

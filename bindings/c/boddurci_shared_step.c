@@ -163,7 +163,7 @@ static uint32_t settle_log(boddurci_shared *shared, boddurci_fault *fault)
 }
 
 /* Leaves a note for the next call. If another program has written during this one, the log is closed instead: its records may not belong to
- * these files. If that fails, the next call recovers. */
+ * these files. So it is if the boot is unknown, for which a note would be. If that fails, the next call recovers. */
 static void leave_log(boddurci_shared *shared)
 {
     boddurci_fault unsaid;
@@ -172,7 +172,7 @@ static void leave_log(boddurci_shared *shared)
     boddurci_settle_locks(&shared->place);
     if (!boddurci_logged_is_marked(logged))
         return;
-    if (shared->notes.is_overtaken) {
+    if (shared->notes.is_overtaken || !shared->boot.is_known) {
         (void)!boddurci_logged_renew(logged, &unsaid);
         return;
     }

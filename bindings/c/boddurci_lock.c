@@ -576,10 +576,16 @@ static void let_go(const struct boddurci_place *place, off_t byte, int64_t end)
         nanosleep(&moment, NULL);
 }
 
+/* Whether the files of both locks are open. They are those under the names, unless it turns out otherwise once they are locked. */
+static int are_open(const struct boddurci_place *place)
+{
+    return place->opened[BODDURCI_LOCK] >= 0 && place->opened[BODDURCI_WRITER] >= 0;
+}
+
 /* Tries once to take both locks for a call. After the first try it does not try BASE.lock while BASE.writer is busy. */
 static enum outcome try_call(struct boddurci_place *place, int is_first, int *is_next, boddurci_fault *fault)
 {
-    for (enum boddurci_file lock = BODDURCI_LOCK; lock <= BODDURCI_WRITER; lock++)
+    for (enum boddurci_file lock = BODDURCI_LOCK; lock <= BODDURCI_WRITER && !(is_first && are_open(place)); lock++)
         if (open_lock(place, lock, 0, fault) != BODDURCI_DONE)
             return HAS_FAILED;
     *is_next = 0;
@@ -602,10 +608,11 @@ static enum outcome try_call(struct boddurci_place *place, int is_first, int *is
 static uint32_t take_to_change(struct boddurci_place *place, int64_t end, boddurci_fault *fault)
 {
     enum { LONG = 20 };
-    int tries = 0, has_waited = 0, is_next;
+    int tries = 0, is_first = 1, has_waited = 0, is_next;
     enum outcome outcome = TRY_AGAIN;
     while (outcome == TRY_AGAIN || outcome == IS_BUSY) {
-        outcome = try_call(place, !has_waited, &is_next, fault);
+        outcome = try_call(place, is_first, &is_next, fault);
+        is_first = 0;
         has_waited = has_waited || outcome == IS_BUSY;
         if (outcome == IS_BUSY && is_next && tries >= LONG && lock_bytes(place, F_WRLCK, STARVES, 1) == 0)
             tries = LONG;
@@ -625,6 +632,20 @@ static uint32_t take_to_change(struct boddurci_place *place, int64_t end, boddur
     return fault->status;
 }
 
+/* Shares BASE.lock if its file is open, and nobody has it exclusively. */
+static int share_open(struct boddurci_place *place)
+{
+    int lock = place->opened[BODDURCI_LOCK];
+    if (lock < 0 || flock(lock, LOCK_SH | LOCK_NB) != 0)
+        return 0;
+    if (is_named(place, BODDURCI_LOCK)) {
+        note_held(place);
+        return 1;
+    }
+    flock(lock, LOCK_UN);
+    return 0;
+}
+
 uint32_t boddurci_take_call(struct boddurci_place *place, int reads, int64_t milliseconds, boddurci_fault *fault)
 {
     int64_t end = end_of(milliseconds);
@@ -633,6 +654,8 @@ uint32_t boddurci_take_call(struct boddurci_place *place, int reads, int64_t mil
         let_go(place, reads ? WAITS : STARVES, end);
     if (!reads)
         return take_to_change(place, end, fault);
+    if (share_open(place))
+        return BODDURCI_DONE;
     while (status == BODDURCI_INTERRUPTED)
         status = share_lock(place, end, fault);
     if (status == BODDURCI_DONE)
@@ -640,12 +663,13 @@ uint32_t boddurci_take_call(struct boddurci_place *place, int reads, int64_t mil
     return status;
 }
 
-void boddurci_give_call(struct boddurci_place *place)
+void boddurci_give_call(struct boddurci_place *place, int reads)
 {
     forget_held(place);
-    for (enum boddurci_file lock = BODDURCI_WRITER; lock >= BODDURCI_LOCK; lock--)
-        if (place->opened[lock] >= 0)
-            flock(place->opened[lock], LOCK_UN);
+    if (!reads)
+        flock(place->opened[BODDURCI_WRITER], LOCK_UN);
+    if (place->opened[BODDURCI_LOCK] >= 0)
+        flock(place->opened[BODDURCI_LOCK], LOCK_UN);
 }
 
 void boddurci_drop_locks(struct boddurci_place *place)

@@ -184,7 +184,7 @@ void boddurci_settle_locks(struct boddurci_place *place);
  * boddurci_give_call releases them, and their files stay open; boddurci_drop_locks closes these. */
 uint32_t boddurci_find(struct boddurci_place *place, const char *name, boddurci_fault *fault);
 uint32_t boddurci_take_call(struct boddurci_place *place, int reads, int64_t milliseconds, boddurci_fault *fault);
-void boddurci_give_call(struct boddurci_place *place);
+void boddurci_give_call(struct boddurci_place *place, int reads);
 void boddurci_drop_locks(struct boddurci_place *place);
 
 /* ---- boddurci_holder.c: the process that has a lock */

@@ -320,7 +320,7 @@ static uint32_t change(boddurci_shared *shared, struct boddurci_command *command
     if (status != BODDURCI_DONE)
         return status;
     status = boddurci_change_page(shared, command, &is_whole, fault);
-    boddurci_give_call(&shared->place);
+    boddurci_give_call(&shared->place, 0);
     return status == BODDURCI_DONE && is_whole ? call_whole(shared, command, end, fault) : status;
 }
 
@@ -350,7 +350,7 @@ static uint32_t fetch_once(struct fetching *it, int yields, boddurci_fault *faul
     if (status != BODDURCI_DONE)
         return status;
     status = boddurci_fetch_page(it->shared, it->command, &it->must_recover, &it->is_whole, fault);
-    boddurci_give_call(place);
+    boddurci_give_call(place, 1);
     return status;
 }
 
@@ -469,8 +469,10 @@ uint32_t boddurci_shared_submit(boddurci_shared *shared, const uint8_t *image, s
     pthread_setcancelstate(PTHREAD_CANCEL_DISABLE, &could_be_cancelled);
     size_t kept = image_length <= BODDURCI_IMAGE_MOST ? image_length : 0;
     uint8_t *copy = copy_program(shared, image, kept);
-    status = copy != NULL ? boddurci_submit(&shared->db, image, image_length, number, unit, text, text_room, text_length) : BODDURCI_NO_MEMORY;
-    if (copy == NULL)
+    status = BODDURCI_NO_MEMORY;
+    if (copy != NULL)
+        status = boddurci_submit(&shared->db, image, image_length, number, unit, text, text_room, text_length);
+    else
         *unit = BODDURCI_NOWHERE;
     if (status == BODDURCI_DONE)
         keep_program(shared, *number, copy, kept, 0);

@@ -369,11 +369,9 @@ static uint32_t save_page(boddurci_shared *shared, const struct part *part, int 
     *is_whole = status == BODDURCI_DONE && !is_free;
     if (status != BODDURCI_DONE || *is_whole)
         return status;
-    status = boddurci_are_held(&shared->place, fault);
     shared->notes.is_overtaken = 0;
     struct boddurci_bytes bytes = {shared->plan, BODDURCI_PLAN_AT + length, 0};
-    if (status == BODDURCI_DONE)
-        status = boddurci_logged_save(&shared->logged, bytes, &is_left, fault);
+    status = boddurci_logged_save(&shared->logged, bytes, &is_left, fault);
     if (status == BODDURCI_DONE && !is_left)
         leave_log(shared);
     return status;

@@ -22,7 +22,8 @@
  * after the loss of power it may see old or mixed pages until this library or dbm has opened the base for writing once.
  *
  * One process at a time has a base open for writing, with this library or the program dbm: it holds a flock on BASE.writer. Other processes
- * wait for it as long as they request, and then get LOCKED; the text names the process if the system reports it.
+ * wait for it as long as they request, and then get LOCKED; the text names the process if the system reports it. Several processes may change
+ * one database by shared bases (boddurci_open_shared, at the end of this header), which hold the locks only during a call.
  *
  * An opening with BODDURCI_READ_ONLY does not wait for that process, and reads its last save. Readers and writers share the files by a
  * flock on BASE.lock: a writer holds it while it opens the base, for each save and to close, a reader while it reads. So a save waits for
@@ -179,6 +180,79 @@ uint32_t boddurci_save_with(boddurci_base *base, uint32_t flags, boddurci_fault 
  * the base. base may be NULL. No thread may use the base meanwhile, or later. In a child of the process that has opened the base it only
  * frees memory. */
 void boddurci_close_files(boddurci_base *base);
+
+/* ---- shared bases: several processes change one database
+ *
+ *     boddurci_fault fault;
+ *     uint32_t counter;
+ *     uint64_t end, word;
+ *     boddurci_shared *shared = boddurci_open_shared("visits", 0, &fault);
+ *     if (shared == NULL)
+ *         return fprintf(stderr, "visits: %s\n", fault.text), 1;
+ *     boddurci_shared_stock(shared, "counter", &counter);
+ *     if (boddurci_shared_run(shared, counter, (const uint8_t *)"ab", 2, BODDURCI_NO_BYTES, 1, 8, 0, &end, &word, &fault) != BODDURCI_DONE)
+ *         fprintf(stderr, "visits: %s\n", fault.text);
+ *     boddurci_close_shared(shared);
+ *
+ * A shared base holds no lock and no pages between its calls. Each boddurci_shared_fetch, _store, _delete and _run is one atomic step among
+ * all processes and threads that use the base, commands of dbm included: it takes the locks, reads the page of its key, makes the change,
+ * and saves it. A change that returns DONE is durable. Nobody has to save, and there is no CHANGED.
+ *
+ * A call takes BASE.lock and BASE.writer as an opening for writing does, and a fetch only BASE.lock, shared. It waits at most 5 seconds for
+ * them, or as long as boddurci_shared_wait sets, and is then LOCKED with nothing changed; the text names the process if the system reports
+ * it. It continues to wait after a signal. While a process has the base open by boddurci_open_files, or by a session of dbm, each change is
+ * LOCKED, and a fetch reads the last save of that process.
+ *
+ * A call reads .dir whole and one or two pages of .pag, whatever the length of .pag. Its record is appended to the log in BASE.redo and
+ * synced under the locks, so a change costs one sync. The log stays open between the calls of all processes, with its mark; a note in its
+ * header tells the next call where it ends. These calls take longer, and as much memory as opening the base:
+ *
+ * - a change that one page is not enough for, or that the last page of .pag would be empty after, opens the whole base, and so does any call
+ *   on files that this library has not written, or that have a .dir of more than 256 KiB;
+ * - the first call after a process was killed in the middle of a call, or after the system was started again, recovers the log, and a
+ *   change after a command of dbm, a service or Perl begins a new log, with some syncs.
+ *
+ * Otherwise a handle takes less than 1 MiB and its programs.
+ *
+ * Threads may share a handle: it has a mutex, and a call waits for that too at most as long as for a lock. In a child of a process that has
+ * opened the handle, it opens its files again by itself, so a server may open it before it forks. If another thread was in the middle of a
+ * call on it during the fork, or if the child was not made by fork of the C library, each call in the child is FORKED.
+ *
+ * A program that does not know the locks, such as Perl's SDBM_File, may write between two calls, and the next call reads what it has
+ * written. It must not write during a call: that is not noticed, or only after the commit. Nor is a write of the same length within the same
+ * tick of the clock as the last call (some milliseconds, on systems without fine-grained times).
+ *
+ * `now` of a run is read before the wait for the locks, so it may be some time ago. */
+typedef struct boddurci_shared boddurci_shared;
+
+/* Opens a shared base. The flags are WIDE, UNSIGNED_KEYS, MUST_EXIST, ANY_SIZE and NO_WAIT, with which each call tries a lock only once;
+ * others are ignored. It reads no file, except that with WIDE and without ANY_SIZE it reads the database once as a reader does, to find out
+ * whether its pages look small. Returns NULL and sets *fault if that fails, or if the name is bad or the folder is missing. */
+boddurci_shared *boddurci_open_shared(const char *base, uint32_t flags, boddurci_fault *fault);
+
+/* Closes the handle, and frees its memory. shared may be NULL. No thread may use it meanwhile, or later. */
+void boddurci_close_shared(boddurci_shared *shared);
+
+/* Sets how long each later call waits for the locks: 0 tries once, and -1 waits without a limit. IS_CLOSED if shared is NULL. */
+uint32_t boddurci_shared_wait(boddurci_shared *shared, int64_t milliseconds);
+
+/* The calls of boddurci.h, each as one durable step. They have the results and the statuses of those; and FORKED, LOCKED, MOVED, UNSAFE,
+ * BAD_REDO, TOO_LONG, FILE_FAILED, OTHER_SIZE, OPEN_HERE and BAD_FILES as above. After any status except DONE the database and all results
+ * are unchanged, except as boddurci.h says of SHORT_ROOM, MISSING and CROWDED. If BASE.redo cannot be written, as the text says then, the
+ * change may be saved or not. DONE with fault->system set reports a system call that failed after the commit, as boddurci_save does. */
+uint32_t boddurci_shared_fetch(boddurci_shared *shared, const uint8_t *key, size_t key_length, uint8_t *value, size_t value_room,
+                               size_t *value_length, boddurci_fault *fault);
+uint32_t boddurci_shared_store(boddurci_shared *shared, const uint8_t *key, size_t key_length, const uint8_t *value, size_t value_length,
+                               uint32_t replace, boddurci_fault *fault) BODDURCI_IS_LOOKED_AT;
+uint32_t boddurci_shared_delete(boddurci_shared *shared, const uint8_t *key, size_t key_length, boddurci_fault *fault) BODDURCI_IS_LOOKED_AT;
+uint32_t boddurci_shared_run(boddurci_shared *shared, uint32_t number, const uint8_t *key, size_t key_length, const uint8_t *arg,
+                             size_t arg_length, uint32_t has_blank, size_t blank, uint64_t now, uint64_t *end, uint64_t *word,
+                             boddurci_fault *fault) BODDURCI_IS_LOOKED_AT;
+
+/* Submit a program to the handle, as boddurci_submit and boddurci_stock do. They use no file. */
+uint32_t boddurci_shared_submit(boddurci_shared *shared, const uint8_t *image, size_t image_length, uint32_t *number, size_t *unit,
+                                uint8_t *text, size_t text_room, size_t *text_length);
+uint32_t boddurci_shared_stock(boddurci_shared *shared, const char *name, uint32_t *number);
 
 #ifdef __cplusplus
 }

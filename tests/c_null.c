@@ -113,6 +113,24 @@ static void test_bases(void)
     boddurci_close_files(NULL);
 }
 
+static void test_shared(void)
+{
+    uint8_t *room = told.room;
+    size_t most = sizeof told.room;
+    boddurci_fault fault;
+    CLOSED(boddurci_shared_wait(NULL, 0));
+    CLOSED(boddurci_shared_fetch(NULL, BYTES("a"), room, most, &told.length, NULL));
+    CLOSED(boddurci_shared_store(NULL, BYTES("a"), BYTES("b"), 1, NULL));
+    CLOSED(boddurci_shared_delete(NULL, BYTES("a"), NULL));
+    CLOSED(boddurci_shared_run(NULL, 0, BYTES("a"), BODDURCI_NO_BYTES, 1, 8, 0, &told.end, &told.word, NULL));
+    CLOSED(boddurci_shared_submit(NULL, BYTES("12345678"), &told.number, &told.unit, room, most, &told.length));
+    CLOSED(boddurci_shared_stock(NULL, "counter", &told.number));
+    EXPECT(boddurci_shared_delete(NULL, BYTES("a"), &fault) == BODDURCI_IS_CLOSED && fault.status == BODDURCI_IS_CLOSED);
+    EXPECT(strcmp(fault.text, "handle closed") == 0 && fault.system == 0);
+    EXPECT(boddurci_open_shared(NULL, 0, &fault) == NULL && fault.status == BODDURCI_BAD_NAME);
+    boddurci_close_shared(NULL);
+}
+
 /* A child gets no handle of its parent's base, and the calls with it say so. */
 static void test_child(void)
 {
@@ -140,6 +158,7 @@ int main(int argc, char **argv)
     test_programs(NULL);
     test_readings();
     test_bases();
+    test_shared();
     test_child();
     printf("%lu answers as expected\n", looked);
     return 0;

@@ -739,14 +739,6 @@ static uint32_t do_plan(boddurci_base *base, const struct saving *saving, boddur
     return status;
 }
 
-/* A lock that was made before .pag gets its owner, group and permissions, once .pag exists. */
-static void settle_locks(struct boddurci_place *place)
-{
-    for (enum boddurci_file lock = BODDURCI_LOCK; lock <= BODDURCI_WRITER; lock++)
-        if (place->is_early[lock] && place->seen[BODDURCI_PAGES].is_there)
-            place->is_early[lock] = boddurci_be_like_pages(place, lock, place->opened[lock]) != 0;
-}
-
 /* Checks that the names of the data files still lead to the open files. */
 static uint32_t are_named(const boddurci_base *base, const struct boddurci_note found[2], boddurci_fault *fault)
 {
@@ -808,7 +800,7 @@ static uint32_t prepare(boddurci_base *base, struct saving *saving, boddurci_fau
 static void settle(boddurci_base *base, const struct saving *saving, enum boddurci_change again)
 {
     uint64_t lengths[2];
-    settle_locks(&base->place);
+    boddurci_settle_locks(&base->place);
     base->is_planned = 1;
     base->is_noted = base->is_noted && again == BODDURCI_SAME;
     base->doubt = BODDURCI_SAME;

@@ -1,7 +1,5 @@
 /* The base of a name, and its locks: flocks on BASE.lock and BASE.writer. boddurci_saves.h says what each means. */
-#define _POSIX_C_SOURCE 200809L
-#define _DEFAULT_SOURCE
-#define _XOPEN_SOURCE 700
+#define _GNU_SOURCE
 #include "boddurci_saves.h"
 #include <errno.h>
 #include <fcntl.h>
@@ -352,14 +350,10 @@ uint32_t boddurci_take_shared(struct boddurci_place *place, int64_t milliseconds
 
 enum outcome { TAKEN, IS_BUSY, TRY_AGAIN, HAS_FAILED };
 
-/* Takes BASE.lock, and then BASE.writer without waiting. On failure it holds neither. */
-static enum outcome lock_both(struct boddurci_place *place, int64_t end, boddurci_fault *fault)
+/* Takes BASE.writer without waiting, while BASE.lock is held. On failure it releases BASE.lock. */
+static enum outcome lock_writer(const struct boddurci_place *place, boddurci_fault *fault)
 {
     int files = place->opened[BODDURCI_LOCK], writer = place->opened[BODDURCI_WRITER];
-    if (wait_for(files, LOCK_EX, end) != 0) {
-        not_taken(place, 0, fault);
-        return HAS_FAILED;
-    }
     enum outcome outcome = TRY_AGAIN;
     if (is_named(place, BODDURCI_LOCK))
         outcome = flock(writer, LOCK_EX | LOCK_NB) == 0 ? TAKEN : errno == EWOULDBLOCK ? IS_BUSY : HAS_FAILED;
@@ -373,6 +367,15 @@ static enum outcome lock_both(struct boddurci_place *place, int64_t end, boddurc
     return outcome == TAKEN ? TRY_AGAIN : outcome;
 }
 
+/* Takes BASE.lock, and then BASE.writer without waiting. On failure it holds neither. */
+static enum outcome lock_both(struct boddurci_place *place, int64_t end, boddurci_fault *fault)
+{
+    if (wait_for(place->opened[BODDURCI_LOCK], LOCK_EX, end) == 0)
+        return lock_writer(place, fault);
+    not_taken(place, 0, fault);
+    return HAS_FAILED;
+}
+
 /* The same, but it does not try BASE.lock while BASE.writer is busy. The exception is a single try, which could otherwise fail by another
  * process that only checks the lock. */
 static enum outcome try_both(struct boddurci_place *place, int64_t end, int is_only, boddurci_fault *fault)
@@ -383,6 +386,15 @@ static enum outcome try_both(struct boddurci_place *place, int64_t end, int is_o
     if (!is_only && is_busy(place->opened[BODDURCI_WRITER]))
         return IS_BUSY;
     return lock_both(place, end, fault);
+}
+
+/* Notes that both locks are held. BASE.writer is shared while BASE.lock is exclusive. */
+static void note_both(struct boddurci_place *place)
+{
+    for (enum boddurci_file lock = BODDURCI_LOCK; lock <= BODDURCI_WRITER; lock++)
+        place->inodes[lock] = boddurci_inode_of(place->opened[lock]);
+    flock(place->opened[BODDURCI_WRITER], LOCK_SH);
+    note_held(place);
 }
 
 /* Takes both locks of a writer. */
@@ -398,10 +410,7 @@ static uint32_t take_both(struct boddurci_place *place, int64_t milliseconds, bo
         outcome = HAS_FAILED;
     }
     if (outcome == TAKEN) {
-        for (enum boddurci_file lock = BODDURCI_LOCK; lock <= BODDURCI_WRITER; lock++)
-            place->inodes[lock] = boddurci_inode_of(place->opened[lock]);
-        flock(place->opened[BODDURCI_WRITER], LOCK_SH);
-        note_held(place);
+        note_both(place);
         return BODDURCI_DONE;
     }
     close_lock(place, BODDURCI_LOCK);
@@ -476,6 +485,13 @@ void boddurci_give_locks(struct boddurci_place *place, int is_own)
     }
 }
 
+void boddurci_settle_locks(struct boddurci_place *place)
+{
+    for (enum boddurci_file lock = BODDURCI_LOCK; lock <= BODDURCI_WRITER; lock++)
+        if (place->is_early[lock] && place->seen[BODDURCI_PAGES].is_there)
+            place->is_early[lock] = boddurci_be_like_pages(place, lock, place->opened[lock]) != 0;
+}
+
 /* ---- entering */
 
 /* Whether the name leads to the same base as before the wait. */
@@ -505,4 +521,166 @@ uint32_t boddurci_enter(struct boddurci_place *place, const char *name, int read
         status = leads_there(base, fault);
     free(led);
     return status;
+}
+
+/* ---- calls of a shared base */
+
+uint32_t boddurci_find(struct boddurci_place *place, const char *name, boddurci_fault *fault)
+{
+    char *led;
+    if (!is_name(name))
+        return boddurci_fail(fault, BODDURCI_BAD_NAME, 0, "the name is empty, . or .., or ends in one of these after a /");
+    uint32_t status = resolve(name, &led, fault);
+    if (status == BODDURCI_DONE)
+        status = boddurci_place_of(place, led != NULL ? led : name, fault);
+    pthread_once(&held_once, guard_forks);
+    free(led);
+    return status;
+}
+
+/* A call that waits for BASE.lock to change something says so by a lock of another kind, on the first byte of that file, and one that has
+ * waited for long on the second byte. The system prefers readers, and a process that calls again, to one that waits. So readers let the
+ * first go, and new calls the second. These locks are independent of flock, and end with the process. */
+enum { WAITS, STARVES, BYTES };
+
+#ifdef F_OFD_SETLK
+static int lock_bytes(const struct boddurci_place *place, int how, off_t first, off_t count)
+{
+    struct flock bytes = {.l_type = (short)how, .l_whence = SEEK_SET, .l_start = first, .l_len = count};
+    return fcntl(place->opened[BODDURCI_LOCK], F_OFD_SETLK, &bytes);
+}
+
+static int is_announced(const struct boddurci_place *place, off_t byte)
+{
+    struct flock bytes = {.l_type = F_RDLCK, .l_whence = SEEK_SET, .l_start = byte, .l_len = 1};
+    int lock = place->opened[BODDURCI_LOCK];
+    return lock >= 0 && fcntl(lock, F_OFD_GETLK, &bytes) == 0 && bytes.l_type != F_UNLCK;
+}
+#else
+static int lock_bytes(const struct boddurci_place *place, int how, off_t first, off_t count)
+{
+    (void)place, (void)how, (void)first, (void)count;
+    return -1;
+}
+
+static int is_announced(const struct boddurci_place *place, off_t byte)
+{
+    (void)place, (void)byte;
+    return 0;
+}
+#endif
+
+static void announce_none(const struct boddurci_place *place)
+{
+    (void)!lock_bytes(place, F_UNLCK, 0, BYTES);
+}
+
+/* Lets another call go first, for a limited time, since its process may be stopped. */
+static void let_go(const struct boddurci_place *place, off_t byte, int64_t end)
+{
+    enum { MOST = 200 };
+    static const struct timespec moment = {0, 200000};
+    for (int times = 0; times < MOST && is_announced(place, byte) && (end < 0 || now() < end); times++)
+        nanosleep(&moment, NULL);
+}
+
+/* Whether the files of both locks are open. They are those under the names, unless it turns out otherwise once they are locked. */
+static int are_open(const struct boddurci_place *place)
+{
+    return place->opened[BODDURCI_LOCK] >= 0 && place->opened[BODDURCI_WRITER] >= 0;
+}
+
+/* Tries once to take both locks for a call. After the first try it does not try BASE.lock while BASE.writer is busy. */
+static enum outcome try_call(struct boddurci_place *place, int is_first, int *is_next, boddurci_fault *fault)
+{
+    for (enum boddurci_file lock = BODDURCI_LOCK; lock <= BODDURCI_WRITER && !(is_first && are_open(place)); lock++)
+        if (open_lock(place, lock, 0, fault) != BODDURCI_DONE)
+            return HAS_FAILED;
+    *is_next = 0;
+    if (!is_first && is_busy(place->opened[BODDURCI_WRITER])) {
+        announce_none(place);
+        return IS_BUSY;
+    }
+    if (flock(place->opened[BODDURCI_LOCK], LOCK_EX | LOCK_NB) == 0)
+        return lock_writer(place, fault);
+    if (errno == EWOULDBLOCK) {
+        (void)!lock_bytes(place, F_WRLCK, WAITS, 1);
+        *is_next = 1;
+        return IS_BUSY;
+    }
+    not_taken(place, 0, fault);
+    return errno == EINTR ? TRY_AGAIN : HAS_FAILED;
+}
+
+/* Takes both locks for a call. Its wait continues after a signal. A call that has waited for long tries more often. */
+static uint32_t take_to_change(struct boddurci_place *place, int64_t end, boddurci_fault *fault)
+{
+    enum { LONG = 20 };
+    int tries = 0, is_first = 1, has_waited = 0, is_next;
+    enum outcome outcome = TRY_AGAIN;
+    while (outcome == TRY_AGAIN || outcome == IS_BUSY) {
+        outcome = try_call(place, is_first, &is_next, fault);
+        is_first = 0;
+        has_waited = has_waited || outcome == IS_BUSY;
+        if (outcome == IS_BUSY && is_next && tries >= LONG && lock_bytes(place, F_WRLCK, STARVES, 1) == 0)
+            tries = LONG;
+        if (outcome != IS_BUSY || rest(&tries, end) == 0 || errno == EINTR)
+            continue;
+        not_taken(place, 0, fault);
+        outcome = HAS_FAILED;
+    }
+    if (place->opened[BODDURCI_LOCK] >= 0 && has_waited)
+        announce_none(place);
+    if (outcome == TAKEN) {
+        note_both(place);
+        return BODDURCI_DONE;
+    }
+    boddurci_drop_locks(place);
+    return fault->status;
+}
+
+/* Shares BASE.lock if its file is open, and nobody has it exclusively. */
+static int share_open(struct boddurci_place *place)
+{
+    int lock = place->opened[BODDURCI_LOCK];
+    if (lock < 0 || flock(lock, LOCK_SH | LOCK_NB) != 0)
+        return 0;
+    if (is_named(place, BODDURCI_LOCK)) {
+        note_held(place);
+        return 1;
+    }
+    flock(lock, LOCK_UN);
+    return 0;
+}
+
+uint32_t boddurci_take_call(struct boddurci_place *place, int reads, int64_t milliseconds, boddurci_fault *fault)
+{
+    int64_t end = end_of(milliseconds);
+    uint32_t status = BODDURCI_INTERRUPTED;
+    if (milliseconds != 0)
+        let_go(place, reads ? WAITS : STARVES, end);
+    if (!reads)
+        return take_to_change(place, end, fault);
+    if (share_open(place))
+        return BODDURCI_DONE;
+    while (status == BODDURCI_INTERRUPTED)
+        status = share_lock(place, end, fault);
+    if (status == BODDURCI_DONE)
+        boddurci_no_fault(fault);
+    return status;
+}
+
+void boddurci_give_call(struct boddurci_place *place, int reads)
+{
+    forget_held(place);
+    if (!reads)
+        flock(place->opened[BODDURCI_WRITER], LOCK_UN);
+    if (place->opened[BODDURCI_LOCK] >= 0)
+        flock(place->opened[BODDURCI_LOCK], LOCK_UN);
+}
+
+void boddurci_drop_locks(struct boddurci_place *place)
+{
+    for (enum boddurci_file lock = BODDURCI_WRITER; lock >= BODDURCI_LOCK; lock--)
+        close_lock(place, lock);
 }

@@ -256,12 +256,20 @@ static uint32_t read_files(struct boddurci_logged *logged, struct boddurci_bytes
     return status;
 }
 
+/* Clears the note of a shared base, before the log is emptied. */
+static int clear_note(struct boddurci_disk *disk)
+{
+    disk->last = BODDURCI_REDO;
+    return disk->files[BODDURCI_REDO] < 0 ? 0 : boddurci_clear_note(disk->files[BODDURCI_REDO]);
+}
+
 /* Makes the steps that open the log. First it writes a marked redo file again, with the bytes that were read: if an earlier sync of it
  * failed, the bytes on the disk may differ, and the next sync would not write them. */
 static uint32_t do_open(struct boddurci_logged *logged, struct boddurci_bytes redo, const struct boddurci_steps *steps, boddurci_fault *fault)
 {
     struct boddurci_disk *disk = &logged->disk;
-    int is_written = redo.length == 0 || boddurci_disk_write(disk, BODDURCI_REDO, 0, redo.at, redo.length) == 0;
+    boddurci_clear_note_in(&redo);
+    int is_written = redo.length != 0 ? boddurci_disk_write(disk, BODDURCI_REDO, 0, redo.at, redo.length) == 0 : clear_note(disk) == 0;
     if (is_written && boddurci_do_steps(disk, steps->at, steps->count, steps->bytes) == 0) {
         logged->is_open = 1;
         logged->is_given_up = 0;
@@ -312,6 +320,21 @@ static uint32_t open_log(struct boddurci_logged *logged, boddurci_fault *fault)
     return status;
 }
 
+/* If a note of a shared base says that all records are applied, closes the log: the data files may have later changes of programs that do
+ * not know it. */
+static uint32_t close_applied(struct boddurci_logged *logged, int *is_ended, boddurci_fault *fault)
+{
+    struct boddurci_disk *disk = &logged->disk;
+    uint32_t status = open_redo(disk, fault);
+    if (status != BODDURCI_DONE || !boddurci_is_applied(disk->place, disk->files[BODDURCI_REDO], &logged->next))
+        return status;
+    if (boddurci_take_files(disk->place) != 0)
+        return boddurci_fail_by_system(fault, "BASE.lock cannot be locked");
+    logged->is_open = 1;
+    logged->is_given_up = *is_ended = 0;
+    return boddurci_logged_renew(logged, fault);
+}
+
 uint32_t boddurci_logged_recover(struct boddurci_logged *logged, int are_names_same, int *is_ended, boddurci_fault *fault)
 {
     boddurci_fault second;
@@ -324,6 +347,9 @@ uint32_t boddurci_logged_recover(struct boddurci_logged *logged, int are_names_s
     uint32_t status = look_only(disk->place, is_ended, fault);
     if (status == BODDURCI_DONE && !*is_ended)
         logged->is_given_up = 0;
+    if (status != BODDURCI_DONE || !*is_ended)
+        return status;
+    status = close_applied(logged, is_ended, fault);
     if (status != BODDURCI_DONE || !*is_ended)
         return status;
     status = open_log(logged, fault);
@@ -386,9 +412,10 @@ static uint32_t ask_in_log(struct boddurci_logged *logged, struct boddurci_bytes
 /* Commits a save. Readers may read the data files meanwhile, but not the log while it is emptied. */
 static int commit(struct boddurci_logged *logged, const struct boddurci_steps *steps)
 {
-    if (!only_append(steps) && boddurci_take_files(logged->disk.place) != 0)
+    int appends = only_append(steps);
+    if (!appends && boddurci_take_files(logged->disk.place) != 0)
         return -1;
-    if (boddurci_do_steps(&logged->disk, steps->at, steps->committed, steps->bytes) == 0)
+    if ((appends || clear_note(&logged->disk) == 0) && boddurci_do_steps(&logged->disk, steps->at, steps->committed, steps->bytes) == 0)
         return 0;
     give_up(logged);
     return -1;
@@ -503,6 +530,8 @@ static int close_log(struct boddurci_logged *logged)
         errno = ENOMEM;
         return -1;
     }
+    if (clear_note(&logged->disk) != 0)
+        return -1;
     return boddurci_do_steps(&logged->disk, steps, words / WORDS, (const uint8_t *)steps);
 }
 
@@ -573,8 +602,11 @@ static uint32_t read_done(struct boddurci_place *place, int redo, struct boddurc
 uint32_t boddurci_read_marked(struct boddurci_place *place, int *is_marked, struct boddurci_bytes files[2], boddurci_fault *fault)
 {
     struct boddurci_bytes all[3] = {{NULL, 0, 0}, {NULL, 0, 0}, {NULL, 0, 0}};
+    boddurci_log log;
     int opened = -1;
     uint32_t status = look(place, &opened, is_marked, fault);
+    if (status == BODDURCI_DONE && *is_marked)
+        *is_marked = !boddurci_is_applied(place, opened, &log);
     if (status == BODDURCI_DONE && *is_marked)
         status = read_done(place, opened, all, fault);
     if (opened >= 0)

@@ -188,6 +188,17 @@ uint32_t boddurci_are_held(const struct boddurci_place *place, boddurci_fault *f
 /* Releases both locks. A forked child only closes their files: the parent keeps the locks. */
 void boddurci_give_locks(struct boddurci_place *place, int is_own);
 
+/* Gives a lock that was made before .pag the owner, the group and the permissions of .pag, once that exists. */
+void boddurci_settle_locks(struct boddurci_place *place);
+
+/* For a shared base, which has locks only during a call. boddurci_find sets the place of a name, without a lock. boddurci_take_call takes
+ * the locks for a call: both, as a writer, or for a call that reads only BASE.lock, if it exists. It continues after a signal.
+ * boddurci_give_call releases them, and their files stay open; boddurci_drop_locks closes these. */
+uint32_t boddurci_find(struct boddurci_place *place, const char *name, boddurci_fault *fault);
+uint32_t boddurci_take_call(struct boddurci_place *place, int reads, int64_t milliseconds, boddurci_fault *fault);
+void boddurci_give_call(struct boddurci_place *place, int reads);
+void boddurci_drop_locks(struct boddurci_place *place);
+
 /* ---- boddurci_holder.c: the process that has a lock */
 
 /* Returns the process that has one of the locks, exclusively or shared; -1 if this process cannot see it, and 0 if no process has it or the
@@ -349,7 +360,8 @@ uint32_t boddurci_logged_renew(struct boddurci_logged *logged, boddurci_fault *f
 /* Closes the log and the files. If that fails the next opening recovers the base. It makes no step if a lock is lost. */
 void boddurci_logged_end(struct boddurci_logged *logged);
 
-/* Sets whether the redo file has its mark; if so, reads both data files with its saves applied. Free the bytes in any case. */
+/* Sets whether the redo file has its mark, and records that the data files may lack; if so, reads both data files with its saves applied.
+ * Free the bytes in any case. */
 uint32_t boddurci_read_marked(struct boddurci_place *place, int *is_marked, struct boddurci_bytes files[2], boddurci_fault *fault);
 
 /* ---- boddurci_notes.c: the state of the data files, and changes of it by other programs */
@@ -451,6 +463,135 @@ typedef uint32_t boddurci_saving(boddurci_base *base, int insists, boddurci_faul
 /* Returns the outcome of a save that began after this call. One thread at a time calls `save`, for all calls that wait then, and insists if
  * one of them does. */
 uint32_t boddurci_group_save(struct boddurci_group *group, boddurci_saving *save, boddurci_base *base, int insists, boddurci_fault *fault);
+
+/* ---- boddurci_shared_log.c: the log between the calls of a shared base */
+
+/* The boot of the system, which a note is for: after another boot the data files may lack what was not synced. */
+struct boddurci_boot {
+    uint64_t id[2];
+    int is_known;
+};
+
+void boddurci_boot_of_system(struct boddurci_boot *boot);
+
+/* A note in the header of the log. It says that all records up to an end are applied to both data files, and the states of the files then:
+ * for each its device, inode, length and time of the last change, or zeros if it was missing. */
+struct boddurci_log_note {
+    boddurci_log log;
+    uint64_t states[8];
+};
+
+enum boddurci_applied {
+    BODDURCI_UNMARKED, /* the redo file has no mark: the data files are the database */
+    BODDURCI_APPLIED,  /* the log has its mark, and a note of this boot, and no record after the end in it */
+    BODDURCI_UNKNOWN   /* the log has its mark: it must be recovered before a change */
+};
+
+/* Reads the header of an open redo file, and the note if the result is APPLIED. */
+enum boddurci_applied boddurci_find_note(int redo, const struct boddurci_boot *boot, struct boddurci_log_note *note);
+
+/* Returns the state of the file under a name in a folder, or of an open one (AT_EMPTY_PATH). A reader does not ask for the times: after that
+ * some file systems write new ones at the next write. */
+struct boddurci_note boddurci_state_of(int folder, const char *name, int how, int has_times);
+
+/* How the data files differ from those of a note: SAME; WRITTEN, by a program that does not know the log; or OTHERS. */
+enum boddurci_change boddurci_change_since(const struct boddurci_log_note *note, const struct boddurci_note files[2]);
+
+/* Whether a note says that all records of an open redo file are applied to the data files under the names. Then it sets the end of the log. */
+int boddurci_is_applied(const struct boddurci_place *place, int redo, boddurci_log *log);
+
+/* Writes a note, without a sync; clears the note of an open redo file, or in its bytes. A note must be cleared before the log is emptied:
+ * later records may end at the same place. */
+int boddurci_put_note(int redo, const struct boddurci_boot *boot, const boddurci_log *log, const struct boddurci_note files[2]);
+int boddurci_clear_note(int redo);
+void boddurci_clear_note_in(struct boddurci_bytes *redo);
+
+/* ---- crates/boddurci_c: the database of one page, which is proved */
+
+/* Returns the number of the page to which a key leads by the bytes of .dir, which may be any bytes. */
+uint32_t boddurci_page_of(const uint8_t *key, size_t key_length, const uint8_t *dir, size_t dir_length, uint32_t unsigned_keys);
+
+/* Replaces the database of an open handle by that of one page. Its programs and its limit stay. Then any one fetch, store, delete or run on
+ * that key has the reply that it has on the whole database. `page` is a whole page, and `pag_length` a multiple of its size. BAD_FILES if
+ * this page is not enough: the directory or the page is invalid or not as a save leaves it, or the key leads elsewhere. IS_CLOSED,
+ * NO_MEMORY. After a refusal the handle is unchanged. */
+uint32_t boddurci_open_page(boddurci *db, const uint8_t *key, size_t key_length, const uint8_t *dir, size_t dir_length, size_t pag_length,
+                            uint32_t number, const uint8_t *page, size_t page_length);
+
+/* Returns the plan that saves the database of the page after the command, and the numbers of the pages that it may write. All of these
+ * except `number` must be zeros in the file, or past its end. The plan is empty if nothing changes. SHORT_ROOM; STALE if this page is not
+ * enough: the last page of .pag would become empty, or .pag too long. IS_CLOSED, NO_MEMORY. */
+uint32_t boddurci_plan_page(boddurci *db, const uint8_t *dir, size_t dir_length, size_t pag_length, uint32_t number, const uint8_t *page,
+                            size_t page_length, uint32_t *numbers, size_t numbers_room, size_t *numbers_count, uint8_t *plan,
+                            size_t plan_room, size_t *plan_length);
+
+/* ---- boddurci_shared_step.c: one call of a shared base, under its locks */
+
+enum boddurci_kind { BODDURCI_FETCH, BODDURCI_STORE, BODDURCI_DELETE, BODDURCI_RUN };
+
+/* The arguments and the results of a call. boddurci.h says what each means. */
+struct boddurci_command {
+    enum boddurci_kind kind;
+    const uint8_t *key;
+    size_t key_length;
+    const uint8_t *bytes; /* the value of a store, the argument of a run */
+    size_t length;
+    uint8_t *room;        /* of a fetch */
+    size_t room_length;
+    size_t *value_length;
+    uint32_t replace;     /* of a store */
+    uint32_t number;      /* of a run, and the rest */
+    uint32_t has_blank;
+    size_t blank;
+    uint64_t now, end, word;
+};
+
+/* A program that was submitted: its image, or the name of a stock program. */
+struct boddurci_program {
+    uint8_t *bytes;
+    size_t length;
+    int is_stock;
+};
+
+/* A shared base. Between two calls it has its files open, and no lock. */
+struct boddurci_shared {
+    boddurci db;                   /* the database of one page, between two calls of no meaning; and the programs */
+    char *name;                    /* as the caller gave it */
+    struct boddurci_place place;
+    struct boddurci_logged logged; /* its files stay open */
+    struct boddurci_notes notes;   /* the data files as this call has found them */
+    struct boddurci_boot boot;
+    int files[3];                  /* open for reading, or -1 */
+    struct boddurci_note last[2];  /* the data files when the last page was last found to belong to the directory */
+    uint32_t flags;
+    int64_t wait;                  /* milliseconds; atomic */
+    pid_t process;                 /* that may use the base; 0 if a fork has come in the middle of a call */
+    pthread_mutex_t mutex;         /* of all except `wait` and `process`, during a call */
+    struct boddurci_program *programs;
+    size_t program_count;
+    uint8_t *directory;            /* a room for .dir, of BODDURCI_SHORT_DIRECTORY bytes */
+    uint8_t *plan;                 /* a room for a plan, and for the head of its record */
+    size_t plan_room;
+    uint8_t page[8192];
+    struct boddurci_shared *next;  /* in the list of all that are open */
+};
+
+enum { BODDURCI_SHORT_DIRECTORY = 262144 };
+
+/* Makes a call on a handle. */
+uint32_t boddurci_answer(boddurci *db, struct boddurci_command *command);
+
+/* Whether a call with this status may have changed its database. */
+int boddurci_may_change(const struct boddurci_command *command, uint32_t status);
+
+/* Makes a call on the page of its key, and saves it. The second call is for a fetch, under BASE.lock shared: it sets *must_recover if a log
+ * must be recovered first, and does nothing then. Both set *is_whole if the page is not enough, and have changed nothing then. */
+uint32_t boddurci_change_page(boddurci_shared *shared, struct boddurci_command *command, int *is_whole, boddurci_fault *fault);
+uint32_t boddurci_fetch_page(boddurci_shared *shared, struct boddurci_command *command, int *must_recover, int *is_whole,
+                             boddurci_fault *fault);
+
+/* Closes all files of a shared base except those of its locks and its folder. */
+void boddurci_drop_files(boddurci_shared *shared);
 
 #pragma GCC visibility pop
 #endif

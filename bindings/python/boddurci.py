@@ -20,6 +20,8 @@ nothing. A database that is not closed is saved and closed when its object is de
 that fails, a RuntimeWarning names it. Threads may share a database. A signal handler that interrupts a call may not use the database, but
 may raise. In a child of the process that opened it every call except `close` is an error, and nothing is saved.
 
+Several processes change one database with `open(.., shared=True)`: each call is one durable step, and forked children may use the object.
+
 The module needs the shared object that `./dbm --build-library` makes. It loads the first of these: the file that BODDURCI_LIBRARY names by
 its absolute path, libboddurci.so next to this file, the one in out/boddurci of the repository, that of the system. It ignores
 BODDURCI_LIBRARY in `python -I` and `python -E`, and if the effective user or group is not the real one. It calls the library by ctypes. If
@@ -46,10 +48,11 @@ from collections.abc import MutableMapping
 from typing import NamedTuple
 
 __all__ = ["ChangedError", "Counter", "Database", "FencedLease", "Grant", "Lease", "Locked", "Program", "ProgramError", "Ran", "RateLimit"]
-__all__ += ["RecordError", "Semaphore", "error", "open"]
+__all__ += ["RecordError", "Semaphore", "SharedDatabase", "error", "open"]
 
 # Statuses of boddurci.h and boddurci_files.h, and the texts of some of them. The library has texts for all.
 _DONE, _MISSING, _REFUSED, _BAD_TEXT, _CHANGED, _IS_CLOSED, _NO_STOCK, _LOCKED, _FORKED, _INTERRUPTED = 0, 1, 5, 6, 8, 16, 24, 33, 39, 41
+_EXISTS, _SHORT_ROOM, _BAD_FILES, _FILE_FAILED = 2, 4, 7, 32
 _WORDS = {
     2: "the key is there",
     3: "crowded: no room for the pair, however often its page is split",
@@ -67,6 +70,9 @@ _WIDE, _UNSIGNED_KEYS, _READ_ONLY, _NO_WAIT, _MUST_EXIST, _EMPTY, _ANY_SIZE, _IN
 _VALUE_MOST = 8008
 _IMAGE_MOST = 32768
 _TIME_MOST, _SIZE_MOST = 2**64 - 1, ctypes.c_size_t(-1).value
+
+# Milliseconds. A call of a shared database waits as long for a lock, and then again.
+_SLICE = 200
 
 # The number of pairs that an iteration reads at a time.
 _AT_A_TIME = 1000
@@ -197,6 +203,15 @@ def _bind():
         "run": (quick, u32, [at, u32, text, size, text, size, u32, size, u64, at, at]),
         "first": (quick, u32, [at, at]),
         "next": (quick, u32, [at, at, at, size, at, at, size, at]),
+        "open_shared": (waits, at, [text, u32, at]),
+        "close_shared": (waits, None, [at]),
+        "shared_wait": (quick, u32, [at, ctypes.c_int64]),
+        "shared_fetch": (waits, u32, [at, text, size, at, size, at, at]),
+        "shared_store": (waits, u32, [at, text, size, text, size, u32, at]),
+        "shared_delete": (waits, u32, [at, text, size, at]),
+        "shared_run": (waits, u32, [at, u32, text, size, text, size, u32, size, u64, at, at, at]),
+        "shared_submit": (waits, u32, [at, text, size, at, at, at, size, at]),
+        "shared_stock": (waits, u32, [at, text, at]),
         "version": (quick, text, []),
     }
     for name, (library, result, arguments) in kinds.items():
@@ -235,6 +250,21 @@ class _Room:
 
     def taken(self, length):
         return self._view[:length].tobytes()
+
+
+def _image_of(source):
+    """Returns the image of a program: of its text, or the image itself."""
+    if not isinstance(source, str):
+        return _bytes(bytes(source))
+    text, image, told = _bytes(source), _Room(_IMAGE_MOST), _Room(_VALUE_MOST)
+    length, line, text_length = ctypes.c_size_t(), ctypes.c_size_t(), ctypes.c_size_t()
+    places = [ctypes.byref(it) for it in (length, line, text_length)]
+    status = _call.assemble(text, len(text), image.at, _IMAGE_MOST, places[0], places[1], told.at, _VALUE_MOST, places[2])
+    if status == _BAD_TEXT:
+        raise ProgramError(told.taken(text_length.value).decode("utf-8", "replace"), line.value or None)
+    if status != _DONE:
+        raise _error(status)
+    return image.taken(length.value)
 
 
 class _Taken:
@@ -435,7 +465,7 @@ class _Database(MutableMapping):
         refused."""
         with self._lock, self._beside:
             self._need_open()
-            image = self._assembled(source) if isinstance(source, str) else _bytes(bytes(source))
+            image = _image_of(source)
             number = ctypes.c_uint32()
             status = _call.submit(self._db, image, len(image), ctypes.byref(number), self._at["_place"], *self._value)
             if status == _REFUSED:
@@ -444,15 +474,6 @@ class _Database(MutableMapping):
             if status != _DONE:
                 raise _error(status)
             return Program(number.value, self._token)
-
-    def _assembled(self, source):
-        text, image = _bytes(source), _Room(_IMAGE_MOST)
-        status = _call.assemble(text, len(text), image.at, _IMAGE_MOST, self._at["_other"], self._at["_place"], *self._value)
-        if status == _BAD_TEXT:
-            raise ProgramError(self._text(), self._place.value or None)
-        if status != _DONE:
-            raise _error(status)
-        return image.taken(self._other.value)
 
     def stock(self, name):
         """Returns the stock program of this name, for `run`: "counter", "bounded_add", "bounded_counter", "compare_and_set", "sequence",
@@ -617,6 +638,221 @@ _plain_calls, _Lock = ((_extension[0],), _extension[1]) if _extension else ((), 
 def _new_lock():
     """Returns a new lock of a database. The extension can see whether its own lock is held."""
     return _Lock(threading.RLock()) if _Lock else threading.RLock()
+
+
+class SharedDatabase(MutableMapping):
+    """A database that several processes change at the same time: `open(.., shared=True)` returns it. It holds no lock and no pages between
+    its calls. Each fetch, store, delete and run is one durable step among all processes and threads, so there is nothing to save.
+
+    Iteration, `len`, `keys`, `values` and `items` open the database for reading, and find its state at that time. The methods of a mapping
+    that make several calls, such as `pop` and `update`, are several steps; `setdefault` never replaces a value. A child that is forked may
+    use the object, unless another thread was in a call on it during the fork."""
+
+    _handle, _held = None, ()
+
+    def __init__(self, name, flags, timeout, reads):
+        self._held, self._name, self._flags, self._timeout, self._reads = [], name, flags, timeout, reads
+        # Calls of the stock programs' classes take this, and each is a step by itself.
+        self._lock = contextlib.nullcontext()
+        self._token, self._stocks = object(), {}
+        self._set_guard()
+        fault = _Fault()
+        self._held.extend(filter(None, map(_call.open_shared, (name,), (flags,), (ctypes.byref(fault),))))
+        if not self._held:
+            raise _of_fault(fault, name)
+        self._handle = self._held[0]
+        # A call returns now and then, so that handlers of signals run.
+        _call.shared_wait(self._handle, 0 if flags & _NO_WAIT else _SLICE if timeout is None else int(min(_SLICE, timeout * 1000)))
+        _shared[id(self)] = self
+
+    def _set_guard(self):
+        """The number of calls that are under way: `close` waits for them. In a child there are none."""
+        self._guard, self._calls = threading.Condition(), 0
+
+    def _made(self, call, *words):
+        """Makes a call that touches the files, again until the time is over if the files are locked. Returns its status."""
+        fault, end = _Fault(), None if self._timeout is None else time.monotonic() + self._timeout
+        with self._using() as handle:
+            while True:
+                status = call(handle, *words, ctypes.byref(fault))
+                if status != _LOCKED or self._flags & _NO_WAIT or (end is not None and time.monotonic() >= end):
+                    break
+        if status == _DONE and fault.system:
+            warnings.warn(str(_of_fault(fault, self._name)), RuntimeWarning, stacklevel=3)
+        if status >= _FILE_FAILED or status in (_BAD_FILES, _IS_CLOSED):
+            raise _of_fault(fault, self._name)
+        return status
+
+    @contextlib.contextmanager
+    def _using(self):
+        with self._guard:
+            if self._handle is None:
+                raise _error(_IS_CLOSED)
+            self._calls += 1
+            handle = self._handle
+        try:
+            yield handle
+        finally:
+            with self._guard:
+                self._calls -= 1
+                self._guard.notify_all()
+
+    def _need_writes(self):
+        if self._reads:
+            raise error("the database is opened to be read only")
+
+    def _fetched(self, key, most):
+        room, length = _Room(most), ctypes.c_size_t()
+        status = self._made(_call.shared_fetch, key, len(key), room.at, most, ctypes.byref(length))
+        return status, room.taken(length.value) if status == _DONE else None
+
+    def __getitem__(self, key):
+        status, value = self._fetched(_bytes(key), _VALUE_MOST)
+        if status == _MISSING:
+            raise KeyError(key)
+        if status != _DONE:
+            raise _error(status)
+        return value
+
+    def __contains__(self, key):
+        status, _ = self._fetched(_bytes(key), 1)
+        if status not in (_DONE, _MISSING, _SHORT_ROOM):
+            raise _error(status)
+        return status != _MISSING
+
+    def _store(self, key, value, replaces):
+        self._need_writes()
+        name, value = _bytes(key), _bytes(value)
+        status = self._made(_call.shared_store, name, len(name), value, len(value), replaces)
+        if status not in (_DONE, _EXISTS):
+            raise _error(status)
+        return status
+
+    def __setitem__(self, key, value):
+        self._store(key, value, 1)
+
+    def setdefault(self, key, default=b""):
+        """Returns the value of a key. If the key is missing it stores the default."""
+        while self._store(key, default, 0) == _EXISTS:
+            try:
+                return self[key]
+            except KeyError:
+                pass
+        return _bytes(default)
+
+    def __delitem__(self, key):
+        self._need_writes()
+        name = _bytes(key)
+        status = self._made(_call.shared_delete, name, len(name))
+        if status == _MISSING:
+            raise KeyError(key)
+        if status != _DONE:
+            raise _error(status)
+
+    def _snapshot(self):
+        with self._using():
+            return Database(self._name, self._flags | _READ_ONLY, self._timeout)
+
+    def __len__(self):
+        with self._snapshot() as db:
+            return len(db)
+
+    def __iter__(self):
+        with self._snapshot() as db:
+            yield from db
+
+    def keys(self):
+        """Returns a list of all keys."""
+        with self._snapshot() as db:
+            return db.keys()
+
+    def values(self):
+        """Returns a list of all values."""
+        with self._snapshot() as db:
+            return db.values()
+
+    def items(self):
+        """Returns a list of all pairs."""
+        with self._snapshot() as db:
+            return db.items()
+
+    def clear(self):
+        for key in self.keys():
+            self.pop(key, None)
+
+    def program(self, source):
+        """Verifies a program, as Database.program does."""
+        image, told, number = _image_of(source), _Room(_VALUE_MOST), ctypes.c_uint32()
+        unit, length = ctypes.c_size_t(_SIZE_MOST), ctypes.c_size_t()
+        places = [ctypes.byref(it) for it in (number, unit, length)]
+        with self._using() as handle:
+            status = _call.shared_submit(handle, image, len(image), places[0], places[1], told.at, _VALUE_MOST, places[2])
+        if status == _REFUSED:
+            raise ProgramError(told.taken(length.value).decode("utf-8", "replace"), None if unit.value == _SIZE_MOST else unit.value)
+        if status != _DONE:
+            raise _error(status)
+        return Program(number.value, self._token)
+
+    def stock(self, name):
+        """Returns the stock program of this name, as Database.stock does."""
+        if not isinstance(name, str):
+            raise TypeError(f"the name of a program is a str, not {type(name).__name__}")
+        text, number = _bytes(name), ctypes.c_uint32()
+        if text not in self._stocks:
+            with self._using() as handle:
+                status = _NO_STOCK if b"\0" in text else _call.shared_stock(handle, text, ctypes.byref(number))
+            if status == _NO_STOCK:
+                raise ProgramError(f"{name!r}: {_call.files_text(status).decode()}", None)
+            if status != _DONE:
+                raise _error(status)
+            self._stocks[text] = Program(number.value, self._token)
+        return self._stocks[text]
+
+    def run(self, program, key, arg=b"", blank=None, now=None):
+        """Runs a program on the record of a key, as Database.run does, as one durable step."""
+        name, arg = _bytes(key), _bytes(arg)
+        if blank is not None and not 0 <= blank <= _SIZE_MOST:
+            raise ValueError(f"blank is a number from 0 to {_SIZE_MOST}")
+        if now is not None and not 0 <= now <= _TIME_MOST:
+            raise ValueError(f"now is a number from 0 to {_TIME_MOST}")
+        self._need_writes()
+        if getattr(program, "_of", None) is not self._token:
+            raise ProgramError("the program was not accepted by this database", None)
+        end, word, now = ctypes.c_uint64(), ctypes.c_uint64(), int(time.time()) if now is None else now
+        words = (program.number, name, len(name), arg, len(arg), blank is not None, blank or 0, now, ctypes.byref(end), ctypes.byref(word))
+        status = self._made(_call.shared_run, *words)
+        if status == _MISSING:
+            raise KeyError(key)
+        if status != _DONE:
+            raise _error(status)
+        return Ran(end.value, word.value)
+
+    counter, lease, fenced_lease = _Database.counter, _Database.lease, _Database.fenced_lease
+    semaphore, rate_limit = _Database.semaphore, _Database.rate_limit
+
+    def flush(self):
+        """Does nothing: each change is durable."""
+
+    sync = flush
+
+    def close(self):
+        """Closes the database, once the calls of other threads have returned."""
+        with self._guard:
+            self._handle = None
+            while self._calls:
+                self._guard.wait()
+        if self._held:
+            deque(map(_call.close_shared, map(self._held.pop, (0,))), maxlen=0)
+
+    def __enter__(self):
+        return self
+
+    def __exit__(self, *_):
+        self.close()
+
+    def __del__(self):
+        if self._held:
+            self.close()
 
 
 class Database(*_plain_calls, _Database):
@@ -792,13 +1028,14 @@ class RateLimit(_Stocked):
         return self._run(_given(now), self._seconds, self._count).end == 1
 
 
-# The open databases.
+# The open databases, and the shared ones.
 _databases = weakref.WeakValueDictionary()
+_shared = weakref.WeakValueDictionary()
 
 
-def _all_databases():
+def _all_databases(databases=_databases):
     """Returns a list of the open databases. It is made in one step, so another thread may open one meanwhile."""
-    return [it for it in (ref() for ref in _databases.valuerefs()) if it is not None]
+    return [it for it in (ref() for ref in databases.valuerefs()) if it is not None]
 
 
 def _leave_all():
@@ -806,6 +1043,8 @@ def _leave_all():
     for database in _all_databases():
         database._leave_to_parent()
         database._release()
+    for database in _all_databases(_shared):
+        database._set_guard()
 
 
 def _finish_all():
@@ -830,7 +1069,7 @@ def _of_fault(fault, name):
     return told
 
 
-def open(file, flag="r", mode=0o666, *, wide=False, unsigned_keys=False, any_size=False, wait=True, timeout=5, limit=None):
+def open(file, flag="r", mode=0o666, *, wide=False, unsigned_keys=False, any_size=False, wait=True, timeout=5, limit=None, shared=False):
     """Opens FILE.dir and FILE.pag, as dbm.open does: 'r' reads only, 'w' also writes, 'c' makes missing files, 'n' begins with an empty
     database. `wide` is for pages of 8,192 bytes, `unsigned_keys` for keys that hash by unsigned bytes; the files do not say which. With
     `wide`, files that look like those of small pages are an error, unless `any_size` is true.
@@ -840,7 +1079,10 @@ def open(file, flag="r", mode=0o666, *, wide=False, unsigned_keys=False, any_siz
     save: it only waits, at most as long, for the end of a save.
 
     A change that would make FILE.pag longer than `limit` bytes is an error and is not made; existing pages stay. 1 GiB is the default and
-    the most. Set a limit if strangers choose your keys: they can make FILE.pag as long as the limit."""
+    the most. Set a limit if strangers choose your keys: they can make FILE.pag as long as the limit.
+
+    With `shared` several processes may have the database open for writing: see SharedDatabase. Then `timeout` and `wait` are for each call,
+    a `limit` is not possible, nor is 'n'."""
     if flag not in ("r", "w", "c", "n"):
         raise ValueError("flag must be 'r', 'w', 'c' or 'n'")
     name = os.fsencode(file)
@@ -852,6 +1094,8 @@ def open(file, flag="r", mode=0o666, *, wide=False, unsigned_keys=False, any_siz
         raise ValueError(f"limit is a number of bytes from 0 to {_SIZE_MOST}")
     flags = {"r": _READ_ONLY | _MUST_EXIST, "w": _MUST_EXIST, "c": 0, "n": _EMPTY}[flag]
     flags |= (_WIDE if wide else 0) | (_UNSIGNED_KEYS if unsigned_keys else 0) | (_ANY_SIZE if any_size else 0) | (0 if wait else _NO_WAIT)
+    if shared:
+        return _open_shared(name, flag, flags, timeout, limit, mode)
     db = Database(name, flags, timeout, limit)
     try:
         if flag in ("c", "n"):
@@ -863,8 +1107,18 @@ def open(file, flag="r", mode=0o666, *, wide=False, unsigned_keys=False, any_siz
     return db
 
 
-def _make_files(db, name, mode, always):
-    """Makes the files of a new database, with the requested permissions. If only .dir is missing, a save makes it like .pag."""
+def _open_shared(name, flag, flags, timeout, limit, mode):
+    if flag == "n" or limit is not None:
+        raise ValueError("a shared database is opened with 'r', 'w' or 'c', and without a limit")
+    # The working folder may change.
+    name = os.path.join(os.getcwdb(), name)
+    if flag == "c" and not os.path.lexists(name + b".redo"):
+        _make_empty(name, mode)
+    return SharedDatabase(name, flags & ~_READ_ONLY, timeout, flag == "r")
+
+
+def _make_empty(name, mode):
+    """Makes empty files with the requested permissions, unless .pag exists. Returns whether it has made one."""
     how, is_new = os.O_WRONLY | os.O_CREAT | os.O_EXCL | os.O_NOFOLLOW | os.O_CLOEXEC, False
     try:
         for ending in (b".pag", b".dir"):
@@ -872,5 +1126,10 @@ def _make_files(db, name, mode, always):
             is_new = True
     except FileExistsError:
         pass
-    if is_new or always:
+    return is_new
+
+
+def _make_files(db, name, mode, always):
+    """Makes the files of a new database, with the requested permissions. If only .dir is missing, a save makes it like .pag."""
+    if _make_empty(name, mode) or always:
         db.sync()

@@ -1267,5 +1267,105 @@ if AnyDBMTestCase:
             super().setUp()
 
 
+class Shared(InFolder):
+    """Shared databases. tests/shared has the tests of the library itself."""
+
+    def shared(self, flag="c", **more):
+        db = boddurci.open(self.base, flag, shared=True, **more)
+        self.addCleanup(db.close)
+        return db
+
+    def test_mapping(self):
+        db, other = self.shared(), self.shared("w")
+        db[b"a"] = b"b"
+        self.assertEqual((other[b"a"], b"a" in other, b"x" in other, len(other)), (b"b", True, False, 1))
+        other["c"] = "long" * 100
+        self.assertEqual(db.get(b"c"), b"long" * 100)
+        self.assertEqual((sorted(db), sorted(db.keys()), sorted(map(len, db.values()))), ([b"a", b"c"], [b"a", b"c"], [1, 400]))
+        self.assertEqual(sorted(db.items())[0], (b"a", b"b"))
+        self.assertEqual((db.setdefault(b"a", b"x"), db.setdefault(b"d", b"x"), other[b"d"]), (b"b", b"x", b"x"))
+        del db[b"a"]
+        for missing in (lambda: db[b"a"], lambda: other.pop(b"a"), lambda: db.__delitem__(b"a")):
+            self.assertRaises(KeyError, missing)
+        db.clear()
+        self.assertEqual((len(other), list(other)), (0, []))
+        self.assertRaisesRegex(boddurci.error, "too many bytes", db.__setitem__, b"a", bytes(2000))
+        db.flush(), db.sync()
+
+    def test_programs(self):
+        db = self.shared()
+        hits, doors = db.counter(b"hits"), db.semaphore(b"door", 1)
+        self.assertEqual((hits.get(), hits.add(), hits.add(5), hits.get()), (0, 1, 6, 6))
+        self.assertEqual((doors.acquire(), doors.acquire(), doors.release(), doors.release()), (True, False, True, False))
+        self.assertTrue(db.lease(b"lease").acquire(7, 30) and not db.lease(b"lease").acquire(8, 30) and db.lease(b"lease").release(7))
+        seven = db.program("mov r0, 7\nexit\n")
+        self.assertEqual(db.run(seven, b"a", blank=8).end, 7)
+        self.assertRaises(KeyError, db.run, seven, b"a")
+        self.assertRaises(boddurci.ProgramError, self.shared().run, seven, b"a", blank=8)
+        self.assertRaises(boddurci.ProgramError, db.program, "mov r0\n")
+        self.assertRaises(boddurci.ProgramError, db.program, bytes(8))
+        self.assertRaisesRegex(boddurci.ProgramError, "the names are", db.stock, "nothing")
+
+    def test_forks_and_threads(self):
+        db = self.shared()
+        hits = db.counter(b"hits")
+        children = []
+        for _ in range(3):
+            child = os.fork()
+            if child == 0:
+                try:
+                    for _ in range(20):
+                        hits.add()
+                finally:
+                    os._exit(0)
+            children.append(child)
+        threads = [threading.Thread(target=lambda: [hits.add() for _ in range(20)]) for _ in range(3)]
+        for thread in threads:
+            thread.start()
+        for thread in threads:
+            thread.join()
+        for child in children:
+            os.waitpid(child, 0)
+        self.assertEqual(hits.get(), 120)
+
+    def test_beside_an_owner(self):
+        db = self.shared(timeout=0.3)
+        db[b"a"] = b"1"
+        words = "import boddurci, sys; db = boddurci.open(sys.argv[1], 'w'); db[b'a'] = b'2'; db.sync(); print(); sys.stdin.read()"
+        env = {**os.environ, "PYTHONPATH": str(pathlib.Path(boddurci.__file__).parent)}
+        pipe = subprocess.PIPE
+        with subprocess.Popen([sys.executable, "-c", words, self.base], stdin=pipe, stdout=pipe, text=True, env=env) as owner:
+            owner.stdout.readline()
+            self.assertRaises(boddurci.Locked, db.__setitem__, b"a", b"3")
+            self.assertEqual(db[b"a"], b"2")
+            owner.stdin.close()
+        db[b"a"] = b"3"
+        with boddurci.open(self.base) as reader:
+            self.assertEqual(reader[b"a"], b"3")
+
+    def test_faults(self):
+        self.assertRaises(boddurci.error, boddurci.open, self.base, "w", shared=True)
+        self.assertRaises(ValueError, boddurci.open, self.base, "n", shared=True)
+        self.assertRaises(ValueError, boddurci.open, self.base, "c", shared=True, limit=1)
+        db = self.shared()
+        reader = self.shared("r")
+        self.assertRaisesRegex(boddurci.error, "read only", reader.__setitem__, b"a", b"b")
+        self.assertNotIn(b"a", reader)
+        db.close()
+        db.close()
+        self.assertRaisesRegex(boddurci.error, "closed", db.__getitem__, b"a")
+        self.assertRaisesRegex(boddurci.error, "closed", len, db)
+
+    def test_folder(self):
+        was = os.getcwd()
+        self.addCleanup(os.chdir, was)
+        os.chdir(self.room.name)
+        db = boddurci.open("db", "c", shared=True)
+        self.addCleanup(db.close)
+        os.chdir("/")
+        db[b"a"] = b"b"
+        self.assertEqual(list(db), [b"a"])
+
+
 if __name__ == "__main__":
     unittest.main()

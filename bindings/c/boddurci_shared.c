@@ -1,0 +1,504 @@
+/* The calls of a shared base. include/boddurci_files.h says what each does. */
+#define _GNU_SOURCE
+#include "boddurci_saves.h"
+#include <errno.h>
+#include <fcntl.h>
+#include <pthread.h>
+#include <stdio.h>
+#include <stdlib.h>
+#include <string.h>
+#include <time.h>
+#include <unistd.h>
+
+enum { FLAGS = BODDURCI_WIDE | BODDURCI_UNSIGNED_KEYS | BODDURCI_MUST_EXIST | BODDURCI_ANY_SIZE | BODDURCI_NO_WAIT };
+enum { PATIENCE = 5000, PLAN_ROOM = 65536 };
+
+/* ---- time */
+
+static int64_t milliseconds(void)
+{
+    struct timespec time;
+    clock_gettime(CLOCK_MONOTONIC, &time);
+    return (int64_t)time.tv_sec * 1000 + time.tv_nsec / 1000000;
+}
+
+/* The end of a wait; below 0 if it has none. */
+static int64_t end_of_wait(const boddurci_shared *shared)
+{
+    int64_t wait = __atomic_load_n(&shared->wait, __ATOMIC_RELAXED), start = milliseconds();
+    return wait < 0 ? -1 : wait < INT64_MAX - start ? start + wait : INT64_MAX;
+}
+
+static int64_t left_of(int64_t end)
+{
+    if (end < 0)
+        return -1;
+    int64_t left = end - milliseconds();
+    return left > 0 ? left : 0;
+}
+
+/* ---- forks. A child must not keep the locks of its parent: it would hold them after the parent was killed. */
+
+static boddurci_shared *all;
+static pthread_mutex_t all_mutex = PTHREAD_MUTEX_INITIALIZER;
+static pthread_once_t all_once = PTHREAD_ONCE_INIT;
+
+static void take_all(void)
+{
+    pthread_mutex_lock(&all_mutex);
+}
+
+static void give_all(void)
+{
+    pthread_mutex_unlock(&all_mutex);
+}
+
+/* Closes the locks in a child: the next call opens them again. If another thread was in a call, the base is lost for the child. */
+static void leave_locks(void)
+{
+    for (boddurci_shared *shared = all; shared != NULL; shared = shared->next) {
+        int is_idle = pthread_mutex_trylock(&shared->mutex) == 0;
+        __atomic_store_n(&shared->process, is_idle && shared->process != 0 ? getpid() : 0, __ATOMIC_RELAXED);
+        if (!is_idle)
+            continue;
+        boddurci_drop_locks(&shared->place);
+        pthread_mutex_unlock(&shared->mutex);
+    }
+    pthread_mutex_unlock(&all_mutex);
+}
+
+static void guard_forks(void)
+{
+    pthread_atfork(take_all, give_all, leave_locks);
+}
+
+static void add(boddurci_shared *shared)
+{
+    pthread_once(&all_once, guard_forks);
+    take_all();
+    shared->next = all;
+    all = shared;
+    give_all();
+}
+
+static void forget(boddurci_shared *shared)
+{
+    take_all();
+    for (boddurci_shared **at = &all; *at != NULL; at = &(*at)->next)
+        if (*at == shared) {
+            *at = shared->next;
+            break;
+        }
+    give_all();
+}
+
+static int is_of_another(const boddurci_shared *shared)
+{
+    return __atomic_load_n(&shared->process, __ATOMIC_RELAXED) != getpid();
+}
+
+/* ---- opening and closing */
+
+static boddurci_shared *new_shared(uint32_t flags)
+{
+    boddurci_shared *shared = calloc(1, sizeof *shared);
+    if (shared == NULL)
+        return NULL;
+    shared->flags = flags & FLAGS;
+    shared->wait = flags & BODDURCI_NO_WAIT ? 0 : PATIENCE;
+    shared->process = getpid();
+    boddurci_no_place(&shared->place);
+    boddurci_logged_of(&shared->logged, &shared->place, &shared->notes);
+    for (enum boddurci_file file = BODDURCI_PAGES; file <= BODDURCI_REDO; file++)
+        shared->files[file] = -1;
+    boddurci_boot_of_system(&shared->boot);
+    shared->plan_room = PLAN_ROOM;
+    shared->plan = malloc(BODDURCI_PLAN_AT + PLAN_ROOM);
+    shared->directory = malloc(BODDURCI_SHORT_DIRECTORY);
+    if (shared->plan != NULL && shared->directory != NULL && pthread_mutex_init(&shared->mutex, NULL) == 0)
+        return shared;
+    free(shared->plan);
+    free(shared->directory);
+    free(shared);
+    return NULL;
+}
+
+/* Opens the handle on an empty database; each call opens the page of its key in it. */
+static uint32_t open_handle(boddurci_shared *shared, boddurci_fault *fault)
+{
+    uint8_t text[40];
+    size_t length;
+    uint32_t wide = (shared->flags & BODDURCI_WIDE) != 0, is_unsigned = (shared->flags & BODDURCI_UNSIGNED_KEYS) != 0;
+    uint32_t status = boddurci_open(&shared->db, BODDURCI_NO_BYTES, BODDURCI_NO_BYTES, wide, is_unsigned, text, sizeof text, &length);
+    return status == BODDURCI_DONE ? status : boddurci_fail(fault, status, 0, boddurci_text(status));
+}
+
+/* Opens the files for reading, as a reader of the whole database, and closes them: it checks whether wide pages look small. */
+static uint32_t look_at_size(const boddurci_shared *shared, const char *name, boddurci_fault *fault)
+{
+    boddurci_base *base;
+    if (!(shared->flags & BODDURCI_WIDE) || (shared->flags & BODDURCI_ANY_SIZE))
+        return BODDURCI_DONE;
+    int64_t end = end_of_wait(shared);
+    do
+        base = boddurci_open_files_within(name, shared->flags | BODDURCI_READ_ONLY, left_of(end), fault);
+    while (base == NULL && fault->status == BODDURCI_INTERRUPTED);
+    boddurci_close_files(base);
+    return base != NULL ? BODDURCI_DONE : fault->status;
+}
+
+static uint32_t open_place(boddurci_shared *shared, const char *name, boddurci_fault *fault)
+{
+    int pages = -1;
+    uint32_t status = boddurci_find(&shared->place, name, fault);
+    if (status == BODDURCI_DONE && (shared->flags & BODDURCI_MUST_EXIST))
+        status = boddurci_open_to_read(&shared->place, BODDURCI_PAGES, 1, &pages, fault);
+    if (pages >= 0)
+        close(pages);
+    boddurci_see_none(&shared->place);
+    if (status == BODDURCI_DONE)
+        status = look_at_size(shared, name, fault);
+    if (status == BODDURCI_DONE)
+        status = open_handle(shared, fault);
+    if (status != BODDURCI_DONE)
+        return status;
+    shared->name = strdup(name);
+    return shared->name != NULL ? status : boddurci_no_memory(fault);
+}
+
+boddurci_shared *boddurci_open_shared(const char *name, uint32_t flags, boddurci_fault *fault)
+{
+    boddurci_fault unsaid;
+    boddurci_shared *shared = new_shared(flags);
+    fault = fault != NULL ? fault : &unsaid;
+    boddurci_no_fault(fault);
+    if (shared == NULL) {
+        boddurci_no_memory(fault);
+        return NULL;
+    }
+    add(shared);
+    if (open_place(shared, name != NULL ? name : "", fault) == BODDURCI_DONE)
+        return shared;
+    boddurci_close_shared(shared);
+    return NULL;
+}
+
+/* In a child of a process that was in the middle of a call the memory of the database is not freed. */
+void boddurci_close_shared(boddurci_shared *shared)
+{
+    if (shared == NULL)
+        return;
+    int is_own = !is_of_another(shared);
+    forget(shared);
+    boddurci_give_locks(&shared->place, 0);
+    boddurci_drop_files(shared);
+    boddurci_place_close(&shared->place);
+    if (is_own) {
+        boddurci_close(&shared->db);
+        pthread_mutex_destroy(&shared->mutex);
+    }
+    for (size_t i = 0; i < shared->program_count; i++)
+        free(shared->programs[i].bytes);
+    free(shared->programs);
+    free(shared->directory);
+    free(shared->plan);
+    free(shared->name);
+    free(shared);
+}
+
+uint32_t boddurci_shared_wait(boddurci_shared *shared, int64_t milliseconds)
+{
+    if (shared == NULL)
+        return BODDURCI_IS_CLOSED;
+    __atomic_store_n(&shared->wait, milliseconds, __ATOMIC_RELAXED);
+    return BODDURCI_DONE;
+}
+
+/* ---- the mutex */
+
+static int lock_until(pthread_mutex_t *mutex, int64_t end)
+{
+    struct timespec time;
+    int64_t left = left_of(end);
+    if (left <= 0)
+        return left < 0 ? pthread_mutex_lock(mutex) : pthread_mutex_trylock(mutex);
+    clock_gettime(CLOCK_REALTIME, &time);
+    int64_t nanoseconds = time.tv_nsec + left % 1000 * 1000000;
+    time.tv_sec += (time_t)(left / 1000 < INT32_MAX ? left / 1000 : INT32_MAX) + (time_t)(nanoseconds / 1000000000);
+    time.tv_nsec = (long)(nanoseconds % 1000000000);
+    return pthread_mutex_timedlock(mutex, &time);
+}
+
+/* Takes the mutex for a call. */
+static uint32_t begin(boddurci_shared *shared, int64_t end, boddurci_fault *fault)
+{
+    boddurci_no_fault(fault);
+    if (shared == NULL)
+        return boddurci_fail(fault, BODDURCI_IS_CLOSED, 0, boddurci_text(BODDURCI_IS_CLOSED));
+    if (is_of_another(shared))
+        return boddurci_fail(fault, BODDURCI_FORKED, 0, boddurci_files_text(BODDURCI_FORKED));
+    if (lock_until(&shared->mutex, end) != 0)
+        return boddurci_fail(fault, BODDURCI_LOCKED, 0, "another thread of this process uses the shared base");
+    return BODDURCI_DONE;
+}
+
+/* ---- the whole database */
+
+/* Writes the name of the base, which leads to the folder that is open even if that was renamed. */
+static char *whole_name(const boddurci_shared *shared)
+{
+    const char *pages = shared->place.names[BODDURCI_PAGES];
+    int length = (int)strlen(pages) - 4;
+    size_t room = (size_t)length + 40;
+    char *name = malloc(room);
+    if (name == NULL)
+        return NULL;
+    snprintf(name, room, "/proc/self/fd/%d", shared->place.folder);
+    if (access(name, F_OK) != 0) {
+        free(name);
+        return strdup(shared->name);
+    }
+    snprintf(name, room, "/proc/self/fd/%d/%.*s", shared->place.folder, length, pages);
+    return name;
+}
+
+/* Submits the programs again: they get the same numbers. */
+static uint32_t submit_all(const boddurci_shared *shared, boddurci *db)
+{
+    uint8_t text[1];
+    uint32_t number, status = BODDURCI_DONE;
+    size_t unit, length;
+    for (size_t i = 0; status == BODDURCI_DONE && i < shared->program_count; i++) {
+        const struct boddurci_program *program = &shared->programs[i];
+        if (program->is_stock)
+            status = boddurci_submit_stock(db, program->bytes, program->length, &number);
+        else
+            status = boddurci_submit(db, program->bytes, program->length, &number, &unit, text, sizeof text, &length);
+    }
+    return status;
+}
+
+/* Makes a call on the whole database, and saves it. */
+static uint32_t answer_whole(const boddurci_shared *shared, boddurci_base *base, struct boddurci_command *command, boddurci_fault *fault)
+{
+    boddurci *db = boddurci_take(base);
+    uint32_t status = submit_all(shared, db);
+    if (status == BODDURCI_DONE)
+        status = boddurci_answer(db, command);
+    boddurci_give(base);
+    if (boddurci_may_change(command, status))
+        return boddurci_save(base, fault);
+    return status == BODDURCI_DONE ? status : boddurci_fail(fault, status, 0, boddurci_text(status));
+}
+
+/* Opens the whole database for a call, and closes it. It is one step too: nobody else changes the database while it is open. */
+static uint32_t call_whole(const boddurci_shared *shared, struct boddurci_command *command, int64_t end, boddurci_fault *fault)
+{
+    boddurci_base *base;
+    uint32_t flags = command->kind == BODDURCI_FETCH ? shared->flags | BODDURCI_READ_ONLY : shared->flags;
+    char *name = whole_name(shared);
+    if (name == NULL)
+        return boddurci_no_memory(fault);
+    do
+        base = boddurci_open_files_within(name, flags & ~(uint32_t)BODDURCI_NO_WAIT, left_of(end), fault);
+    while (base == NULL && fault->status == BODDURCI_INTERRUPTED);
+    free(name);
+    if (base == NULL)
+        return fault->status;
+    boddurci_no_fault(fault);
+    uint32_t status = answer_whole(shared, base, command, fault);
+    boddurci_close_files(base);
+    return status;
+}
+
+/* ---- one call */
+
+static uint32_t change(boddurci_shared *shared, struct boddurci_command *command, int64_t end, boddurci_fault *fault)
+{
+    int is_whole = 0;
+    uint32_t status = boddurci_take_call(&shared->place, 0, left_of(end), fault);
+    if (status != BODDURCI_DONE)
+        return status;
+    status = boddurci_change_page(shared, command, &is_whole, fault);
+    boddurci_give_call(&shared->place, 0);
+    return status == BODDURCI_DONE && is_whole ? call_whole(shared, command, end, fault) : status;
+}
+
+/* Recovers the log, and fetches. If this user may not recover it, fetches from the whole database, with the log applied in memory. */
+static uint32_t fetch_recovered(boddurci_shared *shared, struct boddurci_command *command, int64_t end, boddurci_fault *fault)
+{
+    uint32_t status = change(shared, command, end, fault);
+    if (status != BODDURCI_FILE_FAILED && status != BODDURCI_UNSAFE)
+        return status;
+    boddurci_no_fault(fault);
+    return call_whole(shared, command, end, fault);
+}
+
+/* A fetch that may have to be made again. */
+struct fetching {
+    boddurci_shared *shared;
+    struct boddurci_command *command;
+    int64_t end;
+    int must_recover, is_whole;
+};
+
+/* Fetches under BASE.lock, if that exists. If a save waits for it and `yields` is not 0, that save goes first. */
+static uint32_t fetch_once(struct fetching *it, int yields, boddurci_fault *fault)
+{
+    struct boddurci_place *place = &it->shared->place;
+    uint32_t status = yields ? boddurci_take_shared(place, left_of(it->end), fault) : boddurci_take_call(place, 1, left_of(it->end), fault);
+    if (status != BODDURCI_DONE)
+        return status;
+    status = boddurci_fetch_page(it->shared, it->command, &it->must_recover, &it->is_whole, fault);
+    boddurci_give_call(place, 1);
+    return status;
+}
+
+static int has_lock(const struct boddurci_place *place)
+{
+    return faccessat(place->folder, place->names[BODDURCI_LOCK], F_OK, 0) == 0;
+}
+
+/* Without BASE.lock the fetch is made again if the lock exists by now: the first writer may have made it meanwhile. A log that must be
+ * recovered may be that of a service whose save waits for the files, so that save goes first. */
+static uint32_t fetch(boddurci_shared *shared, struct boddurci_command *command, int64_t end, boddurci_fault *fault)
+{
+    struct fetching it = {shared, command, end, 0, 0};
+    uint32_t status = fetch_once(&it, 0, fault);
+    if (shared->place.opened[BODDURCI_LOCK] < 0 && status != BODDURCI_LOCKED && has_lock(&shared->place))
+        status = fetch_once(&it, 0, fault);
+    if (status == BODDURCI_DONE && it.must_recover)
+        status = fetch_once(&it, 1, fault);
+    if (status == BODDURCI_DONE && it.must_recover)
+        return fetch_recovered(shared, command, end, fault);
+    return status == BODDURCI_DONE && it.is_whole ? call_whole(shared, command, end, fault) : status;
+}
+
+/* Makes a call, as one step. */
+static uint32_t call(boddurci_shared *shared, struct boddurci_command *command, boddurci_fault *fault)
+{
+    boddurci_fault unsaid;
+    int could_be_cancelled;
+    fault = fault != NULL ? fault : &unsaid;
+    int64_t end = shared != NULL ? end_of_wait(shared) : 0;
+    pthread_setcancelstate(PTHREAD_CANCEL_DISABLE, &could_be_cancelled);
+    uint32_t status = begin(shared, end, fault);
+    if (status == BODDURCI_DONE) {
+        status = command->kind == BODDURCI_FETCH ? fetch(shared, command, end, fault) : change(shared, command, end, fault);
+        pthread_mutex_unlock(&shared->mutex);
+    }
+    pthread_setcancelstate(could_be_cancelled, NULL);
+    return status;
+}
+
+uint32_t boddurci_shared_fetch(boddurci_shared *shared, const uint8_t *key, size_t key_length, uint8_t *value, size_t value_room,
+                               size_t *value_length, boddurci_fault *fault)
+{
+    struct boddurci_command command = {.kind = BODDURCI_FETCH, .key = key, .key_length = key_length};
+    command.room = value;
+    command.room_length = value_room;
+    command.value_length = value_length;
+    return call(shared, &command, fault);
+}
+
+uint32_t boddurci_shared_store(boddurci_shared *shared, const uint8_t *key, size_t key_length, const uint8_t *value, size_t value_length,
+                               uint32_t replace, boddurci_fault *fault)
+{
+    struct boddurci_command command = {.kind = BODDURCI_STORE, .key = key, .key_length = key_length};
+    command.bytes = value;
+    command.length = value_length;
+    command.replace = replace;
+    return call(shared, &command, fault);
+}
+
+uint32_t boddurci_shared_delete(boddurci_shared *shared, const uint8_t *key, size_t key_length, boddurci_fault *fault)
+{
+    struct boddurci_command command = {.kind = BODDURCI_DELETE, .key = key, .key_length = key_length};
+    return call(shared, &command, fault);
+}
+
+uint32_t boddurci_shared_run(boddurci_shared *shared, uint32_t number, const uint8_t *key, size_t key_length, const uint8_t *arg,
+                             size_t arg_length, uint32_t has_blank, size_t blank, uint64_t now, uint64_t *end, uint64_t *word,
+                             boddurci_fault *fault)
+{
+    struct boddurci_command command = {.kind = BODDURCI_RUN, .key = key, .key_length = key_length, .bytes = arg, .length = arg_length};
+    command.number = number;
+    command.has_blank = has_blank;
+    command.blank = blank;
+    command.now = now;
+    uint32_t status = call(shared, &command, fault);
+    if (status == BODDURCI_DONE || status == BODDURCI_MISSING || status == BODDURCI_CROWDED) {
+        *end = command.end;
+        *word = command.word;
+    }
+    return status;
+}
+
+/* ---- programs */
+
+/* Makes room for one more program, and copies its bytes. */
+static uint8_t *copy_program(boddurci_shared *shared, const uint8_t *bytes, size_t length)
+{
+    struct boddurci_program *programs = realloc(shared->programs, (shared->program_count + 1) * sizeof *programs);
+    uint8_t *copy = programs != NULL ? malloc(length + 1) : NULL;
+    shared->programs = programs != NULL ? programs : shared->programs;
+    if (copy != NULL)
+        memcpy(copy, bytes, length);
+    return copy;
+}
+
+/* Keeps a program that has a new number, for calls on the whole database. */
+static void keep_program(boddurci_shared *shared, uint32_t number, uint8_t *copy, size_t length, int is_stock)
+{
+    if (number != shared->program_count) {
+        free(copy);
+        return;
+    }
+    struct boddurci_program program = {copy, length, is_stock};
+    shared->programs[shared->program_count++] = program;
+}
+
+uint32_t boddurci_shared_submit(boddurci_shared *shared, const uint8_t *image, size_t image_length, uint32_t *number, size_t *unit,
+                                uint8_t *text, size_t text_room, size_t *text_length)
+{
+    boddurci_fault unsaid;
+    int could_be_cancelled;
+    uint32_t status = begin(shared, -1, &unsaid);
+    if (status != BODDURCI_DONE)
+        return status;
+    pthread_setcancelstate(PTHREAD_CANCEL_DISABLE, &could_be_cancelled);
+    size_t kept = image_length <= BODDURCI_IMAGE_MOST ? image_length : 0;
+    uint8_t *copy = copy_program(shared, image, kept);
+    status = BODDURCI_NO_MEMORY;
+    if (copy != NULL)
+        status = boddurci_submit(&shared->db, image, image_length, number, unit, text, text_room, text_length);
+    else
+        *unit = BODDURCI_NOWHERE;
+    if (status == BODDURCI_DONE)
+        keep_program(shared, *number, copy, kept, 0);
+    else
+        free(copy);
+    pthread_mutex_unlock(&shared->mutex);
+    pthread_setcancelstate(could_be_cancelled, NULL);
+    return status;
+}
+
+uint32_t boddurci_shared_stock(boddurci_shared *shared, const char *name, uint32_t *number)
+{
+    boddurci_fault unsaid;
+    int could_be_cancelled;
+    uint32_t status = begin(shared, -1, &unsaid);
+    if (status != BODDURCI_DONE)
+        return status;
+    pthread_setcancelstate(PTHREAD_CANCEL_DISABLE, &could_be_cancelled);
+    size_t length = strlen(name);
+    uint8_t *copy = copy_program(shared, (const uint8_t *)name, length);
+    status = copy != NULL ? boddurci_submit_stock(&shared->db, (const uint8_t *)name, length, number) : BODDURCI_NO_MEMORY;
+    if (status == BODDURCI_DONE)
+        keep_program(shared, *number, copy, length, 1);
+    else
+        free(copy);
+    pthread_mutex_unlock(&shared->mutex);
+    pthread_setcancelstate(could_be_cancelled, NULL);
+    return status;
+}

@@ -1,0 +1,417 @@
+/* One call of a shared base on the page of its key. The caller has the locks. */
+#define _GNU_SOURCE
+#include "boddurci_saves.h"
+#include <errno.h>
+#include <fcntl.h>
+#include <stdlib.h>
+#include <string.h>
+#include <sys/stat.h>
+#include <unistd.h>
+
+/* The page of a key, and the lengths of the files that it was read from. */
+struct part {
+    size_t directory; /* the length of .dir, whose bytes are in shared->directory */
+    size_t length;    /* of .pag */
+    uint32_t number;
+    size_t size;      /* of the page, whose bytes are in shared->page */
+};
+
+/* ---- the files */
+
+/* Reads bytes of a file into a room; bytes past its end are zeros. */
+static int read_at(int file, uint64_t at, uint8_t *room, size_t size)
+{
+    for (size_t done = 0; done < size;) {
+        ssize_t got = pread(file, room + done, size - done, (off_t)(at + done));
+        if (got < 0 && errno != EINTR)
+            return -1;
+        if (got == 0) {
+            memset(room + done, 0, size - done);
+            return 0;
+        }
+        done += got < 0 ? 0 : (size_t)got;
+    }
+    return 0;
+}
+
+static void drop(int *file)
+{
+    if (*file >= 0)
+        close(*file);
+    *file = -1;
+}
+
+static void drop_data(boddurci_shared *shared)
+{
+    for (enum boddurci_file file = BODDURCI_PAGES; file <= BODDURCI_DIRECTORY; file++) {
+        drop(&shared->files[file]);
+        boddurci_disk_drop(&shared->logged.disk, file);
+    }
+    boddurci_see_none(&shared->place);
+}
+
+void boddurci_drop_files(boddurci_shared *shared)
+{
+    drop_data(shared);
+    drop(&shared->files[BODDURCI_REDO]);
+    boddurci_disk_drop(&shared->logged.disk, BODDURCI_REDO);
+}
+
+/* Whether the open data files are those under the names. */
+static int are_named(const boddurci_shared *shared)
+{
+    for (enum boddurci_file file = BODDURCI_PAGES; file <= BODDURCI_DIRECTORY; file++) {
+        const struct boddurci_seen *seen = &shared->place.seen[file];
+        const struct boddurci_note *is = &shared->notes.files[file];
+        if (seen->is_there != is->is_there || (seen->is_there && (seen->device != is->device || seen->number != is->number)))
+            return 0;
+    }
+    return 1;
+}
+
+/* Opens both data files anew. */
+static uint32_t open_data(boddurci_shared *shared, boddurci_fault *fault)
+{
+    uint32_t status = BODDURCI_DONE;
+    drop_data(shared);
+    for (enum boddurci_file file = BODDURCI_PAGES; status == BODDURCI_DONE && file <= BODDURCI_DIRECTORY; file++)
+        status = boddurci_open_to_read(&shared->place, file, 0, &shared->files[file], fault);
+    boddurci_note_system(&shared->notes, &shared->place);
+    return status;
+}
+
+/* Looks at the data files under the names, and opens them if they are not open: another program may have replaced them. */
+static uint32_t find_files(boddurci_shared *shared, int has_times, boddurci_fault *fault)
+{
+    enum { TRIES = 3 };
+    const struct boddurci_place *place = &shared->place;
+    uint32_t status = BODDURCI_DONE;
+    for (int tries = 0; status == BODDURCI_DONE; tries++) {
+        for (enum boddurci_file file = BODDURCI_PAGES; file <= BODDURCI_DIRECTORY; file++)
+            shared->notes.files[file] = boddurci_state_of(place->folder, place->names[file], 0, has_times);
+        if (are_named(shared))
+            break;
+        status = tries < TRIES ? open_data(shared, fault) : boddurci_fail(fault, BODDURCI_MOVED, 0, "BASE.pag or BASE.dir comes and goes");
+    }
+    if (status != BODDURCI_DONE || shared->notes.files[BODDURCI_PAGES].is_there || !(shared->flags & BODDURCI_MUST_EXIST))
+        return status;
+    errno = ENOENT;
+    return boddurci_fail_by_system(fault, "a file cannot be opened");
+}
+
+/* Opens a data file that a call has made. */
+static int file_of(boddurci_shared *shared, enum boddurci_file file)
+{
+    int written = shared->logged.disk.files[file];
+    if (written >= 0)
+        return written;
+    if (shared->files[file] < 0)
+        shared->files[file] = boddurci_open_data(&shared->place, file, O_RDONLY);
+    return shared->files[file];
+}
+
+/* Opens the redo file under the name, unless it is open. *redo is -1 if it is missing. */
+static uint32_t open_redo(boddurci_shared *shared, int writes, int *redo, boddurci_fault *fault)
+{
+    int *written = &shared->logged.disk.files[BODDURCI_REDO], *file = writes || *written >= 0 ? written : &shared->files[BODDURCI_REDO];
+    const struct boddurci_place *place = &shared->place;
+    uint32_t status = BODDURCI_DONE;
+    if (*file >= 0 && !boddurci_is_named(place, BODDURCI_REDO, *file)) {
+        drop(written);
+        drop(&shared->files[BODDURCI_REDO]);
+        file = writes ? written : &shared->files[BODDURCI_REDO];
+    }
+    if (*file < 0)
+        status = boddurci_open_beside(place, BODDURCI_REDO, writes ? O_RDWR : O_RDONLY, file, fault);
+    *redo = *file;
+    return status;
+}
+
+/* ---- the log */
+
+/* Recovers the data files, if the log has its mark, and looks at them again. */
+static uint32_t recover(boddurci_shared *shared, boddurci_fault *fault)
+{
+    int is_ended;
+    struct boddurci_logged *logged = &shared->logged;
+    logged->is_open = 0;
+    boddurci_disk_drop(&logged->disk, BODDURCI_REDO);
+    uint32_t status = boddurci_logged_recover(logged, 0, &is_ended, fault);
+    return status == BODDURCI_DONE ? find_files(shared, 1, fault) : status;
+}
+
+/* Brings the log into a state in which the data files are the database: it has no mark, or all its records are applied. If a program that
+ * does not know the log has written the data files since, they are the database, and the log is closed. */
+static uint32_t settle_log(boddurci_shared *shared, boddurci_fault *fault)
+{
+    int redo;
+    boddurci_fault second;
+    struct boddurci_log_note note;
+    struct boddurci_logged *logged = &shared->logged;
+    enum boddurci_applied applied = BODDURCI_UNKNOWN;
+    logged->is_open = logged->is_given_up = 0;
+    if (open_redo(shared, 1, &redo, &second) == BODDURCI_DONE)
+        applied = redo < 0 ? BODDURCI_UNMARKED : boddurci_find_note(redo, &shared->boot, &note);
+    if (applied == BODDURCI_UNMARKED)
+        return BODDURCI_DONE;
+    enum boddurci_change change = applied == BODDURCI_APPLIED ? boddurci_change_since(&note, shared->notes.files) : BODDURCI_OTHERS;
+    if (change == BODDURCI_OTHERS)
+        return recover(shared, fault);
+    logged->next = note.log;
+    logged->is_open = 1;
+    return change == BODDURCI_SAME ? BODDURCI_DONE : boddurci_logged_renew(logged, fault);
+}
+
+/* Leaves a note for the next call. If another program has written during this one, the log is closed instead: its records may not belong to
+ * these files. So it is if the boot is unknown, for which a note would be. If that fails, the next call recovers. */
+static void leave_log(boddurci_shared *shared)
+{
+    boddurci_fault unsaid;
+    struct boddurci_logged *logged = &shared->logged;
+    struct boddurci_note files[2];
+    boddurci_settle_locks(&shared->place);
+    if (!boddurci_logged_is_marked(logged))
+        return;
+    if (shared->notes.is_overtaken || !shared->boot.is_known) {
+        (void)!boddurci_logged_renew(logged, &unsaid);
+        return;
+    }
+    for (enum boddurci_file file = BODDURCI_PAGES; file <= BODDURCI_DIRECTORY; file++)
+        files[file] = boddurci_state_of(logged->disk.files[file], "", AT_EMPTY_PATH, 1);
+    (void)!boddurci_put_note(logged->disk.files[BODDURCI_REDO], &shared->boot, &logged->next, files);
+}
+
+/* ---- the page */
+
+static uint32_t page_of(const boddurci_shared *shared, const struct part *part, const uint8_t *key, size_t length)
+{
+    return boddurci_page_of(key, length, shared->directory, part->directory, (shared->flags & BODDURCI_UNSIGNED_KEYS) != 0);
+}
+
+static int read_page(boddurci_shared *shared, const struct part *part, uint32_t number)
+{
+    uint64_t at = (uint64_t)number * part->size;
+    if (at >= part->length) {
+        memset(shared->page, 0, part->size);
+        return 0;
+    }
+    int file = file_of(shared, BODDURCI_PAGES);
+    return file < 0 ? -1 : read_at(file, at, shared->page, part->size);
+}
+
+static size_t number_at(const uint8_t *bytes)
+{
+    return (size_t)bytes[0] | (size_t)bytes[1] << 8;
+}
+
+/* Whether the page in the room has pairs, and all its keys lead to it. Each key ends where the pair before begins. */
+static int has_own_pairs(const boddurci_shared *shared, const struct part *part, uint32_t number)
+{
+    const uint8_t *page = shared->page;
+    size_t count = number_at(page), end = part->size;
+    if (count == 0 || count % 2 != 0 || 2 * (count + 1) > part->size)
+        return 0;
+    for (size_t i = 1; i < count; i += 2) {
+        size_t key = number_at(page + 2 * i), value = number_at(page + 2 * i + 2);
+        if (key > end || value > key || page_of(shared, part, page + key, end - key) != number)
+            return 0;
+        end = value;
+    }
+    return 1;
+}
+
+static int is_same_file(const struct boddurci_note *one, const struct boddurci_note *other)
+{
+    return one->is_there == other->is_there && one->device == other->device && one->number == other->number && one->length == other->length;
+}
+
+/* Whether the last page of .pag belongs to the directory. Otherwise the directory may be lost, or that of another database. It is read again
+ * only if a length has changed since. */
+static int is_last_page_right(boddurci_shared *shared, const struct part *part)
+{
+    const struct boddurci_note *files = shared->notes.files;
+    if (part->length == 0)
+        return part->directory == 0;
+    if (is_same_file(&files[0], &shared->last[0]) && is_same_file(&files[1], &shared->last[1]))
+        return 1;
+    uint32_t number = (uint32_t)(part->length / part->size - 1);
+    if (read_page(shared, part, number) != 0 || !has_own_pairs(shared, part, number))
+        return 0;
+    memcpy(shared->last, files, sizeof shared->last);
+    return 1;
+}
+
+/* Reads .dir. Sets *is_whole if the files are not such that one page can be enough. */
+static int read_directory(boddurci_shared *shared, struct part *part, int *is_whole)
+{
+    const struct boddurci_note *pages = &shared->notes.files[BODDURCI_PAGES], *directory = &shared->notes.files[BODDURCI_DIRECTORY];
+    part->size = shared->flags & BODDURCI_WIDE ? 8192 : 1024;
+    part->length = (size_t)pages->length;
+    part->directory = (size_t)directory->length;
+    *is_whole = directory->length > BODDURCI_SHORT_DIRECTORY || pages->length > (off_t)boddurci_most_bytes(BODDURCI_PAGES) ||
+                part->length % part->size != 0;
+    if (*is_whole || part->directory == 0)
+        return 0;
+    int file = file_of(shared, BODDURCI_DIRECTORY);
+    return file < 0 ? -1 : read_at(file, 0, shared->directory, part->directory);
+}
+
+/* Reads the page of a key, and opens its database. */
+static uint32_t open_page(boddurci_shared *shared, const struct boddurci_command *command, struct part *part, int *is_whole,
+                          boddurci_fault *fault)
+{
+    if (read_directory(shared, part, is_whole) != 0)
+        return boddurci_fail_by_system(fault, "a file cannot be read");
+    *is_whole = *is_whole || !is_last_page_right(shared, part);
+    if (*is_whole)
+        return BODDURCI_DONE;
+    part->number = page_of(shared, part, command->key, command->key_length);
+    if (read_page(shared, part, part->number) != 0)
+        return boddurci_fail_by_system(fault, "a file cannot be read");
+    uint32_t status = boddurci_open_page(&shared->db, command->key, command->key_length, shared->directory, part->directory, part->length,
+                                         part->number, shared->page, part->size);
+    *is_whole = status == BODDURCI_BAD_FILES;
+    if (status == BODDURCI_DONE || *is_whole)
+        return BODDURCI_DONE;
+    return boddurci_fail(fault, status, 0, boddurci_text(status));
+}
+
+/* ---- commands */
+
+uint32_t boddurci_answer(boddurci *db, struct boddurci_command *it)
+{
+    switch (it->kind) {
+    case BODDURCI_FETCH: return boddurci_fetch(db, it->key, it->key_length, it->room, it->room_length, it->value_length);
+    case BODDURCI_STORE: return boddurci_store(db, it->key, it->key_length, it->bytes, it->length, it->replace);
+    case BODDURCI_DELETE: return boddurci_delete(db, it->key, it->key_length);
+    default:
+        return boddurci_run(db, it->number, it->key, it->key_length, it->bytes, it->length, it->has_blank, it->blank, it->now, &it->end,
+                            &it->word);
+    }
+}
+
+int boddurci_may_change(const struct boddurci_command *command, uint32_t status)
+{
+    if (status != BODDURCI_DONE || command->kind == BODDURCI_FETCH)
+        return 0;
+    return command->kind != BODDURCI_RUN || command->end == 1 || command->end == 2;
+}
+
+static uint32_t answer(boddurci_shared *shared, struct boddurci_command *command, boddurci_fault *fault)
+{
+    uint32_t status = boddurci_answer(&shared->db, command);
+    return status == BODDURCI_DONE ? status : boddurci_fail(fault, status, 0, boddurci_text(status));
+}
+
+/* ---- saving */
+
+/* The pages that a plan may write. A page is split at most once for each bit of a hash, so there are rarely more. */
+struct written {
+    uint32_t numbers[80];
+    size_t count;
+};
+
+/* Plans the save of the page. Sets *length to that of the plan, which is in shared->plan. */
+static uint32_t plan_page(boddurci_shared *shared, const struct part *part, struct written *written, size_t *length)
+{
+    enum { MOST = sizeof written->numbers / sizeof *written->numbers };
+    uint32_t status = BODDURCI_SHORT_ROOM;
+    *length = 0;
+    while (status == BODDURCI_SHORT_ROOM) {
+        size_t room = shared->plan_room;
+        if (*length > room) {
+            uint8_t *grown = realloc(shared->plan, BODDURCI_PLAN_AT + *length);
+            if (grown == NULL)
+                return BODDURCI_NO_MEMORY;
+            shared->plan = grown;
+            room = shared->plan_room = *length;
+        }
+        status = boddurci_plan_page(&shared->db, shared->directory, part->directory, part->length, part->number, shared->page, part->size,
+                                    written->numbers, MOST, &written->count, shared->plan + BODDURCI_PLAN_AT, room, length);
+        if (status == BODDURCI_SHORT_ROOM && written->count > MOST)
+            return BODDURCI_STALE;
+    }
+    return status;
+}
+
+static int is_zero(const uint8_t *bytes, size_t size)
+{
+    return bytes[0] == 0 && memcmp(bytes, bytes + 1, size - 1) == 0;
+}
+
+/* Whether all pages that a plan may write, except that of the key, are zeros in the file. It overwrites the room of the page. */
+static uint32_t are_free(boddurci_shared *shared, const struct part *part, const struct written *written, int *are_free, boddurci_fault *fault)
+{
+    *are_free = 1;
+    for (size_t i = 0; *are_free && i < written->count; i++) {
+        if (written->numbers[i] == part->number)
+            continue;
+        if (read_page(shared, part, written->numbers[i]) != 0)
+            return boddurci_fail_by_system(fault, "a file cannot be read");
+        *are_free = is_zero(shared->page, part->size);
+    }
+    return BODDURCI_DONE;
+}
+
+/* Saves the database of the page. */
+static uint32_t save_page(boddurci_shared *shared, const struct part *part, int *is_whole, boddurci_fault *fault)
+{
+    struct written written;
+    size_t length;
+    int is_left = 0, is_free;
+    uint32_t status = plan_page(shared, part, &written, &length);
+    *is_whole = status == BODDURCI_STALE;
+    if (*is_whole || (status == BODDURCI_DONE && length == 0))
+        return BODDURCI_DONE;
+    if (status != BODDURCI_DONE)
+        return boddurci_fail(fault, status, 0, boddurci_text(status));
+    status = are_free(shared, part, &written, &is_free, fault);
+    *is_whole = status == BODDURCI_DONE && !is_free;
+    if (status != BODDURCI_DONE || *is_whole)
+        return status;
+    shared->notes.is_overtaken = 0;
+    struct boddurci_bytes bytes = {shared->plan, BODDURCI_PLAN_AT + length, 0};
+    status = boddurci_logged_save(&shared->logged, bytes, &is_left, fault);
+    if (status == BODDURCI_DONE && !is_left)
+        leave_log(shared);
+    return status;
+}
+
+/* ---- calls */
+
+uint32_t boddurci_change_page(boddurci_shared *shared, struct boddurci_command *command, int *is_whole, boddurci_fault *fault)
+{
+    struct part part;
+    *is_whole = 0;
+    boddurci_hold_signal(&shared->logged.disk);
+    uint32_t status = find_files(shared, 1, fault);
+    if (status == BODDURCI_DONE)
+        status = settle_log(shared, fault);
+    if (status == BODDURCI_DONE)
+        status = open_page(shared, command, &part, is_whole, fault);
+    if (status == BODDURCI_DONE && !*is_whole) {
+        status = answer(shared, command, fault);
+        if (boddurci_may_change(command, status))
+            status = save_page(shared, &part, is_whole, fault);
+    }
+    boddurci_give_signal(&shared->logged.disk);
+    return status;
+}
+
+uint32_t boddurci_fetch_page(boddurci_shared *shared, struct boddurci_command *command, int *must_recover, int *is_whole,
+                             boddurci_fault *fault)
+{
+    int redo;
+    struct part part;
+    struct boddurci_log_note note;
+    *must_recover = *is_whole = 0;
+    uint32_t status = find_files(shared, 0, fault);
+    if (status == BODDURCI_DONE)
+        status = open_redo(shared, 0, &redo, fault);
+    if (status == BODDURCI_DONE && redo >= 0 && boddurci_find_note(redo, &shared->boot, &note) == BODDURCI_UNKNOWN)
+        *must_recover = !boddurci_has_writer(&shared->place);
+    if (status != BODDURCI_DONE || *must_recover)
+        return status;
+    status = open_page(shared, command, &part, is_whole, fault);
+    return status == BODDURCI_DONE && !*is_whole ? answer(shared, command, fault) : status;
+}

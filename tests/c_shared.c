@@ -1,0 +1,863 @@
+/* Shared bases. tests/shared builds and runs it.
+ *
+ *     calls FOLDER                 the calls, beside a model, other programs, other users, forks and threads
+ *     count BASE LOG SEED          increments counters until it is killed, and appends each answer to the log
+ *     change BASE                  makes the changes on standard input, and prints a line after each
+ *     fetch BASE KEY               prints the value of a key
+ *     list BASE                    prints all pairs, as a reader
+ *     hold BASE MILLISECONDS       has the base open for writing for a time, and saves a pair
+ *     close BASE                   opens the base for writing, and closes it */
+#define _GNU_SOURCE
+#include "boddurci_files.h"
+#include <errno.h>
+#include <fcntl.h>
+#include <pthread.h>
+#include <signal.h>
+#include <stdatomic.h>
+#include <stdio.h>
+#include <stdlib.h>
+#include <string.h>
+#include <sys/file.h>
+#include <sys/mman.h>
+#include <sys/resource.h>
+#include <sys/stat.h>
+#include <sys/wait.h>
+#include <time.h>
+#include <unistd.h>
+
+#define BYTES(text) ((const uint8_t *)(text)), (sizeof(text) - 1)
+
+static boddurci_fault fault;
+static unsigned long looked;
+
+#define EXPECT(what)                                                                                                               \
+    do {                                                                                                                           \
+        looked++;                                                                                                                  \
+        if (!(what)) {                                                                                                             \
+            fprintf(stderr, "c_shared.c:%d: not so: %s (%s)\n", __LINE__, #what, fault.text);                                      \
+            exit(1);                                                                                                               \
+        }                                                                                                                          \
+    } while (0)
+
+static boddurci_shared *opened(const char *name, uint32_t flags)
+{
+    boddurci_shared *shared = boddurci_open_shared(name, flags, &fault);
+    EXPECT(shared != NULL && fault.status == BODDURCI_DONE);
+    return shared;
+}
+
+static int fails(const char *name, uint32_t flags, uint32_t status)
+{
+    boddurci_shared *shared = boddurci_open_shared(name, flags, &fault);
+    boddurci_close_shared(shared);
+    return shared == NULL && fault.status == status && fault.text[0] != 0;
+}
+
+/* Runs bounded_counter without bounds. Returns the number that it has made, or 0 if the call fails. */
+static uint64_t increment_with(boddurci_shared *shared, uint32_t counter, const char *key, boddurci_fault *into)
+{
+    uint8_t arg[24] = {1};
+    uint64_t end = 0, word = 0;
+    memset(arg + 16, 255, 8);
+    uint32_t status = boddurci_shared_run(shared, counter, (const uint8_t *)key, strlen(key), arg, sizeof arg, 1, 8, 0, &end, &word, into);
+    return status == BODDURCI_DONE && end == 1 ? word : 0;
+}
+
+static uint64_t increment(boddurci_shared *shared, uint32_t counter, const char *key)
+{
+    return increment_with(shared, counter, key, &fault);
+}
+
+static uint32_t counter_of(boddurci_shared *shared)
+{
+    uint32_t counter = 77;
+    EXPECT(boddurci_shared_stock(shared, "bounded_counter", &counter) == BODDURCI_DONE);
+    return counter;
+}
+
+static uint32_t store(boddurci_shared *shared, const char *key, const char *value)
+{
+    return boddurci_shared_store(shared, (const uint8_t *)key, strlen(key), (const uint8_t *)value, strlen(value), 1, &fault);
+}
+
+/* Whether a key has this value; it has none if `value` is NULL. */
+static int has(boddurci_shared *shared, const char *key, const char *value)
+{
+    uint8_t room[BODDURCI_VALUE_MOST];
+    size_t length = 0;
+    uint32_t status = boddurci_shared_fetch(shared, (const uint8_t *)key, strlen(key), room, sizeof room, &length, &fault);
+    if (value == NULL)
+        return status == BODDURCI_MISSING && fault.status == BODDURCI_MISSING;
+    return status == BODDURCI_DONE && length == strlen(value) && memcmp(room, value, length) == 0;
+}
+
+/* ---- files */
+
+struct bytes {
+    uint8_t *at;
+    size_t length;
+};
+
+static struct bytes read_file(const char *base, const char *ending)
+{
+    char name[300];
+    struct stat found;
+    struct bytes bytes = {calloc(1, 1), 0};
+    snprintf(name, sizeof name, "%s%s", base, ending);
+    int file = open(name, O_RDONLY);
+    if (file < 0)
+        return bytes;
+    EXPECT(fstat(file, &found) == 0);
+    bytes.at = realloc(bytes.at, (size_t)found.st_size + 1);
+    EXPECT(read(file, bytes.at, (size_t)found.st_size) == found.st_size);
+    bytes.length = (size_t)found.st_size;
+    close(file);
+    return bytes;
+}
+
+static void write_file(const char *base, const char *ending, const uint8_t *bytes, size_t length)
+{
+    char name[300];
+    snprintf(name, sizeof name, "%s%s", base, ending);
+    int file = open(name, O_RDWR | O_CREAT, 0644);
+    EXPECT(file >= 0 && pwrite(file, bytes, length, 0) == (ssize_t)length && ftruncate(file, (off_t)length) == 0);
+    close(file);
+}
+
+static int is_marked(const char *base)
+{
+    struct bytes redo = read_file(base, ".redo");
+    int marked = redo.length != 0 && redo.at[0] == 1;
+    free(redo.at);
+    return marked;
+}
+
+/* Opens a handle on the data files without locks and without the log, as another program reads them. */
+static void open_raw(boddurci *db, const char *base, uint32_t flags)
+{
+    uint8_t text[200];
+    size_t length;
+    struct bytes dir = read_file(base, ".dir"), pag = read_file(base, ".pag");
+    EXPECT(boddurci_open(db, dir.at, dir.length, pag.at, pag.length, flags & BODDURCI_WIDE, (flags & BODDURCI_UNSIGNED_KEYS) != 0, text,
+                         sizeof text, &length) == BODDURCI_DONE);
+    free(dir.at);
+    free(pag.at);
+}
+
+/* Writes the files of a handle in place, as another program writes them; and closes it. */
+static void write_raw(boddurci *db, const char *base)
+{
+    uint8_t none[1];
+    size_t dir_length, pag_length;
+    EXPECT(boddurci_files(db, none, 0, &dir_length, none, 0, &pag_length) == BODDURCI_SHORT_ROOM);
+    uint8_t *dir = malloc(dir_length + 1), *pag = malloc(pag_length + 1);
+    EXPECT(boddurci_files(db, dir, dir_length, &dir_length, pag, pag_length, &pag_length) == BODDURCI_DONE);
+    write_file(base, ".dir", dir, dir_length);
+    write_file(base, ".pag", pag, pag_length);
+    free(dir);
+    free(pag);
+    boddurci_close(db);
+}
+
+/* Whether the data files are those of a handle. */
+static int has_files(boddurci *db, const char *base)
+{
+    uint8_t none[1];
+    size_t dir_length, pag_length;
+    uint32_t status = boddurci_files(db, none, 0, &dir_length, none, 0, &pag_length);
+    EXPECT(status == BODDURCI_SHORT_ROOM || (status == BODDURCI_DONE && dir_length + pag_length == 0));
+    uint8_t *dir = malloc(dir_length + 1), *pag = malloc(pag_length + 1);
+    EXPECT(boddurci_files(db, dir, dir_length, &dir_length, pag, pag_length, &pag_length) == BODDURCI_DONE);
+    struct bytes in_dir = read_file(base, ".dir"), in_pag = read_file(base, ".pag");
+    int are_same = dir_length == in_dir.length && pag_length == in_pag.length && memcmp(dir, in_dir.at, dir_length) == 0 &&
+                   memcmp(pag, in_pag.at, pag_length) == 0;
+    free(dir);
+    free(pag);
+    free(in_dir.at);
+    free(in_pag.at);
+    return are_same;
+}
+
+/* ---- beside a model: the same commands on a handle in memory */
+
+static uint32_t seed;
+
+static uint32_t roll(uint32_t below)
+{
+    seed = seed * 1664525u + 1013904223u;
+    return (uint32_t)((uint64_t)(seed >> 8) * below >> 24);
+}
+
+/* A key from a small set; some are of zeros, whose hashes are all the same. */
+static size_t key_of(uint32_t number, uint8_t key[40])
+{
+    if (number % 17 == 0) {
+        memset(key, 0, number % 11);
+        return number % 11;
+    }
+    return (size_t)sprintf((char *)key, "%s%u", number % 2 ? "key " : "", number * 2654435761u);
+}
+
+struct model {
+    boddurci db;
+    boddurci_shared *shared;
+    uint32_t programs[3];
+    size_t most; /* the longest value */
+};
+
+static void same_fetch(struct model *model, const uint8_t *key, size_t length)
+{
+    uint8_t rooms[2][BODDURCI_VALUE_MOST];
+    size_t lengths[2] = {7, 7}, most = roll(4) ? sizeof rooms[0] : 5;
+    uint32_t status = boddurci_fetch(&model->db, key, length, rooms[0], most, &lengths[0]);
+    EXPECT(boddurci_shared_fetch(model->shared, key, length, rooms[1], most, &lengths[1], &fault) == status && fault.status == status);
+    EXPECT(lengths[0] == lengths[1] && (status != BODDURCI_DONE || memcmp(rooms[0], rooms[1], lengths[0]) == 0));
+}
+
+static void same_store(struct model *model, const uint8_t *key, size_t length)
+{
+    uint8_t value[BODDURCI_VALUE_MOST + 1];
+    size_t value_length = roll(3) ? roll(40) : roll((uint32_t)model->most + 2);
+    uint32_t replace = roll(3) != 0;
+    memset(value, (int)roll(256), value_length);
+    uint32_t status = boddurci_store(&model->db, key, length, value, value_length, replace);
+    EXPECT(boddurci_shared_store(model->shared, key, length, value, value_length, replace, &fault) == status && fault.status == status);
+}
+
+static void same_run(struct model *model, const uint8_t *key, size_t length)
+{
+    uint8_t arg[24] = {(uint8_t)roll(3)};
+    uint64_t ends[2] = {7, 7}, words[2] = {7, 7}, now = roll(100);
+    uint32_t number = roll(20) ? model->programs[roll(3)] : 9, has_blank = roll(3) != 0;
+    size_t blank = roll(9) ? 8 * (1 + roll(3)) : roll(9000);
+    memset(arg + 16, 255, 8);
+    uint32_t status = boddurci_run(&model->db, number, key, length, arg, sizeof arg, has_blank, blank, now, &ends[0], &words[0]);
+    EXPECT(boddurci_shared_run(model->shared, number, key, length, arg, sizeof arg, has_blank, blank, now, &ends[1], &words[1], &fault) ==
+           status);
+    EXPECT(fault.status == status && ends[0] == ends[1] && words[0] == words[1]);
+}
+
+static void same_command(struct model *model, uint32_t keys)
+{
+    uint8_t key[40];
+    size_t length = key_of(roll(keys), key);
+    uint32_t kind = roll(8);
+    if (kind < 2)
+        same_fetch(model, key, length);
+    else if (kind < 5)
+        same_store(model, key, length);
+    else if (kind < 6)
+        same_run(model, key, length);
+    else {
+        uint32_t status = boddurci_delete(&model->db, key, length);
+        EXPECT(boddurci_shared_delete(model->shared, key, length, &fault) == status && fault.status == status);
+    }
+    EXPECT(fault.system == 0);
+}
+
+/* All keys are deleted at the end: then no file has bytes. */
+static void delete_all(struct model *model, uint32_t keys)
+{
+    uint8_t key[40];
+    for (uint32_t i = 0; i < keys; i++) {
+        size_t length = key_of(i, key);
+        uint32_t status = boddurci_delete(&model->db, key, length);
+        EXPECT(boddurci_shared_delete(model->shared, key, length, &fault) == status);
+    }
+}
+
+static void test_model(const char *name, uint32_t flags, uint32_t keys, int commands)
+{
+    static const char *const stocks[3] = {"bounded_counter", "lease", "token_bucket"};
+    uint8_t text[100];
+    size_t length;
+    struct model model = {.db = BODDURCI_CLOSED, .most = BODDURCI_PAIR_MOST(flags & BODDURCI_WIDE)};
+    uint32_t wide = flags & BODDURCI_WIDE, is_unsigned = (flags & BODDURCI_UNSIGNED_KEYS) != 0;
+    EXPECT(boddurci_open(&model.db, BODDURCI_NO_BYTES, BODDURCI_NO_BYTES, wide, is_unsigned, text, sizeof text, &length) == BODDURCI_DONE);
+    model.shared = opened(name, flags);
+    seed = keys;
+    for (int i = 0; i < 3; i++) {
+        uint32_t number = 0;
+        EXPECT(boddurci_stock(&model.db, stocks[i], &model.programs[i]) == BODDURCI_DONE);
+        EXPECT(boddurci_shared_stock(model.shared, stocks[i], &number) == BODDURCI_DONE && number == model.programs[i]);
+    }
+    for (int i = 0; i < commands; i++) {
+        same_command(&model, keys);
+        if (i % 100 == 0)
+            EXPECT(has_files(&model.db, name));
+    }
+    EXPECT(has_files(&model.db, name));
+    delete_all(&model, keys);
+    EXPECT(has_files(&model.db, name));
+    boddurci_close_shared(model.shared);
+    boddurci_close(&model.db);
+}
+
+/* ---- programs */
+
+static void test_programs(void)
+{
+    static const char source[] = "mov r0, 7\nexit\n";
+    uint8_t image[100], text[100];
+    size_t length, line, text_length, unit = 5;
+    uint32_t number = 9, other = 9;
+    uint64_t end = 0, word;
+    boddurci_shared *shared = opened("programs", 0);
+    EXPECT(boddurci_assemble(BYTES(source), image, sizeof image, &length, &line, text, sizeof text, &text_length) == BODDURCI_DONE);
+    EXPECT(boddurci_shared_submit(shared, image, length, &number, &unit, text, sizeof text, &text_length) == BODDURCI_DONE && number == 0);
+    EXPECT(boddurci_shared_submit(shared, image, length, &other, &unit, text, sizeof text, &text_length) == BODDURCI_DONE && other == 0);
+    EXPECT(boddurci_shared_submit(shared, image, 8, &other, &unit, text, sizeof text, &text_length) == BODDURCI_REFUSED && text_length != 0);
+    EXPECT(boddurci_shared_submit(shared, image, 7, &other, &unit, text, sizeof text, &text_length) == BODDURCI_REFUSED);
+    EXPECT(boddurci_shared_stock(shared, "counter", &other) == BODDURCI_DONE && other == 1);
+    EXPECT(boddurci_shared_stock(shared, "nothing", &other) == BODDURCI_NO_STOCK && other == 1);
+    EXPECT(boddurci_shared_run(shared, 0, BYTES("a"), BODDURCI_NO_BYTES, 1, 8, 0, &end, &word, &fault) == BODDURCI_DONE && end == 7);
+    EXPECT(access("programs.pag", F_OK) != 0 && has(shared, "a", NULL));
+    EXPECT(boddurci_shared_run(shared, 1, BYTES("a"), BODDURCI_NO_BYTES, 0, 0, 0, &end, &word, &fault) == BODDURCI_MISSING && end == 0);
+    end = 9;
+    EXPECT(boddurci_shared_run(shared, 2, BYTES("a"), BODDURCI_NO_BYTES, 1, 8, 0, &end, &word, &fault) == BODDURCI_NO_PROGRAM && end == 9);
+    boddurci_close_shared(shared);
+}
+
+/* ---- faults */
+
+static void test_names(void)
+{
+    EXPECT(fails(NULL, 0, BODDURCI_BAD_NAME) && fails("", 0, BODDURCI_BAD_NAME) && fails("a/..", 0, BODDURCI_BAD_NAME));
+    EXPECT(fails("nowhere/db", 0, BODDURCI_FILE_FAILED) && fault.system == ENOENT);
+    EXPECT(fails("missing", BODDURCI_MUST_EXIST, BODDURCI_FILE_FAILED) && fault.system == ENOENT);
+    EXPECT(boddurci_open_shared("", 0, NULL) == NULL);
+    boddurci_shared *shared = opened("missing", 0);
+    EXPECT(has(shared, "a", NULL) && boddurci_shared_delete(shared, BYTES("a"), NULL) == BODDURCI_MISSING);
+    EXPECT(access("missing.pag", F_OK) != 0 && access("missing.redo", F_OK) != 0);
+    EXPECT(store(shared, "a", "b") == BODDURCI_DONE && has(shared, "a", "b"));
+    boddurci_shared *other = opened("missing", BODDURCI_MUST_EXIST);
+    EXPECT(has(other, "a", "b"));
+    EXPECT(unlink("missing.pag") == 0);
+    EXPECT(boddurci_shared_delete(other, BYTES("a"), &fault) == BODDURCI_FILE_FAILED && fault.system == ENOENT);
+    /* The log has all saves since the database was empty. */
+    EXPECT(store(shared, "b", "c") == BODDURCI_DONE && has(other, "a", "b") && has(other, "b", "c"));
+    EXPECT(unlink("missing.pag") == 0 && unlink("missing.dir") == 0 && unlink("missing.redo") == 0);
+    EXPECT(store(shared, "a", "c") == BODDURCI_DONE && has(other, "a", "c") && has(other, "b", NULL));
+    boddurci_close_shared(other);
+    boddurci_close_shared(shared);
+}
+
+/* Small pages are not opened as wide ones. */
+static void test_sizes(void)
+{
+    boddurci_shared *shared = opened("sizes", 0);
+    struct stat found = {.st_size = 1};
+    char key[20];
+    for (int i = 0; i < 200 || found.st_size % 8192 != 0; i++)
+        EXPECT(store(shared, (sprintf(key, "%d", i), key), "some value") == BODDURCI_DONE && stat("sizes.pag", &found) == 0);
+    boddurci_close_shared(shared);
+    EXPECT(fails("sizes", BODDURCI_WIDE, BODDURCI_OTHER_SIZE));
+    boddurci_close_shared(opened("sizes", BODDURCI_WIDE | BODDURCI_ANY_SIZE));
+    shared = opened("sizes", BODDURCI_MUST_EXIST);
+    EXPECT(has(shared, "7", "some value"));
+    boddurci_close_shared(shared);
+}
+
+/* Other files: no save has left them, or they are no database. */
+static void test_files(void)
+{
+    static const uint8_t junk[1024] = {255, 255, 1};
+    boddurci_shared *shared = opened("files", 0);
+    write_file("files", ".pag", junk, 100);
+    EXPECT(store(shared, "a", "b") == BODDURCI_BAD_FILES && fault.text[0] != 0);
+    write_file("files", ".pag", junk, sizeof junk);
+    EXPECT(store(shared, "a", "b") == BODDURCI_BAD_FILES && boddurci_shared_delete(shared, BYTES("a"), &fault) == BODDURCI_BAD_FILES);
+    EXPECT(unlink("files.pag") == 0);
+    char key[20];
+    for (int i = 0; i < 200; i++)
+        EXPECT(store(shared, (sprintf(key, "%d", i), key), "some value") == BODDURCI_DONE);
+    /* A lost directory is noticed, if the log does not have it. */
+    boddurci_close_files(boddurci_open_files("files", 0, &fault));
+    EXPECT(!is_marked("files") && rename("files.dir", "lost") == 0 && store(shared, "a", "b") == BODDURCI_BAD_FILES);
+    EXPECT(boddurci_shared_fetch(shared, BYTES("a"), NULL, 0, NULL, &fault) == BODDURCI_BAD_FILES);
+    EXPECT(rename("lost", "files.dir") == 0 && has(shared, "7", "some value") && store(shared, "a", "b") == BODDURCI_DONE);
+    boddurci_close_shared(shared);
+}
+
+/* A folder and files that this user may only read. */
+static void test_readers(void)
+{
+    if (geteuid() != 0)
+        return;
+    boddurci_shared *shared = opened("read/db", 0);
+    EXPECT(store(shared, "a", "b") == BODDURCI_DONE && is_marked("read/db"));
+    boddurci_close_shared(shared);
+    EXPECT(seteuid(65534) == 0);
+    shared = opened("read/db", 0);
+    EXPECT(has(shared, "a", "b") && has(shared, "b", NULL));
+    EXPECT(store(shared, "a", "c") == BODDURCI_FILE_FAILED && fault.system == EACCES && has(shared, "a", "b"));
+    boddurci_close_shared(shared);
+    EXPECT(seteuid(0) == 0);
+    /* Without a note the log is applied in memory. */
+    static const uint8_t none[120];
+    int redo = open("read/db.redo", O_RDWR);
+    EXPECT(redo >= 0 && pwrite(redo, none, sizeof none, 16) == sizeof none && close(redo) == 0);
+    EXPECT(seteuid(65534) == 0);
+    shared = opened("read/db", 0);
+    EXPECT(has(shared, "a", "b"));
+    boddurci_close_shared(shared);
+    EXPECT(seteuid(0) == 0 && is_marked("read/db"));
+    shared = opened("read/db", 0);
+    EXPECT(has(shared, "a", "b") && !is_marked("read/db"));
+    boddurci_close_shared(shared);
+}
+
+/* A limit on the length of files is a fault, and no signal. */
+static void test_limit(void)
+{
+    struct rlimit most, less;
+    boddurci_shared *shared = opened("limit", 0);
+    EXPECT(getrlimit(RLIMIT_FSIZE, &most) == 0 && store(shared, "a", "b") == BODDURCI_DONE);
+    less = most;
+    less.rlim_cur = 1000;
+    EXPECT(setrlimit(RLIMIT_FSIZE, &less) == 0);
+    EXPECT(store(shared, "a", "c") == BODDURCI_FILE_FAILED && fault.system == EFBIG && has(shared, "a", "b"));
+    EXPECT(setrlimit(RLIMIT_FSIZE, &most) == 0 && store(shared, "a", "c") == BODDURCI_DONE && has(shared, "a", "c"));
+    boddurci_close_shared(shared);
+}
+
+/* ---- locks */
+
+static int taken(const char *name, int how)
+{
+    int file = open(name, O_RDWR);
+    EXPECT(file >= 0 && flock(file, how) == 0);
+    return file;
+}
+
+static double seconds(void)
+{
+    struct timespec time;
+    clock_gettime(CLOCK_MONOTONIC, &time);
+    return (double)time.tv_sec + 1e-9 * (double)time.tv_nsec;
+}
+
+static void test_locks(void)
+{
+    boddurci_shared *shared = opened("locks", 0), *once = opened("locks", BODDURCI_NO_WAIT);
+    EXPECT(store(shared, "a", "b") == BODDURCI_DONE && boddurci_shared_wait(shared, 100) == BODDURCI_DONE);
+    for (int i = 0; i < 3; i++) {
+        int lock = taken(i < 2 ? "locks.lock" : "locks.writer", i == 0 ? LOCK_SH : LOCK_EX);
+        double start = seconds();
+        EXPECT(store(shared, "a", "c") == BODDURCI_LOCKED && fault.status == BODDURCI_LOCKED && strstr(fault.text, "process") != NULL);
+        double took = seconds() - start;
+        EXPECT(took > 0.09 && took < 3 && store(once, "a", "c") == BODDURCI_LOCKED);
+        EXPECT(i == 1 ? boddurci_shared_fetch(once, BYTES("a"), NULL, 0, NULL, &fault) == BODDURCI_LOCKED : has(shared, "a", "b"));
+        close(lock);
+        EXPECT(has(shared, "a", "b") && has(once, "a", "b"));
+    }
+    /* Another file gets the name of a lock. */
+    EXPECT(unlink("locks.lock") == 0 && unlink("locks.writer") == 0 && store(shared, "a", "d") == BODDURCI_DONE && has(once, "a", "d"));
+    /* No lock is kept. */
+    int lock = taken("locks.lock", LOCK_EX | LOCK_NB), writer = taken("locks.writer", LOCK_EX | LOCK_NB);
+    close(lock);
+    close(writer);
+    boddurci_close_shared(once);
+    boddurci_close_shared(shared);
+}
+
+/* A base that is open for writing: by this thread, and by another process. */
+static void test_services(void)
+{
+    boddurci_shared *shared = opened("service", 0);
+    EXPECT(store(shared, "a", "1") == BODDURCI_DONE && boddurci_shared_wait(shared, 50) == BODDURCI_DONE);
+    boddurci_base *base = boddurci_open_files("service", 0, &fault);
+    EXPECT(base != NULL && store(shared, "a", "2") == BODDURCI_OPEN_HERE && has(shared, "a", "1"));
+    EXPECT(boddurci_store(boddurci_take(base), BYTES("a"), BYTES("3"), 1) == BODDURCI_DONE);
+    boddurci_give(base);
+    EXPECT(has(shared, "a", "1") && boddurci_save(base, &fault) == BODDURCI_DONE && has(shared, "a", "3"));
+    pid_t child = fork();
+    if (child == 0) {
+        boddurci_shared_wait(shared, 50);
+        int is_locked = store(shared, "a", "2") == BODDURCI_LOCKED && strstr(fault.text, "open to be written") != NULL;
+        _exit(is_locked && has(shared, "a", "3") ? 0 : 1);
+    }
+    int status;
+    EXPECT(waitpid(child, &status, 0) == child && status == 0);
+    boddurci_close_files(base);
+    EXPECT(store(shared, "a", "4") == BODDURCI_DONE && has(shared, "a", "4"));
+    base = boddurci_open_files("service", BODDURCI_READ_ONLY, &fault);
+    uint8_t value[9];
+    size_t length;
+    EXPECT(base != NULL && boddurci_fetch(boddurci_take(base), BYTES("a"), value, 9, &length) == BODDURCI_DONE && value[0] == '4');
+    boddurci_give(base);
+    boddurci_close_files(base);
+    base = boddurci_open_files("service", 0, &fault);
+    EXPECT(base != NULL && boddurci_fetch(boddurci_take(base), BYTES("a"), value, 9, &length) == BODDURCI_DONE && value[0] == '4');
+    boddurci_give(base);
+    boddurci_close_files(base);
+    boddurci_close_shared(shared);
+}
+
+/* ---- programs that do not know the log */
+
+static void store_raw(const char *base, const char *key, const char *value)
+{
+    boddurci db = BODDURCI_CLOSED;
+    open_raw(&db, base, 0);
+    EXPECT(boddurci_store(&db, (const uint8_t *)key, strlen(key), (const uint8_t *)value, strlen(value), 1) == BODDURCI_DONE);
+    write_raw(&db, base);
+}
+
+static void rest(void)
+{
+    nanosleep(&(struct timespec){0, 20000000}, NULL);
+}
+
+static void test_others(void)
+{
+    char key[20];
+    boddurci_shared *shared = opened("others", 0);
+    EXPECT(store(shared, "a", "b") == BODDURCI_DONE && store(shared, "a", "c") == BODDURCI_DONE);
+    for (int i = 0; i < 40; i++) {
+        sprintf(key, "%d", i);
+        rest();
+        store_raw("others", "a", key);
+        EXPECT(has(shared, "a", key));
+        if (i % 2)
+            store_raw("others", key, "a value that makes the page longer");
+        EXPECT(store(shared, "b", key) == BODDURCI_DONE && has(shared, "a", key) && has(shared, "b", key));
+        if (i % 4 == 3) {
+            rest();
+            store_raw("others", "a", "x");
+        }
+        if (i % 8 == 3) {
+            /* The next opening finds it too. */
+            boddurci_base *base = boddurci_open_files("others", i % 16 == 3 ? BODDURCI_READ_ONLY : 0, &fault);
+            EXPECT(base != NULL);
+            boddurci_close_files(base);
+            EXPECT(has(shared, "a", "x") && has(shared, "b", key));
+        }
+    }
+    EXPECT(is_marked("others"));
+    boddurci_close_shared(shared);
+}
+
+/* Another database gets the names. */
+static void test_replaced(void)
+{
+    boddurci_shared *shared = opened("old", 0), *other = opened("new", 0);
+    EXPECT(store(shared, "a", "old") == BODDURCI_DONE && store(other, "a", "new") == BODDURCI_DONE);
+    EXPECT(rename("new.pag", "old.pag") == 0 && rename("new.dir", "old.dir") == 0 && rename("new.redo", "old.redo") == 0);
+    EXPECT(has(shared, "a", "new") && store(shared, "b", "x") == BODDURCI_DONE && has(shared, "b", "x"));
+    EXPECT(has(other, "a", NULL) && store(other, "a", "newer") == BODDURCI_DONE && has(shared, "a", "new"));
+    boddurci_close_shared(other);
+    boddurci_close_shared(shared);
+}
+
+/* ---- a log that gets full */
+
+static void test_long(void)
+{
+    char key[20];
+    boddurci_shared *shared = opened("long", 0);
+    uint32_t counter = counter_of(shared);
+    for (int i = 0; i < 9000; i++)
+        EXPECT(increment(shared, counter, (sprintf(key, "%d", i % 50), key)) == (uint64_t)i / 50 + 1);
+    struct bytes redo = read_file("long", ".redo");
+    EXPECT(redo.length < 2 << 20);
+    free(redo.at);
+    /* Each third call comes after one of another kind of program. */
+    for (int i = 0; i < 60; i++) {
+        EXPECT(increment(shared, counter, "0") == 181 + (uint64_t)i);
+        if (i % 3 == 0)
+            boddurci_close_files(boddurci_open_files("long", i % 2 ? BODDURCI_READ_ONLY : 0, &fault));
+    }
+    boddurci_close_shared(shared);
+}
+
+/* ---- forks and threads */
+
+static void test_forks(void)
+{
+    boddurci_shared *shared = opened("forks", 0);
+    uint32_t counter = counter_of(shared);
+    EXPECT(increment(shared, counter, "a") == 1);
+    for (int i = 0; i < 4; i++)
+        if (fork() == 0) {
+            for (int j = 0; j < 50; j++)
+                if (increment(shared, counter, "a") == 0)
+                    _exit(1);
+            boddurci_close_shared(shared);
+            _exit(0);
+        }
+    for (int j = 0; j < 50; j++)
+        EXPECT(increment(shared, counter, "a") != 0);
+    for (int i = 0, status; i < 4; i++)
+        EXPECT(wait(&status) > 0 && status == 0);
+    EXPECT(increment(shared, counter, "a") == 252);
+    boddurci_close_shared(shared);
+}
+
+/* A child does not hold the locks of a call of its parent, after the parent was killed. */
+static void test_orphans(void)
+{
+    boddurci_shared *shared = opened("orphans", 0);
+    EXPECT(store(shared, "a", "b") == BODDURCI_DONE);
+    int ends[2], status;
+    EXPECT(pipe(ends) == 0);
+    pid_t parent = fork();
+    if (parent == 0) {
+        store(shared, "a", "c");
+        if (fork() == 0) {
+            char none;
+            close(ends[1]);
+            (void)!read(ends[0], &none, 1);
+            _exit(0);
+        }
+        for (;;)
+            (void)!store(shared, "a", "d");
+    }
+    nanosleep(&(struct timespec){0, 100000000}, NULL);
+    kill(parent, SIGKILL);
+    EXPECT(waitpid(parent, &status, 0) == parent && store(shared, "a", "e") == BODDURCI_DONE && has(shared, "a", "e"));
+    boddurci_close_shared(shared);
+    close(ends[0]);
+    close(ends[1]);
+}
+
+static boddurci_shared *waiting;
+
+static void *wait_in_call(void *unused)
+{
+    boddurci_fault own;
+    (void)!boddurci_shared_store(waiting, BYTES("a"), BYTES("b"), 1, &own);
+    return unused;
+}
+
+/* A fork while another thread is in the middle of a call. */
+static void test_lost(void)
+{
+    pthread_t thread;
+    waiting = opened("lost", 0);
+    EXPECT(store(waiting, "a", "a") == BODDURCI_DONE);
+    int lock = taken("lost.lock", LOCK_EX), status;
+    EXPECT(pthread_create(&thread, NULL, wait_in_call, NULL) == 0);
+    rest();
+    pid_t child = fork();
+    if (child == 0) {
+        int is_forked = store(waiting, "a", "c") == BODDURCI_FORKED && fault.status == BODDURCI_FORKED;
+        boddurci_close_shared(waiting);
+        _exit(is_forked ? 0 : 1);
+    }
+    EXPECT(waitpid(child, &status, 0) == child && status == 0);
+    EXPECT(boddurci_shared_wait(waiting, 20) == BODDURCI_DONE && store(waiting, "a", "d") == BODDURCI_LOCKED);
+    close(lock);
+    pthread_join(thread, NULL);
+    EXPECT(has(waiting, "a", "b"));
+    boddurci_close_shared(waiting);
+}
+
+enum { THREADS = 6, EACH = 150 };
+static boddurci_shared *of_all;
+static uint32_t counter_of_all;
+static _Atomic int seen_by[THREADS * EACH + 1];
+
+static void *count_in_thread(void *own)
+{
+    boddurci_fault fault_here;
+    boddurci_shared *shared = own != NULL ? own : of_all;
+    for (int i = 0; i < EACH; i++) {
+        uint64_t made = increment_with(shared, counter_of_all, "a", &fault_here);
+        if (made == 0 || made > THREADS * EACH)
+            return "an increment has failed";
+        seen_by[made]++;
+    }
+    return NULL;
+}
+
+/* Half of the threads share one handle. */
+static void test_threads(void)
+{
+    pthread_t threads[THREADS];
+    boddurci_shared *own[THREADS] = {NULL};
+    of_all = opened("threads", 0);
+    counter_of_all = counter_of(of_all);
+    for (int i = 0; i < THREADS; i++) {
+        if (i % 2)
+            EXPECT(counter_of(own[i] = opened("threads", 0)) == counter_of_all);
+        EXPECT(pthread_create(&threads[i], NULL, count_in_thread, own[i]) == 0);
+    }
+    void *why;
+    for (int i = 0; i < THREADS; i++)
+        EXPECT(pthread_join(threads[i], &why) == 0 && why == NULL);
+    for (int i = 1; i <= THREADS * EACH; i++)
+        EXPECT(seen_by[i] == 1);
+    for (int i = 0; i < THREADS; i++)
+        boddurci_close_shared(own[i]);
+    boddurci_close_shared(of_all);
+}
+
+/* Another working folder, and another name of the folder: the handle stays with its files, also for a call on the whole base. */
+static void test_folders(void)
+{
+    boddurci_shared *shared = opened("folder/db", 0);
+    EXPECT(store(shared, "a", "b") == BODDURCI_DONE && rename("folder", "moved") == 0 && chdir("/") == 0);
+    EXPECT(boddurci_shared_delete(shared, BYTES("a"), &fault) == BODDURCI_DONE && has(shared, "a", NULL));
+    EXPECT(store(shared, "a", "c") == BODDURCI_DONE && has(shared, "a", "c"));
+    boddurci_close_shared(shared);
+}
+
+static int calls(const char *folder)
+{
+    EXPECT(chdir(folder) == 0 && mkdir("read", 0755) == 0 && mkdir("folder", 0755) == 0 && chmod(".", 0755) == 0);
+    test_model("model", 0, 60, 3000);
+    test_model("many", 0, 700, 3000);
+    test_model("wide", BODDURCI_WIDE, 300, 1500);
+    test_model("unsigned", BODDURCI_UNSIGNED_KEYS | BODDURCI_NO_WAIT, 40, 1000);
+    test_programs();
+    test_names();
+    test_sizes();
+    test_files();
+    test_readers();
+    test_limit();
+    test_locks();
+    test_services();
+    test_others();
+    test_replaced();
+    test_long();
+    test_forks();
+    test_orphans();
+    test_lost();
+    test_threads();
+    test_folders();
+    printf("%lu checks\n", looked);
+    return 0;
+}
+
+/* ---- programs for tests/shared */
+
+static int count(const char *base, const char *log, unsigned start)
+{
+    char key[20], line[60];
+    int file = open(log, O_WRONLY | O_APPEND | O_CREAT, 0600);
+    boddurci_shared *shared = boddurci_open_shared(base, 0, &fault);
+    if (file < 0 || shared == NULL)
+        return fprintf(stderr, "c_shared: %s\n", fault.text), 2;
+    uint32_t counter = counter_of(shared);
+    boddurci_shared_wait(shared, 30000);
+    for (seed = start;;) {
+        sprintf(key, "k%u", (unsigned)roll(5));
+        uint64_t made = increment(shared, counter, key);
+        if (made == 0)
+            return fprintf(stderr, "c_shared: %s\n", fault.text), 2;
+        int length = snprintf(line, sizeof line, "%s %llu\n", key, (unsigned long long)made);
+        if (write(file, line, (size_t)length) != length)
+            return 2;
+    }
+}
+
+static size_t from_hex(char *text)
+{
+    size_t length = text != NULL ? strlen(text) / 2 : 0;
+    for (size_t i = 0; i < length; i++) {
+        unsigned byte;
+        sscanf(text + 2 * i, "%2x", &byte);
+        text[i] = (char)byte;
+    }
+    return length;
+}
+
+static void to_hex(const uint8_t *bytes, size_t length, char end)
+{
+    for (size_t i = 0; i < length; i++)
+        printf("%02x", bytes[i]);
+    putchar(end);
+}
+
+/* Lines are `store KEY VALUE` and `delete KEY`, in hex. */
+static int change(const char *base)
+{
+    char line[20000];
+    boddurci_shared *shared = boddurci_open_shared(base, 0, &fault);
+    uint32_t status = shared != NULL ? BODDURCI_DONE : fault.status;
+    setvbuf(stdout, NULL, _IOLBF, 1000);
+    while (status == BODDURCI_DONE && fgets(line, sizeof line, stdin) != NULL) {
+        line[strcspn(line, "\n")] = 0;
+        char *kind = strtok(line, " "), *key = strtok(NULL, " "), *value = strtok(NULL, " ");
+        size_t key_length = from_hex(key), value_length = from_hex(value);
+        if (strcmp(kind, "store") == 0)
+            status = boddurci_shared_store(shared, (uint8_t *)key, key_length, (uint8_t *)(value != NULL ? value : ""), value_length, 1, &fault);
+        else
+            status = boddurci_shared_delete(shared, (uint8_t *)key, key_length, &fault);
+        if (status == BODDURCI_DONE)
+            puts(fault.system != 0 ? "pending" : "done");
+    }
+    boddurci_close_shared(shared);
+    if (status != BODDURCI_DONE)
+        fprintf(stderr, "c_shared: %u %s\n", (unsigned)status, fault.text);
+    return status == BODDURCI_DONE ? 0 : 2;
+}
+
+static int fetch(const char *base, char *key)
+{
+    uint8_t value[BODDURCI_VALUE_MOST];
+    size_t length = 0, key_length = from_hex(key);
+    boddurci_shared *shared = boddurci_open_shared(base, 0, &fault);
+    uint32_t status = boddurci_shared_fetch(shared, (uint8_t *)key, key_length, value, sizeof value, &length, &fault);
+    if (status == BODDURCI_DONE)
+        to_hex(value, length, '\n');
+    else
+        puts(status == BODDURCI_MISSING ? "missing" : fault.text);
+    boddurci_close_shared(shared);
+    return status == BODDURCI_DONE || status == BODDURCI_MISSING ? 0 : 2;
+}
+
+static int list(const char *base)
+{
+    static uint8_t key[9000], value[9000];
+    size_t key_length, value_length;
+    boddurci_cursor cursor;
+    boddurci_base *reader = boddurci_open_files(base, BODDURCI_READ_ONLY, &fault);
+    boddurci *db = boddurci_take(reader);
+    if (boddurci_first(db, &cursor) != BODDURCI_DONE)
+        return fprintf(stderr, "c_shared: %s\n", fault.text), 2;
+    while (boddurci_next(db, &cursor, key, sizeof key, &key_length, value, sizeof value, &value_length) == BODDURCI_DONE) {
+        to_hex(key, key_length, ' ');
+        to_hex(value, value_length, '\n');
+    }
+    boddurci_give(reader);
+    boddurci_close_files(reader);
+    return 0;
+}
+
+static int hold(const char *base, long milliseconds)
+{
+    boddurci_base *service = boddurci_open_files(base, 0, &fault);
+    if (service == NULL)
+        return fprintf(stderr, "c_shared: %s\n", fault.text), 2;
+    boddurci_store(boddurci_take(service), BYTES("service"), (const uint8_t *)&milliseconds, sizeof milliseconds, 1);
+    boddurci_give(service);
+    uint32_t status = boddurci_save(service, &fault);
+    nanosleep(&(struct timespec){milliseconds / 1000, milliseconds % 1000 * 1000000}, NULL);
+    boddurci_close_files(service);
+    return status == BODDURCI_DONE ? 0 : 2;
+}
+
+int main(int count_of_words, char **words)
+{
+    const char *what = count_of_words > 2 ? words[1] : "";
+    if (strcmp(what, "calls") == 0)
+        return calls(words[2]);
+    if (strcmp(what, "count") == 0 && count_of_words > 4)
+        return count(words[2], words[3], (unsigned)atol(words[4]));
+    if (strcmp(what, "change") == 0)
+        return change(words[2]);
+    if (strcmp(what, "fetch") == 0 && count_of_words > 3)
+        return fetch(words[2], words[3]);
+    if (strcmp(what, "list") == 0)
+        return list(words[2]);
+    if (strcmp(what, "close") == 0) {
+        boddurci_base *service = boddurci_open_files(words[2], 0, &fault);
+        boddurci_close_files(service);
+        return service != NULL ? 0 : 2;
+    }
+    if (strcmp(what, "hold") == 0 && count_of_words > 3)
+        return hold(words[2], atol(words[3]));
+    return 4;
+}

@@ -678,8 +678,11 @@ static void test_forked(void)
 #ifdef SYS_clone
     /* A fork past the C library, which calls no handlers. */
     child = (pid_t)syscall(SYS_clone, SIGCHLD, 0, 0, 0, 0);
-    if (child == 0)
-        _exit(boddurci_take(base) == NULL && boddurci_save(base, NULL) == BODDURCI_FORKED ? 0 : 1);
+    if (child == 0) {
+        int is_refused = boddurci_take(base) == NULL && boddurci_save(base, NULL) == BODDURCI_FORKED;
+        boddurci_close_files(base);
+        _exit(is_refused ? 0 : 1);
+    }
     EXPECT(child > 0 && waitpid(child, &status, 0) == child && WIFEXITED(status) && WEXITSTATUS(status) == 0);
 #endif
     EXPECT(is_locked("forked", 0) && boddurci_save(base, &fault) == BODDURCI_DONE);

@@ -776,7 +776,6 @@ static int change(const char *base)
     char line[20000];
     boddurci_shared *shared = boddurci_open_shared(base, 0, &fault);
     uint32_t status = shared != NULL ? BODDURCI_DONE : fault.status;
-    setvbuf(stdout, NULL, _IOLBF, 1000);
     while (status == BODDURCI_DONE && fgets(line, sizeof line, stdin) != NULL) {
         line[strcspn(line, "\n")] = 0;
         char *kind = strtok(line, " "), *key = strtok(NULL, " "), *value = strtok(NULL, " ");
@@ -785,8 +784,9 @@ static int change(const char *base)
             status = boddurci_shared_store(shared, (uint8_t *)key, key_length, (uint8_t *)(value != NULL ? value : ""), value_length, 1, &fault);
         else
             status = boddurci_shared_delete(shared, (uint8_t *)key, key_length, &fault);
-        if (status == BODDURCI_DONE)
-            puts(fault.system != 0 ? "pending" : "done");
+        const char *told = fault.system != 0 ? "pending\n" : "done\n";
+        if (status == BODDURCI_DONE && write(1, told, strlen(told)) < 0)
+            return 2;
     }
     boddurci_close_shared(shared);
     if (status != BODDURCI_DONE)
